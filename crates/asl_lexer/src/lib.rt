@@ -1,0 +1,4 @@
+//! The tokens of a source.
+#![tactic(auto)]
+
+pub mod token;
