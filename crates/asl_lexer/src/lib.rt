@@ -1,4 +1,16 @@
 //! The tokens of a source.
 #![tactic(auto)]
 
+mod class;
+mod cutter;
+mod mode;
+mod names;
+mod numbers;
+mod start;
+mod strings;
+mod symbols;
+#[cfg(test)]
+mod tests;
 pub mod token;
+
+pub use cutter::tokens;

@@ -36,6 +36,13 @@ impl<T> List<T> {
         List { items }
     }
 
+    /// Its items as a vector.
+    pub fn into_vec(self) -> Vec<T>
+        ensures { result.items ≡ self }
+    {
+        self.items
+    }
+
     /// Adds an item at the end. Without memory the list stays as it was.
     pub fn push(&mut self, item: T) -> Result<(), AllocError>
     where

@@ -1,0 +1,6 @@
+pub mod Steps
+pub mod Bits
+pub mod Sound
+pub mod Complete
+pub mod Told
+pub mod FineTokens

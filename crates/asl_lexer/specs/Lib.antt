@@ -1,0 +1,5 @@
+pub mod Class
+pub mod Scan
+pub mod Marks
+pub mod Cut
+pub mod Fine

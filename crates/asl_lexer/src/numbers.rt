@@ -1,0 +1,101 @@
+//! Numbers.
+ghost use Rattle.std.specs.Prelude.{◌≡◌, ◌==◌, List as AList};
+ghost use Rattle.std.specs.Char.{is_digit};
+ghost use Rattle.asl_lexer.specs.declared.token.Token.{Token};
+ghost use Rattle.asl_lexer.specs.Scan as spec;
+ghost use Rattle.asl_lexer.specs.Scan.{Moves};
+ghost use Rattle.asl_lexer.specs.Class.{class_of as class_by, base_of as base_by};
+
+use crate::class::{Class, Radix, base_of, class_of, value_of};
+use crate::mode::{Mode, Stop};
+use crate::start::{BAD_CHARACTER, LARGE_NUMBER, add_number, begin, refuse};
+use crate::token::Tokens;
+use iasl_messages::place::Place;
+use std::alloc::Global;
+
+// A byte behind a number that it does not go on.
+fn behind(
+    alloc: Global,
+    tokens: &mut Tokens,
+    from: Place,
+    value: u64,
+    at: Place,
+    byte: u8,
+) -> Result<Mode, Stop>
+    ensures { Moves result tokens.new (spec.behind_by (class_by byte) from value at byte tokens.old) }
+{
+    match class_of(byte) {
+        Class::Letter | Class::Zero | Class::Digit => Err(refuse(BAD_CHARACTER, at)),
+        _ => {
+            add_number(alloc, tokens, from, value)?;
+            begin(alloc, at, byte)
+        }
+    }
+}
+
+/// A byte behind a number.
+pub fn number(
+    alloc: Global,
+    tokens: &mut Tokens,
+    from: Place,
+    radix: Radix,
+    value: u64,
+    at: Place,
+    byte: u8,
+) -> Result<Mode, Stop>
+    ensures { Moves result tokens.new (spec.number_by (is_digit byte (base_by radix)) from radix value at byte tokens.old) }
+{
+    let digit = value_of(byte);
+    let base = base_of(radix);
+    if digit < base {
+        let Some(front) = value.checked_mul(base) else {
+            return Err(refuse(LARGE_NUMBER, from));
+        };
+        let Some(value) = front.checked_add(digit) else {
+            return Err(refuse(LARGE_NUMBER, from));
+        };
+        Ok(Mode::Number { from, radix, value })
+    } else {
+        behind(alloc, tokens, from, value, at, byte)
+    }
+}
+
+/// A byte behind a zero.
+pub fn zero(
+    alloc: Global,
+    tokens: &mut Tokens,
+    from: Place,
+    at: Place,
+    byte: u8,
+) -> Result<Mode, Stop>
+    ensures { Moves result tokens.new (spec.zero_by (is_digit byte 8) (byte == 120) from at byte tokens.old) }
+{
+    let value = value_of(byte);
+    if value < 8 {
+        Ok(Mode::Number {
+            from,
+            radix: Radix::Octal,
+            value,
+        })
+    } else if byte == b'x' {
+        Ok(Mode::Prefix { from, x: at })
+    } else {
+        behind(alloc, tokens, from, 0, at, byte)
+    }
+}
+
+/// A byte behind a zero and an `x`.
+pub fn prefix(from: Place, x: Place, byte: u8) -> Result<Mode, Stop>
+    ensures { (tokens : AList Token) → Moves result tokens (spec.prefix_by (is_digit byte 16) from x byte tokens) }
+{
+    let value = value_of(byte);
+    if value < 16 {
+        Ok(Mode::Number {
+            from,
+            radix: Radix::Hexadecimal,
+            value,
+        })
+    } else {
+        Err(refuse(BAD_CHARACTER, x))
+    }
+}

@@ -1,0 +1,2 @@
+pub mod PutSoFar
+pub mod ToldInPart
