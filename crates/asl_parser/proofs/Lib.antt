@@ -1,0 +1,10 @@
+pub mod Symbols
+pub mod Ends
+pub mod Complete
+pub mod Sound
+pub mod Stops
+pub mod Deep
+pub mod Walks
+pub mod Outcomes
+pub mod Heights
+pub mod Told

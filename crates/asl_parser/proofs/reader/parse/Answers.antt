@@ -1,0 +1,22 @@
+use Rattle.std.proofs.Common.{◌≡◌, List, Result, subst}
+use Rattle.asl_lexer.specs.declared.token.Token.{Token}
+use Rattle.asl_parser.specs.declared.raw.RawUnit.{RawUnit}
+use Rattle.asl_parser.specs.declared.reader.Syntax.{Syntax}
+use Rattle.asl_parser.specs.Parse.{Answers, outcome}
+use Rattle.asl_parser.proofs.Told.{is_spelled, is_one, is_not_deep, is_fault}
+use Rattle.asl_parser.proofs.reader.parse.Goals as goal
+
+answers_at : (r : Result RawUnit Syntax) (us ts : List Token) → us ≡ ts → Answers r us (outcome us) → Answers r ts (outcome ts)
+answers_at r us ts e a = subst (λ (vs : List Token). Answers r vs (outcome vs)) e a
+
+pub returns-clause-spelled : goal.returns-clause-spelled
+returns-clause-spelled c = is_spelled c.args.tokens.now c.whole.result (answers_at c.whole.result c.as_slice.result.now c.args.tokens.now c.as_slice.ensures c.whole.ensures)
+
+pub returns-clause-one : goal.returns-clause-one
+returns-clause-one c = is_one c.args.tokens.now c.whole.result (answers_at c.whole.result c.as_slice.result.now c.args.tokens.now c.as_slice.ensures c.whole.ensures)
+
+pub returns-clause-not_deep : goal.returns-clause-not_deep
+returns-clause-not_deep c = is_not_deep c.args.tokens.now c.whole.result (answers_at c.whole.result c.as_slice.result.now c.args.tokens.now c.as_slice.ensures c.whole.ensures)
+
+pub returns-clause-fails : goal.returns-clause-fails
+returns-clause-fails c = is_fault c.args.tokens.now c.whole.result (answers_at c.whole.result c.as_slice.result.now c.args.tokens.now c.as_slice.ensures c.whole.ensures)

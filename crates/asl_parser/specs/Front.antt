@@ -1,0 +1,137 @@
+-- What stands open behind a front of a source: each production, cut short where its next part is to come.
+use Rattle.std.specs.Prelude.{◌≡◌, ℕ, ◌≤◌, ◌<◌, Bool, List, [], ◌∷◌, ◌++◌, length, take, Option, Some}
+use Rattle.asl_parser.specs.declared.sign.Sign.TheVariants as s
+use Rattle.asl_parser.specs.declared.sign.Strength.{Strength}
+use Rattle.asl_parser.specs.declared.mark.Spot.{Spot}
+use Rattle.asl_parser.specs.declared.mark.Mark.{Mark}
+use Rattle.asl_parser.specs.declared.raw.Infix.{Infix}
+use Rattle.asl_parser.specs.declared.branch.Branch.{Branch}
+use Rattle.asl_parser.specs.declared.branch.Branches.{Branches}
+use Rattle.asl_parser.specs.declared.frame.Frame.{Frame}
+use Rattle.asl_parser.specs.declared.frame.Frame.TheVariants as f
+use Rattle.asl_parser.specs.declared.frame.State.{State}
+use Rattle.asl_parser.specs.declared.frame.State.TheVariants as st
+use Rattle.asl_parser.specs.Signs.{strength}
+use Rattle.asl_parser.specs.Trees.{Tree, Trees, Group, none, more, absent}
+use Rattle.asl_parser.specs.Trees as t
+use Rattle.asl_parser.specs.Grow.{no_branches, joined, grown, grown_all, grown_in}
+use Rattle.asl_parser.specs.Machine.{room}
+use Rattle.asl_parser.specs.Grammar.{sign, word, expression, arguments, before, argument, member, members, sequence, all, MayFollow, Reads, IsSource}
+
+abbrev pub TakesList : List Frame → Type 0
+TakesList (f.Args p w done ∷ fs) = Unit {0}
+TakesList (f.List p done ∷ fs) = Unit {0}
+TakesList _ = ⊥
+
+-- where an expression may stand
+abbrev pub TakesExpression : List Frame → Type 0
+TakesExpression (f.List p done ∷ fs) = ⊥
+TakesExpression _ = Unit {0}
+
+-- the tokens of the first list, up to those of the second, are a front that leaves these frames open
+pub data Hole : List Frame → List Mark → List Mark → Type 0 where
+  in_source : {done : Trees} {last : Option Tree} {ms rest : List Mark} → Reads (sequence 0 done last) ms rest → MayFollow last rest → Hole (f.Unit (grown_all (all done last)) ∷ []) ms rest
+  in_arguments : {p q : Spot} {path : Bool} {w : List ℕ} {done : Trees} {fs : List Frame} {ms mid rest : List Mark} → TakesExpression fs
+      → Hole fs ms (word p path w ∷ sign q s.LeftParen ∷ mid) → Reads (before done) mid rest → Hole (f.Args p w (grown_all done) ∷ fs) ms rest
+  in_body : {p q : Spot} {path : Bool} {w : List ℕ} {args : Group} {done : Trees} {last : Option Tree} {fs : List Frame} {ms mid then rest : List Mark} → TakesExpression fs
+      → Hole fs ms (word p path w ∷ mid) → Reads (arguments args) mid (sign q s.LeftBrace ∷ then) → Reads (sequence 13 done last) then rest → MayFollow last rest
+      → Hole (f.Body p w (grown_in args) (grown_all (all done last)) ∷ fs) ms rest
+  in_bracket : {q : Spot} {fs : List Frame} {ms rest : List Mark} → 1 ≤ room fs → Hole fs ms (sign q s.LeftParen ∷ rest) → Hole (f.Bracket ∷ fs) ms rest
+  in_index : {p : Spot} {a : Tree} {fs : List Frame} {ms mid rest : List Mark} → 1 ≤ room fs → Hole fs ms mid → Reads (expression 1 a) mid (sign p s.LeftBracket ∷ rest)
+      → Hole (f.Index p (grown a) ∷ fs) ms rest
+  in_prefix : {p : Spot} {o : Infix} {fs : List Frame} {ms rest : List Mark} → 2 ≤ room fs → Hole fs ms (sign p (s.Prefix o) ∷ rest) → Hole (f.Pending 2 2 p o no_branches ∷ fs) ms rest
+  in_infix : {p : Spot} {i : Infix} {o : Strength} {a : Tree} {fs : List Frame} {ms mid rest : List Mark} → strength i ≡ Some o → o.level ≤ room fs → Hole fs ms mid
+      → Reads (expression o.pull a) mid (sign p (s.Binary i) ∷ rest) → Hole (f.Pending o.level o.room p i (joined no_branches (grown a)) ∷ fs) ms rest
+  in_list : {p : Spot} {done : Trees} {fs : List Frame} {ms mid rest : List Mark} → TakesList fs → Hole fs ms (sign p s.LeftBrace ∷ mid) → Reads (members done) mid rest
+      → Hole (f.List p (grown_all done) ∷ fs) ms rest
+
+-- a member of what is open
+abbrev pub Suits : List Frame → Tree → List Mark → List Mark → Type 0
+Suits (f.Args p w done ∷ fs) e mid rest = Reads (argument e) mid rest
+Suits (f.List p done ∷ fs) e mid rest = Reads (member e) mid rest
+Suits _ e mid rest = ⊥
+
+abbrev pub TakesElement : List Frame → Type 0
+TakesElement (f.List p done ∷ fs) = Unit {0}
+TakesElement _ = ⊥
+
+abbrev pub TakesArgument : List Frame → Type 0
+TakesArgument (f.Args p w done ∷ fs) = Unit {0}
+TakesArgument _ = ⊥
+
+-- directly behind the parenthesis that opens arguments
+pub data FirstArgument : List Frame → List Mark → List Mark → Type 0 where
+  first_argument : {p q : Spot} {path : Bool} {w : List ℕ} {fs : List Frame} {ms rest : List Mark} → TakesExpression fs → Hole fs ms (word p path w ∷ sign q s.LeftParen ∷ rest)
+      → FirstArgument (f.Args p w no_branches ∷ fs) ms rest
+
+-- directly behind the brace that opens a list
+pub data FirstElement : List Frame → List Mark → List Mark → Type 0 where
+  first_element : {p : Spot} {fs : List Frame} {ms rest : List Mark} → TakesList fs → Hole fs ms (sign p s.LeftBrace ∷ rest) → FirstElement (f.List p no_branches ∷ fs) ms rest
+
+-- behind a comma of arguments
+pub data NextArgument : List Frame → List Mark → List Mark → Type 0 where
+  next_argument : {p q : Spot} {path : Bool} {w : List ℕ} {done : Trees} {x : Tree} {fs : List Frame} {ms mid rest : List Mark} → TakesExpression fs
+      → Hole fs ms (word p path w ∷ sign q s.LeftParen ∷ mid) → Reads (before (more done x)) mid rest → NextArgument (f.Args p w (grown_all (more done x)) ∷ fs) ms rest
+
+-- an expression, no operator of which is applied yet that one behind it could take a part of
+pub record Ready (n : ℕ) (e : Tree) (fs : List Frame) (ms rest : List Mark) : Type 0 where
+  pub mid : List Mark
+  pub level : ℕ
+  pub hole : Hole fs ms mid
+  pub reads : Reads (expression level e) mid rest
+  pub low : level ≤ n
+  pub fits : level ≤ room fs
+  pub takes : TakesExpression fs
+
+-- the same of what grew of the expression
+pub record Grew (n : ℕ) (b : Branch) (fs : List Frame) (ms rest : List Mark) : Type 0 where
+  pub tree : Tree
+  pub is : grown tree ≡ b
+  pub ready : Ready n tree fs ms rest
+
+pub record Part (b : Branch) (fs : List Frame) (ms rest : List Mark) : Type 0 where
+  pub tree : Tree
+  pub is : grown tree ≡ b
+  pub mid : List Mark
+  pub hole : Hole fs ms mid
+  pub suits : Suits fs tree mid rest
+
+pub record Named (p : Spot) (w : List ℕ) (fs : List Frame) (ms rest : List Mark) : Type 0 where
+  pub path : Bool
+  pub hole : Hole fs ms (word p path w ∷ rest)
+  pub takes : TakesExpression fs
+
+pub record Asked (p : Spot) (w : List ℕ) (args : Branches) (fs : List Frame) (ms rest : List Mark) : Type 0 where
+  pub trees : Trees
+  pub are : grown_all trees ≡ args
+  pub path : Bool
+  pub mid : List Mark
+  pub hole : Hole fs ms (word p path w ∷ mid)
+  pub reads : Reads (arguments (t.given trees)) mid rest
+  pub takes : TakesExpression fs
+
+-- The tokens of the first list, up to those of the second, are a front: what stands open, and what was read last in it.
+abbrev pub Held : State → List Frame → List Mark → List Mark → Type 0
+Held st.Operand fs ms rest = Hole fs ms rest × TakesExpression fs
+Held st.FirstArgument fs ms rest = FirstArgument fs ms rest
+Held st.Argument fs ms rest = NextArgument fs ms rest
+Held st.FirstElement fs ms rest = FirstElement fs ms rest
+Held st.Element fs ms rest = Hole fs ms rest × TakesElement fs
+Held st.Sequence fs ms rest = Hole fs ms rest × TakesExpression fs
+Held (st.Word p w) fs ms rest = Named p w fs ms rest
+Held (st.Called p w args) fs ms rest = Asked p w args fs ms rest
+Held (st.Whole b) fs ms rest = Grew 1 b fs ms rest
+Held (st.Listed b) fs ms rest = Part b fs ms rest
+
+-- The tokens can go on to a source.
+pub record IsFront (ms : List Mark) : Type 0 where
+  pub behind : List Mark
+  pub trees : Trees
+  pub source : IsSource trees (ms ++ behind)
+
+-- The first k tokens are the longest front, and the tokens are no source.
+pub record IsStop (ms : List Mark) (k : ℕ) : Type 0 where
+  pub within : k ≤ length ms
+  pub front : IsFront (take k ms)
+  pub longest : (n : ℕ) → k < n → n ≤ length ms → IsFront (take n ms) → ⊥
+  pub no_source : (trees : Trees) → IsSource trees ms → ⊥

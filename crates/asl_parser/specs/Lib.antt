@@ -1,0 +1,9 @@
+pub mod Signs
+pub mod Marks
+pub mod Trees
+pub mod Grow
+pub mod Machine
+pub mod Grammar
+pub mod Front
+pub mod Depth
+pub mod Parse

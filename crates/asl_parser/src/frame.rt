@@ -1,0 +1,103 @@
+//! What is open, and what was read last.
+ghost use Rattle.std.specs.Prelude.{◌≡◌};
+ghost use Rattle.asl_parser.specs.declared.frame.Refusal.TheVariants.{Memory};
+
+use crate::branch::{Branch, Branches};
+use crate::mark::Spot;
+use crate::raw::Infix;
+use iasl_ports::list::Text;
+use std::alloc::AllocError;
+
+/// What stands open around the place where the reader is, and what was read of it.
+#[derive(Drop)]
+pub enum Frame {
+    /// The source, and its items so far.
+    Unit {
+        done: Branches,
+    },
+    /// An item's arguments, those before the one that comes.
+    Args {
+        spot: Spot,
+        word: Text,
+        done: Branches,
+    },
+    /// An item's body.
+    Body {
+        spot: Spot,
+        word: Text,
+        args: Option<Branches>,
+        done: Branches,
+    },
+    /// An expression in parentheses.
+    Bracket,
+    /// An index, and what it is of.
+    Index {
+        spot: Spot,
+        left: Branch,
+    },
+    /// An operator whose last operand comes: an expression of at most the level `room`.
+    Pending {
+        level: u8,
+        room: u8,
+        spot: Spot,
+        op: Infix,
+        operands: Branches,
+    },
+    /// A list as an argument.
+    List {
+        spot: Spot,
+        done: Branches,
+    },
+}
+
+/// What was read last, and so what may come.
+#[derive(Drop)]
+pub enum State {
+    /// An expression has to begin.
+    Operand,
+    /// Arguments have begun.
+    FirstArgument,
+    /// A comma of arguments was read.
+    Argument,
+    /// A list has begun.
+    FirstElement,
+    /// A comma of a list was read.
+    Element,
+    /// An expression of a body or an item of the source may begin.
+    Sequence,
+    /// A word or path, which may have arguments or a body.
+    Word {
+        spot: Spot,
+        word: Text,
+    },
+    /// A word or path with arguments, which may have a body.
+    Called {
+        spot: Spot,
+        word: Text,
+        args: Branches,
+    },
+    /// An expression that takes neither arguments nor a body.
+    Whole {
+        tree: Branch,
+    },
+    /// A list, or a member of one.
+    Listed {
+        tree: Branch,
+    },
+}
+
+/// Why a step was not made.
+#[derive(Drop)]
+pub enum Refusal {
+    Memory,
+    /// No token such as this may come.
+    Refused,
+}
+
+impl From<AllocError> for Refusal {
+    ghost from_gives = { λ _ e. e ≡ Memory };
+
+    fn from(_error: AllocError) -> Refusal {
+        Refusal::Memory
+    }
+}

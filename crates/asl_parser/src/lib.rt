@@ -1,0 +1,19 @@
+//! The syntax of a source: its tokens to the one tree that spells them.
+#![tactic(auto)]
+
+mod branch;
+mod frame;
+mod levels;
+mod machine;
+mod mark;
+mod nest;
+mod raw;
+mod reader;
+mod sign;
+mod stack;
+
+pub use raw::{Infix, Raw, RawUnit, Raws};
+pub use reader::{Syntax, parse};
+
+#[cfg(test)]
+mod tests;
