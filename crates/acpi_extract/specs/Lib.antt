@@ -1,0 +1,10 @@
+pub mod Lines
+pub mod Rows
+pub mod Next
+pub mod Dump
+pub mod Table
+pub mod Reading
+pub mod Words
+pub mod Due
+pub mod Asking
+pub mod Grammar

@@ -1,0 +1,14 @@
+//! Binary tables out of a text dump.
+#![tactic(auto)]
+
+mod due;
+pub mod dump;
+mod line;
+mod names;
+mod row;
+pub mod run;
+mod signature;
+pub mod table;
+#[cfg(test)]
+mod tests;
+mod words;
