@@ -1,0 +1,3 @@
+pub mod Widths
+pub mod Paths
+pub mod Values

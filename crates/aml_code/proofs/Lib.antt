@@ -1,0 +1,5 @@
+pub mod Rows
+pub mod FrontReads
+pub mod Shortest
+pub mod CodedBytes
+pub mod NameLengths

@@ -1,0 +1,4 @@
+pub mod Bodies
+pub mod Walks
+pub mod Sessions
+pub mod Tables
