@@ -1,0 +1,5 @@
+pub mod Rows
+pub mod Joined
+pub mod NodePieces
+pub mod Sums
+pub mod Tables

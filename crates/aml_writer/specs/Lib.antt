@@ -1,0 +1,4 @@
+pub mod Sizes
+pub mod TermBytes
+pub mod Pieces
+pub mod Written

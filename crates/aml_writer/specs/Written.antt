@@ -1,0 +1,40 @@
+-- What is written of a block.
+use Rattle.std.specs.Prelude.{◌≡◌, ℕ, ◌+◌, ◌<◌, ◌≤◌, Bool, List, [], length, slice_get}
+use Rattle.std.specs.Option.{ForSome}
+use Rattle.iasl_messages.specs.declared.message.Message.{Message}
+use Rattle.asl_tree.specs.declared.program.Block.{Block}
+use Rattle.asl_tree.specs.declared.program.Core.{Core}
+use Rattle.asl_tree.specs.View.{trees_of}
+use Rattle.aml_code.specs.Header.{fields_of, encoded_block, IsHeader}
+use Rattle.aml_code.specs.ByteSession.{IsFaithful}
+use Rattle.aml_writer.specs.TermBytes.{nodes_bytes}
+use Rattle.aml_writer.specs.declared.stop.WriteStop.{WriteStop}
+use Rattle.aml_writer.specs.declared.stop.WriteStop.TheVariants.{TooLong, Memory}
+
+-- 16 MiB
+abbrev pub most_table_bytes : ℕ
+most_table_bytes = 16777216
+
+-- of the block with that number
+abbrev pub AtBlock : Core → ℕ → (Block → Type 0) → Type 0
+AtBlock core number P = ForSome (slice_get core.program.blocks number) P
+
+-- the table of a ready block: its bytes are the block's encoding, no more than 16 MiB; they begin with the
+-- header that the block states; and every session over them is the source's
+pub record IsTableOf (block : Block) (short : Bool) (bytes : List ℕ) : Type 0 where
+  pub encoded : bytes ≡ encoded_block short block
+  pub within : length bytes ≤ most_table_bytes
+  pub header : IsHeader bytes (fields_of block)
+  pub faithful : IsFaithful (trees_of block.terms.items) bytes
+
+-- the one message that a table which is too long gets, at its block
+pub record IsTooLong (block : Block) (short : Bool) (message : Message) : Type 0 where
+  pub passes : most_table_bytes < 36 + length (nodes_bytes short block.terms.items)
+  pub number : message.number ≡ 6080
+  pub place : message.place ≡ block.place
+  pub no_name : message.name ≡ []
+
+-- when a block is not written; want of memory says nothing
+abbrev pub RefusedFor : Block → Bool → WriteStop → Type 0
+RefusedFor block short (TooLong message) = IsTooLong block short message
+RefusedFor block short Memory = Unit {0}
