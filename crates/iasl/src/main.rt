@@ -1,0 +1,39 @@
+//! iasl: an ASL source to its table.
+#![tactic(auto)]
+
+use iasl_ports::delivery::tell;
+use iasl_ports::host::{HostFiles, HostOutputs, HostSink};
+use iasl_tool::run::iasl;
+use std::alloc::AllocError;
+use std::env;
+use std::io::ErrorKind;
+use std::process::ExitCode;
+
+// The words of the call. Where one is not UTF-8 there are none, and to have none is as bad.
+fn given_words(rt: HostRuntime) -> Result<Vec<String>, AllocError> {
+    let mut words = Vec::new(rt.alloc());
+    match env::args(&rt) {
+        Ok(given) => {
+            for word in given.skip(1) {
+                words.push(word)?;
+            }
+            Ok(words)
+        }
+        Err(e) if e.kind() == ErrorKind::OutOfMemory => Err(AllocError),
+        Err(_) => Ok(words),
+    }
+}
+
+fn main(rt: HostRuntime) -> ExitCode {
+    let mut files = HostFiles::new(rt);
+    let mut outs = HostOutputs::new(rt);
+    let mut console = HostSink::new(rt);
+    let status = match given_words(rt) {
+        Ok(words) => iasl(rt.alloc(), &words, &mut files, &mut outs, &mut console),
+        Err(AllocError) => {
+            tell(&mut console, b"iasl: out of memory\n");
+            4
+        }
+    };
+    ExitCode::from(status)
+}

@@ -1,0 +1,10 @@
+pub mod ItemLists
+pub mod Distinct
+pub mod Trees
+pub mod Ready
+pub mod Written
+pub mod LineLengths
+pub mod Results
+pub mod Endings
+pub mod Homes
+pub mod Headline

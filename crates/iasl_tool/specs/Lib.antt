@@ -1,0 +1,12 @@
+pub mod Segments
+pub mod NameSets
+pub mod Forms
+pub mod Items
+pub mod Sources
+pub mod Blocks
+pub mod Lines
+pub mod Compiled
+pub mod Readiness
+pub mod Words
+pub mod Due
+pub mod Headline

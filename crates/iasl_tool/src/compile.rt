@@ -1,0 +1,115 @@
+//! A source to its table, or its errors.
+ghost use Rattle.std.specs.Prelude.{◌≡◌, ◌≤◌, ◌<◌, ◌^◌, ◌++◌, ◌∷◌, [], length, take, All, Some, IfOk, IfErr};
+ghost use Rattle.iasl_ports.specs.Fetched.{most_bytes};
+ghost use Rattle.iasl_messages.specs.Cut.{lines_of};
+ghost use Rattle.asl_tree.specs.View.{trees_of};
+ghost use Rattle.aml_writer.specs.Pieces.{joined_pieces};
+ghost use Rattle.iasl_tool.specs.Blocks.{IsBlockOf};
+ghost use Rattle.iasl_tool.specs.Sources.{source_of as found_source};
+ghost use Rattle.iasl_tool.specs.Readiness.{IsReadySource};
+ghost use Rattle.iasl_tool.specs.Compiled.{compiled, of_source, of_form, of_tokens, unknown as unknown_form};
+
+use crate::block::{block_of, core_of};
+use crate::lines::source_lines;
+use crate::source::{Source, source_of};
+use aml_writer::stop::WriteStop;
+use aml_writer::write::write;
+use asl_lexer::token::Token;
+use asl_lexer::tokens;
+use iasl_messages::message::{Message, Messages, Stage};
+use iasl_messages::place::{LineList, Lines, Piece, Place};
+use iasl_ports::list::{Text, Texts};
+use std::alloc::{AllocError, Global};
+
+/// The number of the message that a form is not known.
+const FORM_IS_UNKNOWN: u16 = 6020;
+
+/// What a source comes to.
+#[derive(Drop)]
+pub(crate) enum Compiled {
+    /// Its table, with the signature.
+    Table { signature: Text, bytes: Text },
+    /// Its errors, of which there is at least one.
+    Refused(Messages),
+}
+
+fn one_message(alloc: Global, message: Message) -> Result<Messages, AllocError>
+    ensures { IfOk result (λ messages. messages ≡ message ∷ []) }
+{
+    let mut messages = Messages::new(alloc);
+    messages.push(message)?;
+    Ok(messages)
+}
+
+// The refusal of a source that is not of the form that is read so far.
+pub(crate) fn unknown(alloc: Global) -> Result<Messages, AllocError>
+    ensures { IfOk result (λ messages. messages ≡ unknown_form ∷ []) }
+{
+    one_message(
+        alloc,
+        Message {
+            number: FORM_IS_UNKNOWN,
+            place: Place {
+                file: 0,
+                line: 1,
+                column: 1,
+            },
+            name: Text::new(alloc),
+        },
+    )
+}
+
+// The bytes of pieces, one after another.
+#[tactic(auto, using(aml_writer::proofs::Sums::joined_more))]
+fn join(alloc: Global, pieces: &[Piece]) -> Result<Text, AllocError>
+    ensures { IfOk result (λ bytes. bytes ≡ joined_pieces pieces.now) }
+{
+    let mut bytes = Vec::new(alloc);
+    for piece in pieces {
+        bytes.extend_from_slice(piece.bytes.as_bytes())?;
+    }
+    Ok(Text::from_vec(bytes))
+}
+
+// The table of a source, or its refusal where that is too long. No listing shows the lines, so its pieces have no text.
+fn write_source(alloc: Global, source: Source) -> Result<Compiled, AllocError>
+    requires { IsReadySource source }
+    ensures { IfOk result (λ compiled. compiled ≡ of_source source) }
+{
+    let signature = Text::from_bytes(alloc, source.signature.as_bytes())?;
+    let core = core_of(alloc, block_of(alloc, source)?)?;
+    let lines = Lines {
+        files: Texts::new(alloc),
+        list: LineList::new(alloc),
+    };
+    match write(alloc, &core, &lines, 0, true) {
+        Ok(pieces) => Ok(Compiled::Table {
+            signature,
+            bytes: join(alloc, pieces.as_slice())?,
+        }),
+        Err(WriteStop::TooLong(message)) => Ok(Compiled::Refused(one_message(alloc, message)?)),
+        Err(WriteStop::Memory) => Err(AllocError),
+    }
+}
+
+fn compile_tokens(alloc: Global, tokens: &[Token]) -> Result<Compiled, AllocError>
+    ensures { IfOk result (λ compiled. compiled ≡ of_form (found_source tokens.now)) }
+{
+    match source_of(alloc, tokens)? {
+        Some(source) => write_source(alloc, source),
+        None => Ok(Compiled::Refused(unknown(alloc)?)),
+    }
+}
+
+/// What a main file comes to.
+pub(crate) fn compile(alloc: Global, file: &str, bytes: &[u8]) -> Result<Compiled, AllocError>
+    requires { length bytes.now ≤ most_bytes }
+    ensures { IfOk result (λ it. it ≡ compiled bytes.now) }
+{
+    let lines = source_lines(alloc, file, bytes)?;
+    match tokens(alloc, &lines) {
+        Ok(tokens) => compile_tokens(alloc, tokens.as_slice()),
+        Err(Stage::Refused(messages)) => Ok(Compiled::Refused(messages)),
+        Err(Stage::Memory) => Err(AllocError),
+    }
+}

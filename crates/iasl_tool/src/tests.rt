@@ -1,0 +1,268 @@
+use crate::run::iasl;
+use iasl_ports::files::MOST_BYTES;
+use iasl_ports::list::Texts;
+use iasl_ports::memory::{MemoryFiles, MemoryOutputs, MemorySink};
+use std::alloc::{AllocError, Global};
+
+const ONE_NAME: &[u8] = b"DefinitionBlock (\"\", \"SSDT\", 2, \"RATTLE\", \"FIRST\", 1)
+{
+    Name (ABCD, 0x12)
+}
+";
+
+// The header of 36 bytes, and then NameOp, the segment and a byte's number.
+const ONE_NAME_TABLE: &[u8] =
+    b"SSDT\x2B\x00\x00\x00\x02\x94RATTLEFIRST\x00\x00\x00\x01\x00\x00\x00INTL\x05\x01\x21\x20\x08ABCD\x0A\x12";
+
+const NOTHING: &[u8] = b"DefinitionBlock (\"\", \"SSDT\", 2, \"RATTLE\", \"FIRST\", 1) { }";
+
+const NOTHING_TABLE: &[u8] =
+    b"SSDT\x24\x00\x00\x00\x02\xC9RATTLEFIRST\x00\x00\x00\x01\x00\x00\x00INTL\x05\x01\x21\x20";
+
+// The same name twice.
+const TWICE: &[u8] = b"DefinitionBlock (\"\", \"SSDT\", 2, \"RATTLE\", \"FIRST\", 1)
+{
+    Name (ABCD, 0x12)
+    Name (ABCD, 0x13)
+}
+";
+
+const STRAY: &[u8] = b"DefinitionBlock (\"\", \"SSDT\", 2, \"RATTLE\", \"FIRST\", 1)
+{
+    @
+}
+";
+
+const USAGE: &[u8] = b"usage: iasl [options] FILE\n";
+
+const UNKNOWN: &[u8] =
+    b"t.asl:1:1: error 6020: unknown operator\n1 errors, 0 warnings, 0 remarks\n";
+
+// A run: words, the text of `t.asl`, and what is told and put.
+#[derive(Drop)]
+struct Row {
+    words: &'static [&'static str],
+    text: &'static [u8],
+    status: u8,
+    names: &'static [&'static [u8]],
+    bodies: &'static [&'static [u8]],
+    told: &'static [u8],
+}
+
+// Which fetch, which put and which write fail.
+#[derive(Drop)]
+struct Failing {
+    fetch: u64,
+    put: u64,
+    write: u64,
+}
+
+#[derive(Drop)]
+struct Ran {
+    status: u8,
+    outs: MemoryOutputs,
+    console: MemorySink,
+}
+
+fn run(alloc: Global, words: &[&str], text: &[u8], failing: &Failing) -> Result<Ran, AllocError> {
+    let mut files = MemoryFiles::new(alloc);
+    files.add("t.asl", text)?;
+    files.fail_at(failing.fetch)?;
+    let mut outs = MemoryOutputs::new(alloc);
+    outs.fail_at(failing.put)?;
+    let mut console = MemorySink::new(alloc, 1000)?;
+    console.fail_at(failing.write)?;
+    let mut given = Vec::new(alloc);
+    for word in words {
+        given.push(String::from_str(alloc, word)?)?;
+    }
+    let status = iasl(alloc, &given, &mut files, &mut outs, &mut console);
+    Ok(Ran {
+        status,
+        outs,
+        console,
+    })
+}
+
+fn are(texts: &Texts, wanted: &[&[u8]]) -> bool {
+    let mut same = texts.len() == wanted.len();
+    for (i, one) in wanted.iter().enumerate() {
+        same = same && texts.get(i).is_some_and(|text| text.as_bytes() == *one);
+    }
+    same
+}
+
+#[test]
+fn words_and_sources(rt: HostRuntime) -> Result<(), AllocError> {
+    let rows = [
+        Row {
+            words: &["t.asl"],
+            text: ONE_NAME,
+            status: 0,
+            names: &[b"t.aml"],
+            bodies: &[ONE_NAME_TABLE],
+            told: b"t.aml: SSDT, 43 bytes\n0 errors, 0 warnings, 0 remarks\n",
+        },
+        Row {
+            words: &["t.asl"],
+            text: NOTHING,
+            status: 0,
+            names: &[b"t.aml"],
+            bodies: &[NOTHING_TABLE],
+            told: b"t.aml: SSDT, 36 bytes\n0 errors, 0 warnings, 0 remarks\n",
+        },
+        Row {
+            words: &["t.asl"],
+            text: TWICE,
+            status: 1,
+            names: &[],
+            bodies: &[],
+            told: UNKNOWN,
+        },
+        Row {
+            words: &["t.asl"],
+            text: STRAY,
+            status: 1,
+            names: &[],
+            bodies: &[],
+            told: b"t.asl:3:5: error 6010: bad character\n1 errors, 0 warnings, 0 remarks\n",
+        },
+        Row {
+            words: &["t.asl"],
+            text: b"",
+            status: 1,
+            names: &[],
+            bodies: &[],
+            told: UNKNOWN,
+        },
+        Row {
+            words: &[],
+            text: ONE_NAME,
+            status: 2,
+            names: &[],
+            bodies: &[],
+            told: USAGE,
+        },
+        Row {
+            words: &["t.asl", "t.asl"],
+            text: ONE_NAME,
+            status: 2,
+            names: &[],
+            bodies: &[],
+            told: USAGE,
+        },
+        Row {
+            words: &["-x"],
+            text: ONE_NAME,
+            status: 2,
+            names: &[],
+            bodies: &[],
+            told: USAGE,
+        },
+        Row {
+            words: &["-x.asl"],
+            text: ONE_NAME,
+            status: 2,
+            names: &[],
+            bodies: &[],
+            told: USAGE,
+        },
+        Row {
+            words: &["t.txt"],
+            text: ONE_NAME,
+            status: 2,
+            names: &[],
+            bodies: &[],
+            told: USAGE,
+        },
+        Row {
+            words: &["t.ASL"],
+            text: ONE_NAME,
+            status: 2,
+            names: &[],
+            bodies: &[],
+            told: USAGE,
+        },
+        Row {
+            words: &[".asl"],
+            text: ONE_NAME,
+            status: 2,
+            names: &[],
+            bodies: &[],
+            told: USAGE,
+        },
+        Row {
+            words: &["u.asl"],
+            text: ONE_NAME,
+            status: 3,
+            names: &[],
+            bodies: &[],
+            told: b"iasl: file fault\n",
+        },
+    ];
+    let none = Failing {
+        fetch: 9,
+        put: 9,
+        write: 9,
+    };
+    for row in &rows {
+        let ran = run(rt.alloc(), row.words, row.text, &none)?;
+        assert_eq!(rt; ran.status, row.status);
+        assert!(rt; are(ran.outs.names(), row.names));
+        assert!(rt; are(ran.outs.bodies(), row.bodies));
+        assert!(rt; ran.console.as_bytes() == row.told);
+    }
+    Ok(())
+}
+
+#[test]
+fn failing_ports(rt: HostRuntime) -> Result<(), AllocError> {
+    let rows = [
+        (
+            Failing {
+                fetch: 1,
+                put: 9,
+                write: 9,
+            },
+            0,
+        ),
+        (
+            Failing {
+                fetch: 9,
+                put: 1,
+                write: 9,
+            },
+            1,
+        ),
+        (
+            Failing {
+                fetch: 9,
+                put: 9,
+                write: 1,
+            },
+            1,
+        ),
+    ];
+    for (failing, files) in &rows {
+        let ran = run(rt.alloc(), &["t.asl"], ONE_NAME, failing)?;
+        assert_eq!(rt; ran.status, 3);
+        assert_eq!(rt; ran.outs.names().len(), *files);
+        assert!(rt; ran.console.as_bytes() == b"iasl: file fault\n".as_slice());
+    }
+    Ok(())
+}
+
+#[test]
+fn too_large(rt: HostRuntime) -> Result<(), AllocError> {
+    let text = vec![in rt.alloc(); b'\n'; MOST_BYTES + 1]?;
+    let none = Failing {
+        fetch: 9,
+        put: 9,
+        write: 9,
+    };
+    let ran = run(rt.alloc(), &["t.asl"], &text, &none)?;
+    assert_eq!(rt; ran.status, 1);
+    assert_eq!(rt; ran.outs.names().len(), 0);
+    assert!(rt; ran.console.as_bytes() == UNKNOWN);
+    Ok(())
+}
