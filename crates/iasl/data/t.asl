@@ -1,4 +1,4 @@
-DefinitionBlock ("", "SSDT", 2, "RATTLE", "FIRST", 1)
+DefinitionBlock ("", "SSDT", 2, "OEMX00", "TABLE001", 1)
 {
-    Name (ABCD, 0x12)
+    Name (X, 5)
 }

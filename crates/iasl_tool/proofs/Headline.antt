@@ -17,12 +17,14 @@ use Rattle.iasl_tool.specs.declared.source.Source.{Source}
 use Rattle.iasl_tool.specs.declared.compile.Compiled.TheVariants.{Table, Refused}
 use Rattle.iasl_tool.specs.Lines.{source_lines}
 use Rattle.iasl_tool.specs.Blocks.{source_fields, items_trees}
-use Rattle.iasl_tool.specs.Compiled.{compiled, of_source, of_form, of_tokens, source_table, unknown, too_long}
+use Rattle.iasl_tool.specs.Compiled.{compiled, of_source, of_form, of_outcome, of_tokens, source_table, unknown, too_long}
 use Rattle.iasl_tool.specs.Readiness.{IsReadySource}
 use Rattle.iasl_tool.specs.Words.{Request, request_of}
 use Rattle.iasl_tool.specs.Due.{success, refusal, answer_to_compiled, answer_to_text, answer_to_request, answer_for}
 use Rattle.iasl_tool.specs.Headline.{NamesSource, PutsFaithfulTable, WritesItsTable}
 use Rattle.iasl_tool.specs.Sources.{source_of}
+use Rattle.asl_parser.specs.declared.raw.Raw.{Raw}
+use Rattle.asl_parser.specs.Parse.{Outcome, outcome, read, stopped, sunk, tall}
 use Rattle.iasl_tool.proofs.Ready.{ready_of}
 use Rattle.iasl_ports.specs.Gained.{Gains}
 use Rattle.asl_lexer.specs.declared.token.Token.{Token}
@@ -36,7 +38,7 @@ table_of source within =
 answer_is : (words : List (List ℕ)) (told : List Named) (request : Request) (source : Source) → NamesSource words told request source → answer_for words told ≡ Some (success request.stem source.signature (source_table source))
 answer_is words told request source h =
     let lt : nat_lt most_bytes (length h.text) ≡ false = le-ltb most_bytes (length h.text) h.text_within in
-    let table : compiled h.text ≡ Table source.signature (source_table source) = ap of_tokens h.tokens_are ∙ ap of_form h.source_is ∙ table_of source h.table_within in
+    let table : compiled h.text ≡ Table source.signature (source_table source) = ap (of_tokens (source_lines h.text)) h.tokens_are ∙ ap (of_outcome (source_lines h.text) h.tokens) h.tokens_spell ∙ ap of_form h.source_is ∙ table_of source h.table_within in
     ap (λ r. answer_to_request r told) h.words_are
     ∙ ap (option_map (answer_to_text request)) h.text_is
     ∙ ap (λ c. Some (cond c (refusal request.file (unknown ∷ [])) (answer_to_compiled request (compiled h.text)))) lt
@@ -65,8 +67,8 @@ record FoundSource (words : List (List ℕ)) (told : List Named) : Type 0 where
   names : NamesSource words told request source
 
 module _ (words : List (List ℕ)) (told : List Named) where
-  by_table : (request : Request) (text : List ℕ) (tokens : List Token) (source : Source) (c : Bool) → request_of words ≡ Some request → find_file told request.file ≡ Some text → nat_lt most_bytes (length text) ≡ false → tokens_of (source_lines text) ≡ Ok tokens → source_of tokens ≡ Some source → nat_le (length (source_table source)) most_table_bytes ≡ c → status_of (Some (answer_to_compiled request (if c then Table source.signature (source_table source) else Refused (too_long source.place ∷ [])))) ≡ 0 → FoundSource words told
-  by_table request text tokens source true ew ef el et es ec h = record {
+  by_table : (request : Request) (text : List ℕ) (tokens : List Token) (source : Source) (c : Bool) → request_of words ≡ Some request → find_file told request.file ≡ Some text → nat_lt most_bytes (length text) ≡ false → tokens_of (source_lines text) ≡ Ok tokens → (items : List Raw) → outcome tokens ≡ read items → source_of tokens ≡ Some source → nat_le (length (source_table source)) most_table_bytes ≡ c → status_of (Some (answer_to_compiled request (if c then Table source.signature (source_table source) else Refused (too_long source.place ∷ [])))) ≡ 0 → FoundSource words told
+  by_table request text tokens source true ew ef el et items eo es ec h = record {
     request = request;
     source = source;
     names = record {
@@ -76,19 +78,27 @@ module _ (words : List (List ℕ)) (told : List Named) where
       text_is = ef;
       text_within = grind (arith, nat_tests);
       tokens_are = et;
+      items = items;
+      tokens_spell = eo;
       source_is = es;
       table_within = grind (arith, nat_tests);
     };
   }
-  by_table request text tokens source false ew ef el et es ec h = absurd (omega (arith, h))
+  by_table request text tokens source false ew ef el et items eo es ec h = absurd (omega (arith, h))
 
-  by_source : (request : Request) (text : List ℕ) (tokens : List Token) (o : Option Source) → request_of words ≡ Some request → find_file told request.file ≡ Some text → nat_lt most_bytes (length text) ≡ false → tokens_of (source_lines text) ≡ Ok tokens → source_of tokens ≡ o → status_of (Some (answer_to_compiled request (of_form o))) ≡ 0 → FoundSource words told
-  by_source request text tokens None ew ef el et es h = absurd (omega (arith, h))
-  by_source request text tokens (Some source) ew ef el et es h = by_table request text tokens source (nat_le (length (source_table source)) most_table_bytes) ew ef el et es refl h
+  by_source : (request : Request) (text : List ℕ) (tokens : List Token) (o : Option Source) → request_of words ≡ Some request → find_file told request.file ≡ Some text → nat_lt most_bytes (length text) ≡ false → tokens_of (source_lines text) ≡ Ok tokens → (items : List Raw) → outcome tokens ≡ read items → source_of tokens ≡ o → status_of (Some (answer_to_compiled request (of_form o))) ≡ 0 → FoundSource words told
+  by_source request text tokens None ew ef el et items eo es h = absurd (omega (arith, h))
+  by_source request text tokens (Some source) ew ef el et items eo es h = by_table request text tokens source (nat_le (length (source_table source)) most_table_bytes) ew ef el et items eo es refl h
 
-  by_tokens : (request : Request) (text : List ℕ) (r : Result (List Token) Fault) → request_of words ≡ Some request → find_file told request.file ≡ Some text → nat_lt most_bytes (length text) ≡ false → tokens_of (source_lines text) ≡ r → status_of (Some (answer_to_compiled request (of_tokens r))) ≡ 0 → FoundSource words told
+  by_outcome : (request : Request) (text : List ℕ) (tokens : List Token) (o : Outcome) → request_of words ≡ Some request → find_file told request.file ≡ Some text → nat_lt most_bytes (length text) ≡ false → tokens_of (source_lines text) ≡ Ok tokens → outcome tokens ≡ o → status_of (Some (answer_to_compiled request (of_outcome (source_lines text) tokens o))) ≡ 0 → FoundSource words told
+  by_outcome request text tokens (read items) ew ef el et eo h = by_source request text tokens (source_of tokens) ew ef el et items eo refl h
+  by_outcome request text tokens (stopped rest) ew ef el et eo h = absurd (omega (arith, h))
+  by_outcome request text tokens (sunk rest) ew ef el et eo h = absurd (omega (arith, h))
+  by_outcome request text tokens (tall number) ew ef el et eo h = absurd (omega (arith, h))
+
+  by_tokens : (request : Request) (text : List ℕ) (r : Result (List Token) Fault) → request_of words ≡ Some request → find_file told request.file ≡ Some text → nat_lt most_bytes (length text) ≡ false → tokens_of (source_lines text) ≡ r → status_of (Some (answer_to_compiled request (of_tokens (source_lines text) r))) ≡ 0 → FoundSource words told
   by_tokens request text (Err fault) ew ef el et h = absurd (omega (arith, h))
-  by_tokens request text (Ok tokens) ew ef el et h = by_source request text tokens (source_of tokens) ew ef el et refl h
+  by_tokens request text (Ok tokens) ew ef el et h = by_outcome request text tokens (outcome tokens) ew ef el et refl h
 
   by_size : (request : Request) (text : List ℕ) (c : Bool) → request_of words ≡ Some request → find_file told request.file ≡ Some text → nat_lt most_bytes (length text) ≡ c → status_of (Some (cond c (refusal request.file (unknown ∷ [])) (answer_to_compiled request (compiled text)))) ≡ 0 → FoundSource words told
   by_size request text true ew ef el h = absurd (omega (arith, h))

@@ -1,5 +1,5 @@
 -- The messages of a main file are in file 0.
-use Rattle.std.proofs.Common.{◌≡◌, ℕ, ◌+◌, Bool, true, false, List, [], ◌∷◌, ◌++◌, length, drop, Option, Some, None, Result, Ok, Err, refl, sym, ◌∙◌, subst, arith}
+use Rattle.std.proofs.Common.{◌≡◌, ℕ, suc, ◌+◌, ◌-◌, Bool, true, false, List, [], ◌∷◌, ◌++◌, length, drop, Option, Some, None, Result, Ok, Err, refl, sym, ◌∙◌, subst, arith}
 use Rattle.std.specs.Prelude.{nat_le, if◌then◌else◌}
 use Rattle.std.specs.List.{All}
 use Rattle.iasl_messages.specs.declared.place.Place.{Place}
@@ -30,7 +30,11 @@ use Rattle.iasl_tool.specs.Lines.{line_of, line_list, source_lines}
 use Rattle.iasl_tool.specs.Forms.{fits}
 use Rattle.iasl_tool.specs.Items.{items_of}
 use Rattle.iasl_tool.specs.Sources.{with_token, source_from, source_of, are_distinct}
-use Rattle.iasl_tool.specs.Compiled.{compiled, of_source, of_form, of_tokens, unknown, too_long, source_table}
+use Rattle.iasl_tool.specs.Compiled.{compiled, of_source, of_form, of_outcome, of_tokens, unknown, too_long, source_table}
+use Rattle.iasl_tool.specs.Syntax.{first_place, place_behind, token_place, not_source, too_deep}
+use Rattle.iasl_messages.specs.declared.place.Line.{Line}
+use Rattle.asl_parser.specs.Parse.{Outcome, outcome, read, stopped, sunk, tall}
+use Rattle.std.proofs.lemmas.Option.{get_or_from_slice_get, slice_get_within}
 
 abbrev Home : Mark → Type 0
 Home m = m.place.file ≡ 0
@@ -251,13 +255,38 @@ of_form_home : (form : Option Source) → SourceHome form → CompiledHome (of_f
 of_form_home None h = one_home unknown refl
 of_form_home (Some source) h = of_source_home source h
 
+-- ---- tokens that are no source
+
+token_home : (tokens : List Token) (number : ℕ) (token : Token) → All TokenHome tokens → slice_get tokens number ≡ Some token → TokenHome token
+token_home tokens number token h e = subst TokenHome (get_or_from_slice_get tokens number token token e) (h number token (slice_get_within tokens number token e))
+
+behind_home : (lines : List Line) (tokens : List Token) → All TokenHome tokens → (choose (slice_get tokens (length tokens - 1)) first_place (place_behind lines)).file ≡ 0
+behind_home lines tokens h = by_last (slice_get tokens (length tokens - 1)) refl
+  where
+    by_last : (o : Option Token) → slice_get tokens (length tokens - 1) ≡ o → (choose o first_place (place_behind lines)).file ≡ 0
+    by_last None e = refl
+    by_last (Some token) e = token_home tokens (length tokens - 1) token h e
+
+place_home : (lines : List Line) (tokens : List Token) (number : ℕ) → All TokenHome tokens → (token_place lines tokens number).file ≡ 0
+place_home lines tokens number h = by_token (slice_get tokens number) refl (behind_home lines tokens h)
+  where
+    by_token : (o : Option Token) → slice_get tokens number ≡ o → (choose (slice_get tokens (length tokens - 1)) first_place (place_behind lines)).file ≡ 0 → (choose o (choose (slice_get tokens (length tokens - 1)) first_place (place_behind lines)) (λ token. token.place)).file ≡ 0
+    by_token None e behind = behind
+    by_token (Some token) e behind = token_home tokens number token h e
+
+outcome_home : (lines : List Line) (tokens : List Token) (o : Outcome) → All TokenHome tokens → CompiledHome (of_outcome lines tokens o)
+outcome_home lines tokens (read items) h = of_form_home (source_of tokens) (source_home tokens h)
+outcome_home lines tokens (stopped rest) h = one_home (not_source lines tokens (length tokens - length rest)) (place_home lines tokens (length tokens - length rest) h)
+outcome_home lines tokens (sunk rest) h = one_home (too_deep lines tokens (length tokens - suc (length rest))) (place_home lines tokens (length tokens - suc (length rest)) h)
+outcome_home lines tokens (tall number) h = one_home (too_deep lines tokens number) (place_home lines tokens number h)
+
 compiled_home : (bytes : List ℕ) → CompiledHome (compiled bytes)
 compiled_home bytes = by_tokens (tokens_of (source_lines bytes)) refl
   where
-    by_tokens : (r : Result (List Token) Fault) → tokens_of (source_lines bytes) ≡ r → CompiledHome (of_tokens r)
+    by_tokens : (r : Result (List Token) Fault) → tokens_of (source_lines bytes) ≡ r → CompiledHome (of_tokens (source_lines bytes) r)
     by_tokens (Err fault) e = one_home (message_of fault) (fault_home bytes fault e)
     by_tokens (Ok tokens) e =
-        of_form_home (source_of tokens) (source_home tokens (tokens_home (joined (source_lines bytes)) (joined_home 1 (lines_of bytes)) (tokens_are_cut (source_lines bytes) tokens e)))
+        outcome_home (source_lines bytes) tokens (outcome tokens) (tokens_home (joined (source_lines bytes)) (joined_home 1 (lines_of bytes)) (tokens_are_cut (source_lines bytes) tokens e))
 
 -- each message that refuses a main file is in file 0
 pub refused_home : (bytes : List ℕ) (it : Compiled) (messages : List Message) → it ≡ compiled bytes → it ≡ Refused messages → All (λ m. m.place.file ≡ 0) messages

@@ -8,3 +8,5 @@ pub mod Results
 pub mod Endings
 pub mod Homes
 pub mod Headline
+pub mod Quotes
+pub mod Outcomes

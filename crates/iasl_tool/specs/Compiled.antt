@@ -1,6 +1,7 @@
 -- What a source comes to: its table, or its errors.
-use Rattle.std.specs.Prelude.{ℕ, nat_le, if◌then◌else◌, List, [], ◌∷◌, length, true, Option, Some, None, Result, Ok, Err}
+use Rattle.std.specs.Prelude.{ℕ, suc, ◌-◌, nat_le, if◌then◌else◌, List, [], ◌∷◌, length, true, Option, Some, None, Result, Ok, Err}
 use Rattle.iasl_messages.specs.declared.place.Place.{Place}
+use Rattle.iasl_messages.specs.declared.place.Line.{Line}
 use Rattle.iasl_messages.specs.declared.message.Message.{Message}
 use Rattle.asl_lexer.specs.declared.token.Token.{Token}
 use Rattle.asl_lexer.specs.declared.mode.Fault.{Fault}
@@ -14,6 +15,8 @@ use Rattle.iasl_tool.specs.declared.compile.Compiled.TheVariants.{Table, Refused
 use Rattle.iasl_tool.specs.Lines.{source_lines}
 use Rattle.iasl_tool.specs.Blocks.{source_fields, items_trees}
 use Rattle.iasl_tool.specs.Sources.{source_of}
+use Rattle.iasl_tool.specs.Syntax.{not_source, too_deep}
+use Rattle.asl_parser.specs.Parse.{Outcome, outcome, read, stopped, sunk, tall}
 
 -- a source that is not of the form that is read so far: 6020 at the first character
 abbrev pub unknown : Message
@@ -36,11 +39,18 @@ abbrev pub of_form : Option Source → Compiled
 of_form None = Refused (unknown ∷ [])
 of_form (Some source) = of_source source
 
--- the first fault of the tokens, or what the source that they are comes to
-abbrev pub of_tokens : Result (List Token) Fault → Compiled
-of_tokens (Err fault) = Refused (message_of fault ∷ [])
-of_tokens (Ok tokens) = of_form (source_of tokens)
+-- tokens that are a source, or the place where they stop being one or nest too deep
+abbrev pub of_outcome : List Line → List Token → Outcome → Compiled
+of_outcome lines tokens (read items) = of_form (source_of tokens)
+of_outcome lines tokens (stopped rest) = Refused (not_source lines tokens (length tokens - length rest) ∷ [])
+of_outcome lines tokens (sunk rest) = Refused (too_deep lines tokens (length tokens - suc (length rest)) ∷ [])
+of_outcome lines tokens (tall number) = Refused (too_deep lines tokens number ∷ [])
+
+-- the first fault of the tokens, or what they come to
+abbrev pub of_tokens : List Line → Result (List Token) Fault → Compiled
+of_tokens lines (Err fault) = Refused (message_of fault ∷ [])
+of_tokens lines (Ok tokens) = of_outcome lines tokens (outcome tokens)
 
 -- what the bytes of a main file come to
 abbrev pub compiled : List ℕ → Compiled
-compiled bytes = of_tokens (tokens_of (source_lines bytes))
+compiled bytes = of_tokens (source_lines bytes) (tokens_of (source_lines bytes))

@@ -5,6 +5,8 @@ use Rattle.iasl_ports.specs.Fetched.{find_file, most_bytes}
 use Rattle.iasl_ports.specs.Delivery.{due_of, status_of}
 use Rattle.asl_lexer.specs.declared.token.Token.{Token}
 use Rattle.asl_lexer.specs.Marks.{tokens_of}
+use Rattle.asl_parser.specs.declared.raw.Raw.{Raw}
+use Rattle.asl_parser.specs.Parse.{outcome, read}
 use Rattle.aml_code.specs.ByteSession.{IsFaithful}
 use Rattle.aml_code.specs.Header.{IsHeader}
 use Rattle.aml_writer.specs.Written.{most_table_bytes}
@@ -24,6 +26,8 @@ pub record NamesSource (words : List (List ℕ)) (told : List Named) (request : 
   pub text_is : find_file told request.file ≡ Some text
   pub text_within : length text ≤ most_bytes
   pub tokens_are : tokens_of (source_lines text) ≡ Ok tokens
+  pub items : List Raw
+  pub tokens_spell : outcome tokens ≡ read items
   pub source_is : source_of tokens ≡ Some source
   pub table_within : length (source_table source) ≤ most_table_bytes
 

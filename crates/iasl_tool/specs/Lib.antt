@@ -5,6 +5,7 @@ pub mod Items
 pub mod Sources
 pub mod Blocks
 pub mod Lines
+pub mod Syntax
 pub mod Compiled
 pub mod Readiness
 pub mod Words

@@ -7,15 +7,20 @@ ghost use Rattle.aml_writer.specs.Pieces.{joined_pieces};
 ghost use Rattle.iasl_tool.specs.Blocks.{IsBlockOf};
 ghost use Rattle.iasl_tool.specs.Sources.{source_of as found_source};
 ghost use Rattle.iasl_tool.specs.Readiness.{IsReadySource};
-ghost use Rattle.iasl_tool.specs.Compiled.{compiled, of_source, of_form, of_tokens, unknown as unknown_form};
+ghost use Rattle.asl_parser.specs.Parse.{outcome};
+ghost use Rattle.iasl_tool.specs.Syntax.{at_token};
+ghost use Rattle.iasl_tool.specs.declared.compile.Compiled.TheVariants.{Refused};
+ghost use Rattle.iasl_tool.specs.Compiled.{compiled, of_source, of_form, of_outcome, of_tokens, unknown as unknown_form};
 
 use crate::block::{block_of, core_of};
 use crate::lines::source_lines;
 use crate::source::{Source, source_of};
+use crate::syntax::token_place;
 use aml_writer::stop::WriteStop;
 use aml_writer::write::write;
-use asl_lexer::token::Token;
+use asl_lexer::token::{Token, Tokens};
 use asl_lexer::tokens;
+use asl_parser::{Syntax, parse};
 use iasl_messages::message::{Message, Messages, Stage};
 use iasl_messages::place::{LineList, Lines, Piece, Place};
 use iasl_ports::list::{Text, Texts};
@@ -23,6 +28,15 @@ use std::alloc::{AllocError, Global};
 
 /// The number of the message that a form is not known.
 const FORM_IS_UNKNOWN: u16 = 6020;
+
+/// The number of the message that tokens are no source.
+const NOT_SOURCE: u16 = 6015;
+
+/// The number of the message that a source nests too deep.
+const TOO_DEEP: u16 = 6016;
+
+/// The most tokens that are numbered.
+const MOST_TOKENS: usize = 4_294_967_295;
 
 /// What a source comes to.
 #[derive(Drop)]
@@ -92,12 +106,47 @@ fn write_source(alloc: Global, source: Source) -> Result<Compiled, AllocError>
     }
 }
 
-fn compile_tokens(alloc: Global, tokens: &[Token]) -> Result<Compiled, AllocError>
+fn compile_form(alloc: Global, tokens: &[Token]) -> Result<Compiled, AllocError>
     ensures { IfOk result (λ compiled. compiled ≡ of_form (found_source tokens.now)) }
 {
     match source_of(alloc, tokens)? {
         Some(source) => write_source(alloc, source),
         None => Ok(Compiled::Refused(unknown(alloc)?)),
+    }
+}
+
+// The refusal with this message at the token of that number.
+fn refuse_at(
+    alloc: Global,
+    lines: &Lines,
+    tokens: &Tokens,
+    number: u16,
+    token: u32,
+) -> Result<Compiled, AllocError>
+    ensures { IfOk result (λ compiled. compiled ≡ Refused (at_token number lines.now.list tokens.now token ∷ [])) }
+{
+    let place = token_place(lines.list.as_slice(), tokens.as_slice(), token);
+    let name = Text::new(alloc);
+    Ok(Compiled::Refused(one_message(
+        alloc,
+        Message {
+            number,
+            place,
+            name,
+        },
+    )?))
+}
+
+#[tactic(auto, using(crate::proofs::Outcomes::read_is, crate::proofs::Outcomes::stop_is, crate::proofs::Outcomes::deep_is))]
+fn compile_tokens(alloc: Global, lines: &Lines, tokens: &Tokens) -> Result<Compiled, AllocError>
+    requires { length tokens.now < 2 ^ 32 }
+    ensures { IfOk result (λ compiled. compiled ≡ of_outcome lines.now.list tokens.now (outcome tokens.now)) }
+{
+    match parse(alloc, tokens) {
+        Ok(_) => compile_form(alloc, tokens.as_slice()),
+        Err(Syntax::Stop { token }) => refuse_at(alloc, lines, tokens, NOT_SOURCE, token),
+        Err(Syntax::TooDeep { token }) => refuse_at(alloc, lines, tokens, TOO_DEEP, token),
+        Err(Syntax::Memory) => Err(AllocError),
     }
 }
 
@@ -108,7 +157,9 @@ pub(crate) fn compile(alloc: Global, file: &str, bytes: &[u8]) -> Result<Compile
 {
     let lines = source_lines(alloc, file, bytes)?;
     match tokens(alloc, &lines) {
-        Ok(tokens) => compile_tokens(alloc, tokens.as_slice()),
+        // (no more tokens have room)
+        Ok(tokens) if tokens.len() > MOST_TOKENS => Err(AllocError),
+        Ok(tokens) => compile_tokens(alloc, &lines, &tokens),
         Err(Stage::Refused(messages)) => Ok(Compiled::Refused(messages)),
         Err(Stage::Memory) => Err(AllocError),
     }

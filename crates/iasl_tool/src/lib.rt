@@ -10,6 +10,7 @@ mod lines;
 pub mod run;
 mod segments;
 pub mod source;
+mod syntax;
 #[cfg(test)]
 mod tests;
 mod words;

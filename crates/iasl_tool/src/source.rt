@@ -133,7 +133,7 @@ fn low_u8(number: u64) -> u8
     (number % 256) as u8
 }
 
-fn low_u32(number: u64) -> u32
+pub(crate) fn low_u32(number: u64) -> u32
     ensures { result ≡ number % 2 ^ 32 }
 {
     (number % 4_294_967_296) as u32

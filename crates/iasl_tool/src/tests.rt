@@ -4,34 +4,79 @@ use iasl_ports::list::Texts;
 use iasl_ports::memory::{MemoryFiles, MemoryOutputs, MemorySink};
 use std::alloc::{AllocError, Global};
 
-const ONE_NAME: &[u8] = b"DefinitionBlock (\"\", \"SSDT\", 2, \"RATTLE\", \"FIRST\", 1)
+const ONE_NAME: &[u8] = b"DefinitionBlock (\"\", \"SSDT\", 2, \"OEMX00\", \"TABLE001\", 1)
 {
-    Name (ABCD, 0x12)
+    Name (X, 5)
 }
 ";
 
 // The header of 36 bytes, and then NameOp, the segment and a byte's number.
 const ONE_NAME_TABLE: &[u8] =
-    b"SSDT\x2B\x00\x00\x00\x02\x94RATTLEFIRST\x00\x00\x00\x01\x00\x00\x00INTL\x05\x01\x21\x20\x08ABCD\x0A\x12";
+    b"SSDT\x2B\x00\x00\x00\x02\xF8OEMX00TABLE001\x01\x00\x00\x00INTL\x05\x01\x21\x20\x08X___\x0A\x05";
 
-const NOTHING: &[u8] = b"DefinitionBlock (\"\", \"SSDT\", 2, \"RATTLE\", \"FIRST\", 1) { }";
-
-const NOTHING_TABLE: &[u8] =
-    b"SSDT\x24\x00\x00\x00\x02\xC9RATTLEFIRST\x00\x00\x00\x01\x00\x00\x00INTL\x05\x01\x21\x20";
-
-// The same name twice.
-const TWICE: &[u8] = b"DefinitionBlock (\"\", \"SSDT\", 2, \"RATTLE\", \"FIRST\", 1)
+const ONE_METHOD: &[u8] = b"DefinitionBlock (\"\", \"SSDT\", 2, \"OEMX00\", \"TABLE001\", 1)
 {
-    Name (ABCD, 0x12)
-    Name (ABCD, 0x13)
+    Method (M, 0) {Return (1)}
 }
 ";
 
-const STRAY: &[u8] = b"DefinitionBlock (\"\", \"SSDT\", 2, \"RATTLE\", \"FIRST\", 1)
+const ONE_METHOD_TABLE: &[u8] =
+    b"SSDT\x2D\x00\x00\x00\x02\x57OEMX00TABLE001\x01\x00\x00\x00INTL\x05\x01\x21\x20\x14\x08M___\x00\xA4\x01";
+
+const NOTHING: &[u8] = b"DefinitionBlock (\"\", \"SSDT\", 2, \"OEMX00\", \"TABLE001\", 1)
+{
+}
+";
+
+const NOTHING_TABLE: &[u8] =
+    b"SSDT\x24\x00\x00\x00\x02\x8BOEMX00TABLE001\x01\x00\x00\x00INTL\x05\x01\x21\x20";
+
+// The same name twice.
+const TWICE: &[u8] = b"DefinitionBlock (\"\", \"SSDT\", 2, \"OEMX00\", \"TABLE001\", 1)
+{
+    Name (X, 5)
+    Name (X, 6)
+}
+";
+
+// A source, but not of the form.
+const ADDS: &[u8] = b"DefinitionBlock (\"\", \"SSDT\", 2, \"OEMX00\", \"TABLE001\", 1)
+{
+    Method (M, 0) { Return (Add (1, 2)) }
+}
+";
+
+const STRAY: &[u8] = b"DefinitionBlock (\"\", \"SSDT\", 2, \"OEMX00\", \"TABLE001\", 1)
 {
     @
 }
 ";
+
+// A bracket more than is open.
+const CLOSES_TWICE: &[u8] = b"DefinitionBlock (\"\", \"SSDT\", 2, \"OEMX00\", \"TABLE001\", 1)
+{
+    Name (X, 5))
+}
+";
+
+// A bracket that is still open.
+const STAYS_OPEN: &[u8] = b"DefinitionBlock (\"\", \"SSDT\", 2, \"OEMX00\", \"TABLE001\", 1)
+{
+    Name (X, 5
+}
+";
+
+// The end is missed behind a string, and behind a number.
+const ENDS_AT_TEXT: &[u8] = b"DefinitionBlock (\"\", \"SSDT\", 2, \"OEMX00\", \"TABLE001\", 1)
+{
+    Name (X, \"a\\\"b\"  // and no more
+";
+
+const ENDS_AT_NUMBER: &[u8] = b"DefinitionBlock (\"\", \"SSDT\", 2, \"OEMX00\", \"TABLE001\", 1)
+{
+    Name (X, 0x12";
+
+const NO_TEXT: &[u8] = b"\x7FELF\x02\x01\x01\x00\xFF";
 
 const USAGE: &[u8] = b"usage: iasl [options] FILE\n";
 
@@ -105,6 +150,14 @@ fn words_and_sources(rt: HostRuntime) -> Result<(), AllocError> {
         },
         Row {
             words: &["t.asl"],
+            text: ONE_METHOD,
+            status: 0,
+            names: &[b"t.aml"],
+            bodies: &[ONE_METHOD_TABLE],
+            told: b"t.aml: SSDT, 45 bytes\n0 errors, 0 warnings, 0 remarks\n",
+        },
+        Row {
+            words: &["t.asl"],
             text: NOTHING,
             status: 0,
             names: &[b"t.aml"],
@@ -118,6 +171,54 @@ fn words_and_sources(rt: HostRuntime) -> Result<(), AllocError> {
             names: &[],
             bodies: &[],
             told: UNKNOWN,
+        },
+        Row {
+            words: &["t.asl"],
+            text: ADDS,
+            status: 1,
+            names: &[],
+            bodies: &[],
+            told: UNKNOWN,
+        },
+        Row {
+            words: &["t.asl"],
+            text: CLOSES_TWICE,
+            status: 1,
+            names: &[],
+            bodies: &[],
+            told: b"t.asl:3:16: error 6015: syntax\n1 errors, 0 warnings, 0 remarks\n",
+        },
+        Row {
+            words: &["t.asl"],
+            text: STAYS_OPEN,
+            status: 1,
+            names: &[],
+            bodies: &[],
+            told: b"t.asl:4:1: error 6015: syntax\n1 errors, 0 warnings, 0 remarks\n",
+        },
+        Row {
+            words: &["t.asl"],
+            text: ENDS_AT_TEXT,
+            status: 1,
+            names: &[],
+            bodies: &[],
+            told: b"t.asl:3:20: error 6015: syntax\n1 errors, 0 warnings, 0 remarks\n",
+        },
+        Row {
+            words: &["t.asl"],
+            text: ENDS_AT_NUMBER,
+            status: 1,
+            names: &[],
+            bodies: &[],
+            told: b"t.asl:3:18: error 6015: syntax\n1 errors, 0 warnings, 0 remarks\n",
+        },
+        Row {
+            words: &["t.asl"],
+            text: NO_TEXT,
+            status: 1,
+            names: &[],
+            bodies: &[],
+            told: b"t.asl:1:1: error 6010: bad character\n1 errors, 0 warnings, 0 remarks\n",
         },
         Row {
             words: &["t.asl"],
@@ -264,5 +365,48 @@ fn too_large(rt: HostRuntime) -> Result<(), AllocError> {
     assert_eq!(rt; ran.status, 1);
     assert_eq!(rt; ran.outs.names().len(), 0);
     assert!(rt; ran.console.as_bytes() == UNKNOWN);
+    Ok(())
+}
+
+// A method that returns 1 inside so many brackets.
+fn nested(alloc: Global, brackets: usize) -> Result<Vec<u8>, AllocError> {
+    let mut text = Vec::new(alloc);
+    text.extend_from_slice(
+        b"DefinitionBlock (\"\", \"SSDT\", 2, \"OEMX00\", \"TABLE001\", 1)\n{\n",
+    )?;
+    text.extend_from_slice(b"    Method (M, 0)\n    {\n        Return (")?;
+    text.extend_from_slice(&vec![in alloc; b'('; brackets]?)?;
+    text.extend_from_slice(b"1")?;
+    text.extend_from_slice(&vec![in alloc; b')'; brackets]?)?;
+    text.extend_from_slice(b")\n    }\n}\n")?;
+    Ok(text)
+}
+
+// The block, the method and the Return are open too, so 125 brackets are the most.
+#[test]
+fn nesting(rt: HostRuntime) -> Result<(), AllocError> {
+    let rows: [(usize, &[u8]); 3] = [
+        (125, UNKNOWN),
+        (
+            126,
+            b"t.asl:5:142: error 6016: nesting is too deep\n1 errors, 0 warnings, 0 remarks\n",
+        ),
+        (
+            129,
+            b"t.asl:5:142: error 6016: nesting is too deep\n1 errors, 0 warnings, 0 remarks\n",
+        ),
+    ];
+    let none = Failing {
+        fetch: 9,
+        put: 9,
+        write: 9,
+    };
+    for (brackets, told) in &rows {
+        let text = nested(rt.alloc(), *brackets)?;
+        let ran = run(rt.alloc(), &["t.asl"], &text, &none)?;
+        assert_eq!(rt; ran.status, 1);
+        assert_eq!(rt; ran.outs.names().len(), 0);
+        assert!(rt; ran.console.as_bytes() == *told);
+    }
     Ok(())
 }

@@ -1,0 +1,35 @@
+-- What the parser answers, and what a main file then comes to.
+use Rattle.std.proofs.Common.{◌≡◌, ℕ, suc, ◌-◌, ◌<◌, ◌≤◌, ◌⊎◌, inl, inr, List, [], ◌∷◌, length, drop, refl, sym, ap, ◌∙◌, arith}
+use Rattle.iasl_messages.specs.declared.place.Line.{Line}
+use Rattle.asl_lexer.specs.declared.token.Token.{Token}
+use Rattle.asl_parser.specs.declared.raw.Raw.{Raw}
+use Rattle.asl_parser.specs.Marks.{marks}
+use Rattle.asl_parser.specs.Parse.{outcome, read, stopped, sunk, tall}
+use Rattle.std.proofs.lemmas.List.{length-drop}
+use Rattle.iasl_tool.specs.declared.compile.Compiled.TheVariants.{Refused}
+use Rattle.iasl_tool.specs.Sources.{source_of}
+use Rattle.iasl_tool.specs.Syntax.{not_source, too_deep}
+use Rattle.iasl_tool.specs.Compiled.{of_form, of_outcome}
+
+length-marks : (n : ℕ) (tokens : List Token) → length (marks n tokens) ≡ length tokens
+length-marks n [] = refl
+length-marks n (t ∷ ts) = ap suc (length-marks (suc n) ts)
+
+left : (k : ℕ) (tokens : List Token) → length (drop k (marks 0 tokens)) ≡ length tokens - k
+left k tokens = length-drop k (marks 0 tokens) ∙ ap (λ n. n - k) (length-marks 0 tokens)
+
+pub read_is : (lines : List Line) (tokens : List Token) (items : List Raw) → outcome tokens ≡ read items → of_form (source_of tokens) ≡ of_outcome lines tokens (outcome tokens)
+read_is lines tokens items e = sym (ap (of_outcome lines tokens) e)
+
+pub stop_is : (lines : List Line) (tokens : List Token) (k : ℕ) → (k ≤ length tokens) × (outcome tokens ≡ stopped (drop k (marks 0 tokens))) → Refused (not_source lines tokens k ∷ []) ≡ of_outcome lines tokens (outcome tokens)
+stop_is lines tokens k h =
+    let l = left k tokens in
+    let e : k ≡ length tokens - length (drop k (marks 0 tokens)) = omega (arith, h.0, l) in
+    ap (λ n. Refused (not_source lines tokens n ∷ [])) e ∙ sym (ap (of_outcome lines tokens) h.1)
+
+pub deep_is : (lines : List Line) (tokens : List Token) (k : ℕ) → ((k < length tokens) × (outcome tokens ≡ sunk (drop (suc k) (marks 0 tokens)))) ⊎ (outcome tokens ≡ tall k) → Refused (too_deep lines tokens k ∷ []) ≡ of_outcome lines tokens (outcome tokens)
+deep_is lines tokens k (inl h) =
+    let l = left (suc k) tokens in
+    let e : k ≡ length tokens - suc (length (drop (suc k) (marks 0 tokens))) = omega (arith, h.0, l) in
+    ap (λ n. Refused (too_deep lines tokens n ∷ [])) e ∙ sym (ap (of_outcome lines tokens) h.1)
+deep_is lines tokens k (inr e) = sym (ap (of_outcome lines tokens) e)
