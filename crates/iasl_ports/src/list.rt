@@ -1,6 +1,7 @@
 //! A list over a vector, and a text as a list of bytes. Contracts see both as lists.
-ghost use Rattle.std.specs.Prelude.{◌≡◌, ◌∷◌, ◌++◌, [], length, take, slice_get, IfOk, OnOk, OnErr, IsTrue, ◌↔◌};
+ghost use Rattle.std.specs.Prelude.{◌≡◌, ◌≤◌, ◌∷◌, ◌++◌, [], length, take, slice_get, IfOk, OnOk, OnErr, IsTrue, ◌↔◌};
 ghost use Rattle.std.specs.Option.{option_copied};
+ghost use Rattle.iasl_ports.specs.Texts.{bytes_of};
 
 use std::alloc::{AllocError, Global};
 use std::marker::Model;
@@ -91,27 +92,67 @@ impl<T> List<T> {
     }
 }
 
-/// A list of bytes.
+/// The most bytes of a text that takes no memory.
+const INLINE: usize = 22;
+
+/// Where the bytes of a text are.
+#[derive(Drop)]
+enum Bytes {
+    /// In the text itself: the first of these, so many.
+    Inline { bytes: [u8; INLINE], count: u8 },
+    /// In a vector of their own.
+    Vector(Vec<u8>),
+}
+
+/// A list of bytes. A short one takes no memory beside its own.
 #[derive(Drop)]
 pub struct Text {
-    bytes: Vec<u8>,
+    bytes: Bytes,
 }
 
 impl Model for Text {
     ghost use Rattle.std.specs.Prelude.{List as AList, ℕ};
+    ghost use Rattle.iasl_ports.specs.Texts.{bytes_of};
 
     ghost Value = { AList ℕ };
 
-    ghost view = { λ text. text.bytes.items };
+    ghost view = { λ text. bytes_of text.bytes };
+}
+
+// The first so many bytes.
+fn front(bytes: &[u8], count: usize) -> &[u8]
+    ensures { result.now ≡ take count bytes.now }
+{
+    if count < bytes.len() {
+        bytes.split_at(count).0
+    } else {
+        bytes
+    }
+}
+
+// These bytes, of which there are few, in the text itself.
+fn inline(bytes: &[u8]) -> Bytes
+    requires { length bytes.now ≤ 22 }
+    ensures { bytes_of result ≡ bytes.now }
+{
+    let mut own = [0; INLINE];
+    own.split_at_mut(bytes.len()).0.copy_from_slice(bytes);
+    Bytes::Inline {
+        bytes: own,
+        count: bytes.len() as u8,
+    }
 }
 
 impl Text {
-    /// An empty text, which takes no memory yet.
+    /// An empty text.
     pub fn new(alloc: Global) -> Text
         ensures { result ≡ [] }
     {
         Text {
-            bytes: Vec::new(alloc),
+            bytes: Bytes::Inline {
+                bytes: [0; INLINE],
+                count: 0,
+            },
         }
     }
 
@@ -119,15 +160,23 @@ impl Text {
     pub fn from_bytes(alloc: Global, bytes: &[u8]) -> Result<Text, AllocError>
         ensures { IfOk result (λ text. text ≡ bytes.now) }
     {
-        Ok(Text {
-            bytes: bytes.to_vec(alloc)?,
-        })
+        let bytes = if bytes.len() <= INLINE {
+            inline(bytes)
+        } else {
+            Bytes::Vector(bytes.to_vec(alloc)?)
+        };
+        Ok(Text { bytes })
     }
 
     /// The text of a vector's bytes.
     pub fn from_vec(bytes: Vec<u8>) -> Text
         ensures { result ≡ bytes.items }
     {
+        let bytes = if bytes.len() <= INLINE {
+            inline(&bytes)
+        } else {
+            Bytes::Vector(bytes)
+        };
         Text { bytes }
     }
 
@@ -135,7 +184,10 @@ impl Text {
     pub fn as_bytes(&self) -> &[u8]
         ensures { result.now ≡ self.now }
     {
-        &self.bytes
+        match &self.bytes {
+            Bytes::Inline { bytes, count } => front(bytes, *count as usize),
+            Bytes::Vector(bytes) => bytes,
+        }
     }
 }
 
