@@ -47,7 +47,7 @@ answer_is words told request source h =
 pub puts_faithful_table : (words : List (List ℕ)) (told : List Named) (request : Request) (source : Source) → NamesSource words told request source → PutsFaithfulTable words told request source
 puts_faithful_table words told request source h =
     let answer = answer_is words told request source h in
-    let ready : IsReadySource source = ready_of h.tokens source h.source_is in
+    let ready : IsReadySource source = ready_of h.items source h.source_is in
     let fields = source_fields source in
     let content = encoded_all true (items_trees source.items) in
     let size = header_length + length content in
@@ -67,7 +67,7 @@ record FoundSource (words : List (List ℕ)) (told : List Named) : Type 0 where
   names : NamesSource words told request source
 
 module _ (words : List (List ℕ)) (told : List Named) where
-  by_table : (request : Request) (text : List ℕ) (tokens : List Token) (source : Source) (c : Bool) → request_of words ≡ Some request → find_file told request.file ≡ Some text → nat_lt most_bytes (length text) ≡ false → tokens_of (source_lines text) ≡ Ok tokens → (items : List Raw) → outcome tokens ≡ read items → source_of tokens ≡ Some source → nat_le (length (source_table source)) most_table_bytes ≡ c → status_of (Some (answer_to_compiled request (if c then Table source.signature (source_table source) else Refused (too_long source.place ∷ [])))) ≡ 0 → FoundSource words told
+  by_table : (request : Request) (text : List ℕ) (tokens : List Token) (source : Source) (c : Bool) → request_of words ≡ Some request → find_file told request.file ≡ Some text → nat_lt most_bytes (length text) ≡ false → tokens_of (source_lines text) ≡ Ok tokens → (items : List Raw) → outcome tokens ≡ read items → source_of items ≡ Some source → nat_le (length (source_table source)) most_table_bytes ≡ c → status_of (Some (answer_to_compiled request (if c then Table source.signature (source_table source) else Refused (too_long source.place ∷ [])))) ≡ 0 → FoundSource words told
   by_table request text tokens source true ew ef el et items eo es ec h = record {
     request = request;
     source = source;
@@ -86,12 +86,12 @@ module _ (words : List (List ℕ)) (told : List Named) where
   }
   by_table request text tokens source false ew ef el et items eo es ec h = absurd (omega (arith, h))
 
-  by_source : (request : Request) (text : List ℕ) (tokens : List Token) (o : Option Source) → request_of words ≡ Some request → find_file told request.file ≡ Some text → nat_lt most_bytes (length text) ≡ false → tokens_of (source_lines text) ≡ Ok tokens → (items : List Raw) → outcome tokens ≡ read items → source_of tokens ≡ o → status_of (Some (answer_to_compiled request (of_form o))) ≡ 0 → FoundSource words told
+  by_source : (request : Request) (text : List ℕ) (tokens : List Token) (o : Option Source) → request_of words ≡ Some request → find_file told request.file ≡ Some text → nat_lt most_bytes (length text) ≡ false → tokens_of (source_lines text) ≡ Ok tokens → (items : List Raw) → outcome tokens ≡ read items → source_of items ≡ o → status_of (Some (answer_to_compiled request (of_form o))) ≡ 0 → FoundSource words told
   by_source request text tokens None ew ef el et items eo es h = absurd (omega (arith, h))
   by_source request text tokens (Some source) ew ef el et items eo es h = by_table request text tokens source (nat_le (length (source_table source)) most_table_bytes) ew ef el et items eo es refl h
 
   by_outcome : (request : Request) (text : List ℕ) (tokens : List Token) (o : Outcome) → request_of words ≡ Some request → find_file told request.file ≡ Some text → nat_lt most_bytes (length text) ≡ false → tokens_of (source_lines text) ≡ Ok tokens → outcome tokens ≡ o → status_of (Some (answer_to_compiled request (of_outcome (source_lines text) tokens o))) ≡ 0 → FoundSource words told
-  by_outcome request text tokens (read items) ew ef el et eo h = by_source request text tokens (source_of tokens) ew ef el et items eo refl h
+  by_outcome request text tokens (read items) ew ef el et eo h = by_source request text tokens (source_of items) ew ef el et items eo refl h
   by_outcome request text tokens (stopped rest) ew ef el et eo h = absurd (omega (arith, h))
   by_outcome request text tokens (sunk rest) ew ef el et eo h = absurd (omega (arith, h))
   by_outcome request text tokens (tall number) ew ef el et eo h = absurd (omega (arith, h))

@@ -1,42 +1,33 @@
 -- The terms so far, and those that are left.
-use Rattle.std.proofs.Common.{◌≡◌, ℕ, suc, Bool, true, false, List, [], ◌∷◌, ◌++◌, length, drop, Option, Some, None, refl, sym, ap, ◌∙◌, append_assoc, append-nil}
-use Rattle.std.specs.Prelude.{nat_eq, if◌then◌else◌}
+use Rattle.std.proofs.Common.{◌≡◌, ℕ, zero, suc, ◌+◌, ◌<◌, List, [], ◌∷◌, ◌++◌, length, drop, get_or, Option, Some, None, refl, sym, ap, ◌∙◌, subst, append_assoc, append-nil, arith}
 use Rattle.acpi_state.specs.Outcomes.{choose}
-use Rattle.asl_lexer.specs.declared.token.Token.{Token}
+use Rattle.asl_parser.specs.declared.raw.Raw.{Raw}
 use Rattle.iasl_tool.specs.declared.items.Item.{Item}
-use Rattle.iasl_tool.specs.declared.items.TheConstants.{END_FORM}
-use Rattle.iasl_tool.specs.Forms.{fits}
-use Rattle.iasl_tool.specs.Items.{next_item, prepend, only_end, items_from}
+use Rattle.iasl_tool.specs.Items.{item_in, prepend, items_of}
 
 prepend_twice : (xs ys : List Item) (o : Option (List Item)) → prepend xs (prepend ys o) ≡ prepend (xs ++ ys) o
 prepend_twice xs ys None = refl
 prepend_twice xs ys (Some zs) = ap Some (sym (append_assoc xs ys zs))
 
-prepend_end : (tokens : List Token) (items : List Item) → prepend items (only_end tokens []) ≡ only_end tokens items
-prepend_end tokens items = by_length (nat_eq (length tokens) 1)
-  where
-    by_length : (c : Bool) → prepend items (if c then Some [] else None) ≡ (if c then Some items else None)
-    by_length true = ap Some (append-nil items)
-    by_length false = refl
+-- a step: the term at a place, and those behind it
+step : (raws : List Raw) (i : ℕ) (d : Raw) → i < length raws → items_of (drop i raws) ≡ choose (item_in (get_or raws i d)) None (λ item. prepend (item ∷ []) (items_of (drop (i + 1) raws)))
+step [] i d lt = absurd (omega arith)
+step (raw ∷ raws) zero d lt = refl
+step (raw ∷ raws) (suc i) d lt =
+    let e : suc (i + 1) ≡ suc i + 1 = omega arith in
+    subst (λ n. items_of (drop i raws) ≡ choose (item_in (get_or raws i d)) None (λ item. prepend (item ∷ []) (items_of (drop n (raw ∷ raws))))) e (step raws i d (omega arith))
 
-abbrev step_of : Bool → Option (Item × ℕ) → ℕ → List Token → Option (List Item)
-step_of c next n tokens = if c then only_end tokens [] else choose next None (λ next. prepend (next.0 ∷ []) (items_from n (drop next.1 tokens)))
+-- a body with a member that is no term has no terms
+pub no_item : (raws : List Raw) (i : ℕ) (d : Raw) (items : List Item) (whole : Option (List Item)) → i < length raws → None ≡ item_in (get_or raws i d) → prepend items (items_of (drop i raws)) ≡ whole → None ≡ whole
+no_item raws i d items whole lt e h =
+    ap (λ o. prepend items (choose o None (λ item. prepend (item ∷ []) (items_of (drop (i + 1) raws))))) e ∙ sym (ap (prepend items) (step raws i d lt)) ∙ h
 
-unfold_items : (n m : ℕ) (tokens : List Token) → n ≡ suc m → items_from n tokens ≡ step_of (fits END_FORM tokens) (next_item tokens) m tokens
-unfold_items n m tokens e = ap (λ k. items_from k tokens) e
+pub one_item : (raws : List Raw) (i : ℕ) (d : Raw) (items : List Item) (item : Item) (whole : Option (List Item)) → i < length raws → Some item ≡ item_in (get_or raws i d) → prepend items (items_of (drop i raws)) ≡ whole → prepend (items ++ item ∷ []) (items_of (drop (i + 1) raws)) ≡ whole
+one_item raws i d items item whole lt e h =
+    sym (prepend_twice items (item ∷ []) (items_of (drop (i + 1) raws)))
+    ∙ ap (λ o. prepend items (choose o None (λ item. prepend (item ∷ []) (items_of (drop (i + 1) raws))))) e
+    ∙ sym (ap (prepend items) (step raws i d lt))
+    ∙ h
 
-pub at_end : (n m : ℕ) (items : List Item) (tokens : List Token) (whole : Option (List Item)) → n ≡ suc m → fits END_FORM tokens ≡ true → prepend items (items_from n tokens) ≡ whole → only_end tokens items ≡ whole
-at_end n m items tokens whole e end before =
-    sym (prepend_end tokens items) ∙ ap (λ c. prepend items (step_of c (next_item tokens) m tokens)) (sym end) ∙ ap (prepend items) (sym (unfold_items n m tokens e)) ∙ before
-
-pub no_item : (n m : ℕ) (items : List Item) (tokens : List Token) (whole : Option (List Item)) → n ≡ suc m → fits END_FORM tokens ≡ false → next_item tokens ≡ None → prepend items (items_from n tokens) ≡ whole → None ≡ whole
-no_item n m items tokens whole e end none before =
-    ap (λ o. prepend items (step_of false o m tokens)) (sym none) ∙ ap (λ c. prepend items (step_of c (next_item tokens) m tokens)) (sym end) ∙ ap (prepend items) (sym (unfold_items n m tokens e)) ∙ before
-
-pub one_item : (n m : ℕ) (items : List Item) (tokens : List Token) (item : Item) (count : ℕ) (whole : Option (List Item)) → n ≡ suc m → fits END_FORM tokens ≡ false → next_item tokens ≡ Some (item, count) → prepend items (items_from n tokens) ≡ whole → prepend (items ++ item ∷ []) (items_from m (drop count tokens)) ≡ whole
-one_item n m items tokens item count whole e end some before =
-    sym (prepend_twice items (item ∷ []) (items_from m (drop count tokens)))
-    ∙ ap (λ o. prepend items (step_of false o m tokens)) (sym some)
-    ∙ ap (λ c. prepend items (step_of c (next_item tokens) m tokens)) (sym end)
-    ∙ ap (prepend items) (sym (unfold_items n m tokens e))
-    ∙ before
+pub all_items : (items : List Item) (whole : Option (List Item)) → prepend items (Some []) ≡ whole → Some items ≡ whole
+all_items items whole h = ap Some (sym (append-nil items)) ∙ h

@@ -50,3 +50,15 @@ numbered_within n m (text ∷ texts) small h = by_place (numbered_within n (m + 
 
 pub source_lines_short : (bytes : List ℕ) → length bytes < 2 ^ 32 → All (λ line. length line.text < 2 ^ 32) (source_lines bytes)
 source_lines_short bytes small = numbered_within (length bytes) 1 (lines_of bytes) small (without_within (length bytes) (cut_at_lf bytes) (cut_within bytes))
+
+-- each line is in the one file
+pub source_lines_home : (bytes : List ℕ) → All (λ line. line.file < 1) (source_lines bytes)
+source_lines_home bytes = numbered_home 1 (lines_of bytes)
+  where
+    numbered_home : (m : ℕ) (texts : List (List ℕ)) → All (λ line. line.file < 1) (line_list m texts)
+    numbered_home m [] = λ k d lt. absurd (omega arith)
+    numbered_home m (text ∷ texts) = by_place (numbered_home (m + 1) texts)
+      where
+        by_place : All (λ line. line.file < 1) (line_list (m + 1) texts) → (k : ℕ) → (d : Line) → k < length (line_list m (text ∷ texts)) → (slice_index_or (line_list m (text ∷ texts)) k d).file < 1
+        by_place rest zero d lt = omega arith
+        by_place rest (suc k) d lt = rest k d (omega (arith, lt))

@@ -1,26 +1,27 @@
 -- A source that is read is ready to be written.
-use Rattle.std.proofs.Common.{◌≡◌, ℕ, zero, suc, ◌^◌, ◌<◌, ◌≤◌, Bool, true, false, List, [], ◌∷◌, length, drop, Option, Some, None, refl, sym, ap, ◌∙◌, subst, arith}
-use Rattle.std.specs.Prelude.{nat_eq, nat_le, ◌&&◌, ◌||◌, if◌then◌else◌, slice_get, codes}
+use Rattle.std.proofs.Common.{◌≡◌, ℕ, zero, suc, ◌^◌, ◌<◌, ◌≤◌, Bool, true, false, List, [], ◌∷◌, length, Option, Some, None, refl, sym, ap, ◌∙◌, subst, arith}
+use Rattle.std.specs.Prelude.{nat_eq, nat_le, ◌&&◌, ◌||◌, if◌then◌else◌, codes}
 use Rattle.std.proofs.lemmas.Bool.Decides.{nat_tests}
 use Rattle.acpi_values.specs.Paths.{NameSeg}
 use Rattle.acpi_state.specs.Outcomes.{choose}
-use Rattle.asl_lexer.specs.declared.token.Token.{Token}
+use Rattle.std.specs.List.{list_all}
+use Rattle.std.specs.Char.{is_ascii_alphanumeric}
+use Rattle.iasl_messages.specs.declared.place.Place.{Place}
+use Rattle.asl_parser.specs.declared.raw.Raw.{Raw, out-Raw}
+use Rattle.asl_parser.specs.declared.raw.Raw.TheOpen as node
+use Rattle.asl_parser.specs.declared.raw.Raw.TheOpen.{Raw-F}
 use Rattle.aml_code.specs.Fronts.{IsName, is_segment as is_whole_segment}
 use Rattle.aml_sessions.specs.Ready.{IsReady, AreReady}
 use Rattle.iasl_tool.specs.declared.items.Item.{Item}
 use Rattle.iasl_tool.specs.declared.items.ItemKind.{ItemKind}
 use Rattle.iasl_tool.specs.declared.items.ItemKind.TheVariants as kind
-use Rattle.iasl_tool.specs.declared.items.TheConstants.{NAME_FORM, METHOD_FORM, END_FORM}
 use Rattle.iasl_tool.specs.declared.source.Source.{Source}
-use Rattle.iasl_tool.specs.declared.source.TheConstants.{BLOCK_FORM}
 use Rattle.iasl_tool.specs.Segments.{segment_of, filled_segment, valid_segment, is_reserved}
 use Rattle.std.specs.Str.{bytes_eq}
 use Rattle.std.proofs.lemmas.Slice.Eq.{bytes_eq-Decides}
-use Rattle.iasl_tool.specs.declared.form.Slot.{Slot}
-use Rattle.iasl_tool.specs.declared.form.Slot.TheVariants.{Signature, Letters, Number as NumberSlot}
-use Rattle.iasl_tool.specs.Forms.{is_text, is_number, is_signature, has_letters_alone, accepts, fits}
-use Rattle.iasl_tool.specs.Items.{item_in, with_count, next_item, prepend, only_end, items_from, items_of}
-use Rattle.iasl_tool.specs.Sources.{source_from, source_of, are_distinct}
+use Rattle.iasl_tool.specs.Forms.{number_in, text_in, segment_at, segment_in, number_within, integer_in, is_signature, signature_in, letters_in}
+use Rattle.iasl_tool.specs.Items.{item_with, name_item, one_number, returned_at, returned_number, body_number, method_item, item_at, item_in, prepend, items_of}
+use Rattle.iasl_tool.specs.Sources.{Header, are_distinct, distinct_items, header_of, source_with, block_in, source_at, source_in, source_of}
 use Rattle.iasl_tool.specs.Blocks.{items_trees, item_tree, kind_tree, path_of}
 use Rattle.iasl_tool.specs.Readiness.{IsReadySource}
 
@@ -81,46 +82,79 @@ both : (a b : Bool) → a && b ≡ true → (a ≡ true) × (b ≡ true)
 both true b h = (refl, h)
 both false b h = absurd (cc)
 
--- the token at a place fills the slot at that place
-fits_at : (slots : List Slot) (tokens : List Token) (i : ℕ) (slot : Slot) (token : Token) → fits slots tokens ≡ true → slice_get slots i ≡ Some slot → slice_get tokens i ≡ Some token → accepts slot token ≡ true
-fits_at [] tokens i slot token h e f = absurd (cc)
-fits_at (s ∷ ss) [] i slot token h e f = absurd (cc)
-fits_at (s ∷ ss) (t ∷ ts) zero slot token h e f =
-    let es : s ≡ slot = cc in
-    let et : t ≡ token = cc in
-    sym (ap (λ s. accepts s token) es) ∙ (sym (ap (accepts s) et) ∙ (both (accepts s t) (fits ss ts) h).0)
-fits_at (s ∷ ss) (t ∷ ts) (suc i) slot token h e f = fits_at ss ts i slot token (both (accepts s t) (fits ss ts) h).1 e f
+abbrev AtMost : ℕ → ℕ → Type 0
+AtMost most n = n ≤ most
 
-number_small : (least : ℕ) (token : Token) → accepts (NumberSlot least 18446744073709551615) token ≡ true → token.number < 2 ^ 64
-number_small least token h =
-    let range = both (nat_le least token.number) (nat_le token.number 18446744073709551615) (both (is_number token.kind) _ h).1 in
-    let most : nat_le token.number 18446744073709551615 ≡ true = range.1 in
-    grind (arith, nat_tests)
-
-item_good : (kind : ItemKind) (slots : List Slot) (tokens : List Token) (at : ℕ) → fits slots tokens ≡ true → slice_get slots at ≡ Some (NumberSlot 0 18446744073709551615) → Of IsGood (item_in kind tokens at)
-item_good kind slots tokens at h e =
-    of_choose IsGood (slice_get tokens 0) _ (λ first e0.
-    of_choose IsGood (slice_get tokens 2) _ (λ segment e2.
-    of_choose IsGood (slice_get tokens at) _ (λ number ea.
-    of_choose IsGood (segment_of segment.text) _ (λ s es. record {
-      segment = of_some IsValid (segment_of segment.text) s (segment_is segment.text) es;
-      number = number_small 0 number (fits_at slots tokens at (NumberSlot 0 18446744073709551615) number h e ea);
-    }))))
-
-abbrev NextIsGood : Item × ℕ → Type 0
-NextIsGood next = IsGood next.0
-
-counted_good : (n : ℕ) (o : Option Item) → Of IsGood o → Of NextIsGood (with_count n o)
-counted_good n None h = tt
-counted_good n (Some item) h = h
-
-next_good : (tokens : List Token) → Of NextIsGood (next_item tokens)
-next_good tokens = by_name (fits NAME_FORM tokens) refl (fits METHOD_FORM tokens) refl
+within_is : (least most : ℕ) (raw : Raw) → Of (AtMost most) (number_within least most raw)
+within_is least most raw = of_choose (AtMost most) (number_in raw) _ (λ n e. by_range n (nat_le least n && nat_le n most) refl)
   where
-    by_name : (c : Bool) → fits NAME_FORM tokens ≡ c → (d : Bool) → fits METHOD_FORM tokens ≡ d → Of NextIsGood (if c then with_count 6 (item_in kind.Name tokens 4) else if d then with_count 12 (item_in kind.Method tokens 9) else None)
-    by_name true e d f = counted_good 6 (item_in kind.Name tokens 4) (item_good kind.Name NAME_FORM tokens 4 e refl)
-    by_name false e true f = counted_good 12 (item_in kind.Method tokens 9) (item_good kind.Method METHOD_FORM tokens 9 f refl)
-    by_name false e false f = tt
+    by_range : (n : ℕ) (c : Bool) → nat_le least n && nat_le n most ≡ c → Of (AtMost most) (if c then Some n else None)
+    by_range n true e =
+        let f : nat_le n most ≡ true = (both (nat_le least n) (nat_le n most) e).1 in
+        grind (arith, nat_tests)
+    by_range n false e = tt
+
+abbrev IsWord : ℕ → Type 0
+IsWord n = n < 2 ^ 64
+
+word_is : (raw : Raw) → Of IsWord (integer_in raw)
+word_is raw = by_number (integer_in raw) (within_is 0 18446744073709551615 raw)
+  where
+    by_number : (o : Option ℕ) → Of (AtMost 18446744073709551615) o → Of IsWord o
+    by_number None h = tt
+    by_number (Some n) h = omega (arith, h)
+
+segment_is_valid : (raw : Raw-F Raw) → Of IsValid (segment_at raw)
+segment_is_valid (node.Item place word None None) = segment_is word
+segment_is_valid _ = tt
+
+segment_valid : (raw : Raw) → Of IsValid (segment_in raw)
+segment_valid raw = segment_is_valid (out-Raw raw)
+
+-- a term of a segment that can be written, and of a number of 64 bits
+with_good : (kind : ItemKind) (place : Place) (segment : Option NameSeg) (number : Option ℕ) → Of IsValid segment → Of IsWord number → Of IsGood (item_with kind place segment number)
+with_good kind place None number hs hn = tt
+with_good kind place (Some segment) None hs hn = tt
+with_good kind place (Some segment) (Some number) hs hn = record { segment = hs; number = hn }
+
+name_good : (place : Place) (args : List Raw) → Of IsGood (name_item place args)
+name_good place (segment ∷ number ∷ []) = with_good kind.Name place (segment_in segment) (integer_in number) (segment_valid segment) (word_is number)
+name_good place _ = tt
+
+one_good : (args : List Raw) → Of IsWord (one_number args)
+one_good (number ∷ []) = word_is number
+one_good _ = tt
+
+if_word : (c : Bool) (o : Option ℕ) → Of IsWord o → Of IsWord (if c then o else None)
+if_word true o h = h
+if_word false o h = tt
+
+returned_is_good : (statement : Raw-F Raw) → Of IsWord (returned_at statement)
+returned_is_good (node.Item place word (Some args) None) = if_word (bytes_eq word (codes "RETURN")) (one_number args) (one_good args)
+returned_is_good _ = tt
+
+returned_good : (statement : Raw) → Of IsWord (returned_number statement)
+returned_good statement = returned_is_good (out-Raw statement)
+
+body_good : (body : List Raw) → Of IsWord (body_number body)
+body_good (statement ∷ []) = returned_good statement
+body_good _ = tt
+
+method_good : (place : Place) (args body : List Raw) → Of IsGood (method_item place args body)
+method_good place (segment ∷ arity ∷ []) body = of_choose IsGood (number_within 0 0 arity) _ (λ n e. with_good kind.Method place (segment_in segment) (body_number body) (segment_valid segment) (body_good body))
+method_good place _ body = tt
+
+if_good : (c : Bool) (o : Option Item) → Of IsGood o → Of IsGood (if c then o else None)
+if_good true o h = h
+if_good false o h = tt
+
+item_is_good : (raw : Raw-F Raw) → Of IsGood (item_at raw)
+item_is_good (node.Item place word (Some args) None) = if_good (bytes_eq word (codes "NAME")) (name_item place args) (name_good place args)
+item_is_good (node.Item place word (Some args) (Some body)) = if_good (bytes_eq word (codes "METHOD")) (method_item place args body) (method_good place args body)
+item_is_good _ = tt
+
+item_good : (raw : Raw) → Of IsGood (item_in raw)
+item_good raw = item_is_good (out-Raw raw)
 
 abbrev AreGood : List Item → Type 0
 AreGood [] = Unit {0}
@@ -130,65 +164,98 @@ prepend_good : (item : Item) (o : Option (List Item)) → IsGood item → Of Are
 prepend_good item None g h = tt
 prepend_good item (Some items) g h = (g, h)
 
-items_good : (n : ℕ) (tokens : List Token) → Of AreGood (items_from n tokens)
-items_good zero tokens = tt
-items_good (suc n) tokens = by_end (λ rest. items_good n rest) (fits END_FORM tokens)
+items_good : (body : List Raw) → Of AreGood (items_of body)
+items_good [] = tt
+items_good (raw ∷ raws) = by_item (items_good raws)
   where
-    by_length : (c : Bool) → Of AreGood (if c then Some [] else None)
-    by_length true = tt
-    by_length false = tt
+    by_item : Of AreGood (items_of raws) → Of AreGood (choose (item_in raw) None (λ item. prepend (item ∷ []) (items_of raws)))
+    by_item more = of_choose AreGood (item_in raw) _ (λ item e. prepend_good item (items_of raws) (of_some IsGood (item_in raw) item (item_good raw) e) more)
 
-    by_end : ((rest : List Token) → Of AreGood (items_from n rest)) → (c : Bool) → Of AreGood (if c then only_end tokens [] else choose (next_item tokens) None (λ next. prepend (next.0 ∷ []) (items_from n (drop next.1 tokens))))
-    by_end more true = by_length (nat_eq (length tokens) 1)
-    by_end more false =
-        of_choose AreGood (next_item tokens) _ (λ next e.
-        prepend_good next.0 (items_from n (drop next.1 tokens)) (of_some NextIsGood (next_item tokens) next (next_good tokens) e) (more (drop next.1 tokens)))
+distinct_good : (body : List Raw) → Of AreGood (distinct_items body)
+distinct_good body = of_choose AreGood (items_of body) _ (λ items e. by_distinct items (are_distinct items) (of_some AreGood (items_of body) items (items_good body) e))
+  where
+    by_distinct : (items : List Item) (c : Bool) → AreGood items → Of AreGood (if c then Some items else None)
+    by_distinct items true h = h
+    by_distinct items false h = tt
 
 trees_ready : (items : List Item) → AreGood items → AreReady (items_trees items)
 trees_ready [] g = tt
 trees_ready (item ∷ items) g = (good_ready item g.0, trees_ready items g.1)
 
-signature_four : (token : Token) → accepts Signature token ≡ true → length token.text ≡ 4
-signature_four token h = by_first (bytes_eq token.text (codes "DSDT")) refl (bytes_eq token.text (codes "SSDT")) refl (both (is_text token.kind) (is_signature token.text) h).1
+abbrev HasFour : List ℕ → Type 0
+HasFour text = length text ≡ 4
+
+signature_four : (raw : Raw) → Of HasFour (signature_in raw)
+signature_four raw = of_choose HasFour (text_in raw) _ (λ text e. by_first text (bytes_eq text (codes "DSDT")) refl (bytes_eq text (codes "SSDT")) refl)
   where
-    by_first : (c : Bool) → bytes_eq token.text (codes "DSDT") ≡ c → (d : Bool) → bytes_eq token.text (codes "SSDT") ≡ d → c || d ≡ true → length token.text ≡ 4
-    by_first true e d f h = let k : token.text ≡ codes "DSDT" = (bytes_eq-Decides token.text (codes "DSDT")).0 e in ap length k
-    by_first false e true f h = let k : token.text ≡ codes "SSDT" = (bytes_eq-Decides token.text (codes "SSDT")).0 f in ap length k
-    by_first false e false f h = absurd (cc)
+    by_first : (text : List ℕ) (c : Bool) → bytes_eq text (codes "DSDT") ≡ c → (d : Bool) → bytes_eq text (codes "SSDT") ≡ d → Of HasFour (if c || d then Some text else None)
+    by_first text true e d f = let k : text ≡ codes "DSDT" = (bytes_eq-Decides text (codes "DSDT")).0 e in ap length k
+    by_first text false e true f = let k : text ≡ codes "SSDT" = (bytes_eq-Decides text (codes "SSDT")).0 f in ap length k
+    by_first text false e false f = tt
 
-letters_few : (most : ℕ) (token : Token) → accepts (Letters most) token ≡ true → length token.text ≤ most
-letters_few most token h =
-    let few : nat_le (length token.text) most ≡ true = (both (nat_le (length token.text) most) (has_letters_alone token.text) (both (is_text token.kind) _ h).1).0 in
-    grind (arith, nat_tests)
+abbrev HasAtMost : ℕ → List ℕ → Type 0
+HasAtMost most text = length text ≤ most
 
-source_good : (tokens : List Token) (items : List Item) → fits BLOCK_FORM tokens ≡ true → AreGood items → Of IsReadySource (source_from tokens items)
-source_good tokens items h g =
-    of_choose IsReadySource (slice_get tokens 0) _ (λ first e0.
-    of_choose IsReadySource (slice_get tokens 4) _ (λ signature e4.
-    of_choose IsReadySource (slice_get tokens 6) _ (λ revision e6.
-    of_choose IsReadySource (slice_get tokens 8) _ (λ oem_id e8.
-    of_choose IsReadySource (slice_get tokens 10) _ (λ table_id e10.
-    of_choose IsReadySource (slice_get tokens 12) _ (λ oem_revision e12. record {
-      signature = signature_four signature (fits_at BLOCK_FORM tokens 4 Signature signature h refl e4);
-      oem_id = letters_few 6 oem_id (fits_at BLOCK_FORM tokens 8 (Letters 6) oem_id h refl e8);
-      table_id = letters_few 8 table_id (fits_at BLOCK_FORM tokens 10 (Letters 8) table_id h refl e10);
-      oem_revision = omega arith;
-      terms = trees_ready items g;
+letters_few : (most : ℕ) (raw : Raw) → Of (HasAtMost most) (letters_in most raw)
+letters_few most raw = of_choose (HasAtMost most) (text_in raw) _ (λ text e. by_length text (nat_le (length text) most && list_all is_ascii_alphanumeric text) refl)
+  where
+    by_length : (text : List ℕ) (c : Bool) → nat_le (length text) most && list_all is_ascii_alphanumeric text ≡ c → Of (HasAtMost most) (if c then Some text else None)
+    by_length text true e =
+        let f : nat_le (length text) most ≡ true = (both (nat_le (length text) most) _ e).0 in
+        grind (arith, nat_tests)
+    by_length text false e = tt
+
+-- the header's texts have room
+record HasRoom (header : Header) : Type 0 where
+  signature : length header.signature ≡ 4
+  oem_id : length header.oem_id ≤ 6
+  table_id : length header.table_id ≤ 8
+  oem_revision : header.oem_revision ≤ 4294967295
+
+header_good : (args : List Raw) → Of HasRoom (header_of args)
+header_good (file ∷ signature ∷ revision ∷ oem_id ∷ table_id ∷ oem_revision ∷ []) =
+    of_choose HasRoom (letters_in 0 file) _ (λ f ef.
+    of_choose HasRoom (signature_in signature) _ (λ s es.
+    of_choose HasRoom (number_within 2 255 revision) _ (λ r er.
+    of_choose HasRoom (letters_in 6 oem_id) _ (λ o eo.
+    of_choose HasRoom (letters_in 8 table_id) _ (λ t et.
+    of_choose HasRoom (number_within 0 4294967295 oem_revision) _ (λ v ev. record {
+      signature = of_some HasFour (signature_in signature) s (signature_four signature) es;
+      oem_id = of_some (HasAtMost 6) (letters_in 6 oem_id) o (letters_few 6 oem_id) eo;
+      table_id = of_some (HasAtMost 8) (letters_in 8 table_id) t (letters_few 8 table_id) et;
+      oem_revision = of_some (AtMost 4294967295) (number_within 0 4294967295 oem_revision) v (within_is 0 4294967295 oem_revision) ev;
     }))))))
+header_good _ = tt
 
--- each source that tokens are is ready to be written
-source_ready : (tokens : List Token) → Of IsReadySource (source_of tokens)
-source_ready tokens = by_fits (fits BLOCK_FORM tokens) refl
+-- each source that a tree of the syntax is is ready to be written
+block_ready : (place : Place) (args body : List Raw) → Of IsReadySource (block_in place args body)
+block_ready place args body =
+    of_choose IsReadySource (distinct_items body) _ (λ items ei.
+    of_choose IsReadySource (header_of args) _ (λ header eh. by_room items header (of_some AreGood (distinct_items body) items (distinct_good body) ei) (of_some HasRoom (header_of args) header (header_good args) eh)))
   where
-    by_distinct : (items : List Item) (c : Bool) → fits BLOCK_FORM tokens ≡ true → AreGood items → Of IsReadySource (if c then source_from tokens items else None)
-    by_distinct items true h g = source_good tokens items h g
-    by_distinct items false h g = tt
+    by_room : (items : List Item) (header : Header) → AreGood items → HasRoom header → IsReadySource (source_with place items header)
+    by_room items header g room = record {
+      signature = room.signature;
+      oem_id = room.oem_id;
+      table_id = room.table_id;
+      oem_revision = omega (arith, room.oem_revision);
+      terms = trees_ready items g;
+    }
 
-    by_fits : (c : Bool) → fits BLOCK_FORM tokens ≡ c → Of IsReadySource (if c then choose (items_of (drop 15 tokens)) None (λ items. if are_distinct items then source_from tokens items else None) else None)
-    by_fits true h =
-        of_choose IsReadySource (items_of (drop 15 tokens)) _ (λ items e.
-        by_distinct items (are_distinct items) h (of_some AreGood (items_of (drop 15 tokens)) items (items_good (length (drop 15 tokens)) (drop 15 tokens)) e))
-    by_fits false h = tt
+if_ready : (c : Bool) (o : Option Source) → Of IsReadySource o → Of IsReadySource (if c then o else None)
+if_ready true o h = h
+if_ready false o h = tt
 
-pub ready_of : (tokens : List Token) (source : Source) → source_of tokens ≡ Some source → IsReadySource source
-ready_of tokens source e = of_some IsReadySource (source_of tokens) source (source_ready tokens) e
+source_at_ready : (block : Raw-F Raw) → Of IsReadySource (source_at block)
+source_at_ready (node.Item place word (Some args) (Some body)) = if_ready (bytes_eq word (codes "DEFINITIONBLOCK")) (block_in place args body) (block_ready place args body)
+source_at_ready _ = tt
+
+source_in_ready : (block : Raw) → Of IsReadySource (source_in block)
+source_in_ready block = source_at_ready (out-Raw block)
+
+source_ready : (raws : List Raw) → Of IsReadySource (source_of raws)
+source_ready (block ∷ []) = source_in_ready block
+source_ready _ = tt
+
+pub ready_of : (raws : List Raw) (source : Source) → source_of raws ≡ Some source → IsReadySource source
+ready_of raws source e = of_some IsReadySource (source_of raws) source (source_ready raws) e

@@ -1,5 +1,5 @@
 -- What a source comes to: its table, or its errors.
-use Rattle.std.specs.Prelude.{ℕ, suc, ◌-◌, nat_le, if◌then◌else◌, List, [], ◌∷◌, length, true, Option, Some, None, Result, Ok, Err}
+use Rattle.std.specs.Prelude.{ℕ, suc, ◌-◌, nat_le, if◌then◌else◌, List, [], ◌∷◌, length, true, All, ◌<◌, ⊤, Option, Some, None, Result, Ok, Err}
 use Rattle.iasl_messages.specs.declared.place.Place.{Place}
 use Rattle.iasl_messages.specs.declared.place.Line.{Line}
 use Rattle.iasl_messages.specs.declared.message.Message.{Message}
@@ -41,7 +41,7 @@ of_form (Some source) = of_source source
 
 -- tokens that are a source, or the place where they stop being one or nest too deep
 abbrev pub of_outcome : List Line → List Token → Outcome → Compiled
-of_outcome lines tokens (read items) = of_form (source_of tokens)
+of_outcome lines tokens (read items) = of_form (source_of items)
 of_outcome lines tokens (stopped rest) = Refused (not_source lines tokens (length tokens - length rest) ∷ [])
 of_outcome lines tokens (sunk rest) = Refused (too_deep lines tokens (length tokens - suc (length rest)) ∷ [])
 of_outcome lines tokens (tall number) = Refused (too_deep lines tokens number ∷ [])
@@ -51,6 +51,19 @@ abbrev pub of_tokens : List Line → Result (List Token) Fault → Compiled
 of_tokens lines (Err fault) = Refused (message_of fault ∷ [])
 of_tokens lines (Ok tokens) = of_outcome lines tokens (outcome tokens)
 
+-- what lines come to
+abbrev pub of_lines : List Line → Compiled
+of_lines lines = of_tokens lines (tokens_of lines)
+
 -- what the bytes of a main file come to
 abbrev pub compiled : List ℕ → Compiled
-compiled bytes = of_tokens (source_lines bytes) (tokens_of (source_lines bytes))
+compiled bytes = of_lines (source_lines bytes)
+
+-- each message stands in one of so many files
+abbrev pub AreWithin : ℕ → List Message → Type 0
+AreWithin files messages = All (λ m. m.place.file < files) messages
+
+-- each refusal is told in one of so many files
+abbrev pub RefusesWithin : ℕ → Compiled → Type 0
+RefusesWithin files (Table signature bytes) = ⊤
+RefusesWithin files (Refused messages) = AreWithin files messages

@@ -1,56 +1,54 @@
--- The forms of a source that are read so far: what each of their tokens must be.
-use Rattle.std.specs.Prelude.{ℕ, Bool, true, false, nat_le, ◌&&◌, ◌||◌, List, [], ◌∷◌, length, codes, is_some}
+-- What a member of the tree of the syntax stands for, where it is of a form that is read so far.
+use Rattle.std.specs.Prelude.{ℕ, Bool, nat_le, ◌&&◌, ◌||◌, if◌then◌else◌, List, length, codes, Option, Some, None}
 use Rattle.std.specs.List.{list_all}
 use Rattle.std.specs.Char.{is_ascii_alphanumeric}
 use Rattle.std.specs.Str.{bytes_eq}
-use Rattle.asl_lexer.specs.declared.token.Token.{Token}
-use Rattle.asl_lexer.specs.declared.token.TokenKind.{TokenKind}
-use Rattle.asl_lexer.specs.declared.token.TokenKind.TheVariants as kind
-use Rattle.iasl_tool.specs.declared.form.Keyword.{Keyword}
-use Rattle.iasl_tool.specs.declared.form.Keyword.TheVariants as keyword
-use Rattle.iasl_tool.specs.declared.form.Slot.{Slot}
-use Rattle.iasl_tool.specs.declared.form.Slot.TheVariants.{Symbol, Keyword as KeywordSlot, Signature, Letters, Number, Segment}
+use Rattle.acpi_values.specs.Paths.{NameSeg}
+use Rattle.acpi_state.specs.Outcomes.{choose}
+use Rattle.asl_parser.specs.declared.raw.Raw.{Raw, out-Raw}
+use Rattle.asl_parser.specs.declared.raw.Raw.TheOpen as node
+use Rattle.asl_parser.specs.declared.raw.Raw.TheOpen.{Raw-F}
 use Rattle.iasl_tool.specs.Segments.{segment_of}
 
-abbrev pub keyword_text : Keyword → List ℕ
-keyword_text keyword.DefinitionBlock = codes "DEFINITIONBLOCK"
-keyword_text keyword.Name = codes "NAME"
-keyword_text keyword.Method = codes "METHOD"
-keyword_text keyword.Return = codes "RETURN"
+-- a number
+abbrev pub number_at : Raw-F Raw → Option ℕ
+number_at (node.Number place value) = Some value
+number_at _ = None
 
-abbrev pub is_word : TokenKind → Bool
-is_word kind.Word = true
-is_word _ = false
+abbrev pub number_in : Raw → Option ℕ
+number_in raw = number_at (out-Raw raw)
 
-abbrev pub is_text : TokenKind → Bool
-is_text kind.Text = true
-is_text _ = false
+-- a string
+abbrev pub text_at : Raw-F Raw → Option (List ℕ)
+text_at (node.Text place text) = Some text
+text_at _ = None
 
-abbrev pub is_number : TokenKind → Bool
-is_number kind.Number = true
-is_number _ = false
+abbrev pub text_in : Raw → Option (List ℕ)
+text_in raw = text_at (out-Raw raw)
 
-abbrev pub is_symbol : TokenKind → Bool
-is_symbol kind.Symbol = true
-is_symbol _ = false
+-- a name of one segment, with neither arguments nor a body
+abbrev pub segment_at : Raw-F Raw → Option NameSeg
+segment_at (node.Item place word None None) = segment_of word
+segment_at _ = None
+
+abbrev pub segment_in : Raw → Option NameSeg
+segment_in raw = segment_at (out-Raw raw)
+
+-- a number of this range
+abbrev pub number_within : ℕ → ℕ → Raw → Option ℕ
+number_within least most raw = choose (number_in raw) None (λ n. if nat_le least n && nat_le n most then Some n else None)
+
+-- a number of 64 bits
+abbrev pub integer_in : Raw → Option ℕ
+integer_in raw = number_within 0 18446744073709551615 raw
 
 abbrev pub is_signature : List ℕ → Bool
 is_signature text = bytes_eq text (codes "DSDT") || bytes_eq text (codes "SSDT")
 
-abbrev pub has_letters_alone : List ℕ → Bool
-has_letters_alone text = list_all is_ascii_alphanumeric text
+-- a string of `DSDT` or `SSDT`
+abbrev pub signature_in : Raw → Option (List ℕ)
+signature_in raw = choose (text_in raw) None (λ text. if is_signature text then Some text else None)
 
--- whether a token fills a slot
-abbrev pub accepts : Slot → Token → Bool
-accepts (Symbol c) token = is_symbol token.kind && bytes_eq token.text (c ∷ [])
-accepts (KeywordSlot keyword) token = is_word token.kind && bytes_eq token.text (keyword_text keyword)
-accepts Signature token = is_text token.kind && is_signature token.text
-accepts (Letters most) token = is_text token.kind && (nat_le (length token.text) most && has_letters_alone token.text)
-accepts (Number least most) token = is_number token.kind && (nat_le least token.number && nat_le token.number most)
-accepts Segment token = is_word token.kind && is_some (segment_of token.text)
-
--- whether the first tokens fill the slots
-abbrev pub fits : List Slot → List Token → Bool
-fits [] tokens = true
-fits (slot ∷ slots) [] = false
-fits (slot ∷ slots) (token ∷ tokens) = accepts slot token && fits slots tokens
+-- a string of at most so many letters and digits
+abbrev pub letters_in : ℕ → Raw → Option (List ℕ)
+letters_in most raw = choose (text_in raw) None (λ text. if nat_le (length text) most && list_all is_ascii_alphanumeric text then Some text else None)

@@ -28,7 +28,7 @@ pub record NamesSource (words : List (List ℕ)) (told : List Named) (request : 
   pub tokens_are : tokens_of (source_lines text) ≡ Ok tokens
   pub items : List Raw
   pub tokens_spell : outcome tokens ≡ read items
-  pub source_is : source_of tokens ≡ Some source
+  pub source_is : source_of items ≡ Some source
   pub table_within : length (source_table source) ≤ most_table_bytes
 
 -- the call puts the source's table, and nothing else; the table has the source's header and does what the source says

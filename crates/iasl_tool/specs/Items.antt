@@ -1,49 +1,65 @@
 -- The terms of a source that are read so far.
-use Rattle.std.specs.Prelude.{ℕ, zero, suc, nat_eq, if◌then◌else◌, List, [], ◌∷◌, ◌++◌, length, drop, slice_get, Option, Some, None}
+use Rattle.std.specs.Prelude.{ℕ, if◌then◌else◌, List, [], ◌∷◌, ◌++◌, Option, Some, None, codes}
+use Rattle.std.specs.Str.{bytes_eq}
 use Rattle.iasl_messages.specs.declared.place.Place.{Place}
 use Rattle.acpi_values.specs.Paths.{NameSeg}
 use Rattle.acpi_state.specs.Outcomes.{choose}
-use Rattle.asl_lexer.specs.declared.token.Token.{Token}
+use Rattle.asl_parser.specs.declared.raw.Raw.{Raw, out-Raw}
+use Rattle.asl_parser.specs.declared.raw.Raw.TheOpen as node
+use Rattle.asl_parser.specs.declared.raw.Raw.TheOpen.{Raw-F}
 use Rattle.iasl_tool.specs.declared.items.Item.{Item}
 use Rattle.iasl_tool.specs.declared.items.ItemKind.{ItemKind}
 use Rattle.iasl_tool.specs.declared.items.ItemKind.TheVariants.{Name, Method}
-use Rattle.iasl_tool.specs.declared.items.TheConstants.{NAME_FORM, METHOD_FORM, END_FORM}
-use Rattle.iasl_tool.specs.Segments.{segment_of}
-use Rattle.iasl_tool.specs.Forms.{fits}
+use Rattle.iasl_tool.specs.Forms.{integer_in, number_within, segment_in}
 
-abbrev pub item_of : ItemKind → Place → ℕ → NameSeg → Item
-item_of kind place number segment = record { kind = kind; place = place; segment = segment; number = number }
+abbrev pub item_of : ItemKind → Place → NameSeg → ℕ → Item
+item_of kind place segment number = record { kind = kind; place = place; segment = segment; number = number }
 
-abbrev pub item_at : ItemKind → Token → Token → Token → Option Item
-item_at kind first segment number = choose (segment_of segment.text) None (λ s. Some (item_of kind first.place number.number s))
+-- a term of this segment and this number, where there are both
+abbrev pub item_with : ItemKind → Place → Option NameSeg → Option ℕ → Option Item
+item_with kind place segment number = choose segment None (λ s. choose number None (λ n. Some (item_of kind place s n)))
 
--- the term of a form, whose number stands at this place
-abbrev pub item_in : ItemKind → List Token → ℕ → Option Item
-item_in kind tokens at =
-    choose (slice_get tokens 0) None (λ first. choose (slice_get tokens 2) None (λ segment. choose (slice_get tokens at) None (λ number. item_at kind first segment number)))
+-- `(SEGMENT, NUMBER)` behind `Name`
+abbrev pub name_item : Place → List Raw → Option Item
+name_item place (segment ∷ number ∷ []) = item_with Name place (segment_in segment) (integer_in number)
+name_item place _ = None
 
-abbrev pub with_count : ℕ → Option Item → Option (Item × ℕ)
-with_count n None = None
-with_count n (Some item) = Some (item, n)
+-- `(NUMBER)` behind `Return`
+abbrev pub one_number : List Raw → Option ℕ
+one_number (number ∷ []) = integer_in number
+one_number _ = None
 
--- the term at the front, and how many tokens it has
-abbrev pub next_item : List Token → Option (Item × ℕ)
-next_item tokens =
-    if fits NAME_FORM tokens then with_count 6 (item_in Name tokens 4) else if fits METHOD_FORM tokens then with_count 12 (item_in Method tokens 9) else None
+-- `Return (NUMBER)`
+abbrev pub returned_at : Raw-F Raw → Option ℕ
+returned_at (node.Item place word (Some args) None) = if bytes_eq word (codes "RETURN") then one_number args else None
+returned_at _ = None
+
+abbrev pub returned_number : Raw → Option ℕ
+returned_number raw = returned_at (out-Raw raw)
+
+abbrev pub body_number : List Raw → Option ℕ
+body_number (statement ∷ []) = returned_number statement
+body_number _ = None
+
+-- `(SEGMENT, 0)` behind `Method`, and its body
+abbrev pub method_item : Place → List Raw → List Raw → Option Item
+method_item place (segment ∷ arity ∷ []) body = choose (number_within 0 0 arity) None (λ _. item_with Method place (segment_in segment) (body_number body))
+method_item place _ body = None
+
+-- a term
+abbrev pub item_at : Raw-F Raw → Option Item
+item_at (node.Item place word (Some args) None) = if bytes_eq word (codes "NAME") then name_item place args else None
+item_at (node.Item place word (Some args) (Some body)) = if bytes_eq word (codes "METHOD") then method_item place args body else None
+item_at _ = None
+
+abbrev pub item_in : Raw → Option Item
+item_in raw = item_at (out-Raw raw)
 
 abbrev pub prepend : {X : Type 0} → List X → Option (List X) → Option (List X)
 prepend xs None = None
 prepend xs (Some ys) = Some (xs ++ ys)
 
-abbrev pub only_end : List Token → List Item → Option (List Item)
-only_end tokens items = if nat_eq (length tokens) 1 then Some items else None
-
--- at most n terms, and then the end of the block, which is the last token
-abbrev pub items_from : ℕ → List Token → Option (List Item)
-items_from zero tokens = None
-items_from (suc n) tokens =
-    if fits END_FORM tokens then only_end tokens [] else choose (next_item tokens) None (λ next. prepend (next.0 ∷ []) (items_from n (drop next.1 tokens)))
-
--- the terms of a block, whose end is the last token
-abbrev pub items_of : List Token → Option (List Item)
-items_of tokens = items_from (length tokens) tokens
+-- the terms of a block's body, which has nothing else
+abbrev pub items_of : List Raw → Option (List Item)
+items_of [] = Some []
+items_of (raw ∷ raws) = choose (item_in raw) None (λ item. prepend (item ∷ []) (items_of raws))

@@ -9,8 +9,9 @@ ghost use Rattle.iasl_tool.specs.Sources.{source_of as found_source};
 ghost use Rattle.iasl_tool.specs.Readiness.{IsReadySource};
 ghost use Rattle.asl_parser.specs.Parse.{outcome};
 ghost use Rattle.iasl_tool.specs.Syntax.{at_token};
+ghost use Rattle.iasl_messages.specs.declared.message.Stage.TheVariants as stages;
 ghost use Rattle.iasl_tool.specs.declared.compile.Compiled.TheVariants.{Refused};
-ghost use Rattle.iasl_tool.specs.Compiled.{compiled, of_source, of_form, of_outcome, of_tokens, unknown as unknown_form};
+ghost use Rattle.iasl_tool.specs.Compiled.{compiled, of_lines, of_source, of_form, of_outcome, of_tokens, unknown as unknown_form, RefusesWithin};
 
 use crate::block::{block_of, core_of};
 use crate::lines::source_lines;
@@ -18,9 +19,9 @@ use crate::source::{Source, source_of};
 use crate::syntax::token_place;
 use aml_writer::stop::WriteStop;
 use aml_writer::write::write;
-use asl_lexer::token::{Token, Tokens};
+use asl_lexer::token::Tokens;
 use asl_lexer::tokens;
-use asl_parser::{Syntax, parse};
+use asl_parser::{Raw, Syntax, parse};
 use iasl_messages::message::{Message, Messages, Stage};
 use iasl_messages::place::{LineList, Lines, Piece, Place};
 use iasl_ports::list::{Text, Texts};
@@ -106,10 +107,10 @@ fn write_source(alloc: Global, source: Source) -> Result<Compiled, AllocError>
     }
 }
 
-fn compile_form(alloc: Global, tokens: &[Token]) -> Result<Compiled, AllocError>
-    ensures { IfOk result (λ compiled. compiled ≡ of_form (found_source tokens.now)) }
+fn compile_form(alloc: Global, items: &[Raw]) -> Result<Compiled, AllocError>
+    ensures { IfOk result (λ compiled. compiled ≡ of_form (found_source items.now)) }
 {
-    match source_of(alloc, tokens)? {
+    match source_of(alloc, items)? {
         Some(source) => write_source(alloc, source),
         None => Ok(Compiled::Refused(unknown(alloc)?)),
     }
@@ -137,30 +138,55 @@ fn refuse_at(
     )?))
 }
 
-#[tactic(auto, using(crate::proofs::Outcomes::read_is, crate::proofs::Outcomes::stop_is, crate::proofs::Outcomes::deep_is))]
+#[tactic(auto, using(crate::proofs::Outcomes::read_is, crate::proofs::Outcomes::stop_is, crate::proofs::Outcomes::deep_is, crate::proofs::Homes::at_token_home))]
 fn compile_tokens(alloc: Global, lines: &Lines, tokens: &Tokens) -> Result<Compiled, AllocError>
-    requires { length tokens.now < 2 ^ 32 }
-    ensures { IfOk result (λ compiled. compiled ≡ of_outcome lines.now.list tokens.now (outcome tokens.now)) }
+    requires count { length tokens.now < 2 ^ 32 }
+    requires main { 0 < length lines.now.files }
+    requires files { All (λ token. token.place.file < length lines.now.files) tokens.now }
+    ensures value { IfOk result (λ compiled. compiled ≡ of_outcome lines.now.list tokens.now (outcome tokens.now)) }
+    ensures within { IfOk result (RefusesWithin (length lines.now.files)) }
 {
     match parse(alloc, tokens) {
-        Ok(_) => compile_form(alloc, tokens.as_slice()),
+        Ok(unit) => compile_form(alloc, unit.items.as_slice()),
         Err(Syntax::Stop { token }) => refuse_at(alloc, lines, tokens, NOT_SOURCE, token),
         Err(Syntax::TooDeep { token }) => refuse_at(alloc, lines, tokens, TOO_DEEP, token),
         Err(Syntax::Memory) => Err(AllocError),
     }
 }
 
-/// What a main file comes to.
-pub(crate) fn compile(alloc: Global, file: &str, bytes: &[u8]) -> Result<Compiled, AllocError>
-    requires { length bytes.now ≤ most_bytes }
-    ensures { IfOk result (λ it. it ≡ compiled bytes.now) }
+// The messages of a stage's refusal.
+fn refusal(stage: Stage) -> Result<Messages, AllocError>
+    ensures { IfOk result (λ messages. stage ≡ stages.Refused messages) }
 {
-    let lines = source_lines(alloc, file, bytes)?;
-    match tokens(alloc, &lines) {
+    match stage {
+        Stage::Refused(messages) => Ok(messages),
+        Stage::Memory => Err(AllocError),
+    }
+}
+
+/// What lines come to. Each refusal stands in one of their files.
+#[tactic(auto, using(crate::proofs::Outcomes::fault_is))]
+fn compile_lines(alloc: Global, lines: &Lines) -> Result<Compiled, AllocError>
+    requires short { All (λ line. length line.text < 2 ^ 32) lines.now.list }
+    requires main { 0 < length lines.now.files }
+    requires files { All (λ line. line.file < length lines.now.files) lines.now.list }
+    ensures value { IfOk result (λ it. it ≡ of_lines lines.now.list) }
+    ensures within { IfOk result (RefusesWithin (length lines.now.files)) }
+{
+    match tokens(alloc, lines) {
         // (no more tokens have room)
         Ok(tokens) if tokens.len() > MOST_TOKENS => Err(AllocError),
-        Ok(tokens) => compile_tokens(alloc, &lines, &tokens),
-        Err(Stage::Refused(messages)) => Ok(Compiled::Refused(messages)),
-        Err(Stage::Memory) => Err(AllocError),
+        Ok(tokens) => compile_tokens(alloc, lines, &tokens),
+        Err(stage) => Ok(Compiled::Refused(refusal(stage)?)),
     }
+}
+
+/// What a main file comes to. Each refusal stands in it.
+#[tactic(auto, using(crate::proofs::LineLengths::source_lines_short, crate::proofs::LineLengths::source_lines_home))]
+pub(crate) fn compile(alloc: Global, file: &str, bytes: &[u8]) -> Result<Compiled, AllocError>
+    requires { length bytes.now ≤ most_bytes }
+    ensures value { IfOk result (λ it. it ≡ compiled bytes.now) }
+    ensures within { IfOk result (RefusesWithin 1) }
+{
+    compile_lines(alloc, &source_lines(alloc, file, bytes)?)
 }

@@ -4,7 +4,7 @@ ghost use Rattle.std.specs.Option.{ForSome};
 ghost use Rattle.iasl_ports.specs.Counts.{Rose};
 ghost use Rattle.iasl_ports.specs.Fetched.{most_bytes};
 ghost use Rattle.iasl_ports.specs.Delivery.{name_and_bytes, answer_of, IsSettled};
-ghost use Rattle.iasl_tool.specs.Compiled.{compiled as outcome, unknown as unknown_form};
+ghost use Rattle.iasl_tool.specs.Compiled.{compiled as outcome, unknown as unknown_form, AreWithin};
 ghost use Rattle.iasl_tool.specs.Words.{request_by};
 ghost use Rattle.iasl_tool.specs.Due.{success, refusal, usage, answer_to_compiled, answer_for};
 
@@ -57,7 +57,7 @@ fn succeed(alloc: Global, stem: &str, signature: &Text, bytes: &Text) -> Result<
 
 // What is due of a source with these errors.
 fn refuse(alloc: Global, file: &str, messages: &Messages) -> Result<Due, AllocError>
-    requires { All (λ m. m.place.file ≡ 0) messages.now }
+    requires { AreWithin 1 messages.now }
     ensures due { IfOk result (λ due. answer_of due ≡ refusal file.now messages.now) }
     ensures settled { IfOk result IsSettled }
 {

@@ -1,44 +1,66 @@
-//! The forms of a source that are read so far, token by token.
-ghost use Rattle.std.specs.Prelude.{◌≡◌, ◌≤◌, ◌+◌, length, IsTrue};
+//! What a member of the tree of the syntax stands for, where it is of a form that is read so far.
+ghost use Rattle.std.specs.Prelude.{◌≡◌, ◌≤◌, IfSome};
+ghost use Rattle.std.specs.Option.{option_map};
+ghost use Rattle.std.specs.List.{list_all};
+ghost use Rattle.std.specs.Char.{is_ascii_alphanumeric};
 ghost use Rattle.iasl_tool.specs.Forms as spec;
 
 use crate::segments::segment_of;
-use asl_lexer::token::{Token, TokenKind};
+use asl_parser::Raw;
+use asl_tree::path::NameSeg;
+use iasl_ports::list::Text;
 
-/// A word with a meaning of its own.
-#[derive(Clone, Copy, PartialEq, Eq, Debug)]
-pub(crate) enum Keyword {
-    DefinitionBlock,
-    Name,
-    Method,
-    Return,
-}
-
-fn keyword_text(keyword: Keyword) -> &'static [u8]
-    ensures { result.now ≡ spec.keyword_text keyword }
+fn number_in(raw: &Raw) -> Option<u64>
+    ensures { result ≡ spec.number_in raw.now }
 {
-    match keyword {
-        Keyword::DefinitionBlock => b"DEFINITIONBLOCK",
-        Keyword::Name => b"NAME",
-        Keyword::Method => b"METHOD",
-        Keyword::Return => b"RETURN",
+    match raw {
+        Raw::Number { value, .. } => Some(*value),
+        _ => None,
     }
 }
 
-/// What a token of a form must be.
-#[derive(Clone, Copy, PartialEq, Eq, Debug)]
-pub(crate) enum Slot {
-    /// A bracket or a comma.
-    Symbol(u8),
-    Keyword(Keyword),
-    /// A string of `DSDT` or `SSDT`.
-    Signature,
-    /// A string of at most so many letters and digits.
-    Letters(u8),
-    /// A number in this range.
-    Number { least: u64, most: u64 },
-    /// A name of one segment.
-    Segment,
+/// A number of this range.
+pub(crate) fn number_within(raw: &Raw, least: u64, most: u64) -> Option<u64>
+    ensures number { result ≡ spec.number_within least most raw.now }
+    ensures within { IfSome result (λ number. number ≤ most) }
+{
+    let number = number_in(raw)?;
+    if least <= number && number <= most {
+        Some(number)
+    } else {
+        None
+    }
+}
+
+/// A number of 64 bits.
+pub(crate) fn integer_in(raw: &Raw) -> Option<u64>
+    ensures { result ≡ spec.integer_in raw.now }
+{
+    number_within(raw, 0, u64::MAX)
+}
+
+/// A name of one segment, with neither arguments nor a body.
+pub(crate) fn segment_in(raw: &Raw) -> Option<NameSeg>
+    ensures { result ≡ spec.segment_in raw.now }
+{
+    match raw {
+        Raw::Item {
+            word,
+            args: None,
+            body: None,
+            ..
+        } => segment_of(word.as_bytes()),
+        _ => None,
+    }
+}
+
+fn text_in(raw: &Raw) -> Option<&Text>
+    ensures { option_map (λ text. text.now) result ≡ spec.text_in raw.now }
+{
+    match raw {
+        Raw::Text { text, .. } => Some(text),
+        _ => None,
+    }
 }
 
 fn is_signature(text: &[u8]) -> bool
@@ -47,50 +69,33 @@ fn is_signature(text: &[u8]) -> bool
     text == b"DSDT".as_slice() || text == b"SSDT".as_slice()
 }
 
+/// A string of `DSDT` or `SSDT`.
+pub(crate) fn signature_in(raw: &Raw) -> Option<&Text>
+    ensures { option_map (λ text. text.now) result ≡ spec.signature_in raw.now }
+{
+    let text = text_in(raw)?;
+    if is_signature(text.as_bytes()) {
+        Some(text)
+    } else {
+        None
+    }
+}
+
 fn has_letters_alone(text: &[u8]) -> bool
-    ensures { result ≡ spec.has_letters_alone text.now }
+    ensures { result ≡ list_all is_ascii_alphanumeric text.now }
 {
     text.iter().all(|byte| byte.is_ascii_alphanumeric())
 }
 
-fn accepts(slot: Slot, token: &Token) -> bool
-    ensures { result ≡ spec.accepts slot token.now }
+/// A string of at most so many letters and digits.
+pub(crate) fn letters_in(raw: &Raw, most: usize) -> Option<&Text>
+    ensures { option_map (λ text. text.now) result ≡ spec.letters_in most raw.now }
 {
-    let text = token.text.as_bytes();
-    match slot {
-        Slot::Symbol(symbol) => matches!(token.kind, TokenKind::Symbol)
-            && text == [symbol].as_slice(),
-        Slot::Keyword(keyword) => matches!(token.kind, TokenKind::Word)
-            && text == keyword_text(keyword),
-        Slot::Signature => matches!(token.kind, TokenKind::Text) && is_signature(text),
-        Slot::Letters(most) => {
-            matches!(token.kind, TokenKind::Text)
-                && text.len() <= most as usize
-                && has_letters_alone(text)
-        }
-        Slot::Number { least, most } => {
-            matches!(token.kind, TokenKind::Number) && least <= token.number && token.number <= most
-        }
-        Slot::Segment => matches!(token.kind, TokenKind::Word) && segment_of(text).is_some(),
+    let text = text_in(raw)?;
+    let bytes = text.as_bytes();
+    if bytes.len() <= most && has_letters_alone(bytes) {
+        Some(text)
+    } else {
+        None
     }
-}
-
-/// Whether the first tokens fill the slots.
-pub(crate) fn fits(slots: &[Slot], tokens: &[Token]) -> bool
-    ensures value { result ≡ spec.fits slots.now tokens.now }
-    ensures enough { IsTrue result → length slots.now ≤ length tokens.now }
-{
-    let mut slots = slots;
-    let mut tokens = tokens;
-    while let [slot, more @ ..] = slots {
-        let [token, after @ ..] = tokens else {
-            return false;
-        };
-        if !accepts(*slot, token) {
-            return false;
-        }
-        slots = more;
-        tokens = after;
-    }
-    true
 }

@@ -1,49 +1,13 @@
 //! The terms of a source that are read so far.
-ghost use Rattle.std.specs.Prelude.{◌≡◌, ◌≤◌, ◌<◌, ◌+◌, ◌++◌, length, drop, IfOk, IfSome};
+ghost use Rattle.std.specs.Prelude.{◌≡◌, IfOk};
 ghost use Rattle.std.specs.Option.{option_map};
 ghost use Rattle.iasl_tool.specs.Items as spec;
 
-use crate::form::{Keyword, Slot, fits};
-use crate::segments::segment_of;
-use asl_lexer::token::Token;
+use crate::form::{integer_in, number_within, segment_in};
+use asl_parser::Raw;
 use asl_tree::path::NameSeg;
 use iasl_messages::place::Place;
 use std::alloc::{AllocError, Global};
-
-/// `Name (SEGMENT, NUMBER)`.
-pub(crate) const NAME_FORM: [Slot; 6] = [
-    Slot::Keyword(Keyword::Name),
-    Slot::Symbol(b'('),
-    Slot::Segment,
-    Slot::Symbol(b','),
-    Slot::Number {
-        least: 0,
-        most: u64::MAX,
-    },
-    Slot::Symbol(b')'),
-];
-
-/// `Method (SEGMENT, 0) { Return (NUMBER) }`.
-pub(crate) const METHOD_FORM: [Slot; 12] = [
-    Slot::Keyword(Keyword::Method),
-    Slot::Symbol(b'('),
-    Slot::Segment,
-    Slot::Symbol(b','),
-    Slot::Number { least: 0, most: 0 },
-    Slot::Symbol(b')'),
-    Slot::Symbol(b'{'),
-    Slot::Keyword(Keyword::Return),
-    Slot::Symbol(b'('),
-    Slot::Number {
-        least: 0,
-        most: u64::MAX,
-    },
-    Slot::Symbol(b')'),
-    Slot::Symbol(b'}'),
-];
-
-/// The end of a block.
-pub(crate) const END_FORM: [Slot; 1] = [Slot::Symbol(b'}')];
 
 /// What a term declares.
 #[derive(Clone, Copy, PartialEq, Eq, Debug)]
@@ -63,71 +27,105 @@ pub struct Item {
     pub number: u64,
 }
 
-fn item_at(kind: ItemKind, first: &Token, segment: &Token, number: &Token) -> Option<Item>
-    ensures { result ≡ spec.item_at kind first.now segment.now number.now }
+// `(SEGMENT, NUMBER)` behind `Name`.
+fn name_item(place: Place, args: &[Raw]) -> Option<Item>
+    ensures { result ≡ spec.name_item place args.now }
 {
-    let segment = segment_of(segment.text.as_bytes())?;
+    let [segment, number] = args else {
+        return None;
+    };
     Some(Item {
-        kind,
-        place: first.place,
-        segment,
-        number: number.number,
+        kind: ItemKind::Name,
+        place,
+        segment: segment_in(segment)?,
+        number: integer_in(number)?,
     })
 }
 
-// The term of a form, of which the number stands at this place.
-fn item_in(kind: ItemKind, tokens: &[Token], number_at: usize) -> Option<Item>
-    ensures { result ≡ spec.item_in kind tokens.now number_at }
+// `(NUMBER)` behind `Return`.
+fn one_number(args: &[Raw]) -> Option<u64>
+    ensures { result ≡ spec.one_number args.now }
 {
-    let first = tokens.first()?;
-    let segment = tokens.get(2)?;
-    let number = tokens.get(number_at)?;
-    item_at(kind, first, segment, number)
-}
-
-// The term at the front, and how many tokens it has.
-fn next_item(tokens: &[Token]) -> Option<(Item, usize)>
-    ensures item { result ≡ spec.next_item tokens.now }
-    ensures within { IfSome result (λ next. next.1 ≤ length tokens.now) }
-{
-    if fits(&NAME_FORM, tokens) {
-        Some((item_in(ItemKind::Name, tokens, 4)?, 6))
-    } else if fits(&METHOD_FORM, tokens) {
-        Some((item_in(ItemKind::Method, tokens, 9)?, 12))
-    } else {
-        None
+    match args {
+        [number] => integer_in(number),
+        _ => None,
     }
 }
 
-fn after(tokens: &[Token], count: usize) -> &[Token]
-    requires { count ≤ length tokens.now }
-    ensures { result.now ≡ drop count tokens.now }
+// `Return (NUMBER)`.
+fn returned_number(statement: &Raw) -> Option<u64>
+    ensures { result ≡ spec.returned_number statement.now }
 {
-    tokens.split_at(count).1
+    match statement {
+        Raw::Item {
+            word,
+            args: Some(args),
+            body: None,
+            ..
+        } if word.as_bytes() == b"RETURN".as_slice() => one_number(args.as_slice()),
+        _ => None,
+    }
 }
 
-// The terms, where one token is left.
-fn only_end(rest: &[Token], items: Vec<Item>) -> Option<Vec<Item>>
-    ensures { option_map (λ is. is.items) result ≡ spec.only_end rest.now items.items }
+fn body_number(body: &[Raw]) -> Option<u64>
+    ensures { result ≡ spec.body_number body.now }
 {
-    if rest.len() == 1 { Some(items) } else { None }
+    match body {
+        [statement] => returned_number(statement),
+        _ => None,
+    }
 }
 
-/// The terms up to the end of the block, which must be the end of the source: none where there are others.
-pub(crate) fn items_of(alloc: Global, tokens: &[Token]) -> Result<Option<Vec<Item>>, AllocError>
-    ensures { IfOk result (λ items. option_map (λ is. is.items) items ≡ spec.items_of tokens.now) }
+// `(SEGMENT, 0)` behind `Method`, and its body.
+fn method_item(place: Place, args: &[Raw], body: &[Raw]) -> Option<Item>
+    ensures { result ≡ spec.method_item place args.now body.now }
 {
-    let mut rest = tokens;
-    let mut items = Vec::new(alloc);
-    for _ in 0..tokens.len() {
-        if fits(&END_FORM, rest) {
-            return Ok(only_end(rest, items));
+    let [segment, arity] = args else {
+        return None;
+    };
+    number_within(arity, 0, 0)?;
+    Some(Item {
+        kind: ItemKind::Method,
+        place,
+        segment: segment_in(segment)?,
+        number: body_number(body)?,
+    })
+}
+
+// A term.
+fn item_in(raw: &Raw) -> Option<Item>
+    ensures { result ≡ spec.item_in raw.now }
+{
+    match raw {
+        Raw::Item {
+            place,
+            word,
+            args: Some(args),
+            body: None,
+        } if word.as_bytes() == b"NAME".as_slice() => name_item(*place, args.as_slice()),
+        Raw::Item {
+            place,
+            word,
+            args: Some(args),
+            body: Some(body),
+        } if word.as_bytes() == b"METHOD".as_slice() => {
+            method_item(*place, args.as_slice(), body.as_slice())
         }
-        let Some((item, count)) = next_item(rest) else {
+        _ => None,
+    }
+}
+
+/// The terms of a block's body: none where it has something else.
+#[tactic(auto, using(crate::proofs::ItemLists::no_item, crate::proofs::ItemLists::one_item, crate::proofs::ItemLists::all_items))]
+pub(crate) fn items_of(alloc: Global, body: &[Raw]) -> Result<Option<Vec<Item>>, AllocError>
+    ensures { IfOk result (λ items. option_map (λ is. is.items) items ≡ spec.items_of body.now) }
+{
+    let mut items = Vec::new(alloc);
+    for raw in body {
+        let Some(item) = item_in(raw) else {
             return Ok(None);
         };
         items.push(item)?;
-        rest = after(rest, count);
     }
-    Ok(None)
+    Ok(Some(items))
 }

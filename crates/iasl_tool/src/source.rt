@@ -1,43 +1,19 @@
 //! A source of the form that is read so far.
-ghost use Rattle.std.specs.Prelude.{◌≡◌, ◌≤◌, ◌<◌, ◌+◌, ◌%◌, ◌^◌, length, drop, not, nat_eq, IfOk, IfSome, OnOk};
+ghost use Rattle.std.specs.Prelude.{◌≡◌, not, nat_eq, IfOk, OnOk};
+ghost use Rattle.std.specs.Option.{option_map};
 ghost use Rattle.std.specs.Cmp.Lexicographic.{pointwise};
 ghost use Rattle.std.specs.HashSet.{contains};
 ghost use Rattle.iasl_tool.specs.NameSets.{AddsName, HasNames};
 ghost use Rattle.iasl_tool.specs.Sources as spec;
 
-use crate::form::{Keyword, Slot, fits};
+use crate::form::{letters_in, number_within, signature_in};
 use crate::items::{Item, items_of};
-use asl_lexer::token::Token;
+use asl_parser::Raw;
 use asl_tree::path::NameSeg;
 use iasl_messages::place::Place;
 use iasl_ports::list::{List, Text};
 use std::alloc::{AllocError, Global};
 use std::collections::HashSet;
-
-/// `DefinitionBlock ("", SIGNATURE, REVISION, OEM ID, TABLE ID, OEM REVISION) {`.
-pub(crate) const BLOCK_FORM: [Slot; 15] = [
-    Slot::Keyword(Keyword::DefinitionBlock),
-    Slot::Symbol(b'('),
-    Slot::Letters(0),
-    Slot::Symbol(b','),
-    Slot::Signature,
-    Slot::Symbol(b','),
-    Slot::Number {
-        least: 2,
-        most: 255,
-    },
-    Slot::Symbol(b','),
-    Slot::Letters(6),
-    Slot::Symbol(b','),
-    Slot::Letters(8),
-    Slot::Symbol(b','),
-    Slot::Number {
-        least: 0,
-        most: 4_294_967_295,
-    },
-    Slot::Symbol(b')'),
-    Slot::Symbol(b'{'),
-];
 
 /// The names of the root's objects (ACPI Specification 6.4, 5.3.1 and 5.7).
 pub(crate) const ROOT_SEGMENTS: [NameSeg; 9] = [
@@ -87,70 +63,105 @@ fn are_distinct(alloc: Global, items: &[Item]) -> Result<bool, AllocError>
     Ok(true)
 }
 
-// What a table's header says, from the tokens of a block's form.
-fn source_from(
-    alloc: Global,
-    tokens: &[Token],
-    items: List<Item>,
-) -> Result<Option<Source>, AllocError>
-    ensures { IfOk result (λ source. source ≡ spec.source_from tokens.now items) }
-{
-    let (Some(first), Some(signature), Some(revision)) = (
-        tokens.first(),
-        tokens.get(4),
-        tokens.get(6),
-    ) else {
-        return Ok(None);
-    };
-    let (Some(oem_id), Some(table_id), Some(oem_revision)) = (
-        tokens.get(8),
-        tokens.get(10),
-        tokens.get(12),
-    ) else {
-        return Ok(None);
-    };
-    Ok(Some(Source {
-        place: first.place,
-        signature: copy(alloc, &signature.text)?,
-        revision: low_u8(revision.number),
-        oem_id: copy(alloc, &oem_id.text)?,
-        table_id: copy(alloc, &table_id.text)?,
-        oem_revision: low_u32(oem_revision.number),
-        items,
-    }))
-}
-
 fn copy(alloc: Global, text: &Text) -> Result<Text, AllocError>
     ensures { IfOk result (λ copy. copy ≡ text.now) }
 {
     Text::from_bytes(alloc, text.as_bytes())
 }
 
-// A number that is known to have 8 bits.
-fn low_u8(number: u64) -> u8
-    ensures { result ≡ number % 256 }
-{
-    (number % 256) as u8
+/// What the arguments of a definition block say.
+#[derive(Clone, Copy)]
+struct BlockHeader<'a> {
+    signature: &'a Text,
+    revision: u8,
+    oem_id: &'a Text,
+    table_id: &'a Text,
+    oem_revision: u32,
 }
 
-pub(crate) fn low_u32(number: u64) -> u32
-    ensures { result ≡ number % 2 ^ 32 }
+// `("", SIGNATURE, REVISION, OEM ID, TABLE ID, OEM REVISION)` behind `DefinitionBlock`.
+fn header_of(args: &[Raw]) -> Option<BlockHeader<'_>>
+    ensures { option_map spec.stated result ≡ spec.header_of args.now }
 {
-    (number % 4_294_967_296) as u32
+    let [file, signature, revision, oem_id, table_id, oem_revision] = args else {
+        return None;
+    };
+    letters_in(file, 0)?;
+    Some(BlockHeader {
+        signature: signature_in(signature)?,
+        revision: number_within(revision, 2, 255)? as u8,
+        oem_id: letters_in(oem_id, 6)?,
+        table_id: letters_in(table_id, 8)?,
+        oem_revision: number_within(oem_revision, 0, 4_294_967_295)? as u32,
+    })
 }
 
-/// The source that the tokens are, in the form that is read so far: none where they are no such source.
-pub(crate) fn source_of(alloc: Global, tokens: &[Token]) -> Result<Option<Source>, AllocError>
-    ensures { IfOk result (λ source. source ≡ spec.source_of tokens.now) }
+// The terms of a body, where no name is declared twice.
+fn distinct_items(alloc: Global, body: &[Raw]) -> Result<Option<Vec<Item>>, AllocError>
+    ensures { IfOk result (λ items. option_map (λ is. is.items) items ≡ spec.distinct_items body.now) }
 {
-    if !fits(&BLOCK_FORM, tokens) {
-        return Ok(None);
-    }
-    let Some(items) = items_of(alloc, tokens.split_at(15).1)? else {
+    let Some(items) = items_of(alloc, body)? else {
         return Ok(None);
     };
-    if !are_distinct(alloc, &items)? {
-        return Ok(None);
+    if are_distinct(alloc, &items)? {
+        Ok(Some(items))
+    } else {
+        Ok(None)
     }
-    source_from(alloc, tokens, List::from_vec(items))
+}
+
+// A source of these terms, where the arguments are a definition block's.
+fn block_source(
+    alloc: Global,
+    place: Place,
+    args: &[Raw],
+    items: Vec<Item>,
+) -> Result<Option<Source>, AllocError>
+    ensures { IfOk result (λ source. source ≡ spec.block_source place args.now items.items) }
+{
+    let Some(header) = header_of(args) else {
+        return Ok(None);
+    };
+    Ok(Some(Source {
+        place,
+        signature: copy(alloc, header.signature)?,
+        revision: header.revision,
+        oem_id: copy(alloc, header.oem_id)?,
+        table_id: copy(alloc, header.table_id)?,
+        oem_revision: header.oem_revision,
+        items: List::from_vec(items),
+    }))
+}
+
+fn block_in(
+    alloc: Global,
+    place: Place,
+    args: &[Raw],
+    body: &[Raw],
+) -> Result<Option<Source>, AllocError>
+    ensures { IfOk result (λ source. source ≡ spec.block_in place args.now body.now) }
+{
+    match distinct_items(alloc, body)? {
+        Some(items) => block_source(alloc, place, args, items),
+        None => Ok(None),
+    }
+}
+
+/// The source that a tree of the syntax is, in the form that is read so far: none where it is no such source.
+pub(crate) fn source_of(alloc: Global, items: &[Raw]) -> Result<Option<Source>, AllocError>
+    ensures { IfOk result (λ source. source ≡ spec.source_of items.now) }
+{
+    match items {
+        [
+            Raw::Item {
+                place,
+                word,
+                args: Some(args),
+                body: Some(body),
+            },
+        ] if word.as_bytes() == b"DEFINITIONBLOCK".as_slice() => {
+            block_in(alloc, *place, args.as_slice(), body.as_slice())
+        }
+        _ => Ok(None),
+    }
 }

@@ -1,9 +1,8 @@
 //! Where tokens stop being a source.
-ghost use Rattle.std.specs.Prelude.{◌≡◌, ◌<◌, ◌^◌, [], drop, length, true, not, position};
+ghost use Rattle.std.specs.Prelude.{◌≡◌, ◌<◌, ◌%◌, ◌^◌, [], drop, length, true, not, position};
 ghost use Rattle.std.specs.Char.{is_ascii_alphanumeric};
 ghost use Rattle.iasl_tool.specs.Syntax as spec;
 
-use crate::source::low_u32;
 use asl_lexer::token::{Token, TokenKind};
 use iasl_messages::place::{Line, Place};
 
@@ -13,6 +12,13 @@ const FIRST_PLACE: Place = Place {
     line: 1,
     column: 1,
 };
+
+// The low 32 bits.
+fn low_u32(number: u64) -> u32
+    ensures { result ≡ number % 2 ^ 32 }
+{
+    (number % 4_294_967_296) as u32
+}
 
 fn after(bytes: &[u8], count: usize) -> &[u8]
     ensures { result.now ≡ drop count bytes.now }
