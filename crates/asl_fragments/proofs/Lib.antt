@@ -1,0 +1,2 @@
+pub mod FragmentLaws
+mod Worked

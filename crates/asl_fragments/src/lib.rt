@@ -1,0 +1,10 @@
+//! A line in fragments, so that strings and comments are told apart in one place.
+#![tactic(auto)]
+
+mod comments;
+pub mod fragment;
+#[cfg(test)]
+mod tests;
+
+pub use comments::{ends_in_comment, without_comments};
+pub use fragment::first_fragment;

@@ -1,0 +1,15 @@
+-- What a table of definitions tells.
+use Rattle.std.specs.Prelude.{◌≡◌, ℕ, List, Option}
+use Rattle.std.specs.Option.{option_map}
+use Rattle.std.specs.Str.{bytes_eq}
+use Rattle.std.specs.HashMap.{get_by}
+use Rattle.asl_macros.specs.declared.table.Macros.{Macros}
+use Rattle.asl_macros.specs.History.{History, text_in}
+
+-- the text that the table has for a name
+abbrev pub text_at : Macros → List ℕ → Option (List ℕ)
+text_at macros name = option_map (λ text. text.items) (get_by (λ key. bytes_eq name key.items) macros.table)
+
+-- for every name the table has the text of the last definition
+pub record Tells (macros : Macros) (history : History) : Type 0 where
+  pub text : (name : List ℕ) → text_at macros name ≡ text_in history name

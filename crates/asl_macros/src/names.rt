@@ -1,0 +1,185 @@
+//! The replacement of names.
+ghost use Rattle.std.specs.Prelude.{◌≡◌, ◌++◌, ◌∷◌, [], ◌<◌, ◌≤◌, false, map, length, OnOk, Ok, Err};
+ghost use Rattle.std.specs.Option.{option_copied};
+ghost use Rattle.asl_macros.specs.History.{History};
+ghost use Rattle.asl_macros.specs.Table.{Tells, text_at};
+ghost use Rattle.asl_macros.specs.Replacement as spec;
+ghost use Rattle.asl_macros.specs.Replacement.{Adds, Gives};
+
+use crate::spot::{Spot, Within, is_name, spot_behind};
+use crate::table::Macros;
+use asl_fragments::fragment::first_fragment;
+use std::alloc::{AllocError, AllocFailed, Global};
+
+/// Why names are not replaced.
+#[derive(Clone, Copy, Debug)]
+pub enum ReplaceStop {
+    /// The text with its names replaced would be longer than the limit.
+    TooLong,
+    /// There is no memory.
+    Memory,
+}
+
+impl From<AllocError> for ReplaceStop {
+    ghost use Rattle.std.specs.Prelude.{◌≡◌};
+    ghost use Rattle.asl_macros.specs.declared.names.ReplaceStop.TheVariants.{Memory};
+
+    ghost from_gives = { λ _ e. e ≡ Memory };
+
+    fn from(_: AllocError) -> ReplaceStop {
+        ReplaceStop::Memory
+    }
+}
+
+impl<T: Drop> From<AllocFailed<T>> for ReplaceStop {
+    ghost use Rattle.std.specs.Prelude.{◌≡◌};
+    ghost use Rattle.asl_macros.specs.declared.names.ReplaceStop.TheVariants.{Memory};
+
+    ghost from_gives = { λ _ e. e ≡ Memory };
+
+    fn from(_: AllocFailed<T>) -> ReplaceStop {
+        ReplaceStop::Memory
+    }
+}
+
+// How deep names are replaced in texts of names.
+const NESTING: u8 = 32;
+
+fn add(out: &mut Vec<u8>, limit: usize, text: &[u8]) -> Result<(), ReplaceStop>
+    requires { length out.old.items ≤ limit }
+    ensures { Adds result limit out.old.items out.new.items text.now }
+{
+    if text.len() > limit - out.len() {
+        return Err(ReplaceStop::TooLong);
+    }
+    out.extend_from_slice(text)?;
+    Ok(())
+}
+
+fn is_active(active: &[&[u8]], name: &[u8]) -> bool
+    ensures { result ≡ spec.is_active (map (λ other. other.now) active.now) name.now }
+{
+    for other in active {
+        if *other == name {
+            return true;
+        }
+    }
+    false
+}
+
+// Adds the value of a name.
+#[cycle(replacing)]
+fn add_value<'a>(
+    out: &mut Vec<u8>,
+    limit: usize,
+    macros: &'a Macros,
+    within: Within,
+    active: &mut Vec<&'a [u8]>,
+    levels: u8,
+    name: &'a [u8],
+) -> Result<(), ReplaceStop>
+    requires { length out.old.items ≤ limit }
+    ensures added { Adds result limit out.old.items out.new.items (spec.value_of levels within (text_at macros.now) (map (λ other. other.now) active.old.items) name.now) }
+    ensures active { OnOk result (active.new.items ≡ active.old.items) }
+{
+    if levels == 0 {
+        return add(out, limit, name);
+    }
+    if is_active(active, name) {
+        return add(out, limit, name);
+    }
+    match macros.text_of(name) {
+        None => add(out, limit, name),
+        Some(text) => {
+            let count = active.len();
+            active.push(name)?;
+            add_text(out, limit, macros, within, active, levels - 1, text, false)?;
+            active.truncate(count);
+            Ok(())
+        }
+    }
+}
+
+// Adds a fragment, or its value.
+#[cycle(replacing)]
+fn add_piece<'a>(
+    out: &mut Vec<u8>,
+    limit: usize,
+    macros: &'a Macros,
+    within: Within,
+    active: &mut Vec<&'a [u8]>,
+    levels: u8,
+    named: bool,
+    piece: &'a [u8],
+) -> Result<(), ReplaceStop>
+    requires { length out.old.items ≤ limit }
+    ensures added { Adds result limit out.old.items out.new.items (spec.value_or_itself (spec.value_of levels within (text_at macros.now) (map (λ other. other.now) active.old.items)) named piece.now) }
+    ensures active { OnOk result (active.new.items ≡ active.old.items) }
+{
+    if named {
+        add_value(out, limit, macros, within, active, levels, piece)
+    } else {
+        add(out, limit, piece)
+    }
+}
+
+// Adds a text with values in place of its names.
+#[cycle(replacing)]
+fn add_text<'a>(
+    out: &mut Vec<u8>,
+    limit: usize,
+    macros: &'a Macros,
+    within: Within,
+    active: &mut Vec<&'a [u8]>,
+    levels: u8,
+    text: &'a [u8],
+    in_comment: bool,
+) -> Result<(), ReplaceStop>
+    requires { length out.old.items ≤ limit }
+    ensures added { Adds result limit out.old.items out.new.items (spec.text_with_values within (spec.value_of levels within (text_at macros.now) (map (λ other. other.now) active.old.items)) in_comment text.now) }
+    ensures active { OnOk result (active.new.items ≡ active.old.items) }
+{
+    let mut rest = text;
+    let mut inside = in_comment;
+    let mut spot = Spot::Anywhere;
+    while !rest.is_empty() {
+        let fragment = first_fragment(rest, inside);
+        let (piece, behind) = rest.split_at(fragment.length);
+        let named = is_name(within, spot, fragment.kind, piece);
+        add_piece(out, limit, macros, within, active, levels, named, piece)?;
+        spot = spot_behind(spot, fragment.kind, piece);
+        rest = behind;
+        inside = false;
+    }
+    Ok(())
+}
+
+/// A text with its defined names replaced, where it begins inside a block comment or does not. Outside strings
+/// and comments each defined identifier is replaced by its text, in which identifiers are replaced by the same
+/// rule, except names that are being replaced, to a nesting of 32; a name met deeper stays. The answer has at
+/// most `limit` bytes, and never many more are made. The time is that of the input and the answer, times 32 at
+/// most; but a text of long names that are replaced by short ones is read each time that it is met.
+pub fn replace(
+    alloc: Global,
+    macros: &Macros,
+    within: Within,
+    text: &[u8],
+    in_comment: bool,
+    limit: usize,
+) -> Result<Vec<u8>, ReplaceStop>
+    ensures { (history : History) → Tells macros.now history → Gives result limit (spec.replaced within history in_comment text.now) }
+{
+    let mut out = Vec::new(alloc);
+    let mut active = Vec::new(alloc);
+    add_text(
+        &mut out,
+        limit,
+        macros,
+        within,
+        &mut active,
+        NESTING,
+        text,
+        in_comment,
+    )?;
+    Ok(out)
+}

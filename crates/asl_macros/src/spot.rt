@@ -1,0 +1,113 @@
+//! Which fragments of a text are names to be replaced.
+ghost use Rattle.std.specs.Prelude.{◌≡◌, ◌&&◌};
+ghost use Rattle.asl_macros.specs.Replacement as spec;
+
+use asl_fragments::fragment::FragmentKind;
+
+/// Where names are replaced.
+#[derive(Clone, Copy, Debug)]
+pub enum Within {
+    /// In a line of a source.
+    InLine,
+    /// In a condition: the identifier behind `defined` is not replaced.
+    InCondition,
+}
+
+/// Where a fragment stands.
+#[derive(Clone, Copy, Debug)]
+pub enum Spot {
+    Anywhere,
+    /// Behind the word `defined`, and blanks.
+    BehindDefined,
+    /// Behind a parenthesis that stands there, and blanks.
+    BehindParenthesis,
+}
+
+fn is_identifier(kind: FragmentKind) -> bool
+    ensures { result ≡ spec.is_identifier kind }
+{
+    matches!(kind, FragmentKind::Identifier)
+}
+
+fn is_defined(text: &[u8]) -> bool
+    ensures { result ≡ spec.is_defined text.now }
+{
+    text == b"defined".as_slice()
+}
+
+fn is_blank_text(text: &[u8]) -> bool
+    ensures { result ≡ spec.is_blank_text text.now }
+{
+    text == b" ".as_slice() || text == b"\t".as_slice()
+}
+
+fn is_blank(kind: FragmentKind, text: &[u8]) -> bool
+    ensures { result ≡ spec.is_blank_by kind text.now }
+{
+    match kind {
+        FragmentKind::Comment => true,
+        _ => is_blank_text(text),
+    }
+}
+
+fn is_parenthesis(text: &[u8]) -> bool
+    ensures { result ≡ spec.is_parenthesis text.now }
+{
+    text == b"(".as_slice()
+}
+
+fn is_name_at(within: Within, spot: Spot, text: &[u8]) -> bool
+    ensures { result ≡ spec.is_name_at within spot text.now }
+{
+    match within {
+        Within::InLine => true,
+        Within::InCondition => match spot {
+            Spot::Anywhere => !is_defined(text),
+            Spot::BehindDefined | Spot::BehindParenthesis => false,
+        },
+    }
+}
+
+/// Whether a fragment is a name to be replaced.
+pub fn is_name(within: Within, spot: Spot, kind: FragmentKind, text: &[u8]) -> bool
+    ensures { result ≡ spec.is_name within spot kind text.now }
+{
+    is_identifier(kind) && is_name_at(within, spot, text)
+}
+
+fn is_defined_word(kind: FragmentKind, text: &[u8]) -> bool
+    ensures { result ≡ (spec.is_identifier kind && spec.is_defined text.now) }
+{
+    is_identifier(kind) && is_defined(text)
+}
+
+/// Where the next fragment stands.
+pub fn spot_behind(spot: Spot, kind: FragmentKind, text: &[u8]) -> Spot
+    ensures { result ≡ spec.spot_behind spot kind text.now }
+{
+    match spot {
+        Spot::Anywhere => {
+            if is_defined_word(kind, text) {
+                Spot::BehindDefined
+            } else {
+                Spot::Anywhere
+            }
+        }
+        Spot::BehindDefined => {
+            if is_blank(kind, text) {
+                Spot::BehindDefined
+            } else if is_parenthesis(text) {
+                Spot::BehindParenthesis
+            } else {
+                Spot::Anywhere
+            }
+        }
+        Spot::BehindParenthesis => {
+            if is_blank(kind, text) {
+                Spot::BehindParenthesis
+            } else {
+                Spot::Anywhere
+            }
+        }
+    }
+}
