@@ -1,0 +1,5 @@
+mod Rows
+mod Readings
+mod Grammars
+mod Told
+mod Worked

@@ -1,0 +1,58 @@
+-- What a condition's tokens spell, and what that is worth.
+use Rattle.std.specs.Prelude.{◌≡◌, ℕ, suc, ◌≤◌, Bool, false, List, [], ◌∷◌, ◌++◌, length, Some}
+use Rattle.asl_macros.specs.declared.spot.Within.TheVariants.{InCondition}
+use Rattle.asl_macros.specs.History.{History}
+use Rattle.asl_macros.specs.Replacement.{replaced}
+use Rattle.asl_conditions.specs.declared.operators.Prefix.{Prefix}
+use Rattle.asl_conditions.specs.declared.operators.Infix.{Infix}
+use Rattle.asl_conditions.specs.declared.operators.Operand.{Operand}
+use Rattle.asl_conditions.specs.declared.tokens.Token.{Token}
+use Rattle.asl_conditions.specs.declared.tokens.Token.TheVariants as t
+use Rattle.asl_conditions.specs.Operators.{truth, apply_prefix, operand, row_value}
+use Rattle.asl_conditions.specs.Tokens.{tokens_of}
+use Rattle.asl_conditions.specs.Condition.{size_limit, is_known}
+
+-- what has a rule
+pub data Phrase : Type 0 where
+  -- an operand of this value
+  part : ℕ → Phrase
+  -- operands, each with the operator behind it
+  front : List Operand → Phrase
+  -- these, and a last operand
+  row : List Operand → ℕ → Phrase
+
+-- The tokens of the first list spell the phrase, up to those of the second. At most so many parentheses and
+-- prefix operators are open in it at once.
+pub data Spells : ℕ → Phrase → List Token → List Token → Type 0 where
+  a_number : {open_most n : ℕ} {rest : List Token} → Spells open_most (part n) (t.Number n ∷ rest) rest
+  -- a name that stands after replacement is 0
+  a_name : {open_most : ℕ} {b : Bool} {rest : List Token} → Spells open_most (part 0) (t.Name b ∷ rest) rest
+  -- `defined X`, where X may be the word `defined` too
+  a_defined : {open_most : ℕ} {b c : Bool} {rest : List Token} → Spells open_most (part (truth b)) (t.Defined c ∷ t.Name b ∷ rest) rest
+  a_defined_word : {open_most : ℕ} {b c : Bool} {rest : List Token} → Spells open_most (part (truth b)) (t.Defined c ∷ t.Defined b ∷ rest) rest
+  -- `defined (X)`
+  in_parentheses : {open_most : ℕ} {b c : Bool} {rest : List Token} → Spells (suc open_most) (part (truth b)) (t.Defined c ∷ t.Open ∷ t.Name b ∷ t.Close ∷ rest) rest
+  word_in_parentheses : {open_most : ℕ} {b c : Bool} {rest : List Token} → Spells (suc open_most) (part (truth b)) (t.Defined c ∷ t.Open ∷ t.Defined b ∷ t.Close ∷ rest) rest
+  a_prefix : {open_most x : ℕ} {o : Prefix} {ms rest : List Token} → Spells open_most (part x) ms rest → Spells (suc open_most) (part (apply_prefix o x)) (t.Prefix o ∷ ms) rest
+  -- an expression in parentheses
+  a_group : {open_most x last : ℕ} {xs : List Operand} {ms rest : List Token} → Spells open_most (row xs last) ms (t.Close ∷ rest) → row_value xs last ≡ Some x
+      → Spells (suc open_most) (part x) (t.Open ∷ ms) rest
+  no_operand : {open_most : ℕ} {ms : List Token} → Spells open_most (front []) ms ms
+  one_more : {open_most x : ℕ} {o : Infix} {xs : List Operand} {ms mid rest : List Token} → Spells open_most (front xs) ms mid → Spells open_most (part x) mid (t.Infix o ∷ rest)
+      → Spells open_most (front (xs ++ operand x o ∷ [])) ms rest
+  a_row : {open_most x : ℕ} {xs : List Operand} {ms mid rest : List Token} → Spells open_most (front xs) ms mid → Spells open_most (part x) mid rest → Spells open_most (row xs x) ms rest
+
+-- The tokens are an expression of this value, in which at most 128 parentheses and prefix operators are open at once.
+pub record IsValue (tokens : List Token) (value : ℕ) : Type 0 where
+  pub operands : List Operand
+  pub last : ℕ
+  pub spells : Spells 128 (row operands last) tokens []
+  pub worth : row_value operands last ≡ Some value
+
+-- The text is a condition of this value: once its names are replaced it is not too long, and its tokens are an
+-- expression of the value.
+pub record IsCondition (history : History) (text : List ℕ) (value : ℕ) : Type 0 where
+  pub short : length (replaced InCondition history false text) ≤ size_limit
+  pub tokens : List Token
+  pub cut : tokens_of (is_known history) (replaced InCondition history false text) ≡ Some tokens
+  pub is : IsValue tokens value
