@@ -17,6 +17,7 @@ use Rattle.asl_conditions.specs.Operators.{truth, apply_prefix, operand, row_val
 use Rattle.asl_conditions.specs.Reading.{limit, reader, has_prefix, whole, open_more, closed, step, step_by, finish_by, run, value_of}
 use Rattle.asl_conditions.specs.Grammar.{Phrase, part, front, row, Spells, IsValue}
 use Rattle.asl_conditions.specs.Grammar as g
+use Rattle.asl_conditions.proofs.Worths.{value_is_worth, worth_is_value}
 
 -- ---- what is spelled so is read
 
@@ -56,7 +57,7 @@ runs (g.a_prefix {open_most = d} {x = x} {o = q} {ms = ms} {rest = rest} inner) 
     goes (reader p.Operand xs opened) (reader p.Operand xs (o.Prefix q ∷ opened)) (t.Prefix q) ms (opens xs opened (o.Prefix q) (omega arith)) ∙ runs inner xs (o.Prefix q ∷ opened) (omega arith)
 runs (g.a_group {open_most = d} {x = x} {last = last} {xs = ys} {ms = ms} {rest = rest} inner worth) = λ xs opened h.
     goes (reader p.Operand xs opened) (reader p.Operand [] (o.Parenthesis xs ∷ opened)) t.Open ms (opens [] opened (o.Parenthesis xs) (omega arith)) ∙ runs inner (o.Parenthesis xs ∷ opened) refl (omega arith)
-    ∙ goes (reader (p.Operator last) ys (o.Parenthesis xs ∷ opened)) (whole xs opened x) t.Close rest (ap (option_map (λ v. whole xs opened v)) worth)
+    ∙ goes (reader (p.Operator last) ys (o.Parenthesis xs ∷ opened)) (whole xs opened x) t.Close rest (ap (option_map (λ v. whole xs opened v)) (worth_is_value ys last x worth))
 runs g.no_operand = λ opened no h. refl
 runs (g.one_more {x = x} {o = q} {xs = xs} {ms = ms} {mid = mid} {rest = rest} before inner) = λ opened no h.
     runs before opened no h ∙ runs inner xs opened h ∙ ap (λ r. run r (t.Infix q ∷ rest)) (whole_alone xs opened x no)
@@ -65,7 +66,7 @@ runs (g.a_row {x = x} {xs = xs} {ms = ms} {mid = mid} {rest = rest} before inner
 
 pub value_is_read : (tokens : List Token) (value : ℕ) → IsValue tokens value → value_of tokens ≡ Some value
 unfolding run
-value_is_read tokens value is = runs is.spells [] refl (omega arith) ∙ is.worth
+value_is_read tokens value is = runs is.spells [] refl (omega arith) ∙ worth_is_value is.operands is.last value is.worth
 
 -- ---- what is read is spelled so
 
@@ -145,7 +146,7 @@ infix_keeps x q (in_group held s) inner alone = in_group held (g.one_more s inne
 closed_by : {all : List Token} {d : ℕ} {outer xs : List Operand} {opened : List Opened} {mid rest : List Token} (last : ℕ) (value : Option ℕ) → row_value xs last ≡ value → Held all (suc d) outer opened (t.Open ∷ mid)
     → Spells d (row xs last) mid (t.Close ∷ rest) → Keeps all (option_map (λ v. whole outer opened v) value) rest
 closed_by last None e held inner = tt
-closed_by last (Some v) e held inner = whole_keeps v held (g.a_group inner e)
+closed_by {xs = xs} last (Some v) e held inner = whole_keeps v held (g.a_group inner (value_is_worth xs last v e))
 
 close_keeps : {all : List Token} {d : ℕ} {xs : List Operand} {opened : List Opened} {mid rest : List Token} (x : ℕ) → Held all d xs opened mid → Spells d (part x) mid (t.Close ∷ rest) → Keeps all (closed opened (row_value xs x)) rest
 close_keeps x (at_top s) inner = tt
@@ -184,7 +185,7 @@ step_keeps all (p.DefinedName x) xs opened _ rest h = tt
 
 -- at the end
 finish_value : {all : List Token} (x v : ℕ) (xs : List Operand) {d : ℕ} {mid : List Token} → Held all d xs [] mid → Spells d (part x) mid [] → row_value xs x ≡ Some v → IsValue all v
-finish_value x v xs (at_top s) inner e = record { operands = xs; last = x; spells = g.a_row s inner; worth = e }
+finish_value x v xs (at_top s) inner e = record { operands = xs; last = x; spells = g.a_row s inner; worth = value_is_worth xs x v e }
 
 finish_keeps : {all : List Token} (phase : Phase) (xs : List Operand) (opened : List Opened) (v : ℕ) → Behind all phase xs opened [] → finish_by phase xs opened ≡ Some v → IsValue all v
 finish_keeps (p.Operator x) xs [] v h e = finish_value x v xs h.held h.inner e

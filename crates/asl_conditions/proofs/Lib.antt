@@ -2,4 +2,5 @@ mod Rows
 mod Readings
 mod Grammars
 mod Told
+mod Worths
 mod Worked

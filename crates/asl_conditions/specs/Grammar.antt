@@ -8,7 +8,8 @@ use Rattle.asl_conditions.specs.declared.operators.Infix.{Infix}
 use Rattle.asl_conditions.specs.declared.operators.Operand.{Operand}
 use Rattle.asl_conditions.specs.declared.tokens.Token.{Token}
 use Rattle.asl_conditions.specs.declared.tokens.Token.TheVariants as t
-use Rattle.asl_conditions.specs.Operators.{truth, apply_prefix, operand, row_value}
+use Rattle.asl_conditions.specs.Operators.{truth, apply_prefix, operand}
+use Rattle.asl_conditions.specs.Worth.{IsWorth}
 use Rattle.asl_conditions.specs.Tokens.{tokens_of}
 use Rattle.asl_conditions.specs.Condition.{size_limit, is_known}
 
@@ -34,8 +35,8 @@ pub data Spells : ℕ → Phrase → List Token → List Token → Type 0 where
   in_parentheses : {open_most : ℕ} {b c : Bool} {rest : List Token} → Spells (suc open_most) (part (truth b)) (t.Defined c ∷ t.Open ∷ t.Name b ∷ t.Close ∷ rest) rest
   word_in_parentheses : {open_most : ℕ} {b c : Bool} {rest : List Token} → Spells (suc open_most) (part (truth b)) (t.Defined c ∷ t.Open ∷ t.Defined b ∷ t.Close ∷ rest) rest
   a_prefix : {open_most x : ℕ} {o : Prefix} {ms rest : List Token} → Spells open_most (part x) ms rest → Spells (suc open_most) (part (apply_prefix o x)) (t.Prefix o ∷ ms) rest
-  -- an expression in parentheses
-  a_group : {open_most x last : ℕ} {xs : List Operand} {ms rest : List Token} → Spells open_most (row xs last) ms (t.Close ∷ rest) → row_value xs last ≡ Some x
+  -- a row in parentheses
+  a_group : {open_most x last : ℕ} {xs : List Operand} {ms rest : List Token} → Spells open_most (row xs last) ms (t.Close ∷ rest) → IsWorth 10 xs last x
       → Spells (suc open_most) (part x) (t.Open ∷ ms) rest
   no_operand : {open_most : ℕ} {ms : List Token} → Spells open_most (front []) ms ms
   one_more : {open_most x : ℕ} {o : Infix} {xs : List Operand} {ms mid rest : List Token} → Spells open_most (front xs) ms mid → Spells open_most (part x) mid (t.Infix o ∷ rest)
@@ -47,7 +48,7 @@ pub record IsValue (tokens : List Token) (value : ℕ) : Type 0 where
   pub operands : List Operand
   pub last : ℕ
   pub spells : Spells 128 (row operands last) tokens []
-  pub worth : row_value operands last ≡ Some value
+  pub worth : IsWorth 10 operands last value
 
 -- The text is a condition of this value: once its names are replaced it is not too long, and its tokens are an
 -- expression of the value.

@@ -4,3 +4,4 @@ pub mod Tokens
 pub mod Reading
 pub mod Condition
 pub mod Grammar
+pub mod Worth
