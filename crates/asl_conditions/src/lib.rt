@@ -2,13 +2,13 @@
 #![tactic(auto)]
 
 mod numbers;
-pub mod opened;
-pub mod operators;
-pub mod reader;
+mod opened;
+mod operators;
+mod reader;
 mod row;
 #[cfg(test)]
 mod tests;
-pub mod tokens;
+mod tokens;
 mod value;
 
 pub use reader::ConditionStop;
