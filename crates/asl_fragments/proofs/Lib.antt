@@ -1,2 +1,3 @@
 pub mod FragmentLaws
+mod Joined
 mod Worked

@@ -1,6 +1,8 @@
 //! The comments of a line.
-ghost use Rattle.std.specs.Prelude.{◌≡◌, ◌++◌, IfOk, OnOk};
+ghost use Rattle.std.specs.Prelude.{◌≡◌, ◌++◌, ℕ, Bool, List as AList, length, IfOk, OnOk};
+ghost use Rattle.std.specs.List.{flat_map};
 ghost use Rattle.asl_fragments.specs.Fragments as spec;
+ghost use Rattle.asl_fragments.specs.Fragments.{Piece};
 
 use crate::fragment::{FragmentKind, first_fragment};
 use std::alloc::{AllocError, Global};
@@ -58,3 +60,10 @@ pub fn without_comments(alloc: Global, text: &[u8], in_comment: bool) -> Result<
     }
     Ok(out)
 }
+
+/// The fragments of a line, joined, are the line: none of its bytes is lost or comes twice. So a line without
+/// its comments is as long as it was, and each byte stays in its column.
+pub fn fragments_are_the_line()
+    ensures joined { (in_comment : Bool) (text : AList ℕ) → flat_map (λ (piece : Piece). piece.text) (spec.fragments in_comment text) ≡ text }
+    ensures long { (in_comment : Bool) (text : AList ℕ) → length (spec.without_comments in_comment text) ≡ length text }
+{}

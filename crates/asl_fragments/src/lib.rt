@@ -6,5 +6,5 @@ pub mod fragment;
 #[cfg(test)]
 mod tests;
 
-pub use comments::{ends_in_comment, without_comments};
+pub use comments::{ends_in_comment, fragments_are_the_line, without_comments};
 pub use fragment::first_fragment;
