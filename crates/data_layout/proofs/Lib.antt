@@ -1,0 +1,2 @@
+pub mod Fadt
+pub mod Bits

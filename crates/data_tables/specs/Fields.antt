@@ -1,0 +1,174 @@
+-- The value of a field, and its bytes.
+use Rattle.std.specs.Prelude.{ℕ, ◌*◌, ◌^◌, ◌==◌, ◌&&◌, nat_lt, nat_le, Bool, cond, List, [], ◌++◌, length, codes, decimal, Some, None, Ok, Err}
+use Rattle.std.specs.declared.option.Option.{Option}
+use Rattle.std.specs.declared.result.Result.{Result}
+use Rattle.std.specs.Option.{is_some}
+use Rattle.data_layout.specs.declared.row.Row.{Row}
+use Rattle.data_layout.specs.declared.row.Kind.{Kind}
+use Rattle.data_layout.specs.declared.row.Kind.TheVariants as k
+use Rattle.data_layout.specs.declared.table.Table.{Table}
+use Rattle.data_layout.specs.declared.table.Table.TheVariants as t
+use Rattle.data_layout.specs.Layout.{fadt_bytes, structure_rows}
+use Rattle.data_text.specs.Blanks.{label_key}
+use Rattle.data_text.specs.Values.{number_in, text_in, bytes_in}
+use Rattle.data_tables.specs.declared.field.Form.{Form}
+use Rattle.data_tables.specs.declared.field.Form.TheVariants as form
+use Rattle.data_tables.specs.Bytes.{little_bytes, filled}
+
+-- a value: a number, or the bytes that a text or pairs of digits write
+pub data Value : Type 0 where
+  Number : ℕ → Value
+  Bytes : List ℕ → Value
+
+-- the value as a number
+abbrev pub number_of_value : Value → ℕ
+number_of_value (Number n) = n
+number_of_value (Bytes bytes) = 0
+
+-- how the value of a field is written
+abbrev pub form_of : Kind → Form
+form_of k.Number = form.Number
+form_of k.Text = form.Text
+form_of k.Bytes = form.Bytes
+form_of k.Reserved = form.Number
+form_of k.TableLength = form.Number
+form_of k.Checksum = form.Number
+form_of k.CompilerId = form.Text
+form_of k.CompilerRevision = form.Number
+form_of (k.Length size) = form.Number
+form_of k.Revision = form.Number
+form_of k.StructureType = form.Number
+form_of k.Localities = form.Number
+form_of (k.Locality n) = form.Bytes
+
+-- whether a number has room in so many bytes, of which a number has at most 8
+abbrev pub has_room : ℕ → ℕ → Bool
+has_room width number = nat_lt number (2 ^ 64) && nat_lt number (2 ^ (8 * width))
+
+-- the message of a number, where it has one: it is too wide (6094)
+abbrev pub width_fault : ℕ → ℕ → Option ℕ
+width_fault width number = cond (has_room width number) None (Some 6094)
+
+-- or a FADT has no such revision (6093)
+abbrev pub revision_fault : Table → ℕ → ℕ → Option ℕ
+revision_fault t.Facp width number = cond (is_some (fadt_bytes number)) None (Some 6093)
+revision_fault t.Apic width number = width_fault width number
+revision_fault t.Mcfg width number = width_fault width number
+revision_fault t.Hpet width number = width_fault width number
+revision_fault t.Srat width number = width_fault width number
+revision_fault t.Slit width number = width_fault width number
+
+abbrev pub has_structure : Table → ℕ → Bool
+has_structure table number = is_some (structure_rows table number)
+
+-- or there is no structure of this type (6095)
+abbrev pub type_fault : Table → ℕ → ℕ → Option ℕ
+type_fault table width number = cond (has_room width number) (cond (has_structure table number) None (Some 6095)) (Some 6094)
+
+-- or there are more than 4000 localities (6097)
+abbrev pub count_fault : ℕ → ℕ → Option ℕ
+count_fault width number = cond (has_room width number) (cond (nat_le number 4000) None (Some 6097)) (Some 6094)
+
+-- or a reserved field is not 0 (6093)
+abbrev pub reserved_fault : ℕ → Option ℕ
+reserved_fault number = cond (number == 0) None (Some 6093)
+
+abbrev pub number_fault : Table → Kind → ℕ → ℕ → Option ℕ
+number_fault table k.Number width number = width_fault width number
+number_fault table k.Text width number = width_fault width number
+number_fault table k.Bytes width number = width_fault width number
+number_fault table k.Reserved width number = reserved_fault number
+number_fault table k.TableLength width number = width_fault width number
+number_fault table k.Checksum width number = width_fault width number
+number_fault table k.CompilerId width number = width_fault width number
+number_fault table k.CompilerRevision width number = width_fault width number
+number_fault table (k.Length size) width number = width_fault width number
+number_fault table k.Revision width number = revision_fault table width number
+number_fault table k.StructureType width number = type_fault table width number
+number_fault table k.Localities width number = count_fault width number
+number_fault table (k.Locality n) width number = width_fault width number
+
+-- the message of bytes of a wrong count: 6097 in the row of a locality, else 6093
+abbrev pub bytes_fault : Kind → ℕ
+bytes_fault k.Number = 6093
+bytes_fault k.Text = 6093
+bytes_fault k.Bytes = 6093
+bytes_fault k.Reserved = 6093
+bytes_fault k.TableLength = 6093
+bytes_fault k.Checksum = 6093
+bytes_fault k.CompilerId = 6093
+bytes_fault k.CompilerRevision = 6093
+bytes_fault (k.Length size) = 6093
+bytes_fault k.Revision = 6093
+bytes_fault k.StructureType = 6093
+bytes_fault k.Localities = 6093
+bytes_fault (k.Locality n) = 6097
+
+abbrev pub judged : ℕ → Option ℕ → Result Value ℕ
+judged number None = Ok (Number number)
+judged number (Some fault) = Err fault
+
+-- no number, no text and no bytes are 6093
+abbrev pub value_of_number : Table → Row → Option ℕ → Result Value ℕ
+value_of_number table row None = Err 6093
+value_of_number table row (Some number) = judged number (number_fault table row.kind row.width number)
+
+abbrev pub value_of_text : Row → Option (List ℕ) → Result Value ℕ
+value_of_text row None = Err 6093
+value_of_text row (Some text) = cond (nat_le (length text) row.width) (Ok (Bytes (filled row.width text))) (Err 6094)
+
+abbrev pub value_of_bytes : Row → Option (List ℕ) → Result Value ℕ
+value_of_bytes row None = Err 6093
+value_of_bytes row (Some bytes) = cond (length bytes == row.width) (Ok (Bytes bytes)) (Err (bytes_fault row.kind))
+
+abbrev pub value_by : Form → Table → Row → List ℕ → Result Value ℕ
+value_by form.Number table row text = value_of_number table row (number_in text)
+value_by form.Text table row text = value_of_text row (text_in text)
+value_by form.Bytes table row text = value_of_bytes row (bytes_in text)
+
+-- the value that a field of a table is given, or its message's number
+abbrev pub value_of : Table → Row → List ℕ → Result Value ℕ
+value_of table row text = value_by (form_of row.kind) table row text
+
+abbrev pub value_bytes : ℕ → Value → List ℕ
+value_bytes width (Number number) = little_bytes width number
+value_bytes width (Bytes bytes) = bytes
+
+-- The bytes of a field. In the place of a computed value stands what is due there; the table's length and checksum
+-- are 0 until the table is whole.
+abbrev pub bytes_by : Kind → ℕ → Value → List ℕ
+bytes_by k.Number width value = value_bytes width value
+bytes_by k.Text width value = value_bytes width value
+bytes_by k.Bytes width value = value_bytes width value
+bytes_by k.Reserved width value = value_bytes width value
+bytes_by k.TableLength width value = little_bytes width 0
+bytes_by k.Checksum width value = little_bytes width 0
+bytes_by k.CompilerId width value = codes "INTL"
+bytes_by k.CompilerRevision width value = little_bytes width 0x20210105
+bytes_by (k.Length size) width value = little_bytes width size
+bytes_by k.Revision width value = value_bytes width value
+bytes_by k.StructureType width value = value_bytes width value
+bytes_by k.Localities width value = value_bytes width value
+bytes_by (k.Locality n) width value = value_bytes width value
+
+abbrev pub field_bytes : Row → Value → List ℕ
+field_bytes row value = bytes_by row.kind row.width value
+
+-- a label as it is compared; behind that of a locality's row stands the locality's number
+abbrev pub number_behind : Kind → List ℕ
+number_behind k.Number = []
+number_behind k.Text = []
+number_behind k.Bytes = []
+number_behind k.Reserved = []
+number_behind k.TableLength = []
+number_behind k.Checksum = []
+number_behind k.CompilerId = []
+number_behind k.CompilerRevision = []
+number_behind (k.Length size) = []
+number_behind k.Revision = []
+number_behind k.StructureType = []
+number_behind k.Localities = []
+number_behind (k.Locality n) = decimal n
+
+abbrev pub row_key : Row → List ℕ
+row_key row = label_key row.label ++ number_behind row.kind

@@ -1,0 +1,10 @@
+pub mod Bytes
+pub mod Fields
+pub mod Parts
+pub mod Labels
+pub mod Decoding
+pub mod Walk
+pub mod Views
+pub mod Compiling
+pub mod Outcomes
+pub mod Promise

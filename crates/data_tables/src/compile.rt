@@ -1,0 +1,103 @@
+//! A text of fields to its table.
+ghost use Rattle.std.specs.Prelude.{◌≡◌, ◌∷◌, [], IfOk, MatchOption, None, Some};
+ghost use Rattle.std.specs.Option.{option_copied};
+ghost use Rattle.data_tables.specs.Compiling.{signature_in, compiled, compiled_text, answer_of, refused, sealed};
+ghost use Rattle.data_tables.specs.Walk.{walk};
+ghost use Rattle.data_tables.specs.Parts.{first_part};
+ghost use Rattle.data_tables.specs.Promise.{Answers};
+
+use crate::compiled::Compiled;
+use crate::part::FIELD_IS_MISSING;
+use crate::seal::seal;
+use crate::walk::message_at;
+use crate::walker::{Walker, walk_lines};
+use data_layout::table::{Table, table_of};
+use data_text::field_line::{DataText, FieldLine};
+use data_text::source::data_text;
+use data_text::values::text_in;
+use iasl_messages::message::Stage;
+use iasl_messages::place::{Lines, Place};
+use iasl_ports::list::{List, Text};
+use std::alloc::{AllocError, Global};
+
+const UNKNOWN_TABLE: u16 = 6090;
+
+// One message.
+fn refuse(alloc: Global, number: u16, place: Place) -> Stage
+    ensures { Answers (Err result) (refused number place) }
+{
+    let mut messages = List::new(alloc);
+    match messages.push(message_at(alloc, number, place)) {
+        Ok(()) => Stage::Refused(messages),
+        Err(AllocError) => Stage::Memory,
+    }
+}
+
+// The text of a line with a colon.
+fn signature_in(line: &FieldLine) -> Option<&[u8]>
+    ensures { option_copied result ≡ signature_in line.now }
+{
+    if line.colon {
+        text_in(line.value.as_slice())
+    } else {
+        None
+    }
+}
+
+fn whole(alloc: Global, signature: &[u8], walker: Walker) -> Result<Compiled, AllocError>
+    ensures { IfOk result (λ table. table ≡ record { pieces = sealed walker.pieces; signature = signature.now; notes = walker.notes }) }
+{
+    Ok(Compiled {
+        pieces: seal(alloc, walker.pieces)?,
+        signature: Text::from_bytes(alloc, signature)?,
+        notes: walker.notes,
+    })
+}
+
+// The table of a text with this signature, or its faults.
+fn compile_table(
+    alloc: Global,
+    text: &DataText,
+    signature: &[u8],
+    table: Table,
+) -> Result<Compiled, Stage>
+    ensures { Answers result (answer_of signature.now (walk text.now.end (first_part table) None text.now.lines)) }
+{
+    let walker = match walk_lines(alloc, table, text.lines.as_slice(), text.end) {
+        Ok(walker) => walker,
+        Err(AllocError) => return Err(Stage::Memory),
+    };
+    if !walker.faults.is_empty() {
+        return Err(Stage::Refused(walker.faults));
+    }
+    match whole(alloc, signature, walker) {
+        Ok(table) => Ok(table),
+        Err(AllocError) => Err(Stage::Memory),
+    }
+}
+
+fn compile_text(alloc: Global, text: &DataText) -> Result<Compiled, Stage>
+    ensures { Answers result (compiled_text text.now) }
+{
+    let [first, ..] = text.lines.as_slice() else {
+        return Err(refuse(alloc, FIELD_IS_MISSING, text.end));
+    };
+    let Some(signature) = signature_in(first) else {
+        return Err(refuse(alloc, UNKNOWN_TABLE, first.place));
+    };
+    match table_of(signature) {
+        Some(table) => compile_table(alloc, text, signature, table),
+        None => Err(refuse(alloc, UNKNOWN_TABLE, first.place)),
+    }
+}
+
+/// The table of a text of fields, with a piece for each field line; or its faults, in order of the text: 6090 to 6097.
+/// The notes are 3005, where a label is not the field's, and 2002, where a decoded line has an unknown label.
+pub fn compile_data(alloc: Global, lines: &Lines) -> Result<Compiled, Stage>
+    ensures exact { Answers result (compiled lines.now.list) }
+{
+    match data_text(alloc, lines.list.as_slice()) {
+        Ok(text) => compile_text(alloc, &text),
+        Err(AllocError) => Err(Stage::Memory),
+    }
+}

@@ -1,0 +1,12 @@
+//! A compiled table.
+use iasl_messages::message::Messages;
+use iasl_messages::place::Pieces;
+use iasl_ports::list::Text;
+
+/// A data table: its pieces, one for each field line, its signature, and the notes about its text.
+#[derive(Drop)]
+pub struct Compiled {
+    pub pieces: Pieces,
+    pub signature: Text,
+    pub notes: Messages,
+}

@@ -1,0 +1,147 @@
+// The fields of a text, one line after another.
+ghost use Rattle.std.specs.Prelude.{◌≡◌, ◌++◌, ◌∷◌, [], IfOk, OnOk, IsTrue, true, false, List as AList, Some, None};
+ghost use Rattle.data_text.specs.declared.field_line.FieldLine.{FieldLine};
+ghost use Rattle.data_tables.specs.Fields.{Number, Bytes, field_bytes, value_of};
+ghost use Rattle.data_tables.specs.Parts.{next_field};
+ghost use Rattle.data_tables.specs.Walk.{step_of, message_at};
+ghost use Rattle.data_tables.specs.Views.{IsStep, IsTaken, part_of};
+ghost use Rattle.data_tables.specs.Walk as spec;
+
+use crate::decoding::{Decoded, Told, decoded_of, is_decoded_below, told_by_field};
+use crate::field::{BAD_VALUE, Value, little_bytes, value_of};
+use crate::part::{Due, Next, behind, next_field};
+use data_layout::row::{Kind, Row};
+use data_text::field_line::FieldLine;
+use iasl_messages::message::Message;
+use iasl_messages::place::Place;
+use iasl_ports::list::Text;
+use std::alloc::{AllocError, Global};
+
+/// The compiler's revision, which each table has.
+const COMPILER_REVISION: u64 = 0x2021_0105;
+
+/// What a line is.
+#[derive(Drop)]
+pub(crate) enum Step {
+    /// A decoded line.
+    Passed(Told),
+    /// A field and its bytes, with what comes after it and whether decoded lines may follow.
+    Took {
+        row: Row,
+        bytes: Vec<u8>,
+        due: Due,
+        decoded: Option<Decoded>,
+    },
+    /// A fault: the number of its message.
+    Halted(u16),
+}
+
+/// A message with no name.
+pub(crate) fn message_at(alloc: Global, number: u16, place: Place) -> Message
+    ensures { result ≡ message_at number place }
+{
+    Message {
+        number,
+        place,
+        name: Text::new(alloc),
+    }
+}
+
+// The bytes of a field that is a number.
+fn number_bytes(alloc: Global, row: &Row, number: u64) -> Result<Vec<u8>, AllocError>
+    ensures { IfOk result (λ bytes. bytes.items ≡ field_bytes row.now (Number number)) }
+{
+    match row.kind {
+        Kind::TableLength | Kind::Checksum => little_bytes(alloc, row.width, 0),
+        Kind::CompilerId => b"INTL".to_vec(alloc),
+        Kind::CompilerRevision => little_bytes(alloc, row.width, COMPILER_REVISION),
+        Kind::Length(size) => little_bytes(alloc, row.width, u64::from(size)),
+        Kind::Number
+        | Kind::Text
+        | Kind::Bytes
+        | Kind::Reserved
+        | Kind::Revision
+        | Kind::StructureType
+        | Kind::Localities
+        | Kind::Locality(_) => little_bytes(alloc, row.width, number),
+    }
+}
+
+// The bytes of a field that is a text or bytes.
+fn other_bytes(alloc: Global, row: &Row, bytes: Vec<u8>) -> Result<Vec<u8>, AllocError>
+    ensures { IfOk result (λ out. out.items ≡ field_bytes row.now (Bytes bytes.items)) }
+{
+    match row.kind {
+        Kind::TableLength | Kind::Checksum => little_bytes(alloc, row.width, 0),
+        Kind::CompilerId => b"INTL".to_vec(alloc),
+        Kind::CompilerRevision => little_bytes(alloc, row.width, COMPILER_REVISION),
+        Kind::Length(size) => little_bytes(alloc, row.width, u64::from(size)),
+        Kind::Number
+        | Kind::Text
+        | Kind::Bytes
+        | Kind::Reserved
+        | Kind::Revision
+        | Kind::StructureType
+        | Kind::Localities
+        | Kind::Locality(_) => Ok(bytes),
+    }
+}
+
+fn took(row: Row, number: u64, bytes: Vec<u8>, rest: Due, line: &FieldLine) -> Step
+    ensures { IsTaken result row number bytes.items (part_of rest) line.now }
+{
+    Step::Took {
+        row,
+        bytes,
+        due: behind(rest, row.kind, number),
+        decoded: decoded_of(&row, number, line),
+    }
+}
+
+fn step_with(alloc: Global, row: Row, rest: Due, line: &FieldLine) -> Result<Step, AllocError>
+    ensures { IfOk result (λ step. IsStep step (spec.step_with row (part_of rest) line.now (value_of rest.table row line.now.value))) }
+{
+    match value_of(alloc, rest.table, &row, line.value.as_slice())? {
+        Value::Fault(fault) => Ok(Step::Halted(fault)),
+        Value::Number(number) => {
+            let bytes = number_bytes(alloc, &row, number)?;
+            Ok(took(row, number, bytes, rest, line))
+        }
+        Value::Bytes(found) => {
+            let bytes = other_bytes(alloc, &row, found)?;
+            Ok(took(row, 0, bytes, rest, line))
+        }
+    }
+}
+
+fn step_at(alloc: Global, due: Due, line: &FieldLine) -> Result<Step, AllocError>
+    ensures { IfOk result (λ step. IsStep step (spec.step_at line.now (next_field (part_of due)))) }
+{
+    match next_field(due) {
+        Next::Fault(fault) => Ok(Step::Halted(fault)),
+        Next::Field(row, rest) => {
+            if line.colon {
+                step_with(alloc, row, rest, line)
+            } else {
+                Ok(Step::Halted(BAD_VALUE))
+            }
+        }
+    }
+}
+
+/// What a line is.
+pub(crate) fn step_of(
+    alloc: Global,
+    due: Due,
+    decoded: Option<Decoded>,
+    line: &FieldLine,
+) -> Result<Step, AllocError>
+    ensures { IfOk result (λ step. IsStep step (step_of (part_of due) decoded line.now)) }
+{
+    if let Some(field) = decoded {
+        if is_decoded_below(&field, line) {
+            return Ok(Step::Passed(told_by_field(&field, line)));
+        }
+    }
+    step_at(alloc, due, line)
+}

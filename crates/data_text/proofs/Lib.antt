@@ -1,0 +1,3 @@
+pub mod CommentSteps
+pub mod Ends
+pub mod Pairs

@@ -1,0 +1,37 @@
+-- Blanks, labels, and values that go on.
+use Rattle.std.specs.Prelude.{ℕ, ◌==◌, ◌&&◌, ◌||◌, Bool, true, false, cond, List, [], ◌∷◌, Some, None}
+use Rattle.std.specs.declared.option.Option.{Option}
+use Rattle.std.specs.Option.{option_map}
+use Rattle.std.specs.List.{list_all}
+use Rattle.std.specs.Char.{to_ascii_lowercase}
+
+-- a blank is a space or a tab
+abbrev pub is_blank : ℕ → Bool
+is_blank c = c == 32 || c == 9
+
+abbrev pub has_blanks_alone : List ℕ → Bool
+has_blanks_alone text = list_all is_blank text
+
+-- a text without the blanks at its front
+abbrev pub drop_blanks : List ℕ → List ℕ
+drop_blanks [] = []
+drop_blanks (c ∷ rest) = cond (is_blank c) (drop_blanks rest) (c ∷ rest)
+
+-- a label as it is compared: in lower case, without its blanks
+abbrev pub label_key : List ℕ → List ℕ
+label_key [] = []
+label_key (c ∷ rest) = cond (is_blank c) (label_key rest) (to_ascii_lowercase c ∷ label_key rest)
+
+-- what stands before the backslash (92) that is the last byte but for blanks
+abbrev pub before_backslash : List ℕ → Option (List ℕ)
+before_backslash [] = None
+before_backslash (c ∷ rest) =
+    cond (c == 92 && has_blanks_alone rest) (Some []) (option_map (λ front. c ∷ front) (before_backslash rest))
+
+abbrev pub ending_of : List ℕ → Option (List ℕ) → List ℕ × Bool
+ending_of text None = (text, false)
+ending_of text (Some front) = (front, true)
+
+-- the text without the backslash at its end, and whether it has one, so that it goes on in the next line
+abbrev pub ending : List ℕ → List ℕ × Bool
+ending text = ending_of text (before_backslash text)

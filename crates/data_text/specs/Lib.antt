@@ -1,0 +1,6 @@
+pub mod Blanks
+pub mod Comments
+pub mod Parts
+pub mod Source
+pub mod Values
+pub mod Reading

@@ -1,0 +1,9 @@
+//! The text of a data table: its lines to field lines, and what their values are.
+#![tactic(auto)]
+
+pub mod blanks;
+pub mod comments;
+pub mod field_line;
+pub mod parts;
+pub mod source;
+pub mod values;
