@@ -1,0 +1,4 @@
+pub mod Ends
+pub mod Counts
+pub mod Texts
+pub mod Places
