@@ -1,0 +1,10 @@
+pub mod FileLines
+pub mod Slashes
+pub mod Names
+pub mod Joined
+pub mod Fetching
+pub mod Passing
+pub mod Fine
+pub mod Rowing
+pub mod Starts
+pub mod Mains

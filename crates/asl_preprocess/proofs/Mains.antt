@@ -1,0 +1,75 @@
+-- What the main file comes to.
+use Rattle.std.proofs.Common.{◌≡◌, ℕ, ◌+◌, ◌<◌, ◌≤◌, true, false, not, cond, List, [], ◌∷◌, length, ap, sym, subst, ◌∙◌, arith}
+use Rattle.std.specs.Prelude.{nat_lt}
+use Rattle.std.specs.List.{All}
+use Rattle.iasl_ports.specs.Fetched.{most_bytes}
+use Rattle.iasl_messages.specs.declared.place.Line.{Line}
+use Rattle.iasl_messages.specs.declared.message.Message.{Message}
+use Rattle.asl_preprocess.specs.declared.define.Define.{Define}
+use Rattle.asl_preprocess.specs.declared.main_file.PreStop.{PreStop}
+use Rattle.asl_preprocess.specs.declared.main_file.PreStop.TheVariants as by
+use Rattle.asl_preprocess.specs.State.{number_of}
+use Rattle.asl_preprocess.specs.Sound.{IsSound, IsGoodLine, IsGoodNote}
+use Rattle.asl_preprocess.specs.Preprocess.{Setting, Preprocessed, Given, Stopped, given, of_main, of_file, first_state, most_levels, too_large_main}
+use Rattle.asl_preprocess.specs.Stops.{IsStop, HasPlace, Causes, MainCauses, Keeps}
+use Rattle.asl_preprocess.proofs.Names.{same_itself}
+
+within_is : (n : ℕ) → n ≤ most_bytes → nat_lt most_bytes n ≡ false
+within_is n h = grind arith
+
+above_is : (n : ℕ) → most_bytes < n → nat_lt most_bytes n ≡ true
+above_is n h = grind arith
+
+-- the main file has number 0
+pub main_number : (name own : List ℕ) → own ≡ name → 0 ≡ number_of own (name ∷ [])
+main_number name own e = sym (ap (λ (n : List ℕ). number_of n (name ∷ [])) e ∙ ap (λ b. cond (not b) (1 + 0) 0) (same_itself name))
+
+pub first_sound : (name : List ℕ) (defines : List Define) → IsSound (first_state name defines)
+first_sound name defines = record { lines = λ i e lt. absurd (omega arith); notes = λ i e lt. absurd (omega arith) }
+
+module _ (setting : Setting) (name : List ℕ) (defines : List Define) (bytes : List ℕ) where
+  pub main_within : length bytes ≤ most_bytes → of_main setting name defines bytes ≡ given (of_file setting most_levels (first_state name defines) name bytes)
+  main_within h = ap (λ b. cond b (Stopped too_large_main (name ∷ [])) (given (of_file setting most_levels (first_state name defines) name bytes))) (within_is (length bytes) h)
+
+  pub main_above : most_bytes < length bytes → of_main setting name defines bytes ≡ Stopped too_large_main (name ∷ [])
+  main_above h = ap (λ b. cond b (Stopped too_large_main (name ∷ [])) (given (of_file setting most_levels (first_state name defines) name bytes))) (above_is (length bytes) h)
+
+pub good_lines : (files files' : List (List ℕ)) (lines lines' : List Line) → files' ≡ files → lines' ≡ lines → All (IsGoodLine (length files)) lines → All (IsGoodLine (length files')) lines'
+good_lines files files' lines lines' e f h =
+    let P : List (List ℕ) → Type 0 = λ fs. All (IsGoodLine (length fs)) lines' in
+    let Q : List Line → Type 0 = λ ls. All (IsGoodLine (length files)) ls in
+    subst P (sym e) (subst Q (sym f) h)
+
+pub good_notes : (files files' : List (List ℕ)) (notes notes' : List Message) → files' ≡ files → notes' ≡ notes → All (IsGoodNote (length files)) notes → All (IsGoodNote (length files')) notes'
+good_notes files files' notes notes' e f h =
+    let P : List (List ℕ) → Type 0 = λ fs. All (IsGoodNote (length fs)) notes' in
+    let Q : List Message → Type 0 = λ ms. All (IsGoodNote (length files)) ms in
+    subst P (sym e) (subst Q (sym f) h)
+
+pub given_by : (files files' : List (List ℕ)) (lines lines' : List Line) (notes notes' : List Message) → files' ≡ files → lines' ≡ lines → notes' ≡ notes → Given files lines notes ≡ Given files' lines' notes'
+given_by files files' lines lines' notes notes' e f h =
+    ap (λ fs. Given fs lines notes) (sym e) ∙ ap (λ ls. Given files' ls notes) (sym f) ∙ ap (λ ms. Given files' lines' ms) (sym h)
+
+pub keeps_stop : (stop : PreStop) (message : Message) (files : List (List ℕ)) (it : Preprocessed) → Keeps stop message files → it ≡ Stopped message files → IsStop stop it
+keeps_stop (by.Refused told names) message files it h e = e ∙ ap (λ m. Stopped m files) (sym h.0) ∙ ap (λ fs. Stopped told fs) (sym h.1)
+keeps_stop by.Absent message files it h e = absurd h
+keeps_stop by.ReadFault message files it h e = absurd h
+keeps_stop by.Memory message files it h e = tt
+
+pub keeps_place : (stop : PreStop) (message : Message) (files : List (List ℕ)) → Keeps stop message files → message.place.file < length files → HasPlace stop
+keeps_place (by.Refused told names) message files h lt = omega (arith, ap (λ (m : Message). m.place.file) h.0, ap length h.1, lt)
+keeps_place by.Absent message files h lt = absurd h
+keeps_place by.ReadFault message files h lt = absurd h
+keeps_place by.Memory message files h lt = tt
+
+pub keeps_counts : (stop : PreStop) (message : Message) (files : List (List ℕ)) (before now : ℕ) → Keeps stop message files → now ≡ before → MainCauses stop before now
+keeps_counts (by.Refused told names) message files before now h e = e
+keeps_counts by.Absent message files before now h e = absurd h
+keeps_counts by.ReadFault message files before now h e = absurd h
+keeps_counts by.Memory message files before now h e = tt
+
+pub main_causes : (stop : PreStop) (before mid now absents absents' : ℕ) → mid ≡ before → MainCauses stop mid now → Causes stop before now absents absents'
+main_causes (by.Refused told names) before mid now absents absents' e h = h ∙ e
+main_causes by.Absent before mid now absents absents' e h = absurd h
+main_causes by.ReadFault before mid now absents absents' e h = omega (arith, h, e)
+main_causes by.Memory before mid now absents absents' e h = tt

@@ -1,0 +1,12 @@
+pub mod Rows
+pub mod Search
+pub mod State
+pub mod Lines
+pub mod Directives
+pub mod RowsByCode
+pub mod Preprocess
+pub mod Told
+pub mod Searching
+pub mod Sound
+pub mod Reached
+pub mod Stops

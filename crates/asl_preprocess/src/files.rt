@@ -1,0 +1,67 @@
+//! The names of the files that were fetched.
+ghost use Rattle.std.specs.Prelude.{◌≡◌, ◌∷◌, ◌<◌, [], length, IfOk, OnOk};
+ghost use Rattle.asl_preprocess.specs.State.{number_of, with_file};
+
+use iasl_ports::list::{Text, Texts};
+use indexmap::IndexSet;
+use std::alloc::{AllocError, Global};
+use std::marker::Model;
+
+/// The most files that are numbered.
+const MOST_FILES: usize = 4_294_967_295;
+
+fn copy_of(alloc: Global, bytes: &[u8]) -> Result<Vec<u8>, AllocError>
+    ensures { IfOk result (λ copy. copy.items ≡ bytes.now) }
+{
+    bytes.to_vec(alloc)
+}
+
+/// The names, each once, in the order of first fetch.
+#[derive(Drop)]
+pub(crate) struct FileNames {
+    names: IndexSet<Vec<u8>>,
+}
+
+impl Model for FileNames {
+    ghost use Rattle.std.specs.Prelude.{List, ℕ, map};
+
+    ghost Value = { List (List ℕ) };
+
+    ghost view = { λ files. map (λ name. name.items) files.names.keys };
+}
+
+impl FileNames {
+    /// No name.
+    pub(crate) fn new(alloc: Global) -> Self
+        ensures { result ≡ [] }
+    {
+        FileNames {
+            names: IndexSet::new(alloc),
+        }
+    }
+
+    /// The number of the file of this name, which stands among the names from now on. There is no room for 2^32.
+    pub(crate) fn add(&mut self, alloc: Global, name: &[u8]) -> Result<u32, AllocError>
+        ensures number { IfOk result (λ number. number ≡ number_of name.now (with_file name.now self.old)) }
+        ensures within { IfOk result (λ number. number < length self.new) }
+        ensures files { OnOk result (self.new ≡ with_file name.now self.old) }
+    {
+        let name = copy_of(alloc, name)?;
+        let (place, _) = self.names.insert_full(name)?;
+        if place >= MOST_FILES {
+            return Err(AllocError);
+        }
+        Ok(place as u32)
+    }
+
+    /// The names as texts.
+    pub(crate) fn texts(&self, alloc: Global) -> Result<Texts, AllocError>
+        ensures { IfOk result (λ texts. texts ≡ self.now) }
+    {
+        let mut texts = Texts::new(alloc);
+        for name in self.names.as_slice() {
+            texts.push(Text::from_bytes(alloc, name.as_slice())?)?;
+        }
+        Ok(texts)
+    }
+}

@@ -1,0 +1,18 @@
+//! The preprocessor: a main file, with the files that it includes, to the lines that are left of them.
+#![tactic(auto)]
+
+mod define;
+mod directives;
+mod files;
+mod halt;
+mod lines;
+mod main_file;
+mod reading;
+mod rows;
+mod search;
+#[cfg(test)]
+mod tests;
+mod work;
+
+pub use define::{Define, Defines};
+pub use main_file::{PreStop, Preprocessed, preprocess};

@@ -1,0 +1,73 @@
+//! What becomes of a line that is no directive.
+ghost use Rattle.std.specs.Prelude.{◌≡◌, ◌∷◌, [], ℕ, List, IfOk, false};
+ghost use Rattle.std.specs.Option.{option_map};
+ghost use Rattle.asl_preprocess.specs.State.{State};
+ghost use Rattle.asl_preprocess.specs.Lines as spec;
+ghost use Rattle.asl_fragments.specs.Fragments.{without_comments as without_comments_of};
+ghost use Rattle.asl_directives.specs.Forms.{file_name_of};
+ghost use Rattle.asl_preprocess.specs.Told.{Shows, Does, IncludesName};
+
+use crate::directives::{WRONG_FORM, Wanted, column_behind};
+use crate::halt::{Halt, refusal};
+use crate::work::Work;
+use asl_directives::branches::Branches;
+use asl_directives::forms::{file_name, include_line};
+use asl_directives::words::blanks_before;
+use asl_fragments::{ends_in_comment, without_comments};
+use iasl_messages::place::Place;
+use iasl_ports::list::Text;
+use std::alloc::{AllocError, Global};
+
+// The file that a line of its own `Include ("f")` asks for.
+fn wanted(alloc: Global, place: Place, name: &[u8]) -> Result<Wanted, Halt>
+    ensures { IncludesName result place (file_name_of name.now) }
+{
+    match file_name(name) {
+        Some(name) => Ok(Wanted {
+            quoted: true,
+            name: Text::from_bytes(alloc, name.as_bytes())?,
+            place,
+        }),
+        None => Err(refusal(alloc, WRONG_FORM, place, b"")),
+    }
+}
+
+// What a line that stands outside block comments asks for, comments aside, and the column of its word.
+fn asked(alloc: Global, text: &[u8]) -> Result<Option<(u32, Text)>, AllocError>
+    ensures { IfOk result (λ asked. option_map (λ a. (a.0, a.1)) asked ≡ spec.with_column (without_comments_of false text.now)) }
+{
+    let blanked = without_comments(alloc, text, false)?;
+    match include_line(&blanked) {
+        Some(name) => {
+            let column = column_behind(blanks_before(&blanked))?;
+            Ok(Some((column, Text::from_bytes(alloc, name)?)))
+        }
+        None => Ok(None),
+    }
+}
+
+/// A line of the file of this number.
+pub(crate) fn line(
+    alloc: Global,
+    enabled: bool,
+    work: &mut Work,
+    branches: &Branches,
+    file: u32,
+    line: u32,
+    in_comment: bool,
+    text: &[u8],
+) -> Result<Option<Wanted>, Halt>
+    ensures { (state : State) → Shows work.old state → Does result work.new branches.now (spec.of_line enabled file line in_comment text.now (record { state = state; branches = branches.now })) }
+{
+    if !branches.is_read() {
+        return Ok(None);
+    }
+    if !in_comment && !ends_in_comment(text, in_comment) {
+        if let Some((column, name)) = asked(alloc, text)? {
+            let place = Place { file, line, column };
+            return Ok(Some(wanted(alloc, place, name.as_bytes())?));
+        }
+    }
+    work.keep(alloc, enabled, file, line, in_comment, text)?;
+    Ok(None)
+}

@@ -1,0 +1,202 @@
+//! The preprocessor: a main file to the lines that are left.
+ghost use Rattle.std.specs.Prelude.{◌≡◌, ◌∷◌, ◌≤◌, [], List, length, All, IfOk, IfErr, OnOk};
+ghost use Rattle.std.specs.Option.{ForSome};
+ghost use Rattle.iasl_ports.specs.Fetched.{most_bytes};
+ghost use Rattle.asl_preprocess.specs.Preprocess as spec;
+ghost use Rattle.asl_preprocess.specs.Sound.{IsGoodLine, IsGoodNote};
+ghost use Rattle.asl_preprocess.specs.Told.{Shows};
+ghost use Rattle.asl_preprocess.specs.Stops.{IsStop, HasPlace, Causes, MainCauses, Keeps};
+
+use crate::define::Defines;
+use crate::halt::Halt;
+use crate::reading::read_file;
+use crate::work::Work;
+use iasl_messages::message::{Message, Messages};
+use iasl_messages::place::{Lines, Place};
+use iasl_ports::files::{FetchFault, Files};
+use iasl_ports::list::{Text, Texts};
+use std::alloc::{AllocError, Global};
+
+/// The number of the message that a text is too large.
+const TOO_LARGE: u16 = 6007;
+
+/// How many levels of included files there may be below the main file.
+const MOST_LEVELS: u32 = 32;
+
+/// What is left of a source: its lines, with the names of the files that were fetched, and the notes that its
+/// directives gave.
+#[derive(Drop)]
+pub struct Preprocessed {
+    pub lines: Lines,
+    pub notes: Messages,
+}
+
+/// Why nothing is left.
+#[derive(Drop)]
+pub enum PreStop {
+    /// A first stop, with the names of the files that were fetched before it.
+    Refused { message: Message, files: Texts },
+    /// The main file is absent.
+    Absent,
+    /// A file could not be read.
+    ReadFault,
+    /// There was no memory.
+    Memory,
+}
+
+impl From<AllocError> for PreStop {
+    ghost use Rattle.asl_preprocess.specs.declared.main_file.PreStop.TheVariants.{Memory};
+
+    ghost from_gives = { λ _ e. e ≡ Memory };
+
+    fn from(_: AllocError) -> Self {
+        PreStop::Memory
+    }
+}
+
+// What is known before the first line.
+fn first_work(alloc: Global, name: &str, defines: &Defines) -> Result<Work, AllocError>
+    ensures { IfOk result (λ work. Shows work (spec.first_state name.now defines.now)) }
+{
+    let mut work = Work::new(alloc);
+    work.add_file(alloc, name.as_bytes())?;
+    work.define(alloc, b"__IASL__", b"1")?;
+    for define in defines.as_slice() {
+        work.define(alloc, define.name.as_bytes(), define.text.as_bytes())?;
+    }
+    Ok(work)
+}
+
+// What is known behind the last line.
+fn last_work(alloc: Global, work: Work) -> Result<Preprocessed, AllocError>
+    ensures files { IfOk result (λ it. it.lines.files ≡ work.files) }
+    ensures lines { IfOk result (λ it. it.lines.list ≡ work.lines) }
+    ensures notes { IfOk result (λ it. it.notes ≡ work.notes) }
+{
+    let files = work.files.texts(alloc)?;
+    Ok(Preprocessed {
+        lines: Lines {
+            files,
+            list: work.lines,
+        },
+        notes: work.notes,
+    })
+}
+
+// A first stop, with the names of the files that were fetched.
+fn refused(alloc: Global, message: Message, work: &Work) -> PreStop
+    ensures { Keeps result message work.now.files }
+{
+    match work.files.texts(alloc) {
+        Ok(files) => PreStop::Refused { message, files },
+        Err(AllocError) => PreStop::Memory,
+    }
+}
+
+// The main file, whose bytes are these.
+fn read_main<F: Files>(
+    alloc: Global,
+    files: &mut F,
+    name: &str,
+    bytes: &[u8],
+    dirs: &Texts,
+    defines: &Defines,
+    enabled: bool,
+) -> Result<Preprocessed, PreStop>
+    requires { length bytes.now ≤ most_bytes }
+    ensures given { IfOk result (λ it. ForSome (F.contents files.old) (λ told. spec.of_main (spec.setting_of told dirs.now enabled) name.now defines.now bytes.now ≡ spec.Given it.lines.files it.lines.list it.notes)) }
+    ensures stopped { IfErr result (λ stop. ForSome (F.contents files.old) (λ told. IsStop stop (spec.of_main (spec.setting_of told dirs.now enabled) name.now defines.now bytes.now))) }
+    ensures main { IfOk result (λ it. 1 ≤ length it.lines.files) }
+    ensures lines { IfOk result (λ it. All (IsGoodLine (length it.lines.files)) it.lines.list) }
+    ensures notes { IfOk result (λ it. All (IsGoodNote (length it.lines.files)) it.notes) }
+    ensures place { IfErr result HasPlace }
+    ensures fault { IfErr result (λ stop. MainCauses stop (F.faults files.old) (F.faults files.new)) }
+    ensures faults { OnOk result (F.faults files.new ≡ F.faults files.old) }
+    ensures contents { F.contents files.new ≡ F.contents files.old }
+    ensures later { F.faults files.old ≤ F.faults files.new }
+{
+    let mut work = first_work(alloc, name, defines)?;
+    match read_file(
+        alloc,
+        files,
+        dirs,
+        enabled,
+        MOST_LEVELS,
+        0,
+        name.as_bytes(),
+        bytes,
+        &mut work,
+    ) {
+        Ok(()) => Ok(last_work(alloc, work)?),
+        Err(Halt::At(message)) => Err(refused(alloc, message, &work)),
+        Err(Halt::ReadFault) => Err(PreStop::ReadFault),
+        Err(Halt::Memory) => Err(PreStop::Memory),
+    }
+}
+
+fn one_name(alloc: Global, name: &str) -> Result<Texts, AllocError>
+    ensures { IfOk result (λ names. names ≡ name.now ∷ []) }
+{
+    let mut names = Texts::new(alloc);
+    names.push(Text::from_bytes(alloc, name.as_bytes())?)?;
+    Ok(names)
+}
+
+// A main file of more than 16 MiB.
+fn too_large(alloc: Global, name: &str) -> PreStop
+    ensures { Keeps result spec.too_large_main (name.now ∷ []) }
+{
+    match one_name(alloc, name) {
+        Ok(files) => PreStop::Refused {
+            message: Message {
+                number: TOO_LARGE,
+                place: Place {
+                    file: 0,
+                    line: 1,
+                    column: 1,
+                },
+                name: Text::new(alloc),
+            },
+            files,
+        },
+        Err(AllocError) => PreStop::Memory,
+    }
+}
+
+/// Preprocesses the main file of this name. An included file is looked for beside the file that asks for it, where its
+/// name stands in quotes, and then in the directories `dirs`. The definitions count from the first line on; where the
+/// preprocessor is not enabled, there are no directives and no name is replaced, but lines of the form `Include ("f")`
+/// are obeyed.
+pub fn preprocess<F: Files>(
+    alloc: Global,
+    files: &mut F,
+    name: &str,
+    dirs: &Texts,
+    defines: &Defines,
+    enabled: bool,
+) -> Result<Preprocessed, PreStop>
+    // Where the files are told, what is given is exactly the definition's, and so is what is refused or absent.
+    ensures given { IfOk result (λ it. ForSome (F.contents files.old) (λ told. spec.preprocessed told name.now dirs.now defines.now enabled ≡ spec.Given it.lines.files it.lines.list it.notes)) }
+    ensures stopped { IfErr result (λ stop. ForSome (F.contents files.old) (λ told. IsStop stop (spec.preprocessed told name.now dirs.now defines.now enabled))) }
+
+    // The main file is among those that were fetched. Each line has at most 16 MiB, and what is given or refused stands in a file that was fetched.
+    ensures main { IfOk result (λ it. 1 ≤ length it.lines.files) }
+    ensures lines { IfOk result (λ it. All (IsGoodLine (length it.lines.files)) it.lines.list) }
+    ensures notes { IfOk result (λ it. All (IsGoodNote (length it.lines.files)) it.notes) }
+    ensures place { IfErr result HasPlace }
+
+    // A file that could not be read raised the count of faults, an absent main file that of absents, and no other answer
+    // but want of memory left the count of faults otherwise than it was.
+    ensures cause { IfErr result (λ stop. Causes stop (F.faults files.old) (F.faults files.new) (F.absents files.old) (F.absents files.new)) }
+    ensures faults { OnOk result (F.faults files.new ≡ F.faults files.old) }
+    ensures contents { F.contents files.new ≡ F.contents files.old }
+    ensures later { F.faults files.old ≤ F.faults files.new }
+{
+    match files.fetch(alloc, name) {
+        Ok(bytes) => read_main(alloc, files, name, &bytes, dirs, defines, enabled),
+        Err(FetchFault::TooLarge) => Err(too_large(alloc, name)),
+        Err(FetchFault::Absent) => Err(PreStop::Absent),
+        Err(FetchFault::Failed) => Err(PreStop::ReadFault),
+        Err(FetchFault::Memory) => Err(PreStop::Memory),
+    }
+}

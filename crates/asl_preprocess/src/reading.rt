@@ -1,0 +1,240 @@
+//! The reading of a file, with the files that it includes.
+ghost use Rattle.std.specs.Prelude.{◌≡◌, ◌≤◌, ◌<◌, ◌+◌, ◌*◌, ◌^◌, [], ℕ, List, length, IfOk, IfErr, OnOk};
+ghost use Rattle.std.specs.Option.{ForSome};
+ghost use Rattle.iasl_ports.specs.Fetched.{most_bytes};
+ghost use Rattle.asl_directives.specs.declared.branches.Branch.{Branch};
+ghost use Rattle.asl_preprocess.specs.RowsByCode.{row_by};
+ghost use Rattle.asl_preprocess.specs.Search.{Whole, names_for as names_of, search as searched};
+ghost use Rattle.asl_preprocess.specs.State.{State, Pass, number_of, with_file, with_files, then as and_then};
+ghost use Rattle.asl_preprocess.specs.Preprocess as spec;
+ghost use Rattle.asl_preprocess.specs.Told.{Shows, Does, asked_for};
+ghost use Rattle.asl_preprocess.specs.Sound.{IsSound};
+ghost use Rattle.asl_preprocess.specs.Reached.{Stands, StandsIn, Reaches, Counts, Ends};
+ghost use Rattle.asl_preprocess.specs.Searching.{SeekStops};
+
+use crate::directives::{UNBALANCED, Wanted, directive};
+use crate::halt::{Halt, refusal};
+use crate::lines::line as ordinary;
+use crate::rows::{Row, Rows};
+use crate::search::{Found, names_for, search};
+use crate::work::Work;
+use asl_directives::branches::Branches;
+use iasl_messages::place::Place;
+use iasl_ports::files::Files;
+use iasl_ports::list::{Text, Texts};
+use std::alloc::{AllocError, Global};
+
+const ABSENT: u16 = 6001;
+
+const TOO_DEEP: u16 = 6002;
+
+const TOO_LARGE: u16 = 6007;
+
+fn take_row(
+    alloc: Global,
+    enabled: bool,
+    work: &mut Work,
+    branches: &mut Branches,
+    file: u32,
+    row: Row<'_>,
+) -> Result<Option<Wanted>, Halt>
+    ensures { (state : State) → Shows work.old state → Does result work.new branches.new (spec.of_row enabled file (row_by row.entry) (record { state = state; branches = branches.old })) }
+{
+    match row {
+        Row::Directive { line, text } => directive(alloc, work, branches, file, line, &text),
+        Row::Ordinary {
+            line,
+            in_comment,
+            text,
+        } => ordinary(alloc, enabled, work, branches, file, line, in_comment, text),
+    }
+}
+
+/// A file that was fetched: its number, its name and its bytes.
+#[derive(Drop)]
+struct Fetched {
+    number: u32,
+    name: Text,
+    bytes: Vec<u8>,
+}
+
+// The file that is asked for in the file of the name `own`.
+fn seek<F: Files>(
+    alloc: Global,
+    files: &mut F,
+    directories: &Texts,
+    own: &[u8],
+    work: &mut Work,
+    wanted: &Wanted,
+) -> Result<Fetched, Halt>
+    ensures shows { IfOk result (λ found. (state : State) → Shows work.old state → Shows work.new (with_files state (with_file found.name state.files))) }
+    ensures number { IfOk result (λ found. found.number ≡ number_of found.name work.new.files) }
+    ensures within { IfOk result (λ found. found.number < length work.new.files) }
+    ensures size { IfOk result (λ found. length found.bytes.items ≤ most_bytes) }
+    ensures found { IfOk result (λ found. ForSome (F.contents files.old) (λ told. searched told (names_of directories.now own.now (asked_for wanted.now)) ≡ Whole found.name found.bytes.items)) }
+    ensures refused { IfErr result (λ halt. SeekStops halt wanted.now work.old.files work.new.files (F.contents files.old) (λ told. searched told (names_of directories.now own.now (asked_for wanted.now)))) }
+    ensures fault { IfErr result (λ halt. Counts halt (F.faults files.old) (F.faults files.new)) }
+    ensures faults { OnOk result (F.faults files.new ≡ F.faults files.old) }
+    ensures contents { F.contents files.new ≡ F.contents files.old }
+    ensures later { F.faults files.old ≤ F.faults files.new }
+{
+    let names = names_for(alloc, directories, own, wanted)?;
+    match search(alloc, files, names.as_slice()) {
+        Ok(Found::Whole { name, bytes }) => {
+            let number = work.add_file(alloc, name.as_bytes())?;
+            Ok(Fetched {
+                number,
+                name,
+                bytes,
+            })
+        }
+        Ok(Found::Missing) => Err(refusal(alloc, ABSENT, wanted.place, wanted.name.as_bytes())),
+        Ok(Found::Large) => {
+            let place = Place {
+                file: wanted.place.file,
+                line: wanted.place.line,
+                column: 1,
+            };
+            Err(refusal(alloc, TOO_LARGE, place, b""))
+        }
+        Err(halt) => Err(halt),
+    }
+}
+
+// The file that is asked for, in place of what asks.
+#[cycle(reading)]
+fn include<F: Files>(
+    alloc: Global,
+    files: &mut F,
+    directories: &Texts,
+    enabled: bool,
+    levels: u32,
+    own: &[u8],
+    work: &mut Work,
+    wanted: &Wanted,
+) -> Result<(), Halt>
+    ensures reached { (state : State) → Shows work.old state → IsSound state → wanted.now.place.file < length state.files
+        → Reaches result (F.contents files.old) work.new.files (λ later. Stands work.new later (length state.files))
+        (λ told. spec.included (spec.reading_at (spec.setting_of told directories.now enabled) levels) (spec.setting_of told directories.now enabled) own.now (asked_for wanted.now) wanted.now.place state) }
+    ensures fault { (state : State) → Shows work.old state → IsSound state → wanted.now.place.file < length state.files → IfErr result (λ halt. Counts halt (F.faults files.old) (F.faults files.new)) }
+    ensures faults { OnOk result (F.faults files.new ≡ F.faults files.old) }
+    ensures contents { F.contents files.new ≡ F.contents files.old }
+    ensures later { F.faults files.old ≤ F.faults files.new }
+{
+    if levels == 0 {
+        return Err(refusal(alloc, TOO_DEEP, wanted.place, wanted.name.as_bytes()));
+    }
+    match seek(alloc, files, directories, own, work, wanted) {
+        Ok(found) => read_file(
+            alloc,
+            files,
+            directories,
+            enabled,
+            levels - 1,
+            found.number,
+            found.name.as_bytes(),
+            &found.bytes,
+            work,
+        ),
+        Err(halt) => Err(halt),
+    }
+}
+
+// A row of the file of this number and name.
+#[cycle(reading)]
+fn pass_row<F: Files>(
+    alloc: Global,
+    files: &mut F,
+    directories: &Texts,
+    enabled: bool,
+    levels: u32,
+    file: u32,
+    own: &[u8],
+    row: Row<'_>,
+    work: &mut Work,
+    branches: &mut Branches,
+) -> Result<(), Halt>
+    ensures reached { (state : State) → Shows work.old state → IsSound state → file < length state.files
+        → Reaches result (F.contents files.old) work.new.files (λ later. StandsIn work.new branches.new later (length state.files))
+        (λ told. and_then (spec.of_row enabled file (row_by row.entry) (record { state = state; branches = branches.old })) (spec.done (spec.reading_at (spec.setting_of told directories.now enabled) levels) (spec.setting_of told directories.now enabled) own.now)) }
+    ensures fault { (state : State) → Shows work.old state → IsSound state → file < length state.files → IfErr result (λ halt. Counts halt (F.faults files.old) (F.faults files.new)) }
+    ensures faults { OnOk result (F.faults files.new ≡ F.faults files.old) }
+    ensures contents { F.contents files.new ≡ F.contents files.old }
+    ensures later { F.faults files.old ≤ F.faults files.new }
+{
+    match take_row(alloc, enabled, work, branches, file, row) {
+        Ok(Some(wanted)) => include(
+            alloc,
+            files,
+            directories,
+            enabled,
+            levels,
+            own,
+            work,
+            &wanted,
+        ),
+        Ok(None) => Ok(()),
+        Err(halt) => Err(halt),
+    }
+}
+
+// Where the rows of a file end, no `#if` may be open.
+fn end(alloc: Global, file: u32, branches: &Branches) -> Result<(), Halt>
+    ensures { (state : State) → Ends result file (spec.at_end file (record { state = state; branches = branches.now })) state }
+{
+    match branches.outermost() {
+        None => Ok(()),
+        Some(branch) => {
+            let place = Place {
+                file,
+                line: branch.line,
+                column: branch.column,
+            };
+            Err(refusal(alloc, UNBALANCED, place, b""))
+        }
+    }
+}
+
+/// Reads a file, which may have this many levels of files below it.
+#[cycle(reading)]
+pub(crate) fn read_file<F: Files>(
+    alloc: Global,
+    files: &mut F,
+    directories: &Texts,
+    enabled: bool,
+    levels: u32,
+    file: u32,
+    own: &[u8],
+    bytes: &[u8],
+    work: &mut Work,
+) -> Result<(), Halt>
+    requires { length bytes.now ≤ most_bytes }
+    ensures reached { (state : State) → Shows work.old state → IsSound state → file < length state.files → file ≡ number_of own.now state.files
+        → Reaches result (F.contents files.old) work.new.files (λ later. Stands work.new later (length state.files))
+        (λ told. spec.of_file (spec.setting_of told directories.now enabled) levels state own.now bytes.now) }
+    ensures fault { (state : State) → Shows work.old state → IsSound state → file < length state.files → IfErr result (λ halt. Counts halt (F.faults files.old) (F.faults files.new)) }
+    ensures faults { OnOk result (F.faults files.new ≡ F.faults files.old) }
+    ensures contents { F.contents files.new ≡ F.contents files.old }
+    ensures later { F.faults files.old ≤ F.faults files.new }
+{
+    let mut branches = Branches::new(alloc);
+    let mut rows = Rows::new(bytes, enabled);
+    while let Some(row) = rows.next(alloc)? {
+        match pass_row(
+            alloc,
+            files,
+            directories,
+            enabled,
+            levels,
+            file,
+            own,
+            row,
+            work,
+            &mut branches,
+        ) {
+            Ok(()) => {}
+            Err(halt) => return Err(halt),
+        }
+    }
+    end(alloc, file, &branches)
+}

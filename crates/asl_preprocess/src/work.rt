@@ -1,0 +1,156 @@
+//! What is known between two rows.
+ghost use Rattle.std.specs.Prelude.{◌≡◌, ◌∷◌, ◌++◌, ◌≤◌, ◌<◌, [], ℕ, List, length, OnOk, IfErr, IfOk};
+ghost use Rattle.iasl_ports.specs.Fetched.{most_bytes};
+ghost use Rattle.asl_macros.specs.History.{History};
+ghost use Rattle.asl_preprocess.specs.State.{message_at, total_size};
+
+use crate::files::FileNames;
+use crate::halt::{Halt, refusal};
+use asl_macros::{Macros, ReplaceStop, Within, replace};
+use iasl_messages::message::{Message, Messages};
+use iasl_messages::place::{Line, LineList, Place};
+use iasl_ports::files::MOST_BYTES;
+use iasl_ports::list::Text;
+use std::alloc::{AllocError, Global};
+
+/// The number of the message that a text is too large.
+const TOO_LARGE: u16 = 6007;
+
+/// The definitions; the lines so far, with their size joined and an LF behind each; the notes so far; and the names of
+/// the files that were fetched.
+#[derive(Drop)]
+pub(crate) struct Work {
+    pub(crate) macros: Macros,
+    pub(crate) lines: LineList,
+    pub(crate) size: usize,
+    pub(crate) notes: Messages,
+    pub(crate) files: FileNames,
+}
+
+impl Work {
+    ghost use Rattle.asl_macros.specs.History.{Defines, Undefines};
+    ghost use Rattle.asl_macros.specs.Replacement.{replaced, Gives};
+    ghost use Rattle.asl_macros.specs.Table.{Tells};
+    ghost use Rattle.asl_directives.specs.declared.branches.Branch.{Branch};
+    ghost use Rattle.asl_preprocess.specs.State.{State, with_history, with_notes, with_file, with_files, number_of};
+    ghost use Rattle.asl_preprocess.specs.Lines.{with_line, text_left};
+    ghost use Rattle.asl_preprocess.specs.Told.{Shows, Steps};
+
+    /// Nothing is known.
+    pub(crate) fn new(alloc: Global) -> Self
+        ensures { Shows result (record { history = []; lines = []; notes = []; files = [] }) }
+    {
+        Work {
+            macros: Macros::new(alloc),
+            lines: LineList::new(alloc),
+            size: 0,
+            notes: Messages::new(alloc),
+            files: FileNames::new(alloc),
+        }
+    }
+
+    /// One more definition.
+    pub(crate) fn define(
+        &mut self,
+        alloc: Global,
+        name: &[u8],
+        text: &[u8],
+    ) -> Result<(), AllocError>
+        ensures { OnOk result ((state : State) → Shows self.old state → Shows self.new (with_history state (Defines name.now text.now ∷ state.history))) }
+    {
+        self.macros.define(alloc, name, text)
+    }
+
+    /// The end of a definition.
+    pub(crate) fn undefine(&mut self, name: &[u8])
+        ensures { (state : State) → Shows self.old state → Shows self.new (with_history state (Undefines name.now ∷ state.history)) }
+    {
+        self.macros.undefine(name);
+    }
+
+    /// One more note.
+    pub(crate) fn note(
+        &mut self,
+        alloc: Global,
+        number: u16,
+        place: Place,
+        name: &[u8],
+    ) -> Result<(), AllocError>
+        ensures { OnOk result ((state : State) → Shows self.old state → Shows self.new (with_notes state (state.notes ++ message_at number place name.now ∷ []))) }
+    {
+        self.notes.push(Message {
+            number,
+            place,
+            name: Text::from_bytes(alloc, name)?,
+        })
+    }
+
+    /// One more file that was fetched: its number.
+    pub(crate) fn add_file(&mut self, alloc: Global, name: &[u8]) -> Result<u32, AllocError>
+        ensures shows { OnOk result ((state : State) → Shows self.old state → Shows self.new (with_files state (with_file name.now state.files))) }
+        ensures number { IfOk result (λ number. number ≡ number_of name.now self.new.files) }
+        ensures within { IfOk result (λ number. number < length self.new.files) }
+    {
+        self.files.add(alloc, name)
+    }
+
+    // The text that is left of a line, if it has room.
+    fn text_left(
+        &self,
+        alloc: Global,
+        enabled: bool,
+        in_comment: bool,
+        text: &[u8],
+        room: usize,
+    ) -> Result<Vec<u8>, ReplaceStop>
+        ensures { (history : History) → Tells self.now.macros history → Gives result room (text_left enabled history in_comment text.now) }
+    {
+        if enabled {
+            replace(alloc, &self.macros, Within::InLine, text, in_comment, room)
+        } else if text.len() > room {
+            Err(ReplaceStop::TooLong)
+        } else {
+            match text.to_vec(alloc) {
+                Ok(left) => Ok(left),
+                Err(AllocError) => Err(ReplaceStop::Memory),
+            }
+        }
+    }
+
+    /// Keeps a line, with its defined names replaced where the preprocessor is enabled.
+    pub(crate) fn keep(
+        &mut self,
+        alloc: Global,
+        enabled: bool,
+        file: u32,
+        line: u32,
+        in_comment: bool,
+        text: &[u8],
+    ) -> Result<(), Halt>
+        ensures { (state : State) (branches : List Branch) → Shows self.old state → Steps result self.new branches
+            (with_line (record { state = state; branches = branches }) (record { file = file; number = line; text = text_left enabled state.history in_comment text.now })) }
+    {
+        let place = Place {
+            file,
+            line,
+            column: 1,
+        };
+        let Some(room) = MOST_BYTES.checked_sub(self.size) else {
+            return Err(refusal(alloc, TOO_LARGE, place, b""));
+        };
+        match self.text_left(alloc, enabled, in_comment, text, room) {
+            Ok(left) => {
+                let size = left.len();
+                self.lines.push(Line {
+                    file,
+                    number: line,
+                    text: Text::from_vec(left),
+                })?;
+                self.size += size + 1;
+                Ok(())
+            }
+            Err(ReplaceStop::TooLong) => Err(refusal(alloc, TOO_LARGE, place, b"")),
+            Err(ReplaceStop::Memory) => Err(Halt::Memory),
+        }
+    }
+}
