@@ -1,5 +1,12 @@
+pub mod Behind
+pub mod Header
 pub mod Keys
+pub mod Law
 pub mod Numbers
+pub mod Plain
 pub mod Put
+pub mod ReadBack
 pub mod Rooms
+pub mod Spelled
+pub mod Steps
 pub mod Sums

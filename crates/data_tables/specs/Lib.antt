@@ -8,3 +8,5 @@ pub mod Views
 pub mod Compiling
 pub mod Outcomes
 pub mod Promise
+pub mod Entries
+pub mod Reading

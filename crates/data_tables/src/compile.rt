@@ -1,7 +1,9 @@
 //! A text of fields to its table.
-ghost use Rattle.std.specs.Prelude.{◌≡◌, ◌∷◌, [], IfOk, MatchOption, None, Some};
+ghost use Rattle.std.specs.Prelude.{◌≡◌, ◌<◌, ◌^◌, IfOk, OnOk, None, length, map};
 ghost use Rattle.std.specs.Option.{option_copied};
-ghost use Rattle.data_tables.specs.Compiling.{signature_in, compiled, compiled_text, answer_of, refused, sealed};
+ghost use Rattle.data_tables.specs.Compiling.{signature_in, compiled, compiled_text, answer_of, refused, sealed, joined, piece_of};
+ghost use Rattle.data_tables.specs.Entries.{fields_of_text, written_values, unsealed_bytes};
+ghost use Rattle.data_tables.specs.Reading.{ReadsAs};
 ghost use Rattle.data_tables.specs.Walk.{walk};
 ghost use Rattle.data_tables.specs.Parts.{first_part};
 ghost use Rattle.data_tables.specs.Promise.{Answers};
@@ -45,7 +47,8 @@ fn signature_in(line: &FieldLine) -> Option<&[u8]>
 }
 
 fn whole(alloc: Global, signature: &[u8], walker: Walker) -> Result<Compiled, AllocError>
-    ensures { IfOk result (λ table. table ≡ record { pieces = sealed walker.pieces; signature = signature.now; notes = walker.notes }) }
+    ensures table { IfOk result (λ table. table ≡ record { pieces = sealed walker.pieces; signature = signature.now; notes = walker.notes }) }
+    ensures within { OnOk result (length (joined walker.pieces) < 2 ^ 32) }
 {
     Ok(Compiled {
         pieces: seal(alloc, walker.pieces)?,
@@ -61,7 +64,8 @@ fn compile_table(
     signature: &[u8],
     table: Table,
 ) -> Result<Compiled, Stage>
-    ensures { Answers result (answer_of signature.now (walk text.now.end (first_part table) None text.now.lines)) }
+    ensures exact { Answers result (answer_of signature.now (walk text.now.end (first_part table) None text.now.lines)) }
+    ensures within { OnOk result (length (joined (map piece_of (walk text.now.end (first_part table) None text.now.lines).fields)) < 2 ^ 32) }
 {
     let walker = match walk_lines(alloc, table, text.lines.as_slice(), text.end) {
         Ok(walker) => walker,
@@ -77,7 +81,8 @@ fn compile_table(
 }
 
 fn compile_text(alloc: Global, text: &DataText) -> Result<Compiled, Stage>
-    ensures { Answers result (compiled_text text.now) }
+    ensures exact { Answers result (compiled_text text.now) }
+    ensures within { OnOk result (length (joined (map piece_of (fields_of_text text.now))) < 2 ^ 32) }
 {
     let [first, ..] = text.lines.as_slice() else {
         return Err(refuse(alloc, FIELD_IS_MISSING, text.end));
@@ -92,9 +97,17 @@ fn compile_text(alloc: Global, text: &DataText) -> Result<Compiled, Stage>
 }
 
 /// The table of a text of fields, with a piece for each field line; or its faults, in order of the text: 6090 to 6097.
-/// The notes are 3005, where a label is not the field's, and 2002, where a decoded line has an unknown label.
+/// The notes are 3005, where a label is not the field's, and 2002, where a decoded line has an unknown label. No memory
+/// has a table of 2^32 bytes or more.
+#[tactic(auto, using(crate::proofs::Law::reads_as_written))]
 pub fn compile_data(alloc: Global, lines: &Lines) -> Result<Compiled, Stage>
+    // The answer is that of a function on lists.
     ensures exact { Answers result (compiled lines.now.list) }
+
+    // The bytes, read by offset, are the values that the text writes, and nothing else.
+    ensures reads { IfOk result (λ table. ReadsAs (joined table.pieces) (written_values lines.now.list)) }
+
+    ensures within { OnOk result (length (unsealed_bytes lines.now.list) < 2 ^ 32) }
 {
     match data_text(alloc, lines.list.as_slice()) {
         Ok(text) => compile_text(alloc, &text),

@@ -1,0 +1,152 @@
+-- All fields behind the header are read back: those of the fixed part, and then entries, structures or rows.
+use Rattle.std.proofs.Common.{◌≡◌, ◌<◌, ◌+◌, ◌==◌, ◌&&◌, ℕ, Bool, true, false, cond, nat_lt, List, [], ◌∷◌, ◌++◌, length, map, Option, Some, Result, Ok, Err, refl, sym, ap, subst, ◌∙◌, arith, length-append}
+use Rattle.std.proofs.lemmas.Grind.{common_steps}
+use Rattle.std.specs.Option.{unwrap_or}
+use Rattle.data_layout.specs.declared.row.Row.{Row}
+use Rattle.data_layout.specs.declared.row.Kind.{Kind}
+use Rattle.data_layout.specs.declared.row.Kind.TheVariants as k
+use Rattle.data_layout.specs.declared.table.Table.{Table}
+use Rattle.data_layout.specs.Layout.{entry_rows, type_rows, structure_rows}
+use Rattle.data_tables.specs.declared.part.After.{After}
+use Rattle.data_tables.specs.declared.part.After.TheVariants as a
+use Rattle.data_tables.specs.Bytes.{little_number}
+use Rattle.data_tables.specs.Fields.{field_bytes, number_of_value}
+use Rattle.data_tables.specs.Parts.{Part, Opened, next_field, first_of, locality_row, behind}
+use Rattle.data_tables.specs.Walk.{Field}
+use Rattle.data_tables.specs.Compiling.{piece_of, joined}
+use Rattle.data_tables.specs.Entries.{Entry, entry_of, entries_from}
+use Rattle.data_tables.specs.Reading.{bytes_at, number_read, rows_read, size_of, Stands, Stand, IsRest, entry, structure, locality}
+use Rattle.data_tables.proofs.Steps.{FieldsOf}
+use Rattle.data_tables.proofs.Plain.{are_plain, plain_first, states, states_size, structure_parts, of_structure, entries_plain, type_one}
+use Rattle.data_tables.proofs.ReadBack.{part, Reads, IsReadFrom, plain_spelled, type_spelled, locality_spelled, bytes_here, rows_step, shifted, behind_plain, first_is, entries_first, bytes_first, within, at_end, at_row}
+
+-- nothing is read of a part without rows but what comes after it
+closed : (table : Table) (bytes before tail : List ℕ) (after : After) (number : ℕ) (entries : List Entry) → bytes ≡ before ++ tail → IsRest table bytes after number (length before) entries → Reads table bytes [] after number (length before) entries
+closed table bytes before tail after number entries e r =
+    let none : length before ≡ length before + 0 = omega arith in
+    record {
+      more = entries;
+      values = refl;
+      stand = within bytes before tail e;
+      rest = subst (λ (o : ℕ). IsRest table bytes after number o entries) none r;
+    }
+
+at_entry : (table : Table) (revision number : ℕ) (bytes before : List ℕ) (field : Field) (fields : List Field) → bytes ≡ before ++ joined (map piece_of (field ∷ fields)) → FieldsOf (part table revision [] a.Entries) (field ∷ fields) → ((rows : List Row) (before' : List ℕ) → are_plain rows ≡ true → bytes ≡ before' ++ joined (map piece_of fields) → IsReadFrom table revision bytes a.Entries rows (number + 1) before' fields) → Reads table bytes [] a.Entries number (length before) (entries_from number (field ∷ fields))
+at_entry table revision number bytes before field fields e h ih =
+    let row = entries_plain.first in
+    let rows = entries_plain.others in
+    let here = field_bytes row field.value in
+    let tail = joined (map piece_of fields) in
+    let plain = plain_first row rows (subst (λ (rs : List Row). are_plain rs ≡ true) entries_plain.are entries_plain.plain) in
+    let opened : next_field (part table revision [] a.Entries) ≡ Ok (row, part table revision rows a.Entries) = ap (first_of (part table revision [] a.Entries)) entries_plain.are in
+    let f = first_is (part table revision [] a.Entries) (part table revision rows a.Entries) row field fields opened h in
+    let s = plain_spelled bytes table row field.line.value field.value plain.0 f.given in
+    let whole : bytes ≡ before ++ (here ++ tail) = e ∙ ap (λ (bs : List ℕ). before ++ bs) (bytes_first row field fields f.row_is) in
+    let left : FieldsOf (part table revision rows a.Entries) fields = subst (λ (q : Part). FieldsOf q fields) (behind_plain (part table revision rows a.Entries) row.kind row.width (number_of_value field.value) plain.0) f.tail in
+    let r = ih rows (before ++ here) plain.1 (shifted bytes before here tail whole) left in
+    let r1 = rows_step table bytes before here tail row rows a.Entries (number + 1) field.value (entries_from (number + 1) fields) s whole r in
+    let r2 : Reads table bytes entry_rows a.Entries (number + 1) (length before) (entry_of (number + 1) row field.value ++ entries_from (number + 1) fields) = subst (λ (rs : List Row). Reads table bytes rs a.Entries (number + 1) (length before) (entry_of (number + 1) row field.value ++ entries_from (number + 1) fields)) (sym entries_plain.are) r1 in
+    let all : entries_from number (field ∷ fields) ≡ rows_read (number + 1) bytes (length before) entry_rows ++ r2.more = entries_first number row field fields true f.row_is f.begins_is ∙ r2.values in
+    subst (λ (es : List Entry). Reads table bytes [] a.Entries number (length before) es) (sym all)
+    (closed table bytes before (here ++ tail) a.Entries number _ whole (entry number (length before) r2.more r2.stand r2.rest))
+
+and_both : (b c : Bool) → (b && c) ≡ true → (b ≡ true) × (c ≡ true)
+and_both true c e = (refl, e)
+and_both false c e = absurd cc
+
+stated_at : (bytes : List ℕ) (offset size w : ℕ) (kind : Kind) → states size kind w ≡ true → Stands bytes kind (bytes_at bytes offset w) → number_read bytes offset 1 ≡ size
+stated_at bytes offset size w k.Number e h = absurd cc
+stated_at bytes offset size w k.Text e h = absurd cc
+stated_at bytes offset size w k.Bytes e h = absurd cc
+stated_at bytes offset size w k.Reserved e h = absurd cc
+stated_at bytes offset size w k.TableLength e h = absurd cc
+stated_at bytes offset size w k.Checksum e h = absurd cc
+stated_at bytes offset size w k.CompilerId e h = absurd cc
+stated_at bytes offset size w k.CompilerRevision e h = absurd cc
+stated_at bytes offset size w (k.Length stated) e h =
+    let both = and_both (stated == size) (w == 1) e in
+    let a : stated ≡ size = let b = both.0 in grind (arith, common_steps) in
+    let c : w ≡ 1 = let b = both.1 in grind (arith, common_steps) in
+    ap (λ (n : ℕ). number_read bytes offset n) (sym c) ∙ h ∙ a
+stated_at bytes offset size w k.Revision e h = absurd cc
+stated_at bytes offset size w k.StructureType e h = absurd cc
+stated_at bytes offset size w k.Localities e h = absurd cc
+stated_at bytes offset size w (k.Locality n) e h = absurd cc
+
+stated_size : (bytes : List ℕ) (offset : ℕ) (rows : List Row) → states_size rows ≡ true → Stand bytes offset rows → number_read bytes offset 1 ≡ 1 + size_of rows
+stated_size bytes offset [] e h = absurd cc
+stated_size bytes offset (row ∷ rows) e h = stated_at bytes offset (1 + (row.width + size_of rows)) row.width row.kind e h.0
+
+at_structure : (table : Table) (revision number : ℕ) (bytes before : List ℕ) (field : Field) (fields : List Field) → bytes ≡ before ++ joined (map piece_of (field ∷ fields)) → FieldsOf (part table revision [] a.Structures) (field ∷ fields) → ((rows : List Row) (before' : List ℕ) → are_plain rows ≡ true → bytes ≡ before' ++ joined (map piece_of fields) → IsReadFrom table revision bytes a.Structures rows (number + 1) before' fields) → Reads table bytes [] a.Structures number (length before) (entries_from number (field ∷ fields))
+at_structure table revision number bytes before field fields e h ih =
+    let row = type_one.first in
+    let here = field_bytes row field.value in
+    let tail = joined (map piece_of fields) in
+    let opened : next_field (part table revision [] a.Structures) ≡ Ok (row, part table revision [] a.Structures) = ap (first_of (part table revision [] a.Structures)) type_one.are in
+    let f = first_is (part table revision [] a.Structures) (part table revision [] a.Structures) row field fields opened h in
+    let t = type_spelled bytes table row field.line.value field.value type_one.kind_is f.given in
+    let whole : bytes ≡ before ++ (here ++ tail) = e ∙ ap (λ (bs : List ℕ). before ++ bs) (bytes_first row field fields f.row_is) in
+    let chosen : behind (part table revision [] a.Structures) row.kind (number_of_value field.value) ≡ part table revision t.rows a.Structures =
+    ap (λ (q : Kind). behind (part table revision [] a.Structures) q (number_of_value field.value)) type_one.kind_is
+    ∙ ap (λ (o : Option (List Row)). part table revision (unwrap_or o []) a.Structures) t.known in
+    let left : FieldsOf (part table revision t.rows a.Structures) fields = subst (λ (q : Part). FieldsOf q fields) chosen f.tail in
+    let parts = structure_parts t.rows (of_structure table (number_of_value field.value) t.rows t.known) in
+    let r = ih t.rows (before ++ here) parts.0 (shifted bytes before here tail whole) left in
+    let r1 = rows_step table bytes before here tail row t.rows a.Structures (number + 1) field.value (entries_from (number + 1) fields) t.spelled whole r in
+    let r2 : Reads table bytes (type_rows ++ t.rows) a.Structures (number + 1) (length before) (entry_of (number + 1) row field.value ++ entries_from (number + 1) fields) = subst (λ (rs : List Row). Reads table bytes (rs ++ t.rows) a.Structures (number + 1) (length before) (entry_of (number + 1) row field.value ++ entries_from (number + 1) fields)) (sym type_one.are) r1 in
+    let one : length here ≡ 1 = t.spelled.width ∙ type_one.width_is in
+    let next : length (before ++ here) ≡ length before + 1 = length-append before here ∙ ap (λ (m : ℕ). length before + m) one in
+    let number_is : number_read bytes (length before) 1 ≡ number_of_value field.value = ap little_number (bytes_here bytes before here tail 1 whole one) ∙ t.number in
+    let known : structure_rows table (number_read bytes (length before) 1) ≡ Some t.rows = ap (structure_rows table) number_is ∙ t.known in
+    let size : size_of (type_rows ++ t.rows) ≡ 1 + size_of t.rows = ap (λ (rs : List Row). size_of (rs ++ t.rows)) type_one.are ∙ ap (λ (m : ℕ). m + size_of t.rows) type_one.width_is in
+    let stated : number_read bytes (length before + 1) 1 ≡ size_of (type_rows ++ t.rows) = ap (λ (o : ℕ). number_read bytes o 1) (sym next) ∙ stated_size bytes (length (before ++ here)) t.rows parts.1 r.stand ∙ sym size in
+    let all : entries_from number (field ∷ fields) ≡ rows_read (number + 1) bytes (length before) (type_rows ++ t.rows) ++ r2.more = entries_first number row field fields true f.row_is f.begins_is ∙ r2.values in
+    subst (λ (es : List Entry). Reads table bytes [] a.Structures number (length before) es) (sym all)
+    (closed table bytes before (here ++ tail) a.Structures number _ whole (structure number (length before) t.rows r2.more known stated r2.stand r2.rest))
+
+at_locality : (table : Table) (revision number count place : ℕ) (bytes before : List ℕ) (field : Field) (fields : List Field) → bytes ≡ before ++ joined (map piece_of (field ∷ fields)) → nat_lt place count ≡ true → FieldsOf (part table revision [] (a.Matrix count place)) (field ∷ fields) → ((before' : List ℕ) → bytes ≡ before' ++ joined (map piece_of fields) → IsReadFrom table revision bytes (a.Matrix count (place + 1)) [] (number + 1) before' fields) → Reads table bytes [] (a.Matrix count place) number (length before) (entries_from number (field ∷ fields))
+at_locality table revision number count place bytes before field fields e more h ih =
+    let row = locality_row count place in
+    let after = a.Matrix count (place + 1) in
+    let here = field_bytes row field.value in
+    let tail = joined (map piece_of fields) in
+    let lt : place < count = grind arith in
+    let opened : next_field (part table revision [] (a.Matrix count place)) ≡ Ok (row, part table revision [] after) = ap (λ (b : Bool). cond {A = Result Opened ℕ} b (Ok (row, part table revision [] after)) (Err 6097)) more in
+    let f = first_is (part table revision [] (a.Matrix count place)) (part table revision [] after) row field fields opened h in
+    let s = locality_spelled bytes table count place field.line.value field.value f.given in
+    let whole : bytes ≡ before ++ (here ++ tail) = e ∙ ap (λ (bs : List ℕ). before ++ bs) (bytes_first row field fields f.row_is) in
+    let r = ih (before ++ here) (shifted bytes before here tail whole) f.tail in
+    let r1 = rows_step table bytes before here tail row [] after (number + 1) field.value (entries_from (number + 1) fields) s whole r in
+    let end : length before + (count + 0) ≡ length before + count = omega arith in
+    let all : entries_from number (field ∷ fields) ≡ rows_read (number + 1) bytes (length before) (row ∷ []) ++ r1.more = entries_first number row field fields true f.row_is f.begins_is ∙ r1.values in
+    subst (λ (es : List Entry). Reads table bytes [] (a.Matrix count place) number (length before) es) (sym all)
+    (closed table bytes before (here ++ tail) (a.Matrix count place) number _ whole (locality number (length before) count place r1.more lt r1.stand (subst (λ (o : ℕ). IsRest table bytes after (number + 1) o r1.more) end r1.rest)))
+
+-- behind the header and the fixed part
+abbrev pub IsLater : After → Type 0
+IsLater a.Fixed = ⊥
+IsLater a.Nothing = Unit {0}
+IsLater a.Entries = Unit {0}
+IsLater a.Structures = Unit {0}
+IsLater (a.Matrix count number) = Unit {0}
+
+pub read_back : (table : Table) (revision : ℕ) (fields : List Field) (rows : List Row) (after : After) (number : ℕ) (bytes before : List ℕ) → IsLater after → are_plain rows ≡ true → bytes ≡ before ++ joined (map piece_of fields) → IsReadFrom table revision bytes after rows number before fields
+read_back table revision [] [] after number bytes before l p e h = at_end table revision number bytes before after h e
+read_back table revision [] (row ∷ rows) after number bytes before l p e h = absurd cc
+read_back table revision (field ∷ fields) (row ∷ rows) after number bytes before l p e h =
+    at_row table revision number bytes before after row rows field fields p e h
+    (λ e' h'. read_back table revision fields rows after number bytes (before ++ field_bytes row field.value) l (plain_first row rows p).1 e' h')
+read_back table revision (field ∷ fields) [] a.Fixed number bytes before l p e h = absurd l
+read_back table revision (field ∷ fields) [] a.Nothing number bytes before l p e h = let f : ◌≡◌ {A = Result Opened ℕ} (Err 6092) (Ok (field.row, h.0)) = h.1 in absurd cc
+read_back table revision (field ∷ fields) [] a.Entries number bytes before l p e h =
+    at_entry table revision number bytes before field fields e h (λ rows before' p' e' h'. read_back table revision fields rows a.Entries (number + 1) bytes before' tt p' e' h')
+read_back table revision (field ∷ fields) [] a.Structures number bytes before l p e h =
+    at_structure table revision number bytes before field fields e h (λ rows before' p' e' h'. read_back table revision fields rows a.Structures (number + 1) bytes before' tt p' e' h')
+read_back table revision (field ∷ fields) [] (a.Matrix count place) number bytes before l p e h =
+    let ih = λ (before' : List ℕ) (e' : bytes ≡ before' ++ joined (map piece_of fields)) (h' : FieldsOf (part table revision [] (a.Matrix count (place + 1))) fields). read_back table revision fields [] (a.Matrix count (place + 1)) (number + 1) bytes before' tt refl e' h' in
+    elim (nat_lt place count) as (λ b. nat_lt place count ≡ b → Reads table bytes [] (a.Matrix count place) number (length before) (entries_from number (field ∷ fields))) [
+      | true ↦ λ more. at_locality table revision number count place bytes before field fields e more h ih
+      | false ↦ λ more.
+          let next : ◌≡◌ {A = Result Opened ℕ} (cond {A = Result Opened ℕ} (nat_lt place count) (Ok (locality_row count place, part table revision [] (a.Matrix count (place + 1)))) (Err 6097)) (Ok (field.row, h.0)) = h.1 in
+          let f : ◌≡◌ {A = Result Opened ℕ} (Err 6097) (Ok (field.row, h.0)) = rw more at next in absurd cc
+    ] refl

@@ -1,0 +1,112 @@
+-- The bytes of a value read as it.
+use Rattle.std.proofs.Common.{◌≡◌, ◌≤◌, ◌<◌, ℕ, zero, suc, ◌+◌, ◌*◌, ◌-◌, ◌/◌, ◌%◌, ◌^◌, ◌==◌, ◌&&◌, nat_lt, nat_le, Bool, true, false, cond, List, [], ◌∷◌, length, replicate, Option, Some, None, Result, Ok, Err, refl, sym, ap, ◌∙◌, arith, length-append}
+use Rattle.std.proofs.lemmas.Grind.{common_steps}
+use Rattle.std.proofs.lemmas.List.{length-replicate}
+use Rattle.std.proofs.lemmas.Nat.{pow-add}
+use Rattle.std.specs.Option.{is_some}
+use Rattle.data_layout.specs.declared.row.Row.{Row}
+use Rattle.data_layout.specs.declared.table.Table.{Table}
+use Rattle.data_layout.specs.Layout.{structure_rows}
+use Rattle.data_tables.specs.Bytes.{little_bytes, little_number, filled}
+use Rattle.data_tables.specs.Fields.{Value, Number, Bytes, form_of, has_room, width_fault, reserved_fault, type_fault, count_fault, has_structure, number_fault, judged, bytes_fault, value_of_number, value_of_text, value_of_bytes}
+use Rattle.data_tables.specs.Entries.{Entry, is_computed, entry_of}
+use Rattle.data_tables.specs.Reading.{read_as, Stands}
+
+pub little_length : (w n : ℕ) → length (little_bytes w n) ≡ w
+little_length zero n = refl
+little_length (suc w) n = ap (λ (m : ℕ). suc m) (little_length w (n / 256))
+
+power_more : (w : ℕ) → 2 ^ (8 * suc w) ≡ 256 * 2 ^ (8 * w)
+power_more w = let e : 8 * suc w ≡ 8 + 8 * w = omega arith in ap (λ (m : ℕ). 2 ^ m) e ∙ pow-add 2 8 (8 * w)
+
+pub little_back : (w n : ℕ) → n < 2 ^ (8 * w) → little_number (little_bytes w n) ≡ n
+little_back zero n h = let z : n < 1 = h in omega arith
+little_back (suc w) n h =
+    let e = power_more w in
+    let l : n / 256 < 2 ^ (8 * w) = omega (arith, e, h) in
+    ap (λ (m : ℕ). n % 256 + 256 * m) (little_back w (n / 256) l) ∙ omega arith
+
+-- what a field's value and its bytes have to do with each other, among all bytes of the table
+pub record IsSpelled (all : List ℕ) (row : Row) (value : Value) (here : List ℕ) : Type 0 where
+  pub width : length here ≡ row.width
+  pub reads : is_computed row.kind ≡ false → read_as (form_of row.kind) here ≡ value
+  pub stands : Stands all row.kind here
+
+pub entry_same : (n : ℕ) (row : Row) (read value : Value) → (is_computed row.kind ≡ false → read ≡ value) → entry_of n row value ≡ entry_of n row read
+entry_same n row read value h =
+    elim (is_computed row.kind) as (λ b. (b ≡ false → read ≡ value) → cond {A = List Entry} b [] (record { structure = n; row = row; value = value } ∷ []) ≡ cond {A = List Entry} b [] (record { structure = n; row = row; value = read } ∷ [])) [
+      | true ↦ λ f. refl
+      | false ↦ λ f. ap (λ (v : Value). record { structure = n; row = row; value = v } ∷ []) (sym (f refl))
+    ] h
+
+and_second : (a b : Bool) → (a && b) ≡ true → b ≡ true
+and_second true b e = e
+and_second false b e = absurd cc
+
+pub room_bound : (w n : ℕ) → has_room w n ≡ true → n < 2 ^ (8 * w)
+room_bound w n e = let b = and_second (nat_lt n (2 ^ 64)) (nat_lt n (2 ^ (8 * w))) e in grind arith
+
+pub width_bound : (w n : ℕ) → width_fault w n ≡ None → n < 2 ^ (8 * w)
+width_bound w n e =
+    elim (has_room w n) as (λ b. has_room w n ≡ b → cond {A = Option ℕ} b None (Some 6094) ≡ None → n < 2 ^ (8 * w)) [
+      | true ↦ λ f g. room_bound w n f
+      | false ↦ λ f g. absurd cc
+    ] refl e
+
+pub reserved_zero : (n : ℕ) → reserved_fault n ≡ None → n ≡ 0
+reserved_zero n e =
+    elim (n == 0) as (λ b. (n == 0) ≡ b → cond {A = Option ℕ} b None (Some 6093) ≡ None → n ≡ 0) [
+      | true ↦ λ f g. grind (arith, common_steps)
+      | false ↦ λ f g. absurd cc
+    ] refl e
+
+pub type_known : (table : Table) (w n : ℕ) → type_fault table w n ≡ None → (n < 2 ^ (8 * w)) × (rows : List Row) × (structure_rows table n ≡ Some rows)
+type_known table w n e =
+    elim (has_room w n) as (λ b. has_room w n ≡ b → cond {A = Option ℕ} b (cond {A = Option ℕ} (has_structure table n) None (Some 6095)) (Some 6094) ≡ None → (n < 2 ^ (8 * w)) × (rows : List Row) × (structure_rows table n ≡ Some rows)) [
+      | true ↦ λ f g.
+          elim (structure_rows table n) as (λ o. structure_rows table n ≡ o → cond {A = Option ℕ} (is_some o) None (Some 6095) ≡ None → (n < 2 ^ (8 * w)) × (rows : List Row) × (structure_rows table n ≡ Some rows)) [
+            | None ↦ λ i j. absurd cc
+            | Some rows ↦ λ i j. (room_bound w n f, rows, i)
+          ] refl g
+      | false ↦ λ f g. absurd cc
+    ] refl e
+
+pub count_bound : (w n : ℕ) → count_fault w n ≡ None → n < 2 ^ (8 * w)
+count_bound w n e =
+    elim (has_room w n) as (λ b. has_room w n ≡ b → cond {A = Option ℕ} b (cond {A = Option ℕ} (nat_le n 4000) None (Some 6097)) (Some 6094) ≡ None → n < 2 ^ (8 * w)) [
+      | true ↦ λ f g. room_bound w n f
+      | false ↦ λ f g. absurd cc
+    ] refl e
+
+-- what a value that a field is given is
+pub given_number : (table : Table) (row : Row) (found : Option ℕ) (value : Value) → value_of_number table row found ≡ Ok value → (n : ℕ) × (value ≡ Number n) × (number_fault table row.kind row.width n ≡ None)
+given_number table row None value e = absurd cc
+given_number table row (Some n) value e =
+    elim (number_fault table row.kind row.width n) as (λ o. number_fault table row.kind row.width n ≡ o → judged n o ≡ Ok value → (m : ℕ) × (value ≡ Number m) × (number_fault table row.kind row.width m ≡ None)) [
+      | None ↦ λ f g. let same : Number n ≡ value = cc in (n, sym same, f)
+      | Some fault ↦ λ f g. absurd cc
+    ] refl e
+
+pub given_text : (row : Row) (found : Option (List ℕ)) (value : Value) → value_of_text row found ≡ Ok value → (text : List ℕ) × (found ≡ Some text) × (value ≡ Bytes (filled row.width text)) × (length (filled row.width text) ≡ row.width)
+given_text row None value e = absurd cc
+given_text row (Some text) value e =
+    elim (nat_le (length text) row.width) as (λ b. nat_le (length text) row.width ≡ b → ◌≡◌ {A = Result Value ℕ} (cond b (Ok (Bytes (filled row.width text))) (Err 6094)) (Ok value) → (t : List ℕ) × (Some text ≡ Some t) × (value ≡ Bytes (filled row.width t)) × (length (filled row.width t) ≡ row.width)) [
+      | true ↦ λ f g.
+          let h : ◌≡◌ {A = Result Value ℕ} (Ok (Bytes (filled row.width text))) (Ok value) = g in
+          let same : Bytes (filled row.width text) ≡ value = cc in
+          let within : length text ≤ row.width = grind arith in
+          (text, refl, sym same, length-append text (replicate (row.width - length text) 0) ∙ ap (λ (m : ℕ). length text + m) (length-replicate (row.width - length text) 0) ∙ omega arith)
+      | false ↦ λ f g. let h : ◌≡◌ {A = Result Value ℕ} (Err 6094) (Ok value) = g in absurd cc
+    ] refl e
+
+pub given_bytes : (row : Row) (found : Option (List ℕ)) (value : Value) → value_of_bytes row found ≡ Ok value → (bytes : List ℕ) × (value ≡ Bytes bytes) × (length bytes ≡ row.width)
+given_bytes row None value e = absurd cc
+given_bytes row (Some bytes) value e =
+    elim (length bytes == row.width) as (λ b. (length bytes == row.width) ≡ b → ◌≡◌ {A = Result Value ℕ} (cond b (Ok (Bytes bytes)) (Err (bytes_fault row.kind))) (Ok value) → (bs : List ℕ) × (value ≡ Bytes bs) × (length bs ≡ row.width)) [
+      | true ↦ λ f g.
+          let h : ◌≡◌ {A = Result Value ℕ} (Ok (Bytes bytes)) (Ok value) = g in
+          let same : Bytes bytes ≡ value = cc in
+          let within : length bytes ≡ row.width = grind (arith, common_steps) in
+          (bytes, sym same, within)
+      | false ↦ λ f g. absurd cc
+    ] refl e
