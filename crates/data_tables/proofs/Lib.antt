@@ -10,3 +10,5 @@ pub mod Rooms
 pub mod Spelled
 pub mod Steps
 pub mod Sums
+pub mod Unique
+pub mod Worked

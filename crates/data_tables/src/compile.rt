@@ -1,8 +1,8 @@
 //! A text of fields to its table.
-ghost use Rattle.std.specs.Prelude.{◌≡◌, ◌<◌, ◌^◌, IfOk, OnOk, None, length, map};
+ghost use Rattle.std.specs.Prelude.{◌≡◌, ◌<◌, ◌^◌, IfOk, OnOk, None, length, map, List as AList};
 ghost use Rattle.std.specs.Option.{option_copied};
 ghost use Rattle.data_tables.specs.Compiling.{signature_in, compiled, compiled_text, answer_of, refused, sealed, joined, piece_of};
-ghost use Rattle.data_tables.specs.Entries.{fields_of_text, written_values, unsealed_bytes};
+ghost use Rattle.data_tables.specs.Entries.{Entry, fields_of_text, written_values, unsealed_bytes};
 ghost use Rattle.data_tables.specs.Reading.{ReadsAs};
 ghost use Rattle.data_tables.specs.Walk.{walk};
 ghost use Rattle.data_tables.specs.Parts.{first_part};
@@ -104,8 +104,10 @@ pub fn compile_data(alloc: Global, lines: &Lines) -> Result<Compiled, Stage>
     // The answer is that of a function on lists.
     ensures exact { Answers result (compiled lines.now.list) }
 
-    // The bytes, read by offset, are the values that the text writes, and nothing else.
+    // The bytes, read by offset, are the values that the text writes, and no others.
     ensures reads { IfOk result (λ table. ReadsAs (joined table.pieces) (written_values lines.now.list)) }
+
+    ensures only { IfOk result (λ table. (values : AList Entry) → ReadsAs (joined table.pieces) values → values ≡ written_values lines.now.list) }
 
     ensures within { OnOk result (length (unsealed_bytes lines.now.list) < 2 ^ 32) }
 {

@@ -1,3 +1,4 @@
 pub mod CommentSteps
 pub mod Ends
 pub mod Pairs
+pub mod Worked

@@ -2,8 +2,8 @@
 #![tactic(auto)]
 
 pub mod blanks;
-pub mod comments;
+mod comments;
 pub mod field_line;
-pub mod parts;
+mod parts;
 pub mod source;
 pub mod values;

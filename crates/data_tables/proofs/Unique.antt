@@ -1,0 +1,78 @@
+-- The bytes of a table read as one list of values.
+use Rattle.std.proofs.Common.{◌≡◌, ◌≤◌, ◌<◌, ◌+◌, ◌^◌, ℕ, List, [], ◌∷◌, ◌++◌, length, map, Option, Some, Result, Ok, Err, OnOk, IfOk, refl, sym, ap, subst, ◌∙◌, arith}
+use Rattle.data_layout.specs.declared.row.Row.{Row}
+use Rattle.data_layout.specs.declared.table.Table.{Table}
+use Rattle.data_layout.specs.Layout.{entry_rows, type_rows}
+use Rattle.data_tables.specs.declared.part.After.{After}
+use Rattle.data_tables.specs.declared.part.After.TheVariants as a
+use Rattle.data_tables.specs.Parts.{locality_row}
+use Rattle.data_tables.specs.Entries.{Entry}
+use Rattle.data_tables.specs.Reading.{rows_read, size_of, Stand, IsRest, ended, entry, structure, locality, rest_of, first_rows, ReadsAs}
+use Rattle.iasl_messages.specs.declared.place.Line.{Line}
+use Rattle.data_tables.specs.declared.compiled.Compiled.{Compiled}
+use Rattle.data_tables.specs.Compiling.{joined, piece_of, compiled, compiled_text}
+use Rattle.data_tables.specs.Promise.{Answers}
+use Rattle.data_text.specs.declared.field_line.DataText.{DataText}
+use Rattle.data_text.specs.Source.{text_of}
+use Rattle.iasl_messages.specs.declared.message.Stage.{Stage}
+use Rattle.data_tables.specs.Entries.{fields_of_text, written_values, unsealed_bytes}
+use Rattle.data_tables.proofs.Plain.{type_one}
+use Rattle.data_tables.proofs.Law.{reads_as_written}
+
+stand_within : (bytes : List ℕ) (offset : ℕ) (rows : List Row) → Stand bytes offset rows → offset + size_of rows ≤ length bytes
+stand_within bytes offset [] h = omega arith
+stand_within bytes offset (row ∷ rows) h = let k = stand_within bytes (offset + row.width) rows h.1 in omega arith
+
+entry_size : 0 < size_of entry_rows
+unfolding entry_rows
+entry_size = omega arith
+
+type_size : (rows : List Row) → 0 < size_of (type_rows ++ rows)
+type_size rows =
+    let e : size_of (type_rows ++ rows) ≡ 1 + size_of rows = ap (λ (rs : List Row). size_of (rs ++ rows)) type_one.are ∙ ap (λ (m : ℕ). m + size_of rows) type_one.width_is in
+    omega arith
+
+-- nothing stands behind the end
+past : (bytes : List ℕ) (offset : ℕ) (rows : List Row) → offset ≡ length bytes → 0 < size_of rows → Stand bytes offset rows → ⊥
+past bytes offset rows e p h = let k = stand_within bytes offset rows h in omega arith
+
+same_rest : (table : Table) (bytes : List ℕ) (after : After) (number offset : ℕ) (one two : List Entry) → IsRest table bytes after number offset one → IsRest table bytes after number offset two → one ≡ two
+same_rest table bytes after number offset one two (ended after1 n1 o1 enough1 e1) (ended after2 n2 o2 enough2 e2) = refl
+same_rest table bytes after number offset one two (ended after1 n1 o1 enough1 e1) (entry n2 o2 more2 stand2 rest2) = absurd (past bytes o2 entry_rows e1 entry_size stand2)
+same_rest table bytes after number offset one two (ended after1 n1 o1 enough1 e1) (structure n2 o2 rows2 more2 known2 stated2 stand2 rest2) = absurd (past bytes o2 (type_rows ++ rows2) e1 (type_size rows2) stand2)
+same_rest table bytes after number offset one two (ended after1 n1 o1 enough1 e1) (locality n2 o2 count2 place2 more2 lt2 stand2 rest2) = absurd (omega arith)
+same_rest table bytes after number offset one two (entry n1 o1 more1 stand1 rest1) (ended after2 n2 o2 enough2 e2) = absurd (past bytes o1 entry_rows e2 entry_size stand1)
+same_rest table bytes after number offset one two (entry n1 o1 more1 stand1 rest1) (entry n2 o2 more2 stand2 rest2) =
+    ap (λ (es : List Entry). rows_read (n1 + 1) bytes o1 entry_rows ++ es) (same_rest table bytes a.Entries (n1 + 1) (o1 + size_of entry_rows) more1 more2 rest1 rest2)
+same_rest table bytes after number offset one two (structure n1 o1 rows1 more1 known1 stated1 stand1 rest1) (ended after2 n2 o2 enough2 e2) = absurd (past bytes o1 (type_rows ++ rows1) e2 (type_size rows1) stand1)
+same_rest table bytes after number offset one two (structure n1 o1 rows1 more1 known1 stated1 stand1 rest1) (structure n2 o2 rows2 more2 known2 stated2 stand2 rest2) =
+    let both : ◌≡◌ {A = Option (List Row)} (Some rows2) (Some rows1) = sym known2 ∙ known1 in
+    let rows : rows2 ≡ rows1 = cc in
+    let rest : IsRest table bytes a.Structures (n1 + 1) (o1 + size_of (type_rows ++ rows1)) more2 = subst (λ (rs : List Row). IsRest table bytes a.Structures (n1 + 1) (o1 + size_of (type_rows ++ rs)) more2) rows rest2 in
+    ap (λ (es : List Entry). rows_read (n1 + 1) bytes o1 (type_rows ++ rows1) ++ es) (same_rest table bytes a.Structures (n1 + 1) (o1 + size_of (type_rows ++ rows1)) more1 more2 rest1 rest)
+    ∙ ap (λ (rs : List Row). rows_read (n1 + 1) bytes o1 (type_rows ++ rs) ++ more2) (sym rows)
+same_rest table bytes after number offset one two (locality n1 o1 count1 place1 more1 lt1 stand1 rest1) (ended after2 n2 o2 enough2 e2) = absurd (omega arith)
+same_rest table bytes after number offset one two (locality n1 o1 count1 place1 more1 lt1 stand1 rest1) (locality n2 o2 count2 place2 more2 lt2 stand2 rest2) =
+    ap (λ (es : List Entry). rows_read (n1 + 1) bytes o1 (locality_row count1 place1 ∷ []) ++ es) (same_rest table bytes (a.Matrix count1 (place1 + 1)) (n1 + 1) (o1 + count1) more1 more2 rest1 rest2)
+
+at_table : (bytes : List ℕ) (table : Table) (one two more1 more2 : List Entry) → IsRest table bytes (rest_of table bytes) 0 (size_of (first_rows table bytes)) more1 → IsRest table bytes (rest_of table bytes) 0 (size_of (first_rows table bytes)) more2 → one ≡ rows_read 0 bytes 0 (first_rows table bytes) ++ more1 → two ≡ rows_read 0 bytes 0 (first_rows table bytes) ++ more2 → one ≡ two
+at_table bytes table one two more1 more2 rest1 rest2 e f =
+    e ∙ ap (λ (es : List Entry). rows_read 0 bytes 0 (first_rows table bytes) ++ es) (same_rest table bytes (rest_of table bytes) 0 (size_of (first_rows table bytes)) more1 more2 rest1 rest2) ∙ sym f
+
+-- what bytes read as is one list
+pub reads_one : (bytes : List ℕ) (one two : List Entry) → ReadsAs bytes one → ReadsAs bytes two → one ≡ two
+reads_one bytes one two r s =
+    let both : ◌≡◌ {A = Option Table} (Some s.table) (Some r.table) = sym s.signature ∙ r.signature in
+    let table : s.table ≡ r.table = cc in
+    let rest = subst (λ (t : Table). IsRest t bytes (rest_of t bytes) 0 (size_of (first_rows t bytes)) s.more) table s.rest in
+    let values = subst (λ (t : Table). two ≡ rows_read 0 bytes 0 (first_rows t bytes) ++ s.more) table s.values in
+    at_table bytes r.table one two r.more s.more r.rest rest r.values values
+
+-- so it is what the text writes, and nothing else
+pub only_written : (lines : List Line) (out : Compiled) → compiled lines ≡ Ok out → length (unsealed_bytes lines) < 2 ^ 32 → (values : List Entry) → ReadsAs (joined out.pieces) values → values ≡ written_values lines
+only_written lines out e short values r = reads_one (joined out.pieces) values (written_values lines) r (reads_as_written lines out e short)
+
+pub answers_only : (lines : List Line) (text : DataText) (answer : Result Compiled Stage) → text ≡ text_of lines → Answers answer (compiled_text text) → OnOk answer (length (joined (map piece_of (fields_of_text text))) < 2 ^ 32) → IfOk answer (λ table. (values : List Entry) → ReadsAs (joined table.pieces) values → values ≡ written_values lines)
+answers_only lines text (Ok out) e exact short = λ values r.
+    only_written lines out (ap compiled_text (sym e) ∙ exact) (subst (λ (t : DataText). length (joined (map piece_of (fields_of_text t))) < 2 ^ 32) e short) values r
+answers_only lines text (Err stage) e exact short = tt
