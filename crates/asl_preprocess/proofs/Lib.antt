@@ -8,3 +8,4 @@ pub mod Fine
 pub mod Rowing
 pub mod Starts
 pub mod Mains
+mod Worked

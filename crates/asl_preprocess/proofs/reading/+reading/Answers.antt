@@ -87,7 +87,7 @@ read_file-returns-in-Err-clause-reached g t c state shows sound known number =
     let known' : c.args.file < length p.now.state.files = omega (arith, p.stands_in.stands.grows) in
     let r = c.in-Err.ensures.reached p.now.state p.stands_in.stands.shows p.stands_in.stands.sound known' in
     passed_stops (g.F.Files.contents c.args.files.now) c.args.directories.now c.args.enabled c.args.levels c.args.file c.args.own.now p (row_by c.in-Some.row) (rows_left c.next.new.self) e
-    c.in-Err.halt c.pass_row.new.work.files c.args.bytes.now refl number
+    c.in-Err.halt c.pass_row.new.work.files c.args.bytes.now (refl {a = rows_of c.args.enabled c.args.bytes.now}) number
     (stops_by c.in-Err.halt (g.F.Files.contents c.args.files.now) (g.F.Files.contents c.loop-branches.files) c.pass_row.new.work.files
     (λ told. one_of c.args.directories.now c.args.enabled c.args.levels c.args.file c.args.own.now told (row_by c.in-Some.row) (record { state = p.now.state; branches = c.loop-branches.branches }))
     c.loop-branches.invariant.contents r)
@@ -96,8 +96,8 @@ pub read_file-returns-clause-reached : goal.read_file-returns-clause-reached
 read_file-returns-clause-reached g t c state shows sound known number =
     let p = c.loop-branches.invariant.passed state shows sound known in
     let none : rows_left c.loop-branches.rows ≡ [] = search rules in
-    passed_end (g.F.Files.contents c.args.files.now) c.args.directories.now c.args.enabled c.args.levels c.args.file c.args.own.now p c.args.bytes.now none refl number known
-    c.end.result c.loop-branches.work.files refl (c.end.ensures p.now.state)
+    passed_end (g.F.Files.contents c.args.files.now) c.args.directories.now c.args.enabled c.args.levels c.args.file c.args.own.now p c.args.bytes.now none (refl {a = rows_of c.args.enabled c.args.bytes.now}) number known
+    c.end.result c.loop-branches.work.files (refl {a = c.loop-branches.work.files}) (c.end.ensures p.now.state)
 
 pub pass_row-returns-in-Ok-Some-clause-fault : goal.pass_row-returns-in-Ok-Some-clause-fault
 pass_row-returns-in-Ok-Some-clause-fault g t c state shows sound known =
