@@ -1,0 +1,10 @@
+mod Steps
+mod Utf8
+mod Extensions
+mod Values
+mod Settings
+mod WordForms
+mod CommandLines
+mod Offending
+mod OneOffending
+mod Worked

@@ -1,0 +1,112 @@
+-- Which words are a command line and what it asks for, and which word spoils words that are none.
+use Rattle.std.specs.Prelude.{◌≡◌, ℕ, ◌+◌, ◌<◌, ◌≤◌, ◌==◌, ◌&&◌, ◌⊎◌, Bool, true, false, not, List, [], ◌∷◌, ◌++◌, length, take, codes, flat_map, Some, None}
+use Rattle.std.specs.declared.option.Option.{Option}
+use Rattle.std.specs.List.{list_any}
+use Rattle.asl_preprocess.specs.declared.define.Define.{Define}
+use Rattle.iasl_options.specs.declared.words.Key.{Key}
+use Rattle.iasl_options.specs.declared.words.Key.TheVariants as key
+use Rattle.iasl_options.specs.Words.{Setting, PreprocessOnly, NoPreprocessor, Prefix, Directory, Definition, File, begins_with_hyphen}
+use Rattle.iasl_options.specs.Asking.{Asked, define_of}
+
+-- ---- words and settings
+
+abbrev pub has_equals : List ℕ → Bool
+has_equals name = list_any (λ c. c == 61) name
+
+-- the value of a definition: a name alone, whose text is empty, or a name, `=` (61) and a text; no name has a `=`
+abbrev pub IsNameAndText : List ℕ → List ℕ → List ℕ → Type 0
+IsNameAndText value name text = (has_equals name ≡ false) × (((value ≡ name) × (text ≡ [])) ⊎ (value ≡ name ++ 61 ∷ text))
+
+-- an option with this value asks for this setting
+abbrev pub IsValue : Key → List ℕ → Setting → Type 0
+IsValue key.Prefix value setting = setting ≡ Prefix value
+IsValue key.Directory value setting = setting ≡ Directory value
+IsValue key.Definition value setting = (name : List ℕ) × (text : List ℕ) × IsNameAndText value name text × (setting ≡ Definition name text)
+
+-- what an option that has a value begins with
+abbrev pub mark : Key → List ℕ
+mark key.Prefix = codes "-p"
+mark key.Directory = codes "-I"
+mark key.Definition = codes "-D"
+
+-- These words ask for these settings, one after another.
+pub data AskFor : List (List ℕ) → List Setting → Type 0 where
+  -- no word is left
+  no_word : AskFor [] []
+  -- an option without value
+  preprocess_only : (word : List ℕ) (words : List (List ℕ)) (settings : List Setting) → word ≡ codes "-P" → AskFor words settings → AskFor (word ∷ words) (PreprocessOnly ∷ settings)
+  no_preprocessor : (word : List ℕ) (words : List (List ℕ)) (settings : List Setting) → word ≡ codes "-Pn" → AskFor words settings → AskFor (word ∷ words) (NoPreprocessor ∷ settings)
+  -- an option whose value is the rest of its word, where something is left
+  rest_of_word : (key : Key) (c : ℕ) (cs word : List ℕ) (setting : Setting) (words : List (List ℕ)) (settings : List Setting) → word ≡ mark key ++ c ∷ cs → IsValue key (c ∷ cs) setting → AskFor words settings → AskFor (word ∷ words) (setting ∷ settings)
+  -- an option whose value is the next word
+  next_word : (key : Key) (word value : List ℕ) (setting : Setting) (words : List (List ℕ)) (settings : List Setting) → word ≡ mark key → IsValue key value setting → AskFor words settings → AskFor (word ∷ value ∷ words) (setting ∷ settings)
+  -- a file, which does not begin with a hyphen
+  source_file : (word : List ℕ) (words : List (List ℕ)) (settings : List Setting) → begins_with_hyphen word ≡ false → AskFor words settings → AskFor (word ∷ words) (File word ∷ settings)
+
+-- ---- what settings are together
+
+abbrev pub file_of : Setting → List (List ℕ)
+file_of (File file) = file ∷ []
+file_of _ = []
+
+abbrev pub prefix_of : Setting → List (List ℕ)
+prefix_of (Prefix prefix) = prefix ∷ []
+prefix_of _ = []
+
+abbrev pub directory_of : Setting → List (List ℕ)
+directory_of (Directory directory) = directory ∷ []
+directory_of _ = []
+
+abbrev pub definition_of : Setting → List Define
+definition_of (Definition name text) = define_of name text ∷ []
+definition_of _ = []
+
+abbrev pub is_preprocess_only : Setting → Bool
+is_preprocess_only PreprocessOnly = true
+is_preprocess_only _ = false
+
+abbrev pub is_no_preprocessor : Setting → Bool
+is_no_preprocessor NoPreprocessor = true
+is_no_preprocessor _ = false
+
+-- Exactly one file, whose name is not empty; at most one prefix; not both to preprocess only and no preprocessor.
+pub record IsGood (settings : List Setting) : Type 0 where
+  pub file : (c : ℕ) × (cs : List ℕ) × (flat_map file_of settings ≡ (c ∷ cs) ∷ [])
+  pub prefix : length (flat_map prefix_of settings) ≤ 1
+  pub preprocessor : (list_any is_preprocess_only settings && list_any is_no_preprocessor settings) ≡ false
+
+abbrev pub first : List (List ℕ) → Option (List ℕ)
+first [] = None
+first (text ∷ texts) = Some text
+
+-- all that settings ask for; directories and definitions are in the order of the words
+abbrev pub gathered : List Setting → Asked
+gathered settings = record {
+  file = first (flat_map file_of settings);
+  prefix = first (flat_map prefix_of settings);
+  directories = flat_map directory_of settings;
+  definitions = flat_map definition_of settings;
+  only = list_any is_preprocess_only settings;
+  enabled = not (list_any is_no_preprocessor settings);
+}
+
+-- ---- command lines
+
+-- These words are a command line, and ask for this.
+abbrev pub IsCommandLine : List (List ℕ) → Asked → Type 0
+IsCommandLine words asked = (settings : List Setting) × AskFor words settings × IsGood settings × (asked ≡ gathered settings)
+
+-- some further words, which may be none, make them a command line
+abbrev pub HasHope : List (List ℕ) → Type 0
+HasHope words = (more : List (List ℕ)) × (asked : Asked) × IsCommandLine (words ++ more) asked
+
+-- no further words make them a command line
+abbrev pub IsHopeless : List (List ℕ) → Type 0
+IsHopeless words = (more : List (List ℕ)) (asked : Asked) → IsCommandLine (words ++ more) asked → ⊥
+
+-- The word with this number, from 0, spoils the words.
+pub data IsOffending (words : List (List ℕ)) (number : ℕ) : Type 0 where
+  -- it is the first after which there is no hope
+  hopeless : number < length words → HasHope (take number words) → IsHopeless (take (number + 1) words) → IsOffending words number
+  -- there is hope after the last word, but the words are no command line: the number is how many there are
+  ended : number ≡ length words → HasHope words → ((asked : Asked) → IsCommandLine words asked → ⊥) → IsOffending words number

@@ -1,0 +1,10 @@
+//! The words of a command line: what they ask for, or the word that spoils them.
+#![tactic(auto)]
+
+pub mod command_line;
+mod draft;
+pub mod names;
+pub mod request;
+#[cfg(test)]
+mod tests;
+mod words;

@@ -1,0 +1,88 @@
+//! The names of outputs.
+ghost use Rattle.std.specs.Prelude.{◌≡◌, take, IfOk, string_bytes};
+ghost use Rattle.std.specs.Option.{option_map};
+ghost use Rattle.std.specs.Str.{IsUtf8};
+ghost use Rattle.iasl_options.specs.Names as spec;
+ghost use Rattle.iasl_options.specs.Found.{found_with};
+ghost use Rattle.iasl_options.specs.Shown.{AreTexts};
+
+use crate::request::Options;
+use crate::words::before;
+use std::alloc::{AllocError, Global};
+
+// Where the last dot behind the last slash is.
+#[tactic(auto, using(crate::proofs::Extensions::at_start, crate::proofs::Extensions::step, crate::proofs::Extensions::at_end))]
+fn extension_at(file: &[u8]) -> Option<usize>
+    ensures { option_map (λ at. take at file.now) result ≡ spec.before_extension file.now }
+{
+    let mut found = None;
+    for (at, byte) in file.iter().enumerate() {
+        found = found_behind(found, at, *byte);
+    }
+    found
+}
+
+// Where the last dot behind the last slash is, with one more byte, at this place.
+fn found_behind(found: Option<usize>, at: usize, byte: u8) -> Option<usize>
+    ensures { result ≡ found_with found at byte }
+{
+    match byte {
+        b'.' => Some(at),
+        b'/' => None,
+        _ => found,
+    }
+}
+
+// The file's name without its extension.
+fn stem_of(file: &[u8]) -> &[u8]
+    ensures { result.now ≡ spec.stem_of file.now }
+{
+    match extension_at(file) {
+        Some(at) => before(file, at),
+        None => file,
+    }
+}
+
+// Bytes that are UTF-8, as a text.
+fn text_of(bytes: &[u8]) -> &str
+    requires { IsUtf8 bytes.now }
+    ensures { result.now ≡ bytes.now }
+{
+    match std::str::from_utf8(bytes) {
+        Ok(text) => text,
+        Err(_) => unreachable!(),
+    }
+}
+
+/// The name of the source's file.
+pub fn file_name(options: &Options) -> &str
+    requires { AreTexts options.now }
+    ensures { result.now ≡ options.now.file }
+{
+    text_of(options.file.as_bytes())
+}
+
+// What the names of outputs begin with.
+fn output_stem(options: &Options) -> &[u8]
+    ensures { result.now ≡ spec.output_stem options.now.prefix options.now.file }
+{
+    match &options.prefix {
+        Some(prefix) => prefix.as_bytes(),
+        None => stem_of(options.file.as_bytes()),
+    }
+}
+
+/// The name of an output with this extension, which begins with its dot: the prefix that was asked for and the extension, or
+/// the file's name with it in place of its own.
+#[tactic(auto, using(crate::proofs::Extensions::named))]
+pub fn output_name(alloc: Global, options: &Options, extension: &str) -> Result<String, AllocError>
+    requires { AreTexts options.now }
+    // What stands before the extension.
+    ensures named { IfOk result (λ name. spec.IsOutputName options.now.prefix options.now.file extension.now (string_bytes name)) }
+    // The same as a function.
+    ensures exact { IfOk result (λ name. string_bytes name ≡ spec.output_name options.now.prefix options.now.file extension.now) }
+{
+    let mut name = String::from_str(alloc, text_of(output_stem(options)))?;
+    name.push_str(extension)?;
+    Ok(name)
+}

@@ -1,0 +1,43 @@
+//! What the words of a call ask for, or why they give nothing.
+ghost use Rattle.std.specs.Prelude.{◌≡◌};
+
+use asl_preprocess::Defines;
+use iasl_ports::list::{Text, Texts};
+use std::alloc::AllocError;
+
+/// What the words of a call ask for (docs/OPTIONS.md).
+#[derive(Drop)]
+pub struct Options {
+    /// The source's file.
+    pub file: Text,
+    /// The front of the output names, where it is given (`-p`).
+    pub prefix: Option<Text>,
+    /// Further directories for includes, in order (`-I`).
+    pub dirs: Texts,
+    /// Definitions, in order; of several of one name the last counts (`-D`).
+    pub defines: Defines,
+    /// Whether the source is only preprocessed (`-P`).
+    pub only: bool,
+    /// Whether the preprocessor is on (it is off with `-Pn`).
+    pub enabled: bool,
+}
+
+/// Why words give no options.
+#[derive(Clone, Copy, Debug, PartialEq, Eq, Drop)]
+pub enum WordsStop {
+    /// The words are not good: the number, from 0, of the first word after which no words make them good; or how many there
+    /// are, where more words would.
+    Bad { word: usize },
+    /// There was no memory.
+    Memory,
+}
+
+impl From<AllocError> for WordsStop {
+    ghost use Rattle.iasl_options.specs.declared.request.WordsStop.TheVariants.{Memory};
+
+    ghost from_gives = { λ _ e. e ≡ Memory };
+
+    fn from(_: AllocError) -> Self {
+        WordsStop::Memory
+    }
+}
