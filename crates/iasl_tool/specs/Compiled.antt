@@ -12,7 +12,6 @@ use Rattle.aml_writer.specs.Written.{most_table_bytes}
 use Rattle.iasl_tool.specs.declared.source.Source.{Source}
 use Rattle.iasl_tool.specs.declared.compile.Compiled.{Compiled}
 use Rattle.iasl_tool.specs.declared.compile.Compiled.TheVariants.{Table, Refused}
-use Rattle.iasl_tool.specs.Lines.{source_lines}
 use Rattle.iasl_tool.specs.Blocks.{source_fields, items_trees}
 use Rattle.iasl_tool.specs.Sources.{source_of}
 use Rattle.iasl_tool.specs.Syntax.{not_source, too_deep}
@@ -54,10 +53,6 @@ of_tokens lines (Ok tokens) = of_outcome lines tokens (outcome tokens)
 -- what lines come to
 abbrev pub of_lines : List Line → Compiled
 of_lines lines = of_tokens lines (tokens_of lines)
-
--- what the bytes of a main file come to
-abbrev pub compiled : List ℕ → Compiled
-compiled bytes = of_lines (source_lines bytes)
 
 -- each message stands in one of so many files
 abbrev pub AreWithin : ℕ → List Message → Type 0

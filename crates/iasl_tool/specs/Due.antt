@@ -1,49 +1,90 @@
 -- What a call is to end with: its status, the text of the console, and the files to put.
-use Rattle.std.specs.Prelude.{ℕ, false, cond, nat_lt, List, [], ◌∷◌, ◌++◌, length, codes, Some, None}
+use Rattle.std.specs.Prelude.{ℕ, Bool, true, false, cond, List, [], ◌∷◌, ◌++◌, length, codes, Some, None, Result, Ok, Err}
 use Rattle.std.specs.declared.option.Option.{Option}
-use Rattle.std.specs.Option.{option_map}
+use Rattle.std.specs.List.{list_any}
 use Rattle.iasl_ports.specs.Gained.{Named}
-use Rattle.iasl_ports.specs.Fetched.{find_file, most_bytes}
+use Rattle.iasl_ports.specs.Fetched.{same_name}
 use Rattle.iasl_ports.specs.Delivery.{Answer}
+use Rattle.iasl_messages.specs.declared.place.Line.{Line}
 use Rattle.iasl_messages.specs.declared.message.Message.{Message}
-use Rattle.iasl_messages.specs.Console.{messages_text, summary_line, table_line}
+use Rattle.iasl_messages.specs.Order.{sorted_messages}
+use Rattle.iasl_messages.specs.Console.{messages_text, summary_line, table_line, preprocessed_line}
+use Rattle.asl_preprocess.specs.Preprocess.{Preprocessed, Given, Stopped, Absent, preprocessed}
+use Rattle.iasl_options.specs.Asking.{Asked, asked_by}
+use Rattle.iasl_options.specs.Names.{output_name}
 use Rattle.iasl_tool.specs.declared.compile.Compiled.{Compiled}
 use Rattle.iasl_tool.specs.declared.compile.Compiled.TheVariants.{Table, Refused}
-use Rattle.iasl_tool.specs.Compiled.{compiled, unknown}
-use Rattle.iasl_tool.specs.Words.{Request, request_of, table_name}
+use Rattle.iasl_tool.specs.Compiled.{of_lines}
 
--- of a source with a table: the table's file, and its line
-abbrev pub success : List ℕ → List ℕ → List ℕ → Answer
-success stem signature bytes = record {
-  status = 0;
-  text = table_line (table_name stem) signature (length bytes) ++ summary_line [];
-  due = (table_name stem, bytes) ∷ [];
-}
+-- the messages in order, a line of what was made, and how many messages there are
+abbrev pub console_text : List (List ℕ) → List Message → List ℕ → List ℕ
+console_text files messages made = messages_text files false (sorted_messages messages) ++ made ++ summary_line (sorted_messages messages)
 
--- of a source with these errors: the messages, and no file
-abbrev pub refusal : List ℕ → List Message → Answer
-refusal file messages = record { status = 1; text = messages_text (file ∷ []) false messages ++ summary_line messages; due = [] }
+-- of a source with these errors and notes: no file
+abbrev pub refusal : List (List ℕ) → List Message → Answer
+refusal files messages = record { status = 1; text = console_text files messages []; due = [] }
 
-abbrev pub answer_to_compiled : Request → Compiled → Answer
-answer_to_compiled request (Table signature bytes) = success request.stem signature bytes
-answer_to_compiled request (Refused messages) = refusal request.file messages
+-- of a file that is made: the file, and the line that tells of it
+abbrev pub made_file : List (List ℕ) → List Message → List ℕ → List ℕ → List ℕ → Answer
+made_file files notes line name bytes = record { status = 0; text = console_text files notes line; due = (name, bytes) ∷ [] }
 
--- a text of more than 16 MiB is not read: its form is unknown
-abbrev pub answer_to_text : Request → List ℕ → Answer
-answer_to_text request text = cond (nat_lt most_bytes (length text)) (refusal request.file (unknown ∷ [])) (answer_to_compiled request (compiled text))
+-- of an output that has the name of a file that was fetched
+abbrev pub in_use : List ℕ → Answer
+in_use name = record { status = 2; text = codes "iasl: output name is in use: " ++ name ++ codes "\n"; due = [] }
+
+abbrev pub is_fetched : List (List ℕ) → List ℕ → Bool
+is_fetched files name = list_any (λ file. same_name file name) files
+
+-- a file that is made, if its name is not in use
+abbrev pub made_or_in_use : List (List ℕ) → List Message → List ℕ → List ℕ → List ℕ → Answer
+made_or_in_use files notes line name bytes = cond (is_fetched files name) (in_use name) (made_file files notes line name bytes)
+
+-- the name of the table's file
+abbrev pub table_name : Asked → List ℕ → List ℕ
+table_name asked file = output_name asked.prefix file (codes ".aml")
+
+-- the name of the preprocessed text's file
+abbrev pub text_name : Asked → List ℕ → List ℕ
+text_name asked file = output_name asked.prefix file (codes ".i")
+
+-- the lines, each with an LF behind it
+abbrev pub text_of_lines : List Line → List ℕ
+text_of_lines [] = []
+text_of_lines (line ∷ lines) = line.text ++ 10 ∷ text_of_lines lines
+
+-- of preprocessed lines that are all that is asked for
+abbrev pub answer_to_text : Asked → List ℕ → List (List ℕ) → List Line → List Message → Answer
+answer_to_text asked file files lines notes = made_or_in_use files notes (preprocessed_line (text_name asked file)) (text_name asked file) (text_of_lines lines)
+
+abbrev pub answer_to_compiled : Asked → List ℕ → List (List ℕ) → List Message → Compiled → Answer
+answer_to_compiled asked file files notes (Table signature bytes) = made_or_in_use files notes (table_line (table_name asked file) signature (length bytes)) (table_name asked file) bytes
+answer_to_compiled asked file files notes (Refused messages) = refusal files (notes ++ messages)
+
+-- of lines, with the files that they are of and the notes of the preprocessor
+abbrev pub answer_to_lines : Asked → List ℕ → List (List ℕ) → List Line → List Message → Answer
+answer_to_lines asked file files lines notes = cond asked.only (answer_to_text asked file files lines notes) (answer_to_compiled asked file files notes (of_lines lines))
+
+-- none where the main file is not there
+abbrev pub answer_to_preprocessed : Asked → List ℕ → Preprocessed → Option Answer
+answer_to_preprocessed asked file (Given files lines notes) = Some (answer_to_lines asked file files lines notes)
+answer_to_preprocessed asked file (Stopped message files) = Some (refusal files (message ∷ []))
+answer_to_preprocessed asked file Absent = None
 
 -- of words that are not good
 abbrev pub usage : Answer
 usage = record { status = 2; text = codes "usage: iasl [options] FILE\n"; due = [] }
 
--- none where the file is not there
-abbrev pub answer_to_request : Option Request → List Named → Option Answer
-answer_to_request None told = Some usage
-answer_to_request (Some request) told = option_map (answer_to_text request) (find_file told request.file)
+abbrev pub answer_to_file : Asked → List Named → Option (List ℕ) → Option Answer
+answer_to_file asked told None = Some usage
+answer_to_file asked told (Some file) = answer_to_preprocessed asked file (preprocessed told file asked.directories asked.definitions asked.enabled)
+
+abbrev pub answer_to_asked : List Named → Result Asked ℕ → Option Answer
+answer_to_asked told (Ok asked) = answer_to_file asked told asked.file
+answer_to_asked told (Err word) = Some usage
 
 -- what a call with these words is to end with, where these are the files
 abbrev pub answer_for : List (List ℕ) → List Named → Option Answer
-answer_for words told = answer_to_request (request_of words) told
+answer_for words told = answer_to_asked told (asked_by words)
 
 -- the text of status 3
 abbrev pub fault_text : List ℕ

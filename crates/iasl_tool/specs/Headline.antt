@@ -1,8 +1,10 @@
 -- What a call does with a source that is read.
-use Rattle.std.specs.Prelude.{◌≡◌, ℕ, ◌≤◌, List, [], ◌∷◌, length, Option, Some, Ok}
+use Rattle.std.specs.Prelude.{◌≡◌, ℕ, ◌≤◌, Bool, true, false, List, [], ◌∷◌, length, Option, Some, Result, Ok, Err}
 use Rattle.iasl_ports.specs.Gained.{Named, Gains}
-use Rattle.iasl_ports.specs.Fetched.{find_file, most_bytes}
 use Rattle.iasl_ports.specs.Delivery.{due_of, status_of}
+use Rattle.iasl_messages.specs.declared.place.Line.{Line}
+use Rattle.iasl_messages.specs.declared.message.Message.{Message}
+use Rattle.asl_preprocess.specs.Preprocess.{Given, preprocessed}
 use Rattle.asl_lexer.specs.declared.token.Token.{Token}
 use Rattle.asl_lexer.specs.Marks.{tokens_of}
 use Rattle.asl_parser.specs.declared.raw.Raw.{Raw}
@@ -10,31 +12,44 @@ use Rattle.asl_parser.specs.Parse.{outcome, read}
 use Rattle.aml_code.specs.ByteSession.{IsFaithful}
 use Rattle.aml_code.specs.Header.{IsHeader}
 use Rattle.aml_writer.specs.Written.{most_table_bytes}
+use Rattle.iasl_options.specs.Asking.{Asked, asked_by}
 use Rattle.iasl_tool.specs.declared.source.Source.{Source}
-use Rattle.iasl_tool.specs.Lines.{source_lines}
 use Rattle.iasl_tool.specs.Sources.{source_of}
 use Rattle.iasl_tool.specs.Blocks.{source_fields, items_trees}
 use Rattle.iasl_tool.specs.Compiled.{source_table}
-use Rattle.iasl_tool.specs.Words.{Request, request_of, table_name}
-use Rattle.iasl_tool.specs.Due.{answer_for}
+use Rattle.iasl_tool.specs.Due.{table_name, is_fetched, answer_for}
 
--- the words name this file, whose text is this source, and whose table is not too long
+-- what good words ask for, and the file that they name
+pub record Request : Type 0 where
+  pub asked : Asked
+  pub file : List ℕ
+
+-- the name of the table's file
+abbrev pub table_of : Request → List ℕ
+table_of request = table_name request.asked request.file
+
+-- The words ask for a compilation of this file; its lines, with those of its includes, are this source, whose table is not
+-- too long; and the name of the table's file is not that of a file that was fetched.
 pub record NamesSource (words : List (List ℕ)) (told : List Named) (request : Request) (source : Source) : Type 0 where
-  pub text : List ℕ
+  pub files : List (List ℕ)
+  pub lines : List Line
+  pub notes : List Message
   pub tokens : List Token
-  pub words_are : request_of words ≡ Some request
-  pub text_is : find_file told request.file ≡ Some text
-  pub text_within : length text ≤ most_bytes
-  pub tokens_are : tokens_of (source_lines text) ≡ Ok tokens
   pub items : List Raw
+  pub words_are : asked_by words ≡ Ok request.asked
+  pub file_is : request.asked.file ≡ Some request.file
+  pub compiles : request.asked.only ≡ false
+  pub lines_are : preprocessed told request.file request.asked.directories request.asked.definitions request.asked.enabled ≡ Given files lines notes
+  pub tokens_are : tokens_of lines ≡ Ok tokens
   pub tokens_spell : outcome tokens ≡ read items
   pub source_is : source_of items ≡ Some source
   pub table_within : length (source_table source) ≤ most_table_bytes
+  pub name_is_free : is_fetched files (table_of request) ≡ false
 
 -- the call puts the source's table, and nothing else; the table has the source's header and does what the source says
 pub record PutsFaithfulTable (words : List (List ℕ)) (told : List Named) (request : Request) (source : Source) : Type 0 where
   pub status : status_of (answer_for words told) ≡ 0
-  pub due : due_of (answer_for words told) ≡ (table_name request.stem, source_table source) ∷ []
+  pub due : due_of (answer_for words told) ≡ (table_of request, source_table source) ∷ []
   pub header : IsHeader (source_table source) (source_fields source)
   pub faithful : IsFaithful (items_trees source.items) (source_table source)
 
@@ -44,6 +59,14 @@ pub record WritesItsTable (words : List (List ℕ)) (told : List Named) (old new
   pub request : Request
   pub source : Source
   pub names : NamesSource words told request source
-  pub table : Gains old new ((table_name request.stem, source_table source) ∷ [])
+  pub table : Gains old new ((table_of request, source_table source) ∷ [])
   pub header : IsHeader (source_table source) (source_fields source)
   pub faithful : IsFaithful (items_trees source.items) (source_table source)
+
+-- whether words ask for preprocessed text alone
+abbrev pub only_by : Result Asked ℕ → Bool
+only_by (Ok asked) = asked.only
+only_by (Err word) = false
+
+abbrev pub asks_for_text : List (List ℕ) → Bool
+asks_for_text words = only_by (asked_by words)

@@ -4,10 +4,8 @@ pub mod Forms
 pub mod Items
 pub mod Sources
 pub mod Blocks
-pub mod Lines
 pub mod Syntax
 pub mod Compiled
 pub mod Readiness
-pub mod Words
 pub mod Due
 pub mod Headline

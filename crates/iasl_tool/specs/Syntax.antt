@@ -6,6 +6,7 @@ use Rattle.iasl_messages.specs.declared.place.Place.{Place}
 use Rattle.iasl_messages.specs.declared.place.Line.{Line}
 use Rattle.iasl_messages.specs.declared.message.Message.{Message}
 use Rattle.acpi_state.specs.Outcomes.{choose}
+use Rattle.aml_writer.specs.Pieces.{line_text}
 use Rattle.asl_lexer.specs.declared.token.Token.{Token}
 use Rattle.asl_lexer.specs.declared.token.TokenKind.{TokenKind}
 use Rattle.asl_lexer.specs.declared.token.TokenKind.TheVariants as kind
@@ -26,9 +27,9 @@ width kind.Number text bytes = number_width bytes
 width kind.Text text bytes = quoted true bytes
 width _ text bytes = length text
 
--- the bytes of the main file from a place on, up to the end of its line
+-- the bytes from a place on, up to the end of its line
 abbrev pub bytes_at : List Line → Place → List ℕ
-bytes_at lines place = choose (slice_get lines (place.line - 1)) [] (λ line. drop (place.column - 1) line.text)
+bytes_at lines place = drop (place.column - 1) (line_text lines place)
 
 -- the place behind a token
 abbrev pub place_behind : List Line → Token → Place

@@ -1,7 +1,5 @@
 //! A source to its table, or its errors.
 ghost use Rattle.std.specs.Prelude.{◌≡◌, ◌≤◌, ◌<◌, ◌^◌, ◌++◌, ◌∷◌, [], length, take, All, Some, IfOk, IfErr};
-ghost use Rattle.iasl_ports.specs.Fetched.{most_bytes};
-ghost use Rattle.iasl_messages.specs.Cut.{lines_of};
 ghost use Rattle.asl_tree.specs.View.{trees_of};
 ghost use Rattle.aml_writer.specs.Pieces.{joined_pieces};
 ghost use Rattle.iasl_tool.specs.Blocks.{IsBlockOf};
@@ -11,10 +9,9 @@ ghost use Rattle.asl_parser.specs.Parse.{outcome};
 ghost use Rattle.iasl_tool.specs.Syntax.{at_token};
 ghost use Rattle.iasl_messages.specs.declared.message.Stage.TheVariants as stages;
 ghost use Rattle.iasl_tool.specs.declared.compile.Compiled.TheVariants.{Refused};
-ghost use Rattle.iasl_tool.specs.Compiled.{compiled, of_lines, of_source, of_form, of_outcome, of_tokens, unknown as unknown_form, RefusesWithin};
+ghost use Rattle.iasl_tool.specs.Compiled.{of_lines, of_source, of_form, of_outcome, of_tokens, unknown as unknown_form, RefusesWithin};
 
 use crate::block::{block_of, core_of};
-use crate::lines::source_lines;
 use crate::source::{Source, source_of};
 use crate::syntax::token_place;
 use aml_writer::stop::WriteStop;
@@ -48,7 +45,7 @@ pub(crate) enum Compiled {
     Refused(Messages),
 }
 
-fn one_message(alloc: Global, message: Message) -> Result<Messages, AllocError>
+pub(crate) fn one_message(alloc: Global, message: Message) -> Result<Messages, AllocError>
     ensures { IfOk result (λ messages. messages ≡ message ∷ []) }
 {
     let mut messages = Messages::new(alloc);
@@ -57,7 +54,7 @@ fn one_message(alloc: Global, message: Message) -> Result<Messages, AllocError>
 }
 
 // The refusal of a source that is not of the form that is read so far.
-pub(crate) fn unknown(alloc: Global) -> Result<Messages, AllocError>
+fn unknown(alloc: Global) -> Result<Messages, AllocError>
     ensures { IfOk result (λ messages. messages ≡ unknown_form ∷ []) }
 {
     one_message(
@@ -166,7 +163,7 @@ fn refusal(stage: Stage) -> Result<Messages, AllocError>
 
 /// What lines come to. Each refusal stands in one of their files.
 #[tactic(auto, using(crate::proofs::Outcomes::fault_is))]
-fn compile_lines(alloc: Global, lines: &Lines) -> Result<Compiled, AllocError>
+pub(crate) fn compile(alloc: Global, lines: &Lines) -> Result<Compiled, AllocError>
     requires short { All (λ line. length line.text < 2 ^ 32) lines.now.list }
     requires main { 0 < length lines.now.files }
     requires files { All (λ line. line.file < length lines.now.files) lines.now.list }
@@ -179,14 +176,4 @@ fn compile_lines(alloc: Global, lines: &Lines) -> Result<Compiled, AllocError>
         Ok(tokens) => compile_tokens(alloc, lines, &tokens),
         Err(stage) => Ok(Compiled::Refused(refusal(stage)?)),
     }
-}
-
-/// What a main file comes to. Each refusal stands in it.
-#[tactic(auto, using(crate::proofs::LineLengths::source_lines_short, crate::proofs::LineLengths::source_lines_home))]
-pub(crate) fn compile(alloc: Global, file: &str, bytes: &[u8]) -> Result<Compiled, AllocError>
-    requires { length bytes.now ≤ most_bytes }
-    ensures value { IfOk result (λ it. it ≡ compiled bytes.now) }
-    ensures within { IfOk result (RefusesWithin 1) }
-{
-    compile_lines(alloc, &source_lines(alloc, file, bytes)?)
 }

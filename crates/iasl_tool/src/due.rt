@@ -1,20 +1,27 @@
-// What a call is to end with.
+//! What a call is to end with.
 ghost use Rattle.std.specs.Prelude.{◌≡◌, ◌≤◌, ◌++◌, [], ◌∷◌, ℕ, List, length, map, All, IfOk, OnOk, IsErrOf, ◌⊎◌, Some, None, string_bytes};
 ghost use Rattle.std.specs.Option.{ForSome};
 ghost use Rattle.iasl_ports.specs.Counts.{Rose};
-ghost use Rattle.iasl_ports.specs.Fetched.{most_bytes};
 ghost use Rattle.iasl_ports.specs.Delivery.{name_and_bytes, answer_of, IsSettled};
-ghost use Rattle.iasl_tool.specs.Compiled.{compiled as outcome, unknown as unknown_form, AreWithin};
-ghost use Rattle.iasl_tool.specs.Words.{request_by};
-ghost use Rattle.iasl_tool.specs.Due.{success, refusal, usage, answer_to_compiled, answer_for};
+ghost use Rattle.asl_preprocess.specs.Preprocess.{preprocessed as preprocessed_of};
+ghost use Rattle.asl_preprocess.specs.Sound.{IsGoodLine, IsGoodNote};
+ghost use Rattle.iasl_options.specs.Shown.{AreTexts, asked_of};
+ghost use Rattle.iasl_tool.specs.Compiled.{AreWithin, of_lines};
+ghost use Rattle.iasl_tool.specs.Due.{console_text, refusal, made_file, in_use, is_fetched, made_or_in_use, text_of_lines, answer_to_text, answer_to_compiled, answer_to_lines, answer_to_file, table_name, usage, answer_for};
+ghost use Rattle.iasl_messages.specs.Console.{table_line};
 
-use crate::compile::{Compiled, compile, unknown};
-use crate::words::{Wish, table_name, wish_of};
-use iasl_messages::console::{render, summary, table_line};
+use crate::compile::{Compiled, compile, one_message};
+use asl_preprocess::{PreStop, Preprocessed, preprocess};
+use iasl_messages::console::{preprocessed_line, render, summary, table_line};
 use iasl_messages::message::Messages;
+use iasl_messages::order::sort;
+use iasl_messages::place::{Line, Lines};
+use iasl_options::command_line::options;
+use iasl_options::names::{file_name, output_name};
+use iasl_options::request::{Options, WordsStop};
 use iasl_ports::delivery::{Due, OutFile, Stop};
-use iasl_ports::files::{FetchFault, Files};
-use iasl_ports::list::{Text, Texts};
+use iasl_ports::files::Files;
+use iasl_ports::list::{List, Text, Texts};
 use std::alloc::{AllocError, Global};
 
 // Adds a line to the text.
@@ -22,6 +29,37 @@ fn push_text(text: &mut Vec<u8>, line: &Text) -> Result<(), AllocError>
     ensures { OnOk result (text.new.items ≡ text.old.items ++ line.now) }
 {
     text.extend_from_slice(line.as_bytes())
+}
+
+// The messages in order, a line of what was made, and how many messages there are.
+fn console_text(
+    alloc: Global,
+    files: &Texts,
+    messages: Messages,
+    made: &Text,
+) -> Result<Text, AllocError>
+    requires { AreWithin (length files.now) messages }
+    ensures { IfOk result (λ text. text ≡ console_text files.now messages made.now) }
+{
+    let messages = sort(alloc, messages)?;
+    let mut text = Vec::new(alloc);
+    push_text(&mut text, &render(alloc, &messages, files, false)?)?;
+    push_text(&mut text, made)?;
+    push_text(&mut text, &summary(alloc, &messages)?)?;
+    Ok(Text::from_vec(text))
+}
+
+// What is due of a source with these errors and notes.
+fn refuse(alloc: Global, files: &Texts, messages: Messages) -> Result<Due, AllocError>
+    requires { AreWithin (length files.now) messages }
+    ensures due { IfOk result (λ due. answer_of due ≡ refusal files.now messages) }
+    ensures settled { IfOk result IsSettled }
+{
+    Ok(Due {
+        status: 1,
+        text: console_text(alloc, files, messages, &Text::new(alloc))?,
+        files: Vec::new(alloc),
+    })
 }
 
 fn one_file(alloc: Global, name: String, bytes: Vec<u8>) -> Result<Vec<OutFile>, AllocError>
@@ -32,12 +70,115 @@ fn one_file(alloc: Global, name: String, bytes: Vec<u8>) -> Result<Vec<OutFile>,
     Ok(files)
 }
 
-// What is due of a source with this table.
-fn succeed(alloc: Global, stem: &str, signature: &Text, bytes: &Text) -> Result<Due, AllocError>
-    ensures due { IfOk result (λ due. answer_of due ≡ success stem.now signature.now bytes.now) }
+// What is due of a file that is made.
+fn make_file(
+    alloc: Global,
+    files: &Texts,
+    notes: Messages,
+    line: &Text,
+    name: String,
+    bytes: Vec<u8>,
+) -> Result<Due, AllocError>
+    requires { AreWithin (length files.now) notes }
+    ensures due { IfOk result (λ due. answer_of due ≡ made_file files.now notes line.now (string_bytes name) bytes.items) }
     ensures settled { IfOk result IsSettled }
 {
-    let name = table_name(alloc, stem)?;
+    Ok(Due {
+        status: 0,
+        text: console_text(alloc, files, notes, line)?,
+        files: one_file(alloc, name, bytes)?,
+    })
+}
+
+// What is due where a fetched file has the name of an output.
+fn refuse_name(alloc: Global, name: &str) -> Result<Due, AllocError>
+    ensures due { IfOk result (λ due. answer_of due ≡ in_use name.now) }
+    ensures settled { IfOk result IsSettled }
+{
+    let mut text = Vec::new(alloc);
+    text.extend_from_slice(b"iasl: output name is in use: ")?;
+    text.extend_from_slice(name.as_bytes())?;
+    text.extend_from_slice(b"\n")?;
+    Ok(Due {
+        status: 2,
+        text: Text::from_vec(text),
+        files: Vec::new(alloc),
+    })
+}
+
+// Whether a file of this name was fetched.
+fn is_fetched(files: &[Text], name: &[u8]) -> bool
+    ensures { result ≡ is_fetched files.now name.now }
+{
+    files.iter().any(|file| file.as_bytes() == name)
+}
+
+// What is due of a file that is made, if its name is not in use.
+fn make_or_refuse(
+    alloc: Global,
+    files: &Texts,
+    notes: Messages,
+    line: &Text,
+    name: String,
+    bytes: Vec<u8>,
+) -> Result<Due, AllocError>
+    requires { AreWithin (length files.now) notes }
+    ensures due { IfOk result (λ due. answer_of due ≡ made_or_in_use files.now notes line.now (string_bytes name) bytes.items) }
+    ensures settled { IfOk result IsSettled }
+{
+    if is_fetched(files.as_slice(), name.as_bytes()) {
+        refuse_name(alloc, &name)
+    } else {
+        make_file(alloc, files, notes, line, name, bytes)
+    }
+}
+
+// The lines, each with an LF behind it.
+#[tactic(auto, using(crate::proofs::Texts::one_more_line, crate::proofs::Texts::no_line))]
+fn text_of_lines(alloc: Global, lines: &[Line]) -> Result<Vec<u8>, AllocError>
+    ensures { IfOk result (λ text. text.items ≡ text_of_lines lines.now) }
+{
+    let mut text = Vec::new(alloc);
+    for line in lines {
+        text.extend_from_slice(line.text.as_bytes())?;
+        text.push(b'\n')?;
+    }
+    Ok(text)
+}
+
+// What is due of preprocessed lines that are all that is asked for.
+fn make_text(
+    alloc: Global,
+    options: &Options,
+    lines: &Lines,
+    notes: Messages,
+) -> Result<Due, AllocError>
+    requires texts { AreTexts options.now }
+    requires notes { AreWithin (length lines.now.files) notes }
+    ensures due { IfOk result (λ due. answer_of due ≡ answer_to_text (asked_of options.now) options.now.file lines.now.files lines.now.list notes) }
+    ensures settled { IfOk result IsSettled }
+{
+    let name = output_name(alloc, options, ".i")?;
+    let line = preprocessed_line(alloc, name.as_bytes())?;
+    let text = text_of_lines(alloc, lines.list.as_slice())?;
+    make_or_refuse(alloc, &lines.files, notes, &line, name, text)
+}
+
+// What is due of a table.
+fn make_table(
+    alloc: Global,
+    options: &Options,
+    files: &Texts,
+    notes: Messages,
+    signature: &Text,
+    bytes: &Text,
+) -> Result<Due, AllocError>
+    requires texts { AreTexts options.now }
+    requires notes { AreWithin (length files.now) notes }
+    ensures due { IfOk result (λ due. answer_of due ≡ made_or_in_use files.now notes (table_line (table_name (asked_of options.now) options.now.file) signature.now (length bytes.now)) (table_name (asked_of options.now) options.now.file) bytes.now) }
+    ensures settled { IfOk result IsSettled }
+{
+    let name = output_name(alloc, options, ".aml")?;
     let bytes = bytes.as_bytes();
     let line = table_line(
         alloc,
@@ -45,32 +186,60 @@ fn succeed(alloc: Global, stem: &str, signature: &Text, bytes: &Text) -> Result<
         signature.as_bytes(),
         bytes.len() as u64,
     )?;
-    let mut text = Vec::new(alloc);
-    push_text(&mut text, &line)?;
-    push_text(&mut text, &summary(alloc, &Messages::new(alloc))?)?;
-    Ok(Due {
-        status: 0,
-        text: Text::from_vec(text),
-        files: one_file(alloc, name, bytes.to_vec(alloc)?)?,
-    })
+    make_or_refuse(alloc, files, notes, &line, name, bytes.to_vec(alloc)?)
 }
 
-// What is due of a source with these errors.
-fn refuse(alloc: Global, file: &str, messages: &Messages) -> Result<Due, AllocError>
-    requires { AreWithin 1 messages.now }
-    ensures due { IfOk result (λ due. answer_of due ≡ refusal file.now messages.now) }
+fn both(first: Messages, second: Messages) -> Result<Messages, AllocError>
+    ensures { IfOk result (λ all. all ≡ first ++ second) }
+{
+    let mut all = first.into_vec();
+    all.append(&mut second.into_vec())?;
+    Ok(List::from_vec(all))
+}
+
+// What is due of lines that are compiled.
+#[tactic(auto, using(crate::proofs::Sorting::both_within))]
+fn make_compiled(
+    alloc: Global,
+    options: &Options,
+    lines: &Lines,
+    notes: Messages,
+) -> Result<Due, AllocError>
+    requires texts { AreTexts options.now }
+    requires main { 1 ≤ length lines.now.files }
+    requires lines { All (IsGoodLine (length lines.now.files)) lines.now.list }
+    requires notes { AreWithin (length lines.now.files) notes }
+    ensures due { IfOk result (λ due. answer_of due ≡ answer_to_compiled (asked_of options.now) options.now.file lines.now.files notes (of_lines lines.now.list)) }
     ensures settled { IfOk result IsSettled }
 {
-    let mut names = Texts::new(alloc);
-    names.push(Text::from_bytes(alloc, file.as_bytes())?)?;
-    let mut text = Vec::new(alloc);
-    push_text(&mut text, &render(alloc, messages, &names, false)?)?;
-    push_text(&mut text, &summary(alloc, messages)?)?;
-    Ok(Due {
-        status: 1,
-        text: Text::from_vec(text),
-        files: Vec::new(alloc),
-    })
+    match compile(alloc, lines)? {
+        Compiled::Table { signature, bytes } => make_table(
+            alloc,
+            options,
+            &lines.files,
+            notes,
+            &signature,
+            &bytes,
+        ),
+        Compiled::Refused(messages) => refuse(alloc, &lines.files, both(notes, messages)?),
+    }
+}
+
+// What is due of preprocessed lines.
+fn answer_to_lines(alloc: Global, options: &Options, given: Preprocessed) -> Result<Due, AllocError>
+    requires texts { AreTexts options.now }
+    requires main { 1 ≤ length given.lines.files }
+    requires lines { All (IsGoodLine (length given.lines.files)) given.lines.list }
+    requires notes { All (IsGoodNote (length given.lines.files)) given.notes }
+    ensures due { IfOk result (λ due. answer_of due ≡ answer_to_lines (asked_of options.now) options.now.file given.lines.files given.lines.list given.notes) }
+    ensures settled { IfOk result IsSettled }
+{
+    let Preprocessed { lines, notes } = given;
+    if options.only {
+        make_text(alloc, options, &lines, notes)
+    } else {
+        make_compiled(alloc, options, &lines, notes)
+    }
 }
 
 // What is due where the words are not good.
@@ -85,28 +254,37 @@ fn usage(alloc: Global) -> Result<Due, AllocError>
     })
 }
 
-// What is due where the file has this text.
-fn answer(alloc: Global, wish: Wish<'_>, text: &[u8]) -> Result<Due, AllocError>
-    requires { length text.now ≤ most_bytes }
-    ensures due { IfOk result (λ due. answer_of due ≡ answer_to_compiled (request_by wish.entry) (outcome text.now)) }
+// What is due for these options, where their file and its includes are fetched.
+fn answer<F: Files>(alloc: Global, options: &Options, files: &mut F) -> Result<Due, Stop>
+    requires { AreTexts options.now }
+    ensures due { IfOk result (λ due. ForSome (F.contents files.old) (λ told. answer_to_file (asked_of options.now) told (Some options.now.file) ≡ Some (answer_of due))) }
     ensures settled { IfOk result IsSettled }
+    ensures fault { IsErrOf result Stop.Fault → Rose (F.faults files.old) (F.faults files.new) ⊎ (Rose (F.absents files.old) (F.absents files.new) × ForSome (F.contents files.old) (λ told. answer_to_file (asked_of options.now) told (Some options.now.file) ≡ None)) }
+    ensures faults { OnOk result (F.faults files.new ≡ F.faults files.old) }
+    ensures contents { F.contents files.new ≡ F.contents files.old }
+    ensures later { F.faults files.old ≤ F.faults files.new }
 {
-    match compile(alloc, wish.file, text)? {
-        Compiled::Table { signature, bytes } => succeed(alloc, wish.stem, &signature, &bytes),
-        Compiled::Refused(messages) => refuse(alloc, wish.file, &messages),
+    match preprocess(
+        alloc,
+        files,
+        file_name(options),
+        &options.dirs,
+        &options.defines,
+        options.enabled,
+    ) {
+        Ok(given) => Ok(answer_to_lines(alloc, options, given)?),
+        Err(PreStop::Refused { message, files }) => Ok(refuse(
+            alloc,
+            &files,
+            one_message(alloc, message)?,
+        )?),
+        Err(PreStop::Absent | PreStop::ReadFault) => Err(Stop::Fault),
+        Err(PreStop::Memory) => Err(Stop::Memory),
     }
 }
 
-// What is due where the file is too large.
-fn too_large(alloc: Global, file: &str) -> Result<Due, AllocError>
-    ensures due { IfOk result (λ due. answer_of due ≡ refusal file.now (unknown_form ∷ [])) }
-    ensures settled { IfOk result IsSettled }
-{
-    refuse(alloc, file, &unknown(alloc)?)
-}
-
-/// What is due for these words, where the file that they name is fetched. It ends without an answer only where the
-/// file is absent, a fetch failed, or memory is wanted.
+/// What is due for these words, where the file that they name and its includes are fetched. It ends without an answer only
+/// where the file is absent, a fetch failed, or memory is wanted.
 pub(crate) fn decide<F: Files>(alloc: Global, words: &[String], files: &mut F) -> Result<Due, Stop>
     ensures due { IfOk result (λ due. ForSome (F.contents files.old) (λ told. answer_for (map string_bytes words.now) told ≡ Some (answer_of due))) }
     ensures settled { IfOk result IsSettled }
@@ -115,13 +293,9 @@ pub(crate) fn decide<F: Files>(alloc: Global, words: &[String], files: &mut F) -
     ensures contents { F.contents files.new ≡ F.contents files.old }
     ensures later { F.faults files.old ≤ F.faults files.new }
 {
-    let Some(wish) = wish_of(words) else {
-        return Ok(usage(alloc)?);
-    };
-    match files.fetch(alloc, wish.file) {
-        Ok(text) => Ok(answer(alloc, wish, &text)?),
-        Err(FetchFault::TooLarge) => Ok(too_large(alloc, wish.file)?),
-        Err(FetchFault::Absent | FetchFault::Failed) => Err(Stop::Fault),
-        Err(FetchFault::Memory) => Err(Stop::Memory),
+    match options(alloc, words) {
+        Ok(options) => answer(alloc, &options, files),
+        Err(WordsStop::Bad { .. }) => Ok(usage(alloc)?),
+        Err(WordsStop::Memory) => Err(Stop::Memory),
     }
 }

@@ -6,11 +6,9 @@ mod compile;
 mod due;
 mod form;
 pub mod items;
-mod lines;
 pub mod run;
 mod segments;
 pub mod source;
 mod syntax;
 #[cfg(test)]
 mod tests;
-mod words;

@@ -1,13 +1,12 @@
 //! The top call: a source to its table.
-ghost use Rattle.std.specs.Prelude.{◌≡◌, ◌⊎◌, ◌≤◌, List, [], ℕ, map, take, string_bytes, Some, None, IfOk, OnOk, OnErr, IsErrOf};
+ghost use Rattle.std.specs.Prelude.{◌≡◌, ◌⊎◌, ◌≤◌, List, [], ℕ, map, take, string_bytes, Some, None, false, IfOk, OnOk, OnErr, IsErrOf};
 ghost use Rattle.std.specs.Option.{ForSome};
 ghost use Rattle.iasl_ports.specs.Counts.{Rose, Quiet};
 ghost use Rattle.iasl_ports.specs.Gained.{Gains, GainsSome};
 ghost use Rattle.iasl_ports.specs.Delivery.{status_of, text_of, due_of, FaultCause, OutsGained, FaultTold, ConsoleGained};
 ghost use Rattle.iasl_tool.specs.declared.source.Source.{Source};
-ghost use Rattle.iasl_tool.specs.Words.{Request};
 ghost use Rattle.iasl_tool.specs.Due.{answer_for, fault_text, memory_text};
-ghost use Rattle.iasl_tool.specs.Headline.{NamesSource, WritesItsTable};
+ghost use Rattle.iasl_tool.specs.Headline.{Request, NamesSource, WritesItsTable, asks_for_text};
 
 use crate::due::decide;
 use iasl_ports::delivery::{Stop, deliver, tell};
@@ -49,9 +48,10 @@ fn attempt<F: Files, O: Outputs, C: Sink>(
 }
 
 #[tactic(auto, using(iasl_ports::specs::GainedLaws::gains_then))]
-/// Compiles the source that the one word names, and puts its table: `.aml` stands for the `.asl` of the name. It
-/// answers 0 where that was done; 1 where the source has errors; 2 where the words are not good; 3 where the file
-/// is absent, or could not be read, put or written; 4 where there was no memory. With 1 and 2 no file is put.
+/// Compiles the source that the words name, and puts its table, or with `-P` its preprocessed text (docs/OPTIONS.md). It
+/// answers 0 where that was done; 1 where the source has errors; 2 where the words are not good, or the output has the name of a file
+/// that was fetched; 3 where the file is absent, or a file could not be read, put or written; 4 where there was no memory.
+/// With 1 and 2 no file is put.
 pub fn iasl<F: Files, O: Outputs, C: Sink>(
     alloc: Global,
     words: &[String],
@@ -71,9 +71,9 @@ pub fn iasl<F: Files, O: Outputs, C: Sink>(
     ensures status { ForSome (F.contents files.old) (λ told. Quiet (F.faults files.old) (F.faults files.new) → Quiet (O.faults outs.old) (O.faults outs.new) → Quiet (C.faults console.old) (C.faults console.new)
         → (result ≡ status_of (answer_for (map string_bytes words.now) told)) ⊎ (result ≡ 4)) }
 
-    // 0 comes only of a source that is read and whose table is not too long. Its table is then what the outputs gained:
-    // it has the source's header, and every session over its bytes is the source's.
-    ensures headline { result ≡ 0 → ForSome (F.contents files.old) (λ told. WritesItsTable (map string_bytes words.now) told (O.written outs.old) (O.written outs.new)) }
+    // Where preprocessed text alone is not asked for, 0 comes only of a source that is read and whose table is not too long. Its table
+    // is then what the outputs gained: it has the source's header, and every session over its bytes is the source's.
+    ensures headline { result ≡ 0 → asks_for_text (map string_bytes words.now) ≡ false → ForSome (F.contents files.old) (λ told. WritesItsTable (map string_bytes words.now) told (O.written outs.old) (O.written outs.new)) }
 
     // And every such source gives 0, or 4, where no count rose.
     ensures complete { ForSome (F.contents files.old) (λ told. (request : Request) → (source : Source) → NamesSource (map string_bytes words.now) told request source

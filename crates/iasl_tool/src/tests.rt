@@ -271,26 +271,26 @@ fn words_and_sources(rt: HostRuntime) -> Result<(), AllocError> {
         Row {
             words: &["t.txt"],
             text: ONE_NAME,
-            status: 2,
+            status: 3,
             names: &[],
             bodies: &[],
-            told: USAGE,
+            told: b"iasl: file fault\n",
         },
         Row {
             words: &["t.ASL"],
             text: ONE_NAME,
-            status: 2,
+            status: 3,
             names: &[],
             bodies: &[],
-            told: USAGE,
+            told: b"iasl: file fault\n",
         },
         Row {
             words: &[".asl"],
             text: ONE_NAME,
-            status: 2,
+            status: 3,
             names: &[],
             bodies: &[],
-            told: USAGE,
+            told: b"iasl: file fault\n",
         },
         Row {
             words: &["u.asl"],
@@ -364,7 +364,213 @@ fn too_large(rt: HostRuntime) -> Result<(), AllocError> {
     let ran = run(rt.alloc(), &["t.asl"], &text, &none)?;
     assert_eq!(rt; ran.status, 1);
     assert_eq!(rt; ran.outs.names().len(), 0);
-    assert!(rt; ran.console.as_bytes() == UNKNOWN);
+    assert!(rt;
+        ran.console.as_bytes()
+            == b"t.asl:1:1: error 6007: text is too large\n1 errors, 0 warnings, 0 remarks\n".as_slice()
+    );
+    Ok(())
+}
+
+// A run over several files.
+#[derive(Drop)]
+struct Case {
+    words: &'static [&'static str],
+    files: &'static [(&'static str, &'static [u8])],
+    status: u8,
+    names: &'static [&'static [u8]],
+    bodies: &'static [&'static [u8]],
+    told: &'static [u8],
+}
+
+const NAMED: &[u8] = b"DefinitionBlock (\"\", \"SSDT\", 2, \"OEMX00\", \"TABLE001\", 1)
+{
+    Name (X, A)
+}
+";
+
+const SEVEN_TABLE: &[u8] =
+    b"SSDT\x2B\x00\x00\x00\x02\xF6OEMX00TABLE001\x01\x00\x00\x00INTL\x05\x01\x21\x20\x08X___\x0A\x07";
+
+const NOTED: &[u8] = b"#pragma message (\"hi\")
+#warning careful
+DefinitionBlock (\"\", \"SSDT\", 2, \"OEMX00\", \"TABLE001\", 1) {}
+";
+
+const NOTED_AND_STRAY: &[u8] = b"@
+#warning careful
+";
+
+const CONDITIONS: &[u8] = b"#define A 5
+#if A > 4
+Name (X, A)
+#else
+B
+#endif";
+
+const INCLUDES_TERMS: &[u8] = b"DefinitionBlock (\"\", \"SSDT\", 2, \"OEMX00\", \"TABLE001\", 1)
+{
+    Include (\"d/terms.asl\")
+}
+";
+
+const CASES: &[Case] = &[
+    // A definition of the words.
+    Case {
+        words: &["-D", "A=7", "t.asl"],
+        files: &[("t.asl", NAMED)],
+        status: 0,
+        names: &[b"t.aml"],
+        bodies: &[SEVEN_TABLE],
+        told: b"t.aml: SSDT, 43 bytes\n0 errors, 0 warnings, 0 remarks\n",
+    },
+    // The output has the name of the file.
+    Case {
+        words: &["-D", "A=7", "t.aml"],
+        files: &[("t.aml", NAMED)],
+        status: 2,
+        names: &[],
+        bodies: &[],
+        told: b"iasl: output name is in use: t.aml\n",
+    },
+    Case {
+        words: &["-p", "out/u", "-DA=7", "t.aml"],
+        files: &[("t.aml", NAMED)],
+        status: 0,
+        names: &[b"out/u.aml"],
+        bodies: &[SEVEN_TABLE],
+        told: b"out/u.aml: SSDT, 43 bytes\n0 errors, 0 warnings, 0 remarks\n",
+    },
+    // The preprocessed text alone.
+    Case {
+        words: &["-P", "t.asl"],
+        files: &[("t.asl", CONDITIONS)],
+        status: 0,
+        names: &[b"t.i"],
+        bodies: &[b"Name (X, 5)\n"],
+        told: b"t.i: preprocessed\n0 errors, 0 warnings, 0 remarks\n",
+    },
+    Case {
+        words: &["-P", "t.i"],
+        files: &[("t.i", CONDITIONS)],
+        status: 2,
+        names: &[],
+        bodies: &[],
+        told: b"iasl: output name is in use: t.i\n",
+    },
+    // The preprocessor is off.
+    Case {
+        words: &["-Pn", "t.asl"],
+        files: &[("t.asl", CONDITIONS)],
+        status: 1,
+        names: &[],
+        bodies: &[],
+        told: b"t.asl:1:1: error 6010: bad character\n1 errors, 0 warnings, 0 remarks\n",
+    },
+    // A file that includes itself.
+    Case {
+        words: &["t.asl"],
+        files: &[("t.asl", b"#include \"t.asl\"\n")],
+        status: 1,
+        names: &[],
+        bodies: &[],
+        told: b"t.asl:1:1: error 6002: includes are nested too deep: t.asl\n1 errors, 0 warnings, 0 remarks\n",
+    },
+    Case {
+        words: &["t.asl"],
+        files: &[],
+        status: 3,
+        names: &[],
+        bodies: &[],
+        told: b"iasl: file fault\n",
+    },
+    // Terms of an included file, which is looked for beside the file that asks.
+    Case {
+        words: &["s/t.asl"],
+        files: &[
+            ("s/t.asl", INCLUDES_TERMS),
+            ("s/d/terms.asl", b"#define A 7\n    Name (X, A)\n"),
+        ],
+        status: 0,
+        names: &[b"s/t.aml"],
+        bodies: &[SEVEN_TABLE],
+        told: b"s/t.aml: SSDT, 43 bytes\n0 errors, 0 warnings, 0 remarks\n",
+    },
+    // An included file that is in a further directory alone, and an error in it.
+    Case {
+        words: &["-I", "e/", "t.asl"],
+        files: &[
+            ("t.asl", INCLUDES_TERMS),
+            ("e/d/terms.asl", b"\n    Name (X, 5))\n"),
+        ],
+        status: 1,
+        names: &[],
+        bodies: &[],
+        told: b"e/d/terms.asl:2:16: error 6015: syntax\n1 errors, 0 warnings, 0 remarks\n",
+    },
+    Case {
+        words: &["t.asl"],
+        files: &[("t.asl", INCLUDES_TERMS)],
+        status: 1,
+        names: &[],
+        bodies: &[],
+        told: b"t.asl:3:5: error 6001: include file is absent: d/terms.asl\n1 errors, 0 warnings, 0 remarks\n",
+    },
+    // Notes, with a table and with an error.
+    Case {
+        words: &["t.asl"],
+        files: &[("t.asl", NOTED)],
+        status: 0,
+        names: &[b"t.aml"],
+        bodies: &[NOTHING_TABLE],
+        told: b"t.asl:1:1: remark 2001: message: hi\nt.asl:2:1: warning 3004: warning directive: careful\nt.aml: SSDT, 36 bytes\n0 errors, 1 warnings, 1 remarks\n",
+    },
+    Case {
+        words: &["t.asl"],
+        files: &[("t.asl", NOTED_AND_STRAY)],
+        status: 1,
+        names: &[],
+        bodies: &[],
+        told: b"t.asl:1:1: error 6010: bad character\nt.asl:2:1: warning 3004: warning directive: careful\n1 errors, 1 warnings, 0 remarks\n",
+    },
+    // The words.
+    Case {
+        words: &["-P", "-Pn", "t.asl"],
+        files: &[("t.asl", ONE_NAME)],
+        status: 2,
+        names: &[],
+        bodies: &[],
+        told: USAGE,
+    },
+];
+
+fn run_case(alloc: Global, case: &Case) -> Result<Ran, AllocError> {
+    let mut files = MemoryFiles::new(alloc);
+    for (name, text) in case.files {
+        files.add(name, text)?;
+    }
+    let mut outs = MemoryOutputs::new(alloc);
+    let mut console = MemorySink::new(alloc, 1000)?;
+    let mut given = Vec::new(alloc);
+    for word in case.words {
+        given.push(String::from_str(alloc, word)?)?;
+    }
+    let status = iasl(alloc, &given, &mut files, &mut outs, &mut console);
+    Ok(Ran {
+        status,
+        outs,
+        console,
+    })
+}
+
+#[test]
+fn words_and_files(rt: HostRuntime) -> Result<(), AllocError> {
+    for case in CASES {
+        let ran = run_case(rt.alloc(), case)?;
+        assert_eq!(rt; ran.status, case.status);
+        assert!(rt; are(ran.outs.names(), case.names));
+        assert!(rt; are(ran.outs.bodies(), case.bodies));
+        assert!(rt; ran.console.as_bytes() == case.told);
+    }
     Ok(())
 }
 

@@ -26,7 +26,7 @@ returns-in-Err-Memory-clause-fault g c =
     }
 
 pub returns-in-Ok-clause-headline : goal.returns-in-Ok-clause-headline
-returns-in-Ok-clause-headline g c = λ zero_is told is. writes_its_table (map string_bytes c.args.words.now) told _ _ (c.in-Ok.ensures.status told is ∙ zero_is) (c.in-Ok.ensures.all_files told is)
+returns-in-Ok-clause-headline g c = λ zero_is compiles told is. writes_its_table (map string_bytes c.args.words.now) told _ _ compiles (c.in-Ok.ensures.status told is ∙ zero_is) (c.in-Ok.ensures.all_files told is)
 
 pub returns-in-Ok-clause-complete : goal.returns-in-Ok-clause-complete
 returns-in-Ok-clause-complete g c = λ told is request source names read put said.

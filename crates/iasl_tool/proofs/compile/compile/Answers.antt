@@ -1,6 +1,6 @@
 use Rattle.std.proofs.Common.{length}
 use Rattle.iasl_tool.proofs.Homes.{tokens_within, refused_within}
-use Rattle.iasl_tool.proofs.compile.compile_lines.Goals as goal
+use Rattle.iasl_tool.proofs.compile.compile.Goals as goal
 
 pub compile_tokens-requires-clause-files : goal.compile_tokens-requires-clause-files
 compile_tokens-requires-clause-files c = tokens_within (length c.args.lines.now.files) c.args.lines.now.list c.in-Ok.tokens c.requires.files c.in-Ok.ensures.exact
