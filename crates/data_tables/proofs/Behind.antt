@@ -31,6 +31,11 @@ closed table bytes before tail after number entries e r =
       rest = subst (λ (o : ℕ). IsRest table bytes after number o entries) none r;
     }
 
+-- the same, where the values are given by way of others
+closed_by : (table : Table) (bytes before tail : List ℕ) (after : After) (number : ℕ) (all others entries : List Entry) → bytes ≡ before ++ tail → all ≡ others → others ≡ entries → IsRest table bytes after number (length before) entries → Reads table bytes [] after number (length before) all
+closed_by table bytes before tail after number all others entries e f g r =
+    subst (λ (es : List Entry). Reads table bytes [] after number (length before) es) (sym (f ∙ g)) (closed table bytes before tail after number entries e r)
+
 at_entry : (table : Table) (revision number : ℕ) (bytes before : List ℕ) (field : Field) (fields : List Field) → bytes ≡ before ++ joined (map piece_of (field ∷ fields)) → FieldsOf (part table revision [] a.Entries) (field ∷ fields) → ((rows : List Row) (before' : List ℕ) → are_plain rows ≡ true → bytes ≡ before' ++ joined (map piece_of fields) → IsReadFrom table revision bytes a.Entries rows (number + 1) before' fields) → Reads table bytes [] a.Entries number (length before) (entries_from number (field ∷ fields))
 at_entry table revision number bytes before field fields e h ih =
     let row = entries_plain.first in
@@ -46,9 +51,7 @@ at_entry table revision number bytes before field fields e h ih =
     let r = ih rows (before ++ here) plain.1 (shifted bytes before here tail whole) left in
     let r1 = rows_step table bytes before here tail row rows a.Entries (number + 1) field.value (entries_from (number + 1) fields) s whole r in
     let r2 : Reads table bytes entry_rows a.Entries (number + 1) (length before) (entry_of (number + 1) row field.value ++ entries_from (number + 1) fields) = subst (λ (rs : List Row). Reads table bytes rs a.Entries (number + 1) (length before) (entry_of (number + 1) row field.value ++ entries_from (number + 1) fields)) (sym entries_plain.are) r1 in
-    let all : entries_from number (field ∷ fields) ≡ rows_read (number + 1) bytes (length before) entry_rows ++ r2.more = entries_first number row field fields true f.row_is f.begins_is ∙ r2.values in
-    subst (λ (es : List Entry). Reads table bytes [] a.Entries number (length before) es) (sym all)
-    (closed table bytes before (here ++ tail) a.Entries number _ whole (entry number (length before) r2.more r2.stand r2.rest))
+    closed_by table bytes before (here ++ tail) a.Entries number (entries_from number (field ∷ fields)) (entry_of (number + 1) row field.value ++ entries_from (number + 1) fields) (rows_read (number + 1) bytes (length before) entry_rows ++ r2.more) whole (entries_first number row field fields true f.row_is f.begins_is) r2.values (entry number (length before) r2.more r2.stand r2.rest)
 
 and_both : (b c : Bool) → (b && c) ≡ true → (b ≡ true) × (c ≡ true)
 and_both true c e = (refl, e)
@@ -100,9 +103,7 @@ at_structure table revision number bytes before field fields e h ih =
     let known : structure_rows table (number_read bytes (length before) 1) ≡ Some t.rows = ap (structure_rows table) number_is ∙ t.known in
     let size : size_of (type_rows ++ t.rows) ≡ 1 + size_of t.rows = ap (λ (rs : List Row). size_of (rs ++ t.rows)) type_one.are ∙ ap (λ (m : ℕ). m + size_of t.rows) type_one.width_is in
     let stated : number_read bytes (length before + 1) 1 ≡ size_of (type_rows ++ t.rows) = ap (λ (o : ℕ). number_read bytes o 1) (sym next) ∙ stated_size bytes (length (before ++ here)) t.rows parts.1 r.stand ∙ sym size in
-    let all : entries_from number (field ∷ fields) ≡ rows_read (number + 1) bytes (length before) (type_rows ++ t.rows) ++ r2.more = entries_first number row field fields true f.row_is f.begins_is ∙ r2.values in
-    subst (λ (es : List Entry). Reads table bytes [] a.Structures number (length before) es) (sym all)
-    (closed table bytes before (here ++ tail) a.Structures number _ whole (structure number (length before) t.rows r2.more known stated r2.stand r2.rest))
+    closed_by table bytes before (here ++ tail) a.Structures number (entries_from number (field ∷ fields)) (entry_of (number + 1) row field.value ++ entries_from (number + 1) fields) (rows_read (number + 1) bytes (length before) (type_rows ++ t.rows) ++ r2.more) whole (entries_first number row field fields true f.row_is f.begins_is) r2.values (structure number (length before) t.rows r2.more known stated r2.stand r2.rest)
 
 at_locality : (table : Table) (revision number count place : ℕ) (bytes before : List ℕ) (field : Field) (fields : List Field) → bytes ≡ before ++ joined (map piece_of (field ∷ fields)) → nat_lt place count ≡ true → FieldsOf (part table revision [] (a.Matrix count place)) (field ∷ fields) → ((before' : List ℕ) → bytes ≡ before' ++ joined (map piece_of fields) → IsReadFrom table revision bytes (a.Matrix count (place + 1)) [] (number + 1) before' fields) → Reads table bytes [] (a.Matrix count place) number (length before) (entries_from number (field ∷ fields))
 at_locality table revision number count place bytes before field fields e more h ih =
@@ -118,9 +119,7 @@ at_locality table revision number count place bytes before field fields e more h
     let r = ih (before ++ here) (shifted bytes before here tail whole) f.tail in
     let r1 = rows_step table bytes before here tail row [] after (number + 1) field.value (entries_from (number + 1) fields) s whole r in
     let end : length before + (count + 0) ≡ length before + count = omega arith in
-    let all : entries_from number (field ∷ fields) ≡ rows_read (number + 1) bytes (length before) (row ∷ []) ++ r1.more = entries_first number row field fields true f.row_is f.begins_is ∙ r1.values in
-    subst (λ (es : List Entry). Reads table bytes [] (a.Matrix count place) number (length before) es) (sym all)
-    (closed table bytes before (here ++ tail) (a.Matrix count place) number _ whole (locality number (length before) count place r1.more lt r1.stand (subst (λ (o : ℕ). IsRest table bytes after (number + 1) o r1.more) end r1.rest)))
+    closed_by table bytes before (here ++ tail) (a.Matrix count place) number (entries_from number (field ∷ fields)) (entry_of (number + 1) row field.value ++ entries_from (number + 1) fields) (rows_read (number + 1) bytes (length before) (row ∷ []) ++ r1.more) whole (entries_first number row field fields true f.row_is f.begins_is) r1.values (locality number (length before) count place r1.more lt r1.stand (subst (λ (o : ℕ). IsRest table bytes after (number + 1) o r1.more) end r1.rest))
 
 -- behind the header and the fixed part
 abbrev pub IsLater : After → Type 0

@@ -1,7 +1,7 @@
 // The fields of a text, one line after another.
-ghost use Rattle.std.specs.Prelude.{◌≡◌, ◌++◌, ◌∷◌, [], IfOk, OnOk, IsTrue, true, false, List as AList, Some, None};
+ghost use Rattle.std.specs.Prelude.{◌≡◌, IfOk, MatchOption};
 ghost use Rattle.data_text.specs.declared.field_line.FieldLine.{FieldLine};
-ghost use Rattle.data_tables.specs.Fields.{Number, Bytes, field_bytes, value_of};
+ghost use Rattle.data_tables.specs.Fields.{Value as Given, Number, Bytes, field_bytes, value_bytes, value_of};
 ghost use Rattle.data_tables.specs.Parts.{next_field};
 ghost use Rattle.data_tables.specs.Walk.{step_of, message_at};
 ghost use Rattle.data_tables.specs.Views.{IsStep, IsTaken, part_of};
@@ -47,15 +47,15 @@ pub(crate) fn message_at(alloc: Global, number: u16, place: Place) -> Message
     }
 }
 
-// The bytes of a field that is a number.
-fn number_bytes(alloc: Global, row: &Row, number: u64) -> Result<Vec<u8>, AllocError>
-    ensures { IfOk result (λ bytes. bytes.items ≡ field_bytes row.now (Number number)) }
+// The bytes of a computed field; none of any other.
+fn computed_bytes(alloc: Global, row: &Row) -> Result<Option<Vec<u8>>, AllocError>
+    ensures { IfOk result (λ found. MatchOption found ((value : Given) → field_bytes row.now value ≡ value_bytes row.now.width value) (λ bytes. (value : Given) → field_bytes row.now value ≡ bytes.items)) }
 {
     match row.kind {
-        Kind::TableLength | Kind::Checksum => little_bytes(alloc, row.width, 0),
-        Kind::CompilerId => b"INTL".to_vec(alloc),
-        Kind::CompilerRevision => little_bytes(alloc, row.width, COMPILER_REVISION),
-        Kind::Length(size) => little_bytes(alloc, row.width, u64::from(size)),
+        Kind::TableLength | Kind::Checksum => Ok(Some(little_bytes(alloc, row.width, 0)?)),
+        Kind::CompilerId => Ok(Some(b"INTL".to_vec(alloc)?)),
+        Kind::CompilerRevision => Ok(Some(little_bytes(alloc, row.width, COMPILER_REVISION)?)),
+        Kind::Length(size) => Ok(Some(little_bytes(alloc, row.width, u64::from(size))?)),
         Kind::Number
         | Kind::Text
         | Kind::Bytes
@@ -63,7 +63,17 @@ fn number_bytes(alloc: Global, row: &Row, number: u64) -> Result<Vec<u8>, AllocE
         | Kind::Revision
         | Kind::StructureType
         | Kind::Localities
-        | Kind::Locality(_) => little_bytes(alloc, row.width, number),
+        | Kind::Locality(_) => Ok(None),
+    }
+}
+
+// The bytes of a field that is a number.
+fn number_bytes(alloc: Global, row: &Row, number: u64) -> Result<Vec<u8>, AllocError>
+    ensures { IfOk result (λ bytes. bytes.items ≡ field_bytes row.now (Number number)) }
+{
+    match computed_bytes(alloc, row)? {
+        Some(bytes) => Ok(bytes),
+        None => little_bytes(alloc, row.width, number),
     }
 }
 
@@ -71,19 +81,9 @@ fn number_bytes(alloc: Global, row: &Row, number: u64) -> Result<Vec<u8>, AllocE
 fn other_bytes(alloc: Global, row: &Row, bytes: Vec<u8>) -> Result<Vec<u8>, AllocError>
     ensures { IfOk result (λ out. out.items ≡ field_bytes row.now (Bytes bytes.items)) }
 {
-    match row.kind {
-        Kind::TableLength | Kind::Checksum => little_bytes(alloc, row.width, 0),
-        Kind::CompilerId => b"INTL".to_vec(alloc),
-        Kind::CompilerRevision => little_bytes(alloc, row.width, COMPILER_REVISION),
-        Kind::Length(size) => little_bytes(alloc, row.width, u64::from(size)),
-        Kind::Number
-        | Kind::Text
-        | Kind::Bytes
-        | Kind::Reserved
-        | Kind::Revision
-        | Kind::StructureType
-        | Kind::Localities
-        | Kind::Locality(_) => Ok(bytes),
+    match computed_bytes(alloc, row)? {
+        Some(computed) => Ok(computed),
+        None => Ok(bytes),
     }
 }
 
