@@ -26,7 +26,7 @@ other_behind front last h =
     ∙ ap reverse (sym (reverse-append front (last ∷ []))) ∙ reverse-reverse (front ++ last ∷ [])
 
 -- a text is its front and its last byte
-front_and_last : (xs : List ℕ) → 0 < length xs → take (length xs - 1) xs ++ get_or xs (length xs - 1) 0 ∷ [] ≡ xs
+pub front_and_last : (xs : List ℕ) → 0 < length xs → take (length xs - 1) xs ++ get_or xs (length xs - 1) 0 ∷ [] ≡ xs
 front_and_last xs h =
     let e : length xs - 1 + 1 ≡ length xs = omega arith in
     let lt : length xs - 1 < length xs = omega arith in

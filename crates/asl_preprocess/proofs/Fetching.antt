@@ -6,10 +6,11 @@ use Rattle.iasl_ports.specs.Gained.{Named}
 use Rattle.iasl_ports.specs.Fetched.{find_file, most_bytes}
 use Rattle.asl_preprocess.specs.Search.{Found, Large, Whole, found_or, search_first}
 
-within_is : (n : ℕ) → n ≤ most_bytes → nat_lt most_bytes n ≡ false
+-- a size that is within the limit, and one above it, as tests
+pub within_is : (n : ℕ) → n ≤ most_bytes → nat_lt most_bytes n ≡ false
 within_is n h = grind arith
 
-above_is : (n : ℕ) → most_bytes < n → nat_lt most_bytes n ≡ true
+pub above_is : (n : ℕ) → most_bytes < n → nat_lt most_bytes n ≡ true
 above_is n h = grind arith
 
 pub first_whole : (told : List Named) (name bytes : List ℕ) (rest : Found) → is_utf8 name ≡ true → find_file told name ≡ Some bytes → length bytes ≤ most_bytes → Whole name bytes ≡ search_first told name rest

@@ -1,6 +1,5 @@
 -- What the main file comes to.
-use Rattle.std.proofs.Common.{◌≡◌, ℕ, ◌+◌, ◌<◌, ◌≤◌, true, false, not, cond, List, [], ◌∷◌, length, ap, sym, subst, ◌∙◌, arith}
-use Rattle.std.specs.Prelude.{nat_lt}
+use Rattle.std.proofs.Common.{◌≡◌, ℕ, ◌+◌, ◌<◌, ◌≤◌, not, cond, List, [], ◌∷◌, length, ap, sym, subst, ◌∙◌, arith}
 use Rattle.std.specs.List.{All}
 use Rattle.iasl_ports.specs.Fetched.{most_bytes}
 use Rattle.iasl_messages.specs.declared.place.Line.{Line}
@@ -13,12 +12,7 @@ use Rattle.asl_preprocess.specs.Sound.{IsSound, IsGoodLine, IsGoodNote}
 use Rattle.asl_preprocess.specs.Preprocess.{Setting, Preprocessed, Given, Stopped, given, of_main, of_file, first_state, most_levels, too_large_main}
 use Rattle.asl_preprocess.specs.Stops.{IsStop, HasPlace, Causes, MainCauses, Keeps}
 use Rattle.asl_preprocess.proofs.Names.{same_itself}
-
-within_is : (n : ℕ) → n ≤ most_bytes → nat_lt most_bytes n ≡ false
-within_is n h = grind arith
-
-above_is : (n : ℕ) → most_bytes < n → nat_lt most_bytes n ≡ true
-above_is n h = grind arith
+use Rattle.asl_preprocess.proofs.Fetching.{within_is, above_is}
 
 -- the main file has number 0
 pub main_number : (name own : List ℕ) → own ≡ name → 0 ≡ number_of own (name ∷ [])

@@ -1,8 +1,8 @@
 -- The last `/` of a name.
 use Rattle.std.proofs.Common.{◌≡◌, ℕ, suc, ◌+◌, ◌-◌, ◌<◌, ◌==◌, true, false, List, [], ◌∷◌, ◌++◌, length, reverse, drop, take, get_or, refl, ap, sym, ◌∙◌, arith}
 use Rattle.std.specs.List.{position_or_len}
-use Rattle.std.proofs.lemmas.List.{reverse-append, reverse-reverse, take_more}
-use Rattle.std.proofs.Math.Seq.{take-length}
+use Rattle.std.proofs.lemmas.List.{reverse-append, reverse-reverse}
+use Rattle.asl_directives.proofs.Ends.{front_and_last}
 use Rattle.asl_preprocess.specs.Search.{is_slash, directory_of, begins_with_slash, is_joined}
 
 abbrev from_slash : List ℕ → List ℕ
@@ -16,12 +16,6 @@ from_slash_later c cs h =
     let n : ℕ = position_or_len is_slash cs in
     let e : 1 + n ≡ suc n = omega arith in
     rw (h, e) refl
-
-front_and_last : (xs : List ℕ) → 0 < length xs → take (length xs - 1) xs ++ get_or xs (length xs - 1) 0 ∷ [] ≡ xs
-front_and_last xs h =
-    let e : length xs - 1 + 1 ≡ length xs = omega arith in
-    let lt : length xs - 1 < length xs = omega arith in
-    sym (take_more xs (length xs - 1) 0 lt) ∙ ap (λ n. take n xs) e ∙ take-length xs
 
 pub slash_at_end : (xs : List ℕ) → 0 < length xs → (get_or xs (length xs - 1) 0 == 47) ≡ true → directory_of xs ≡ xs
 slash_at_end xs some h =

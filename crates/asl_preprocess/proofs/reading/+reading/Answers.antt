@@ -96,7 +96,7 @@ pub read_file-returns-clause-reached : goal.read_file-returns-clause-reached
 read_file-returns-clause-reached g t c state shows sound known number =
     let p = c.loop-branches.invariant.passed state shows sound known in
     let none : rows_left c.loop-branches.rows ≡ [] = search rules in
-    passed_end (g.F.Files.contents c.args.files.now) c.args.directories.now c.args.enabled c.args.levels c.args.file c.args.own.now p c.args.bytes.now none (refl {a = rows_of c.args.enabled c.args.bytes.now}) number known
+    passed_end (g.F.Files.contents c.args.files.now) c.args.directories.now c.args.enabled c.args.levels c.args.file c.args.own.now {all = rows_of c.args.enabled c.args.bytes.now} p c.args.bytes.now none (refl {a = rows_of c.args.enabled c.args.bytes.now}) number known
     c.end.result c.loop-branches.work.files (refl {a = c.loop-branches.work.files}) (c.end.ensures p.now.state)
 
 pub pass_row-returns-in-Ok-Some-clause-fault : goal.pass_row-returns-in-Ok-Some-clause-fault
