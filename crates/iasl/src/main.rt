@@ -3,7 +3,7 @@
 
 use iasl_ports::delivery::tell;
 use iasl_ports::host::{HostFiles, HostOutputs, HostSink};
-use iasl_ports::sink::write_all;
+use iasl_ports::sink::{Sink, write_all};
 use iasl_tool::run::iasl;
 use std::alloc::AllocError;
 use std::env;
@@ -46,12 +46,16 @@ fn text_asked(words: &[String]) -> Option<&'static [u8]> {
     }
 }
 
-fn run(rt: HostRuntime, words: &[String], console: &mut HostSink) -> u8 {
+fn tell_text<C: Sink>(console: &mut C, text: &[u8]) -> u8 {
+    match write_all(console, text) {
+        Ok(()) => 0,
+        Err(_) => 3,
+    }
+}
+
+fn run<C: Sink>(rt: HostRuntime, words: &[String], console: &mut C) -> u8 {
     if let Some(text) = text_asked(words) {
-        return match write_all(console, text) {
-            Ok(()) => 0,
-            Err(_) => 3,
-        };
+        return tell_text(console, text);
     }
     let mut files = HostFiles::new(rt);
     let mut outs = HostOutputs::new(rt);
