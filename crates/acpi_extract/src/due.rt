@@ -102,7 +102,7 @@ fn succeed(alloc: Global, choice: Choice<'_>, tables: &[Table]) -> Result<Due, A
     push_text(&mut text, &summary(alloc, &Messages::new(alloc))?)?;
     Ok(Due {
         status: 0,
-        text: Text::from_vec(text),
+        text: Text::from_vec(alloc, text)?,
         files,
     })
 }
@@ -120,7 +120,7 @@ pub(crate) fn refuse(alloc: Global, file: &str, messages: &Messages) -> Result<D
     push_text(&mut text, &summary(alloc, messages)?)?;
     Ok(Due {
         status: 1,
-        text: Text::from_vec(text),
+        text: Text::from_vec(alloc, text)?,
         files: Vec::new(alloc),
     })
 }

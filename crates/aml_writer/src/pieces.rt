@@ -35,7 +35,7 @@ pub(crate) fn piece(
     Ok(Piece {
         place,
         source: Text::from_bytes(alloc, line_at(lines, place))?,
-        bytes: Text::from_vec(bytes),
+        bytes: Text::from_vec(alloc, bytes)?,
     })
 }
 

@@ -37,7 +37,7 @@ fn step(alloc: Global, tokens: &mut Tokens, mode: Mode, at: Place, byte: u8) -> 
         Mode::Number { from, radix, value } => {
             numbers::number(alloc, tokens, from, radix, value, at, byte)
         }
-        Mode::Text { from, text } => strings::text(tokens, from, text, at, byte),
+        Mode::Text { from, text } => strings::text(alloc, tokens, from, text, at, byte),
         Mode::Escape { from, text, slash } => strings::escape(from, text, slash, byte),
         Mode::Coded { from, text, slash } => strings::coded(from, text, slash, byte),
         Mode::Digits {
@@ -47,7 +47,9 @@ fn step(alloc: Global, tokens: &mut Tokens, mode: Mode, at: Place, byte: u8) -> 
             radix,
             value,
             left,
-        } => strings::escape_digit(tokens, from, text, slash, radix, value, left, at, byte),
+        } => strings::escape_digit(
+            alloc, tokens, from, text, slash, radix, value, left, at, byte,
+        ),
         Mode::Broken { from, fault } => strings::broken(from, fault, byte),
         Mode::BrokenEscape { from, fault } => strings::broken_escape(from, fault, byte),
         Mode::Slash { from } => symbols::slash(alloc, tokens, from, at, byte),
@@ -64,12 +66,12 @@ fn finish(alloc: Global, mut tokens: Tokens, mode: Mode) -> Result<Tokens, Stop>
 {
     match mode {
         Mode::Between | Mode::Line => {}
-        Mode::Name { from, path, text } => add_name(&mut tokens, path, from, text)?,
+        Mode::Name { from, path, text } => add_name(alloc, &mut tokens, path, from, text)?,
         Mode::Dot { dot, .. } => return Err(refuse(BAD_CHARACTER, dot)),
         Mode::Root { from } => {
             let mut text = List::new(alloc);
             text.push(b'\\')?;
-            add_name(&mut tokens, true, from, text)?;
+            add_name(alloc, &mut tokens, true, from, text)?;
         }
         Mode::Carets { before, last } => {
             names::add_carets(alloc, &mut tokens, before.as_slice())?;

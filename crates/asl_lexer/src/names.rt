@@ -37,7 +37,7 @@ pub fn name(
             dot: at,
         }),
         _ => {
-            add_name(tokens, path, from, text)?;
+            add_name(alloc, tokens, path, from, text)?;
             begin(alloc, at, byte)
         }
     }
@@ -81,7 +81,7 @@ pub fn root(
             })
         }
         _ => {
-            add_name(tokens, true, from, text)?;
+            add_name(alloc, tokens, true, from, text)?;
             begin(alloc, at, byte)
         }
     }

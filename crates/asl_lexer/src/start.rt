@@ -55,6 +55,7 @@ fn add(
 
 /// Adds a word, or a path.
 pub fn add_name(
+    alloc: Global,
     tokens: &mut Tokens,
     path: bool,
     place: Place,
@@ -67,7 +68,8 @@ pub fn add_name(
     } else {
         TokenKind::Word
     };
-    add(tokens, kind, place, 0, Text::from_vec(text.into_vec()))
+    let text = Text::from_vec(alloc, text.into_vec())?;
+    add(tokens, kind, place, 0, text)
 }
 
 /// Adds a number.
@@ -83,16 +85,16 @@ pub fn add_number(
 }
 
 /// Adds a string.
-pub fn add_string(tokens: &mut Tokens, place: Place, text: List<u8>) -> Result<(), AllocError>
+pub fn add_string(
+    alloc: Global,
+    tokens: &mut Tokens,
+    place: Place,
+    text: List<u8>,
+) -> Result<(), AllocError>
     ensures { OnOk result (tokens.new ≡ spec.with_string tokens.old place text) }
 {
-    add(
-        tokens,
-        TokenKind::Text,
-        place,
-        0,
-        Text::from_vec(text.into_vec()),
-    )
+    let text = Text::from_vec(alloc, text.into_vec())?;
+    add(tokens, TokenKind::Text, place, 0, text)
 }
 
 /// Adds a symbol.

@@ -12,6 +12,7 @@ use crate::start::{BAD_CHARACTER, BAD_ESCAPE, OPEN_STRING, add_string, longer, r
 use crate::token::Tokens;
 use iasl_messages::place::Place;
 use iasl_ports::list::List;
+use std::alloc::Global;
 
 /// A byte in a string that is bad already.
 pub fn broken(from: Place, fault: Fault, byte: u8) -> Result<Mode, Stop>
@@ -43,6 +44,7 @@ fn is_plain(byte: u8) -> bool
 
 /// A byte in a string.
 pub fn text(
+    alloc: Global,
     tokens: &mut Tokens,
     from: Place,
     text: List<u8>,
@@ -54,7 +56,7 @@ pub fn text(
     match class_of(byte) {
         Class::Break => Err(refuse(OPEN_STRING, from)),
         Class::Quote => {
-            add_string(tokens, from, text)?;
+            add_string(alloc, tokens, from, text)?;
             Ok(Mode::Between)
         }
         Class::Backslash => Ok(Mode::Escape {
@@ -163,6 +165,7 @@ pub fn coded(from: Place, text: List<u8>, slash: Place, byte: u8) -> Result<Mode
 
 // A byte behind the digits of an escape.
 fn behind_digits(
+    alloc: Global,
     tokens: &mut Tokens,
     from: Place,
     front: List<u8>,
@@ -175,7 +178,7 @@ fn behind_digits(
 {
     if is_plain(value) {
         let front = longer(front, value)?;
-        text(tokens, from, front, at, byte)
+        text(alloc, tokens, from, front, at, byte)
     } else {
         broken(from, bad_escape(slash), byte)
     }
@@ -183,6 +186,7 @@ fn behind_digits(
 
 /// A byte behind some digits of an escape.
 pub fn escape_digit(
+    alloc: Global,
     tokens: &mut Tokens,
     from: Place,
     text: List<u8>,
@@ -208,6 +212,6 @@ pub fn escape_digit(
             left: left - 1,
         })
     } else {
-        behind_digits(tokens, from, text, slash, value, at, byte)
+        behind_digits(alloc, tokens, from, text, slash, value, at, byte)
     }
 }

@@ -72,7 +72,7 @@ fn in_directory(alloc: Global, name: &[u8], directory: &[u8]) -> Result<Text, Al
         put(&mut out, b"/")?;
     }
     put(&mut out, name)?;
-    Ok(Text::from_vec(out))
+    Text::from_vec(alloc, out)
 }
 
 // A file's name in the directory of the file of the name `own`.
@@ -82,7 +82,7 @@ fn beside(alloc: Global, name: &[u8], own: &[u8]) -> Result<Text, AllocError>
     let mut out = Vec::new(alloc);
     put(&mut out, directory_of(own))?;
     put(&mut out, name)?;
-    Ok(Text::from_vec(out))
+    Text::from_vec(alloc, out)
 }
 
 fn add_names(

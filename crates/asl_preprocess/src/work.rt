@@ -144,7 +144,7 @@ impl Work {
                 self.lines.push(Line {
                     file,
                     number: line,
-                    text: Text::from_vec(left),
+                    text: Text::from_vec(alloc, left)?,
                 })?;
                 self.size += size + 1;
                 Ok(())

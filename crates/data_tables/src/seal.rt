@@ -56,12 +56,12 @@ fn total_bytes(pieces: &[Piece]) -> Option<u64>
     Some(total)
 }
 
-fn put_at(place: usize, bytes: Vec<u8>, pieces: &mut Vec<Piece>)
-    ensures { pieces.new.items ≡ put_at place bytes.items pieces.old.items }
+fn put_at(place: usize, bytes: Text, pieces: &mut Vec<Piece>)
+    ensures { pieces.new.items ≡ put_at place bytes pieces.old.items }
 {
     if place < pieces.len() {
         let piece = &mut pieces[place];
-        piece.bytes = Text::from_vec(bytes);
+        piece.bytes = bytes;
     }
 }
 
@@ -73,7 +73,8 @@ fn put_length(alloc: Global, pieces: &mut Vec<Piece>) -> Result<(), AllocError>
     let Some(total) = total_bytes(pieces) else {
         return Err(AllocError);
     };
-    put_at(1, little_bytes(alloc, 4, total)?, pieces);
+    let bytes = Text::from_vec(alloc, little_bytes(alloc, 4, total)?)?;
+    put_at(1, bytes, pieces);
     Ok(())
 }
 
@@ -81,7 +82,8 @@ fn put_checksum(alloc: Global, pieces: &mut Vec<Piece>) -> Result<(), AllocError
     ensures { OnOk result (pieces.new.items ≡ with_checksum pieces.old.items) }
 {
     let sum = u64::from(checksum(pieces));
-    put_at(3, little_bytes(alloc, 1, sum)?, pieces);
+    let bytes = Text::from_vec(alloc, little_bytes(alloc, 1, sum)?)?;
+    put_at(3, bytes, pieces);
     Ok(())
 }
 

@@ -93,10 +93,11 @@ impl Walker {
         ensures faults { self.new.faults ≡ self.old.faults }
     {
         let source = Text::from_bytes(self.alloc, line.source.as_bytes())?;
+        let bytes = Text::from_vec(self.alloc, bytes)?;
         self.pieces.push(Piece {
             place: line.place,
             source,
-            bytes: Text::from_vec(bytes),
+            bytes,
         })
     }
 

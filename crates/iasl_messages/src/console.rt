@@ -108,7 +108,7 @@ pub fn render(
     for message in list.as_slice() {
         put_message(&mut out, message, files.as_slice(), brief)?;
     }
-    Ok(Text::from_vec(out))
+    Text::from_vec(alloc, out)
 }
 
 /// The last line of the console: `2 errors, 0 warnings, 0 remarks`.
@@ -122,7 +122,7 @@ pub fn summary(alloc: Global, list: &Messages) -> Result<Text, AllocError>
     put(&mut out, b" warnings, ")?;
     put_number(&mut out, count_of(list, Severity::Remark) as u64)?;
     put(&mut out, b" remarks\n")?;
-    Ok(Text::from_vec(out))
+    Text::from_vec(alloc, out)
 }
 
 /// The line of a table that was written: `t.aml: SSDT, 43 bytes`.
@@ -141,7 +141,7 @@ pub fn table_line(
     put(&mut out, b", ")?;
     put_number(&mut out, size)?;
     put(&mut out, b" bytes\n")?;
-    Ok(Text::from_vec(out))
+    Text::from_vec(alloc, out)
 }
 
 /// The line of a table that is listed: `SSDT 36 bytes`.
@@ -153,7 +153,7 @@ pub fn listed_line(alloc: Global, signature: &[u8], size: u64) -> Result<Text, A
     put(&mut out, b" ")?;
     put_number(&mut out, size)?;
     put(&mut out, b" bytes\n")?;
-    Ok(Text::from_vec(out))
+    Text::from_vec(alloc, out)
 }
 
 /// The line of a preprocessed text that was written: `t.i: preprocessed`.
@@ -163,7 +163,7 @@ pub fn preprocessed_line(alloc: Global, name: &[u8]) -> Result<Text, AllocError>
     let mut out = Vec::new(alloc);
     put(&mut out, name)?;
     put(&mut out, b": preprocessed\n")?;
-    Ok(Text::from_vec(out))
+    Text::from_vec(alloc, out)
 }
 
 /// The line of a generated table: `generated: 2 devices`.
@@ -174,5 +174,5 @@ pub fn devices_line(alloc: Global, count: u64) -> Result<Text, AllocError>
     put(&mut out, b"generated: ")?;
     put_number(&mut out, count)?;
     put(&mut out, b" devices\n")?;
-    Ok(Text::from_vec(out))
+    Text::from_vec(alloc, out)
 }

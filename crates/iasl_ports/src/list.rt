@@ -93,7 +93,7 @@ impl<T> List<T> {
 }
 
 /// The most bytes of a text that takes no memory.
-const INLINE: usize = 22;
+const INLINE: usize = 14;
 
 /// Where the bytes of a text are.
 #[derive(Drop)]
@@ -101,10 +101,10 @@ enum Bytes {
     /// In the text itself: the first of these, so many.
     Inline { bytes: [u8; INLINE], count: u8 },
     /// In a vector of their own.
-    Vector(Vec<u8>),
+    Vector(Box<Vec<u8>>),
 }
 
-/// A list of bytes. A short one takes no memory beside its own.
+/// A list of bytes, of 16 bytes itself. One of at most 14 bytes takes no memory beside these.
 #[derive(Drop)]
 pub struct Text {
     bytes: Bytes,
@@ -132,7 +132,7 @@ fn front(bytes: &[u8], count: usize) -> &[u8]
 
 // These bytes, of which there are few, in the text itself.
 fn inline(bytes: &[u8]) -> Bytes
-    requires { length bytes.now ≤ 22 }
+    requires { length bytes.now ≤ 14 }
     ensures { bytes_of result ≡ bytes.now }
 {
     let mut own = [0; INLINE];
@@ -160,24 +160,24 @@ impl Text {
     pub fn from_bytes(alloc: Global, bytes: &[u8]) -> Result<Text, AllocError>
         ensures { IfOk result (λ text. text ≡ bytes.now) }
     {
-        let bytes = if bytes.len() <= INLINE {
-            inline(bytes)
-        } else {
-            Bytes::Vector(bytes.to_vec(alloc)?)
-        };
-        Ok(Text { bytes })
+        if bytes.len() <= INLINE {
+            return Ok(Text {
+                bytes: inline(bytes),
+            });
+        }
+        Text::from_vec(alloc, bytes.to_vec(alloc)?)
     }
 
     /// The text of a vector's bytes.
-    pub fn from_vec(bytes: Vec<u8>) -> Text
-        ensures { result ≡ bytes.items }
+    pub fn from_vec(alloc: Global, bytes: Vec<u8>) -> Result<Text, AllocError>
+        ensures { IfOk result (λ text. text ≡ bytes.items) }
     {
         let bytes = if bytes.len() <= INLINE {
             inline(&bytes)
         } else {
-            Bytes::Vector(bytes)
+            Bytes::Vector(Box::new(alloc, bytes)?)
         };
-        Text { bytes }
+        Ok(Text { bytes })
     }
 
     /// Its bytes.

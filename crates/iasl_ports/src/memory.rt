@@ -92,6 +92,8 @@ impl MemoryFiles {
     pub fn new(alloc: Global) -> Self
         ensures files { stored_files result ≡ [] }
         ensures calls { HasNoCalls result.calls }
+        ensures absents { result.absents ≡ 0 }
+        ensures larges { result.larges ≡ 0 }
     {
         MemoryFiles {
             alloc,
@@ -107,6 +109,8 @@ impl MemoryFiles {
         ensures ok { OnOk result (stored_files self.new ≡ stored_files self.old ++ (name.now, bytes.now) ∷ []) }
         ensures err { OnErr result (stored_files self.new ≡ stored_files self.old) }
         ensures calls { self.new.calls ≡ self.old.calls }
+        ensures absents { self.new.absents ≡ self.old.absents }
+        ensures larges { self.new.larges ≡ self.old.larges }
     {
         let name = String::from_str(self.alloc, name)?;
         let bytes = bytes.to_vec(self.alloc)?;
@@ -119,6 +123,8 @@ impl MemoryFiles {
         ensures named { OnOk result (NamesCall self.old.calls self.new.calls call) }
         ensures refused { OnErr result (KeepsCalls self.old.calls self.new.calls) }
         ensures files { stored_files self.new ≡ stored_files self.old }
+        ensures absents { self.new.absents ≡ self.old.absents }
+        ensures larges { self.new.larges ≡ self.old.larges }
     {
         self.calls.fail_at(call)
     }

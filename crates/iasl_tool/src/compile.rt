@@ -80,7 +80,7 @@ fn join(alloc: Global, pieces: &[Piece]) -> Result<Text, AllocError>
     for piece in pieces {
         bytes.extend_from_slice(piece.bytes.as_bytes())?;
     }
-    Ok(Text::from_vec(bytes))
+    Text::from_vec(alloc, bytes)
 }
 
 // The table of a source, or its refusal where that is too long. No listing shows the lines, so its pieces have no text.

@@ -46,7 +46,7 @@ fn console_text(
     push_text(&mut text, &render(alloc, &messages, files, false)?)?;
     push_text(&mut text, made)?;
     push_text(&mut text, &summary(alloc, &messages)?)?;
-    Ok(Text::from_vec(text))
+    Text::from_vec(alloc, text)
 }
 
 // What is due of a source with these errors and notes.
@@ -101,7 +101,7 @@ fn refuse_name(alloc: Global, name: &str) -> Result<Due, AllocError>
     text.extend_from_slice(b"\n")?;
     Ok(Due {
         status: 2,
-        text: Text::from_vec(text),
+        text: Text::from_vec(alloc, text)?,
         files: Vec::new(alloc),
     })
 }

@@ -79,10 +79,10 @@ pub const SECOND: &[u8] = b"\
 [0001] Bit Offset : C6\n\
 [0001] Encoded Access Width : C7\n\
 [0008] Address : CFCECDCCCBCAC9C8\n\
-[0001] Space ID : D0\n\
-[0001] Bit Width : D1\n\
-[0001] Bit Offset : D2\n\
-[0001] Encoded Access Width : D3\n\
+[0001] Space ID : d0\n\
+[0001] Bit Width : d1\n\
+[0001] Bit Offset : d2\n\
+[0001] Encoded Access Width : d3\n\
 [0008] Address : DBDAD9D8D7D6D5D4\n\
 [0001] Space ID : DC\n\
 [0001] Bit Width : DD\n\
