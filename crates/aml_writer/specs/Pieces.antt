@@ -1,6 +1,6 @@
 -- The pieces of a table: the header, and for each term of the term lists, in the order of the source, its bytes
 -- up to those of the first term inside it.
-use Rattle.std.specs.Prelude.{ℕ, ◌+◌, Bool, nat_eq, ◌&&◌, if◌then◌else◌, List, [], ◌∷◌, ◌++◌, length}
+use Rattle.std.specs.Prelude.{ℕ, ◌+◌, Bool, List, [], ◌∷◌, ◌++◌, length}
 use Rattle.iasl_messages.specs.declared.place.Place.{Place}
 use Rattle.iasl_messages.specs.declared.place.Line.{Line}
 use Rattle.iasl_messages.specs.declared.place.Piece.{Piece}
@@ -9,13 +9,10 @@ use Rattle.asl_tree.specs.declared.term.Term.{Term}
 use Rattle.asl_tree.specs.declared.term.Term as D
 use Rattle.asl_tree.specs.declared.program.Block.{Block}
 use Rattle.aml_code.specs.Header.{header_length, header_with, checksum_of, fields_of}
+use Rattle.source_lines.specs.Text.{line_text}
 use Rattle.aml_writer.specs.TermBytes.{head_bytes, term_bytes, row_bytes, row_args, nodes_bytes}
 
--- the text of the first line that has the place's file and line
-abbrev pub line_text : List Line → Place → List ℕ
-line_text [] place = []
-line_text (line ∷ lines) place = if nat_eq line.file place.file && nat_eq line.number place.line then line.text else line_text lines place
-
+-- some bytes with their place and the text of its line
 abbrev pub piece_at : List Line → Place → List ℕ → Piece
 piece_at lines place bytes = record { place = place; source = line_text lines place; bytes = bytes }
 

@@ -2,31 +2,20 @@
 ghost use Rattle.std.specs.Prelude.{◌≡◌, ◌<◌, ◌^◌, ◌++◌, ◌+◌, ◌∷◌, [], length, reverse, take, OnOk, IsErrOf, IfOk};
 ghost use Rattle.aml_writer.specs.Sizes.{most_content_bytes};
 ghost use Rattle.aml_writer.specs.TermBytes.{term_bytes, nodes_bytes, args_bytes, head_bytes};
-ghost use Rattle.aml_writer.specs.Pieces.{line_text, piece_at, term_pieces, nodes_pieces};
+ghost use Rattle.aml_writer.specs.Pieces.{piece_at, term_pieces, nodes_pieces};
 
 use crate::draft::{Draft, DraftStop};
 use crate::term_bytes::{put_args, put_head, put_term};
 use asl_tree::term::{Node, Op, Term};
-use iasl_messages::place::{Line, Piece, Place};
+use iasl_messages::place::{Piece, Place};
 use iasl_ports::list::Text;
+use source_lines::lines::SourceLines;
 use std::alloc::{AllocError, Global};
-
-// The text of the first line that has the place's file and line.
-fn line_at<'a>(lines: &'a [Line], place: Place) -> &'a [u8]
-    ensures { result.now ≡ line_text lines.now place }
-{
-    for line in lines {
-        if line.file == place.file && line.number == place.line {
-            return line.text.as_bytes();
-        }
-    }
-    &[]
-}
 
 /// Some bytes with their place and its line.
 pub(crate) fn piece(
     alloc: Global,
-    lines: &[Line],
+    lines: &SourceLines<'_>,
     place: Place,
     bytes: Vec<u8>,
 ) -> Result<Piece, AllocError>
@@ -34,7 +23,7 @@ pub(crate) fn piece(
 {
     Ok(Piece {
         place,
-        source: Text::from_bytes(alloc, line_at(lines, place))?,
+        source: Text::from_bytes(alloc, lines.text_at(place))?,
         bytes: Text::from_vec(alloc, bytes)?,
     })
 }
@@ -60,7 +49,7 @@ fn head(
 fn push_bytes(
     alloc: Global,
     draft: &mut Draft,
-    lines: &[Line],
+    lines: &SourceLines<'_>,
     place: Place,
     bytes: Vec<u8>,
 ) -> Result<(), DraftStop>
@@ -75,7 +64,7 @@ fn push_bytes(
 fn put_whole(
     alloc: Global,
     draft: &mut Draft,
-    lines: &[Line],
+    lines: &SourceLines<'_>,
     place: Place,
     term: &Term,
     short: bool,
@@ -94,7 +83,7 @@ fn put_whole(
 fn put_term_pieces(
     alloc: Global,
     draft: &mut Draft,
-    lines: &[Line],
+    lines: &SourceLines<'_>,
     node: &Node,
     short: bool,
 ) -> Result<(), DraftStop>
@@ -118,7 +107,7 @@ fn put_term_pieces(
 pub(crate) fn put_terms(
     alloc: Global,
     draft: &mut Draft,
-    lines: &[Line],
+    lines: &SourceLines<'_>,
     nodes: &[Node],
     short: bool,
 ) -> Result<(), DraftStop>

@@ -12,21 +12,22 @@ use crate::pieces::{piece, put_terms};
 use crate::stop::{WriteStop, too_long};
 use asl_tree::program::{Block, Core};
 use iasl_messages::place::{Lines, Piece, Pieces};
+use source_lines::lines::SourceLines;
 use std::alloc::{AllocError, Global};
 
 // The header before the pieces of the terms, which come with the last first.
 fn finish(
     alloc: Global,
     block: &Block,
-    lines: &Lines,
+    lines: &SourceLines<'_>,
     reversed: Vec<Piece>,
     size: usize,
     short: bool,
 ) -> Result<Pieces, AllocError>
-    requires pieces { reversed.items ≡ reverse (nodes_pieces short lines.now.list block.now.terms.items) }
+    requires pieces { reversed.items ≡ reverse (nodes_pieces short lines.now block.now.terms.items) }
     requires size { size ≡ length (nodes_bytes short block.now.terms.items) }
     requires within { size ≤ most_content_bytes }
-    ensures { IfOk result (λ pieces. pieces ≡ table_pieces short lines.now.list block.now) }
+    ensures { IfOk result (λ pieces. pieces ≡ table_pieces short lines.now block.now) }
 {
     let mut pieces = reversed;
     pieces.reverse();
@@ -34,7 +35,7 @@ fn finish(
     let unchecked = header(alloc, block, size, 0)?;
     let checksum = completing_byte(&unchecked, &pieces);
     let first = header(alloc, block, size, checksum)?;
-    pieces.insert(0, piece(alloc, lines.list.as_slice(), block.place, first)?)?;
+    pieces.insert(0, piece(alloc, lines, block.place, first)?)?;
     Ok(Pieces::from_vec(pieces))
 }
 
@@ -48,17 +49,12 @@ fn write_block(
     ensures table { IfOk result (λ pieces. IsReadyBlock block.now → IsTableOf block.now short (joined_pieces pieces)) }
     ensures refused { IfErr result (RefusedFor block.now short) }
 {
+    let lines = SourceLines::new(alloc, lines.list.as_slice())?;
     let mut draft = Draft::new(alloc);
-    match put_terms(
-        alloc,
-        &mut draft,
-        lines.list.as_slice(),
-        &block.terms,
-        short,
-    ) {
+    match put_terms(alloc, &mut draft, &lines, &block.terms, short) {
         Ok(()) => {
             let Draft { reversed, size } = draft;
-            Ok(finish(alloc, block, lines, reversed, size, short)?)
+            Ok(finish(alloc, block, &lines, reversed, size, short)?)
         }
         Err(DraftStop::TooLong) => Err(WriteStop::TooLong(too_long(alloc, block))),
         Err(DraftStop::Memory) => Err(WriteStop::Memory),

@@ -20,7 +20,7 @@ use Rattle.data_tables.specs.Bytes.{little_bytes, little_number, filled, checksu
 use Rattle.data_tables.specs.Fields.{Value, field_bytes, number_of_value, value_of, revision_fault}
 use Rattle.data_tables.specs.Parts.{first_part}
 use Rattle.data_tables.specs.Walk.{Field, Walked, walk}
-use Rattle.data_tables.specs.Compiling.{piece_of, joined, sealed, Answer, answer_by, answer_of, signature_in, compiled_table, compiled_signed, compiled_lines, compiled}
+use Rattle.data_tables.specs.Compiling.{piece_of, joined, sealed, with_texts, answer_with_texts, compiled_text, Answer, answer_by, answer_of, signature_in, compiled_table, compiled_signed, compiled_lines, compiled}
 use Rattle.data_tables.specs.Entries.{Entry, entries_from, fields_of_table, fields_signed, fields_by, written_values, unsealed_bytes}
 use Rattle.data_tables.specs.Reading.{bytes_at, number_read, size_of, rest_of, first_rows, IsRest, ReadsAs}
 use Rattle.data_tables.proofs.Sums.{sum-append}
@@ -289,6 +289,20 @@ on_lines : (text : DataText) (lines : List FieldLine) (out : Compiled) → text.
 on_lines text [] out is e short = let both : ◌≡◌ {A = Answer} (compiled_lines text []) (Ok out) = e in absurd cc
 on_lines text (first ∷ rest) out is e short = on_signature text first rest (signature_in first) out is refl e short
 
+joined_with_texts : (lines : List Line) (pieces : List Piece) → joined (with_texts lines pieces) ≡ joined pieces
+joined_with_texts lines [] = refl
+joined_with_texts lines (piece ∷ pieces) = ap (λ (bytes : List ℕ). piece.bytes ++ bytes) (joined_with_texts lines pieces)
+
+bytes_stay : (lines : List Line) (answer : Answer) (out : Compiled) → answer_with_texts lines answer ≡ Ok out → (table : Compiled) × (answer ≡ Ok table) × (joined out.pieces ≡ joined table.pieces)
+bytes_stay lines (Ok table) out e =
+    let made : Compiled = record table { pieces = with_texts lines table.pieces } in
+    let both : ◌≡◌ {A = Answer} (Ok made) (Ok out) = e in
+    let is : made ≡ out = cc in
+    (table, refl, ap (λ (t : Compiled). joined t.pieces) (sym is) ∙ joined_with_texts lines table.pieces)
+bytes_stay lines (Err faults) out e = let both : ◌≡◌ {A = Answer} (Err faults) (Ok out) = e in absurd cc
+
 -- the bytes of a compiled text, of which there are fewer than 2^32, read as the values that the text writes
 pub reads_as_written : (lines : List Line) (out : Compiled) → compiled lines ≡ Ok out → length (unsealed_bytes lines) < 2 ^ 32 → ReadsAs (joined out.pieces) (written_values lines)
-reads_as_written lines out e short = on_lines (text_of lines) (text_of lines).lines out refl e short
+reads_as_written lines out e short =
+    let inner = bytes_stay lines (compiled_text (text_of lines)) out e in
+    subst (λ (bytes : List ℕ). ReadsAs bytes (written_values lines)) (sym inner.2) (on_lines (text_of lines) (text_of lines).lines inner.0 refl inner.1 short)

@@ -1,5 +1,5 @@
 -- The bytes of a table read as one list of values.
-use Rattle.std.proofs.Common.{◌≡◌, ◌≤◌, ◌<◌, ◌+◌, ◌^◌, ℕ, List, [], ◌∷◌, ◌++◌, length, map, Option, Some, Result, Ok, Err, OnOk, IfOk, refl, sym, ap, subst, ◌∙◌, arith}
+use Rattle.std.proofs.Common.{◌≡◌, ◌≤◌, ◌<◌, ◌+◌, ◌^◌, ℕ, List, [], ◌∷◌, ◌++◌, length, map, Option, Some, Ok, refl, sym, ap, subst, ◌∙◌, arith}
 use Rattle.data_layout.specs.declared.row.Row.{Row}
 use Rattle.data_layout.specs.declared.table.Table.{Table}
 use Rattle.data_layout.specs.Layout.{entry_rows, type_rows}
@@ -10,11 +10,9 @@ use Rattle.data_tables.specs.Entries.{Entry}
 use Rattle.data_tables.specs.Reading.{rows_read, size_of, Stand, IsRest, ended, entry, structure, locality, rest_of, first_rows, ReadsAs}
 use Rattle.iasl_messages.specs.declared.place.Line.{Line}
 use Rattle.data_tables.specs.declared.compiled.Compiled.{Compiled}
-use Rattle.data_tables.specs.Compiling.{joined, piece_of, compiled, compiled_text}
-use Rattle.data_tables.specs.Promise.{Answers}
+use Rattle.data_tables.specs.Compiling.{joined, piece_of, with_texts, answer_with_texts, compiled, compiled_text}
 use Rattle.data_text.specs.declared.field_line.DataText.{DataText}
 use Rattle.data_text.specs.Source.{text_of}
-use Rattle.iasl_messages.specs.declared.message.Stage.{Stage}
 use Rattle.data_tables.specs.Entries.{fields_of_text, written_values, unsealed_bytes}
 use Rattle.data_tables.proofs.Plain.{type_one}
 use Rattle.data_tables.proofs.Law.{reads_as_written}
@@ -72,7 +70,8 @@ reads_one bytes one two r s =
 pub only_written : (lines : List Line) (out : Compiled) → compiled lines ≡ Ok out → length (unsealed_bytes lines) < 2 ^ 32 → (values : List Entry) → ReadsAs (joined out.pieces) values → values ≡ written_values lines
 only_written lines out e short values r = reads_one (joined out.pieces) values (written_values lines) r (reads_as_written lines out e short)
 
-pub answers_only : (lines : List Line) (text : DataText) (answer : Result Compiled Stage) → text ≡ text_of lines → Answers answer (compiled_text text) → OnOk answer (length (joined (map piece_of (fields_of_text text))) < 2 ^ 32) → IfOk answer (λ table. (values : List Entry) → ReadsAs (joined table.pieces) values → values ≡ written_values lines)
-answers_only lines text (Ok out) e exact short = λ values r.
-    only_written lines out (ap compiled_text (sym e) ∙ exact) (subst (λ (t : DataText). length (joined (map piece_of (fields_of_text t))) < 2 ^ 32) e short) values r
-answers_only lines text (Err stage) e exact short = tt
+pub only_compiled : (lines slice : List Line) (text : DataText) (table out : Compiled) → slice ≡ lines → text ≡ text_of slice → compiled_text text ≡ Ok table → length (joined (map piece_of (fields_of_text text))) < 2 ^ 32
+    → out ≡ record table { pieces = with_texts slice table.pieces } → (values : List Entry) → ReadsAs (joined out.pieces) values → values ≡ written_values lines
+only_compiled lines slice text table out same e exact short made values r =
+    let is : compiled slice ≡ Ok out = ap (λ (t : DataText). answer_with_texts slice (compiled_text t)) (sym e) ∙ ap (answer_with_texts slice) exact ∙ ap (λ (t : Compiled). Ok t) (sym made) in
+    only_written slice out is (subst (λ (t : DataText). length (joined (map piece_of (fields_of_text t))) < 2 ^ 32) e short) values r ∙ ap written_values same

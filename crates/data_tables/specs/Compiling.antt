@@ -6,6 +6,7 @@ use Rattle.iasl_messages.specs.declared.place.Place.{Place}
 use Rattle.iasl_messages.specs.declared.place.Piece.{Piece}
 use Rattle.iasl_messages.specs.declared.place.Line.{Line}
 use Rattle.iasl_messages.specs.declared.message.Message.{Message}
+use Rattle.source_lines.specs.Text.{line_text}
 use Rattle.data_layout.specs.declared.table.Table.{Table}
 use Rattle.data_layout.specs.Layout.{table_of}
 use Rattle.data_text.specs.declared.field_line.FieldLine.{FieldLine}
@@ -18,9 +19,9 @@ use Rattle.data_tables.specs.Fields.{field_bytes}
 use Rattle.data_tables.specs.Parts.{first_part}
 use Rattle.data_tables.specs.Walk.{Field, Walked, walk, message_at}
 
--- the piece of a field: the place and the text of its line, and its bytes
+-- the piece of a field: the place of its line, no text yet, and its bytes
 abbrev pub piece_at : FieldLine → List ℕ → Piece
-piece_at line bytes = record { place = line.place; source = line.source; bytes = bytes }
+piece_at line bytes = record { place = line.place; source = []; bytes = bytes }
 
 abbrev pub piece_of : Field → Piece
 piece_of field = piece_at field.line (field_bytes field.row field.value)
@@ -45,6 +46,13 @@ with_checksum pieces = put_at 3 (little_bytes 1 (checksum_of (joined pieces))) p
 
 abbrev pub sealed : List Piece → List Piece
 sealed pieces = with_checksum (with_length pieces)
+
+-- a piece with the text of its line
+abbrev pub with_text : List Line → Piece → Piece
+with_text lines piece = record piece { source = line_text lines piece.place }
+
+abbrev pub with_texts : List Line → List Piece → List Piece
+with_texts lines pieces = map (with_text lines) pieces
 
 -- a table, or the messages of all faults
 abbrev pub Answer : Type 0
@@ -81,6 +89,10 @@ compiled_lines text (first ∷ rest) = compiled_signed text first (signature_in 
 abbrev pub compiled_text : DataText → Answer
 compiled_text text = compiled_lines text text.lines
 
+abbrev pub answer_with_texts : List Line → Answer → Answer
+answer_with_texts lines (Ok table) = Ok (record table { pieces = with_texts lines table.pieces })
+answer_with_texts lines (Err faults) = Err faults
+
 -- what the lines of a text come to
 abbrev pub compiled : List Line → Answer
-compiled lines = compiled_text (text_of lines)
+compiled lines = answer_with_texts lines (compiled_text (text_of lines))

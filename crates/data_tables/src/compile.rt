@@ -1,7 +1,7 @@
 //! A text of fields to its table.
 ghost use Rattle.std.specs.Prelude.{◌≡◌, ◌<◌, ◌^◌, IfOk, OnOk, None, length, map, List as AList};
 ghost use Rattle.std.specs.Option.{option_copied};
-ghost use Rattle.data_tables.specs.Compiling.{signature_in, compiled, compiled_text, answer_of, refused, sealed, joined, piece_of};
+ghost use Rattle.data_tables.specs.Compiling.{signature_in, compiled, compiled_text, answer_of, refused, sealed, joined, piece_of, with_text, with_texts};
 ghost use Rattle.data_tables.specs.Entries.{Entry, fields_of_text, written_values, unsealed_bytes};
 ghost use Rattle.data_tables.specs.Reading.{ReadsAs};
 ghost use Rattle.data_tables.specs.Walk.{walk};
@@ -18,8 +18,9 @@ use data_text::field_line::{DataText, FieldLine};
 use data_text::source::data_text;
 use data_text::values::text_in;
 use iasl_messages::message::Stage;
-use iasl_messages::place::{Lines, Place};
+use iasl_messages::place::{Line, Lines, Piece, Pieces, Place};
 use iasl_ports::list::{List, Text};
+use source_lines::lines::SourceLines;
 use std::alloc::{AllocError, Global};
 
 const UNKNOWN_TABLE: u16 = 6090;
@@ -96,6 +97,33 @@ fn compile_text(alloc: Global, text: &DataText) -> Result<Compiled, Stage>
     }
 }
 
+// The piece with the text of its line.
+fn with_text(alloc: Global, lines: &SourceLines<'_>, piece: Piece) -> Result<Piece, AllocError>
+    ensures { IfOk result (λ out. out ≡ with_text lines.now piece) }
+{
+    Ok(Piece {
+        place: piece.place,
+        source: Text::from_bytes(alloc, lines.text_at(piece.place))?,
+        bytes: piece.bytes,
+    })
+}
+
+// The table whose pieces have the texts of their lines.
+fn with_texts(alloc: Global, lines: &[Line], table: Compiled) -> Result<Compiled, AllocError>
+    ensures { IfOk result (λ out. out ≡ record table { pieces = with_texts lines.now table.pieces }) }
+{
+    let index = SourceLines::new(alloc, lines)?;
+    let mut pieces = Pieces::new(alloc);
+    for piece in table.pieces.into_vec() {
+        pieces.push(with_text(alloc, &index, piece)?)?;
+    }
+    Ok(Compiled {
+        pieces,
+        signature: table.signature,
+        notes: table.notes,
+    })
+}
+
 /// The table of a text of fields, with a piece for each field line; or its faults, in order of the text: 6090 to 6097.
 /// The notes are 3005, where a label is not the field's, and 2002, where a decoded line has an unknown label. No memory
 /// has a table of 2^32 bytes or more.
@@ -111,8 +139,14 @@ pub fn compile_data(alloc: Global, lines: &Lines) -> Result<Compiled, Stage>
 
     ensures within { OnOk result (length (unsealed_bytes lines.now.list) < 2 ^ 32) }
 {
-    match data_text(alloc, lines.list.as_slice()) {
-        Ok(text) => compile_text(alloc, &text),
+    let lines = lines.list.as_slice();
+    let text = match data_text(alloc, lines) {
+        Ok(text) => text,
+        Err(AllocError) => return Err(Stage::Memory),
+    };
+    let table = compile_text(alloc, &text)?;
+    match with_texts(alloc, lines, table) {
+        Ok(table) => Ok(table),
         Err(AllocError) => Err(Stage::Memory),
     }
 }

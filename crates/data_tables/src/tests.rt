@@ -336,3 +336,30 @@ fn pieces_have_their_lines(rt: HostRuntime) -> Result<(), AllocError> {
     assert!(rt; has_its_lines(rt.alloc(), &CASES[6])?);
     Ok(())
 }
+
+// The source of the last piece where its line has the place of the first.
+fn last_source(alloc: Global, case: &Case) -> Result<Text, AllocError> {
+    let text = case_text(alloc, case)?;
+    let mut lines = lines_of(alloc, &text)?;
+    let mut list = lines.list.into_vec();
+    if let Some(line) = list.last_mut() {
+        line.number = 1;
+    }
+    lines.list = List::from_vec(list);
+    match compile_data(alloc, &lines) {
+        Ok(compiled) => match compiled.pieces.as_slice().last() {
+            Some(piece) => Text::from_bytes(alloc, piece.source.as_bytes()),
+            None => Ok(Text::new(alloc)),
+        },
+        Err(_) => Ok(Text::new(alloc)),
+    }
+}
+
+// Of lines with one place the first gives the text.
+#[test]
+fn first_line_of_a_place_is_the_source(rt: HostRuntime) -> Result<(), AllocError> {
+    let source = last_source(rt.alloc(), &CASES[6])?;
+    let first = b"[0004]                Signature : \"SLIT\"    [Description]";
+    assert_eq!(rt; source.as_bytes(), first.as_slice());
+    Ok(())
+}

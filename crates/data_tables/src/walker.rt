@@ -92,11 +92,10 @@ impl Walker {
         ensures notes { self.new.notes ≡ self.old.notes }
         ensures faults { self.new.faults ≡ self.old.faults }
     {
-        let source = Text::from_bytes(self.alloc, line.source.as_bytes())?;
         let bytes = Text::from_vec(self.alloc, bytes)?;
         self.pieces.push(Piece {
             place: line.place,
-            source,
+            source: Text::new(self.alloc),
             bytes,
         })
     }

@@ -39,9 +39,9 @@ Begun = FieldLine × Bool
 
 abbrev pub begun_with : Line → Bool → Option (List ℕ × List ℕ) → Begun
 begun_with line bracketed None =
-    (record { place = place_of line; source = line.text; bracketed = bracketed; colon = false; label = []; value = [] }, false)
+    (record { place = place_of line; bracketed = bracketed; colon = false; label = []; value = [] }, false)
 begun_with line bracketed (Some found) =
-    (record { place = place_of line; source = line.text; bracketed = bracketed; colon = true; label = label_key found.0; value = (ending found.1).0 }, (ending found.1).1)
+    (record { place = place_of line; bracketed = bracketed; colon = true; label = label_key found.0; value = (ending found.1).0 }, (ending found.1).1)
 
 abbrev pub begun_behind : Line → List ℕ × Bool → Begun
 begun_behind line text = begun_with line text.1 (halves (before_remark false text.0))

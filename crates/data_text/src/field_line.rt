@@ -1,14 +1,12 @@
 //! Field lines.
 use iasl_messages::place::Place;
-use iasl_ports::list::{List, Text};
+use iasl_ports::list::List;
 
 /// A line of a data table that is neither blank nor a heading: a field line or a decoded line.
 #[derive(Drop)]
 pub struct FieldLine {
     /// The line, column 1. Where the value goes on in further lines, the first of them.
     pub place: Place,
-    /// The line's text as it stands.
-    pub source: Text,
     /// Whether the line begins with a part in brackets.
     pub bracketed: bool,
     /// Whether it has a colon. Without one it has no label and no value.

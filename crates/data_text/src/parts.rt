@@ -7,7 +7,7 @@ ghost use Rattle.data_text.specs.Parts as spec;
 use crate::blanks::{before_backslash, has_blanks_alone, label_key, skip_blanks};
 use crate::field_line::{FieldLine, FieldLines};
 use iasl_messages::place::{Line, Place};
-use iasl_ports::list::{List, Text};
+use iasl_ports::list::List;
 use std::alloc::{AllocError, Global};
 
 // A text up to the first `[` outside quotes.
@@ -78,11 +78,9 @@ pub fn begun(alloc: Global, line: &Line, bare: &[u8]) -> Result<(FieldLine, bool
 {
     let (rest, bracketed) = after_bracket(skip_blanks(bare));
     let place = column_one(line);
-    let source = Text::from_bytes(alloc, line.text.as_bytes())?;
     let Some((label, value)) = halves(before_remark(rest)) else {
         let line = FieldLine {
             place,
-            source,
             bracketed,
             colon: false,
             label: List::new(alloc),
@@ -93,7 +91,6 @@ pub fn begun(alloc: Global, line: &Line, bare: &[u8]) -> Result<(FieldLine, bool
     let (front, goes_on) = before_backslash(value);
     let line = FieldLine {
         place,
-        source,
         bracketed,
         colon: true,
         label: List::from_vec(label_key(alloc, label)?),
@@ -112,7 +109,6 @@ pub fn extended(pending: FieldLine, bare: &[u8]) -> Result<(FieldLine, bool), Al
     value.extend_from_slice(front)?;
     let line = FieldLine {
         place: pending.place,
-        source: pending.source,
         bracketed: pending.bracketed,
         colon: pending.colon,
         label: pending.label,

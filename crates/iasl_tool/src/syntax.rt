@@ -1,11 +1,11 @@
 //! Where tokens stop being a source.
 ghost use Rattle.std.specs.Prelude.{◌≡◌, ◌<◌, ◌%◌, ◌^◌, [], drop, length, true, not, position};
 ghost use Rattle.std.specs.Char.{is_ascii_alphanumeric};
-ghost use Rattle.aml_writer.specs.Pieces.{line_text};
 ghost use Rattle.iasl_tool.specs.Syntax as spec;
 
 use asl_lexer::token::{Token, TokenKind};
 use iasl_messages::place::{Line, Place};
+use source_lines::lines::text_at;
 
 /// The first character of the main file.
 const FIRST_PLACE: Place = Place {
@@ -71,23 +71,11 @@ fn width(token: &Token, bytes: &[u8]) -> usize
     }
 }
 
-// The text of the first line that has the place's file and line.
-fn line_at(lines: &[Line], place: Place) -> &[u8]
-    ensures { result.now ≡ line_text lines.now place }
-{
-    for line in lines {
-        if line.file == place.file && line.number == place.line {
-            return line.text.as_bytes();
-        }
-    }
-    b""
-}
-
 fn bytes_at(lines: &[Line], place: Place) -> &[u8]
     ensures { result.now ≡ spec.bytes_at lines.now place }
 {
     after(
-        line_at(lines, place),
+        text_at(lines, place),
         (place.column as usize).saturating_sub(1),
     )
 }

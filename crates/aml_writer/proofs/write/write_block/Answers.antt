@@ -10,4 +10,4 @@ returns-in-Ok-clause-table c =
     let none = c.new-draft.ensures.size in
     let nodes = ap (λ ns. length (nodes_bytes c.args.short ns)) c.deref.ensures.value in
     let within : c.put_terms.new.draft.size ≤ most_content_bytes = c.put_terms.new.draft.within in
-    λ ready. table_of c.args.short c.args.lines.now.list c.args.block.now c.in_ok-finish-in-Ok.field-0 (omega (arith, size, none, nodes, within)) c.in_ok-finish-in-Ok.ensures ready
+    λ ready. table_of c.args.short c.in_ok-lines.lines c.args.block.now c.in_ok-finish-in-Ok.field-0 (omega (arith, size, none, nodes, within)) c.in_ok-finish-in-Ok.ensures ready

@@ -1,8 +1,6 @@
-use Rattle.std.proofs.Common.{ap, ◌∙◌}
-use Rattle.data_text.specs.Source.{text_of}
-use Rattle.data_tables.proofs.Unique.{answers_only}
+use Rattle.data_tables.proofs.Unique.{only_compiled}
 use Rattle.data_tables.proofs.compile.compile_data.Goals as goal
 
-pub returns-in-Ok-clause-only : goal.returns-in-Ok-clause-only
-returns-in-Ok-clause-only c =
-    answers_only c.args.lines.now.list c.in-Ok.text c.compile_text.result (c.in-Ok.ensures ∙ ap text_of c.as_slice.ensures) c.compile_text.ensures.exact c.compile_text.ensures.within
+pub returns-in-Ok-with_texts-clause-only : goal.returns-in-Ok-with_texts-clause-only
+returns-in-Ok-with_texts-clause-only c =
+    only_compiled c.args.lines.now.list c.as_slice-lines.result.now c.in-Ok.text c.in_ok-table.table c.in-Ok-with_texts.table c.as_slice-lines.ensures c.in-Ok.ensures c.in_ok-table.ensures.exact c.in_ok-table.ensures.within c.in-Ok-with_texts.ensures
