@@ -88,10 +88,19 @@ pub fn leaf(alloc: Global, first: u32, raw: Raw) -> Result<Branch, AllocError>
     })
 }
 
+// The same nodes without spare room, since most lists are short and stay as they are.
+fn fit(raws: Raws) -> Raws
+    ensures { result ≡ raws }
+{
+    let mut nodes = raws.into_vec();
+    nodes.shrink_to_fit();
+    Raws::from_vec(nodes)
+}
+
 fn apply_raw(spot: Spot, op: Infix, raws: Option<Raws>) -> Option<Raw>
     ensures { result ≡ spec.apply_raw spot op raws }
 {
-    let args = raws?;
+    let args = fit(raws?);
     Some(Raw::Apply {
         place: spot.place,
         op,
@@ -127,7 +136,7 @@ pub fn posted(alloc: Global, spot: Spot, op: Infix, operand: Branch) -> Result<B
 fn list_raw(spot: Spot, raws: Option<Raws>) -> Option<Raw>
     ensures { result ≡ spec.list_raw spot raws }
 {
-    let items = raws?;
+    let items = fit(raws?);
     Some(Raw::List {
         place: spot.place,
         items,
@@ -160,7 +169,7 @@ fn make_part(alloc: Global, trees: Option<Branches>) -> Part
             levels: Levels::new(alloc),
         },
         Some(Branches { raws, levels }) => Part {
-            raws: raws.map(Some),
+            raws: raws.map(fit).map(Some),
             levels,
         },
     }
