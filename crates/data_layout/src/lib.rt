@@ -4,3 +4,5 @@
 pub mod row;
 pub mod rows;
 pub mod table;
+#[cfg(test)]
+mod tests;

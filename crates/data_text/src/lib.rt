@@ -6,4 +6,6 @@ mod comments;
 pub mod field_line;
 mod parts;
 pub mod source;
+#[cfg(test)]
+mod tests;
 pub mod values;
