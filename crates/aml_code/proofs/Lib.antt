@@ -1,5 +1,6 @@
-pub mod Rows
 pub mod FrontReads
 pub mod Shortest
 pub mod CodedBytes
 pub mod NameLengths
+pub mod BitCounts
+pub mod ShortestCounts

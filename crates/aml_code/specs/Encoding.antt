@@ -1,13 +1,15 @@
 -- The bytes of a core tree (ACPI Specification 6.4, 20.2).
-use Rattle.std.specs.Prelude.{ℕ, zero, suc, ◌+◌, ◌*◌, ◌/◌, ◌%◌, ◌^◌, Bool, nat_eq, nat_lt, ◌&&◌, if◌then◌else◌, List, [], ◌∷◌, ◌++◌, length, replicate}
+use Rattle.std.specs.Prelude.{ℕ, zero, suc, ◌+◌, ◌-◌, ◌*◌, ◌/◌, ◌%◌, ◌^◌, Bool, nat_eq, nat_lt, ◌&&◌, if◌then◌else◌, List, [], ◌∷◌, ◌++◌, length, replicate, Option, Some, None}
 use Rattle.byteorder.specs.Endian.{little_bytes}
 use Rattle.acpi_values.specs.Paths.{NameSeg}
 use Rattle.acpi_values.specs.declared.width.Width.{Width}
-use Rattle.acpi_values.specs.declared.width.Width.TheVariants.{W64}
 use Rattle.acpi_values.specs.Widths.{ones_of}
 use Rattle.asl_tree.specs.declared.path.Path.{Path}
-use Rattle.asl_tree.specs.Tree.{Tree, Integer, Use, Return, Name, Method, Misshapen, Trees, no_trees, tree}
-use Rattle.aml_code.specs.Codes.{NameCode, MethodCode, ReturnCode, code_bytes}
+use Rattle.asl_tree.specs.declared.term.Literal.{Literal}
+use Rattle.asl_tree.specs.FieldItems.{FieldItem, UnitItem, SkipItem, OffsetItem, behind_item}
+use Rattle.asl_tree.specs.Tree.{Tree, Integer, Constant, String, InSlot, Debug, Omitted, Raw, Use, Call, Apply, Buffer, Package, VarPackage, CondRefOf, Return, Name, Alias, External, Method, Mutex, Event, Container', Scope, Fill, Misshapen, Trees, no_trees, tree, UnitName, OperationRegion, Field, IndexField, BankField, CreateField, If, Else, While, Break, Continue, Item}
+use Rattle.acpi_state.specs.Objects.{Container, ThermalZone, PowerResource, Processor}
+use Rattle.aml_meaning.specs.Codes.{Code, PlainCode, SlotCode, DebugCode, OmittedCode, StringCode, BufferCode, PackageCode, VarPackageCode, CondRefOfCode, NameCode, AliasCode, ScopeCode, MethodCode, ExternalCode, MutexCode, EventCode, ReturnCode, DeviceCode, ThermalZoneCode, PowerResourceCode, ProcessorCode, code_bytes, OperationRegionCode, FieldCode, IndexFieldCode, BankFieldCode, CreateFieldCode, IfCode, ElseCode, WhileCode, BreakCode, ContinueCode}
 
 -- the PkgLength of a content, where `more` bytes follow the first
 abbrev pub package_length_form : ℕ → ℕ → List ℕ
@@ -23,6 +25,18 @@ package_length_more content =
 -- the shortest PkgLength
 abbrev pub package_length_bytes : ℕ → List ℕ
 package_length_bytes content = package_length_form (package_length_more content) content
+
+-- a number spelled as a PkgLength is, where `more` bytes follow the first
+abbrev pub bit_count_form : ℕ → ℕ → List ℕ
+bit_count_form zero bits = bits ∷ []
+bit_count_form (suc k) bits = (64 * suc k + bits % 16) ∷ little_bytes (suc k) (bits / 16)
+
+abbrev pub bit_count_more : ℕ → ℕ
+bit_count_more bits = if nat_lt bits (2 ^ 6) then 0 else if nat_lt bits (2 ^ 12) then 1 else if nat_lt bits (2 ^ 20) then 2 else 3
+
+-- the shortest count of bits
+abbrev pub bit_count_bytes : ℕ → List ℕ
+bit_count_bytes bits = bit_count_form (bit_count_more bits) bits
 
 -- a content as a package
 abbrev pub packed : List ℕ → List ℕ
@@ -61,17 +75,3 @@ name_path_bytes segs = 0x2F ∷ length segs ∷ joined_segments segs
 abbrev pub name_bytes : Path → List ℕ
 name_bytes name = prefix_bytes name ++ name_path_bytes name.segs
 
--- integers are in the short form where `short` is true; until tables of 32 bits are written the width is 64
-abbrev mutual
-  pub encoded : Bool → Tree → List ℕ
-  encoded short (Integer number) = integer_bytes W64 short number
-  encoded short (Use name) = name_bytes name
-  encoded short (Return value) = code_bytes ReturnCode ++ encoded short value
-  encoded short (Name name value) = code_bytes NameCode ++ (name_bytes name ++ encoded short value)
-  encoded short (Method name flags body) =
-      code_bytes MethodCode ++ packed (name_bytes name ++ (flags % 256) ∷ encoded_all short body)
-  encoded short Misshapen = []
-
-  pub encoded_all : Bool → Trees → List ℕ
-  encoded_all short no_trees = []
-  encoded_all short (tree term terms) = encoded short term ++ encoded_all short terms

@@ -3,7 +3,8 @@ use Rattle.std.specs.Prelude.{◌≡◌, ℕ, ◌+◌, ◌-◌, ◌%◌, Bool, L
 use Rattle.byteorder.specs.Endian.{little_bytes, little_number}
 use Rattle.asl_tree.specs.declared.program.Block.{Block}
 use Rattle.asl_tree.specs.View.{trees_of}
-use Rattle.aml_code.specs.Encoding.{encoded_all}
+use Rattle.acpi_values.specs.declared.width.Width.TheVariants.{W64}
+use Rattle.aml_meaning.specs.Encoded.{encoded_all}
 
 -- what a table's header says of it
 pub record HeaderFields : Type 0 where
@@ -53,7 +54,3 @@ pub record IsHeader (bytes : List ℕ) (fields : HeaderFields) : Type 0 where
 
 abbrev pub fields_of : Block → HeaderFields
 fields_of block = record { signature = block.signature; revision = block.revision; oem_id = block.oem_id; table_id = block.table_id; oem_revision = block.oem_revision }
-
--- a block as a table
-abbrev pub encoded_block : Bool → Block → List ℕ
-encoded_block short block = table_bytes (fields_of block) (encoded_all short (trees_of block.terms.items))

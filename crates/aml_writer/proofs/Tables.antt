@@ -1,169 +1,302 @@
 -- What is written of a block is its table.
-use Rattle.std.proofs.Common.{◌≡◌, ℕ, suc, ◌+◌, ◌%◌, ◌≤◌, Bool, true, false, List, [], ◌∷◌, ◌++◌, length, reverse, refl, sym, ap, ◌∙◌, subst, arith, append_assoc, length-append}
+use Rattle.std.proofs.Common.{◌≡◌, ℕ, ◌+◌, ◌%◌, ◌≤◌, ◌<◌, Bool, true, false, List, [], ◌∷◌, ◌++◌, length, reverse, Option, None, Some, refl, sym, ap, ◌∙◌, subst, arith}
 use Rattle.std.specs.Prelude.{nat_le, if◌then◌else◌}
 use Rattle.std.proofs.lemmas.Bool.Decides.{nat_tests}
-use Rattle.std.proofs.lemmas.List.{reverse-reverse, append-nil}
+use Rattle.std.proofs.lemmas.List.{reverse-reverse}
 use Rattle.iasl_messages.specs.declared.place.Line.{Line}
 use Rattle.iasl_messages.specs.declared.place.Piece.{Piece}
+use Rattle.acpi_values.specs.declared.width.Width.TheVariants.{W64}
+use Rattle.acpi_values.specs.Paths.{AbsolutePath}
+use Rattle.acpi_values.specs.Operators.{Letter, Valued, Kept, Placed, Used, row_of}
+use Rattle.acpi_values.specs.Operators as L
+use Rattle.acpi_state.specs.Objects.{Names}
+use Rattle.acpi_state.specs.FieldActs.{region_letters, field_letters}
 use Rattle.asl_tree.specs.declared.path.Path.{Path}
 use Rattle.asl_tree.specs.declared.term.Op.{Op}
 use Rattle.asl_tree.specs.declared.term.Declaration.TheVariants as Declaration
 use Rattle.asl_tree.specs.declared.term.Control.TheVariants as Control
+use Rattle.asl_tree.specs.declared.term.Special.TheVariants as Special
 use Rattle.asl_tree.specs.declared.term.Node.{Node}
 use Rattle.asl_tree.specs.declared.term.Term.{Term}
 use Rattle.asl_tree.specs.declared.term.Term as D
 use Rattle.asl_tree.specs.declared.program.Block.{Block}
-use Rattle.asl_tree.specs.Tree.{Tree, Integer, Use, Return, Name, Method, Misshapen, Trees, no_trees, tree}
-use Rattle.asl_tree.specs.View.{form, tree_of, row_trees, trees_of}
-use Rattle.aml_code.specs.Encoding.{package_length_bytes, name_bytes, encoded, encoded_all}
+use Rattle.asl_tree.specs.Names.{Known, place_of}
+use Rattle.asl_meaning.specs.Starts.{IsKnownStart}
+use Rattle.asl_meaning.specs.Meaning.{SpotForm, OfResult, OfInside, NoSpot, spot_form}
+use Rattle.asl_tree.specs.FieldItems.{FieldItem}
+use Rattle.asl_tree.specs.Tree.{At, Tree, Integer, InSlot, Debug, Omitted, Raw, Use, Call, Apply, Buffer, Package, VarPackage, CondRefOf, Return, Name, Alias, External, Method, Mutex, Event, Container', Scope, Fill, Misshapen, Trees, no_trees, tree, count, If, Else, While, Item, OperationRegion, Field, IndexField, BankField, CreateField, UnitName}
+use Rattle.asl_tree.specs.View.{buffer, packaged, items_in, form, tree_of, row_trees, trees_of}
+use Rattle.aml_code.specs.Encoding.{name_bytes}
+use Rattle.aml_meaning.specs.Encoded.{encoded, encoded_all}
 use Rattle.aml_code.specs.Fronts.{IsName}
 use Rattle.aml_code.specs.Header.{header_length, header_with, checksum_of, fields_of, table_bytes, IsHeader}
-use Rattle.aml_code.specs.ByteSession.{IsFaithful}
-use Rattle.aml_sessions.specs.Ready.{IsOperand, IsReady, AreReady, IsReadyBlock}
+use Rattle.aml_meaning.specs.ByteSession.{IsFaithful}
+use Rattle.aml_sessions.specs.Ready.{IsReady, IsSpot, IsAlone, AreOperands, AreSpots, AreValues, AreElements, AreReady, LetterReady, SpotReady, ElementReady, CondReady, IsReadyBlock}
 use Rattle.aml_sessions.proofs.Sessions.{faithful}
 use Rattle.aml_sessions.proofs.Tables.{definition_is, length_is, is_header}
 use Rattle.aml_writer.specs.Sizes.{most_content_bytes}
-use Rattle.aml_writer.specs.TermBytes.{is_raw_byte, raw_byte, written_name, head_bytes, term_bytes, row_bytes, row_args, nodes_bytes}
+use Rattle.aml_writer.specs.Leaves.{Leaf, leaf_of, leaves_of, operand_bytes, first_letter, letters_behind}
+use Rattle.aml_writer.specs.Codes.{letters_of}
+use Rattle.aml_writer.specs.Items.{written_items}
+use Rattle.aml_writer.specs.TermBytes.{written_name, whole_form, term_bytes, row_bytes, nodes_bytes}
 use Rattle.aml_writer.specs.Pieces.{joined_pieces, piece_at, nodes_pieces, table_pieces}
 use Rattle.aml_writer.specs.Written.{most_table_bytes, IsTableOf}
 use Rattle.aml_writer.proofs.NodePieces.{nodes_joined}
+use Rattle.acpi_state.specs.Outcomes.{choose}
+use Rattle.aml_writer.proofs.FormLeaves.{tree_leaf, tree_leaves, form_leaf}
+use Rattle.aml_writer.proofs.FieldLists.{IsWritten, items_written}
+use Rattle.aml_writer.proofs.Forms.{IsWhole, AreWhole, is_field, apply_whole, trees_bytes, all_is, formed_bytes, formed_parts, form_is}
 
 -- a name that can be written has its bytes
 name_written : (path : Path) → IsName path → written_name path ≡ name_bytes path
 name_written path valid = let few : nat_le (length path.segs) 255 ≡ true = grind (arith, nat_tests, valid.count) in ap (λ c. if c then name_bytes path else []) few
 
--- names can be written, and no form is out of shape
-abbrev mutual
-  IsWhole : Tree → Type 0
-  IsWhole (Integer number) = Unit {0}
-  IsWhole (Use name) = IsName name
-  IsWhole (Return value) = IsWhole value
-  IsWhole (Name name value) = IsName name × IsWhole value
-  IsWhole (Method name flags body) = IsName name × AreWhole body
-  IsWhole Misshapen = ⊥
+by_spot : {R : Type 0} (how : SpotForm) (A B : Type 0) → SpotReady how A B → (A → R) → (B → R) → R
+by_spot OfResult A B h f g = f h
+by_spot OfInside A B h f g = g h
+by_spot NoSpot A B h f g = absurd h
 
-  AreWhole : Trees → Type 0
-  AreWhole no_trees = Unit {0}
-  AreWhole (tree t ts) = IsWhole t × AreWhole ts
+module _ (known : Known) where
+  letter_whole : (letter : Letter) (t : Tree) (scope : AbsolutePath) (A B : Type 0) → LetterReady W64 known letter t A B scope → (A → IsWhole t) → (B → IsWhole t) → IsWhole t
+  letter_whole Valued t scope A B h f g = f h
+  letter_whole Kept t scope A B h f g = f h
+  letter_whole Placed t scope A B h f g = g h
+  letter_whole Used (Use at name) scope A B h f g = h.1.used.is_name
+  letter_whole Used _ scope A B h f g = absurd h
+  letter_whole (L.Raw size) (Raw other number) scope A B h f g = tt
+  letter_whole (L.Raw size) _ scope A B h f g = absurd h
 
-operand_whole : (t : Tree) → IsOperand t → IsWhole t
-operand_whole (Integer number) h = tt
-operand_whole _ h = absurd h
+  cond_whole : (t : Tree) (scope : AbsolutePath) (A : Type 0) → CondReady known t A scope → (A → IsWhole t) → IsWhole t
+  cond_whole (Use at name) scope A h f = h.used.is_name
+  cond_whole _ scope A h f = f h
 
-mutual
-  ready_whole : (t : Tree) → IsReady t → IsWhole t
-  ready_whole (Integer number) h = tt
-  ready_whole (Use name) h = absurd h
-  ready_whole (Return value) h = operand_whole value h
-  ready_whole (Name name value) h = (h.0, operand_whole value h.1)
-  ready_whole (Method name flags body) h = (h.0, all_whole body h.2)
-  ready_whole Misshapen h = absurd h
-
-  all_whole : (ts : Trees) → AreReady ts → AreWhole ts
-  all_whole no_trees h = tt
-  all_whole (tree t ts) h = (ready_whole t h.0, all_whole ts h.1)
-
--- the arguments of an operator from number i on
-abbrev raw_tree : Tree → List ℕ
-raw_tree (Integer number) = (number % 256) ∷ []
-raw_tree _ = []
-
-module _ (short : Bool) where
-  abbrev tree_args : Op → ℕ → Trees → List ℕ
-  tree_args op i no_trees = []
-  tree_args op i (tree t ts) = (if is_raw_byte op i then raw_tree t else encoded short t) ++ tree_args op (suc i) ts
-
-  -- a form of the language is written by its operator, its arguments and its body
-  form_is : (op : Op) (args body : Trees) → IsWhole (form op args body) → head_bytes op (tree_args op 0 args) (length (encoded_all short body)) ++ encoded_all short body ≡ encoded short (form op args body)
-  form_is (Op.Declaration Declaration.Name) (tree (Use name) (tree value no_trees)) no_trees h =
-      append-nil (0x08 ∷ (name_bytes name ++ (encoded short value ++ []))) ∙ ap (λ bs. 0x08 ∷ (name_bytes name ++ bs)) (append-nil (encoded short value))
-  form_is (Op.Declaration Declaration.Method) (tree (Use name) (tree (Integer arity) no_trees)) body h =
-      let flags = (arity % 256) ∷ [] in
-      let front = name_bytes name ++ flags in
-      let content = encoded_all short body in
-      let whole : front ++ content ≡ name_bytes name ++ (arity % 256) ∷ content = append_assoc (name_bytes name) flags content in
-      let size : length front + length content ≡ length (name_bytes name ++ (arity % 256) ∷ content) = sym (length-append front content) ∙ ap length whole in
-      ap (λ bs. 0x14 ∷ bs) (append_assoc (package_length_bytes (length front + length content)) front content)
-      ∙ ap (λ n. 0x14 ∷ (package_length_bytes n ++ (front ++ content))) size
-      ∙ ap (λ bs. 0x14 ∷ (package_length_bytes (length (name_bytes name ++ (arity % 256) ∷ content)) ++ bs)) whole
-  form_is (Op.Control Control.Return) (tree value no_trees) no_trees h = append-nil (0xA4 ∷ (encoded short value ++ [])) ∙ ap (λ bs. 0xA4 ∷ bs) (append-nil (encoded short value))
-  form_is _ _ _ h = absurd h
-
-  form_whole : (op : Op) (args body : Trees) → IsWhole (form op args body) → AreWhole args × AreWhole body
-  form_whole (Op.Declaration Declaration.Name) (tree (Use name) (tree value no_trees)) no_trees h = ((h.0, (h.1, tt)), tt)
-  form_whole (Op.Declaration Declaration.Method) (tree (Use name) (tree (Integer arity) no_trees)) body h = ((h.0, (tt, tt)), h.1)
-  form_whole (Op.Control Control.Return) (tree value no_trees) no_trees h = ((h, tt), tt)
-  form_whole _ _ _ h = absurd h
-
-  raw_form : (op : Op) (args body : Trees) → raw_tree (form op args body) ≡ []
-  raw_form (Op.Declaration Declaration.Name) (tree (Use name) (tree value no_trees)) no_trees = refl
-  raw_form (Op.Declaration Declaration.Method) (tree (Use name) (tree (Integer arity) no_trees)) body = refl
-  raw_form (Op.Control Control.Return) (tree value no_trees) no_trees = refl
-  raw_form _ _ _ = refl
-
-  raw_is : (t : Term) → raw_byte t ≡ raw_tree (tree_of t)
-  unfolding tree_of
-  raw_is (D.Integer number) = refl
-  raw_is (D.Name path) = refl
-  raw_is (D.Form' op shape args shape' body) = sym (raw_form op (row_trees args) (row_trees body))
-
-  by_byte : (c : Bool) (t : Term) → term_bytes short t ≡ encoded short (tree_of t) → (if c then raw_byte t else term_bytes short t) ≡ (if c then raw_tree (tree_of t) else encoded short (tree_of t))
-  by_byte true t e = raw_is t
-  by_byte false t e = e
+  element_whole : (t : Tree) (A : Type 0) → ElementReady W64 known t A → (A → IsWhole t) → IsWhole t
+  element_whole (Use at name) A h f = h.used.is_name
+  element_whole _ A h f = f h.1
 
   mutual
-    unfolding tree_of
+    ready_whole : (t : Tree) (scope : AbsolutePath) → IsReady W64 known t scope → IsWhole t
+    ready_whole (InSlot slot) scope h = h
+    ready_whole Omitted scope h = absurd h
+    ready_whole (Raw size number) scope h = absurd h
+    ready_whole (Use at name) scope h = h.1.used.is_name
+    ready_whole (Call at name args) scope h = (h.1.used.is_name, values_whole args scope h.3)
+    ready_whole (Apply op args targets) scope h = (operands_whole (row_of op).operands args scope h.1, spots_whole targets scope h.3)
+    ready_whole (Buffer size bytes) scope h = ready_whole size scope h.1
+    ready_whole (Package n elements) scope h = elements_whole elements scope h.1
+    ready_whole (VarPackage size elements) scope h = (ready_whole size scope h.1, elements_whole elements scope h.2)
+    ready_whole (CondRefOf place target) scope h = (cond_whole place scope (IsSpot W64 known place scope) h.0 (spot_whole place scope), spot_whole target scope h.1)
+    ready_whole (Return value) scope h = ready_whole value scope h.1
+    ready_whole (Name at name value) scope h = (h.0.written, ready_whole value scope h.2)
+    ready_whole (Alias from source at name) scope h = (h.1.used.is_name, h.2.written)
+    ready_whole (External here at name type parameters) scope h = h
+    ready_whole (Method at name flags body) scope h = (h.0.written, all_whole body (place_of name scope) h.2)
+    ready_whole (Mutex at name level) scope h = h.0.written
+    ready_whole (Event at name) scope h = h.written
+    ready_whole (Container' kind at name body) scope h = (h.0.written, all_whole body (place_of name scope) h.2)
+    ready_whole (Scope here at name body) scope h = (h.1.used.is_name, all_whole body h.0 h.2)
+    ready_whole (If test body) scope h = (ready_whole test scope h.1, all_whole body scope h.2)
+    ready_whole (Else body) scope h = all_whole body scope h
+    ready_whole (While test body) scope h = (ready_whole test scope h.1, all_whole body scope h.2)
+    ready_whole (Item item) scope h = absurd h
+    ready_whole (OperationRegion at name space args) scope h = (h.0.written, operands_whole region_letters args scope h.2)
+    ready_whole (Field here from region flags items) scope h = (h.0.1.used.is_name, h.2)
+    ready_whole (IndexField here from index to register flags items) scope h = (h.0.1.used.is_name, h.1.1.used.is_name, h.3)
+    ready_whole (BankField here from region to bank value flags items) scope h = (h.0.1.used.is_name, h.1.1.used.is_name, ready_whole value scope h.3, h.5)
+    ready_whole (CreateField form args at name) scope h = (operands_whole (field_letters form) args scope h.0, h.1.written)
+    ready_whole (Fill bytes) scope h = absurd h
+    ready_whole Misshapen scope h = absurd h
+    ready_whole _ scope h = tt
 
-    written : (t : Term) → IsWhole (tree_of t) → term_bytes short t ≡ encoded short (tree_of t)
-    written (D.Integer number) h = refl
-    written (D.Name path) h = name_written path h
-    written (D.Form' op shape args shape' body) h =
-        let w = form_whole op (row_trees args) (row_trees body) h in
-        ap (λ bs. head_bytes op bs (length (row_bytes short body)) ++ row_bytes short body) (args_written op 0 args w.0)
-        ∙ ap (λ bs. head_bytes op (tree_args op 0 (row_trees args)) (length bs) ++ bs) (row_written body w.1)
-        ∙ form_is op (row_trees args) (row_trees body) h
+    spot_whole : (t : Tree) (scope : AbsolutePath) → IsSpot W64 known t scope → IsWhole t
+    spot_whole Omitted scope h = tt
+    spot_whole Debug scope h = tt
+    spot_whole (InSlot slot) scope h = h
+    spot_whole (Use at name) scope h = h.1.used.is_name
+    spot_whole (Apply op args targets) scope h =
+        by_spot (spot_form op) _ _ h.1 (λ k. (operands_whole (row_of op).operands args scope k.0, spots_whole targets scope k.2)) (alone_whole args targets scope)
+    spot_whole _ scope h = absurd h
 
-    row_written : {m : _} (row : D.Row_of-Node m) → AreWhole (row_trees row) → row_bytes short row ≡ encoded_all short (row_trees row)
-    row_written D.end_of-Node h = refl
-    row_written (D.more_of-Node id place term rest) h = ap (λ bs. bs ++ row_bytes short rest) (written term h.0) ∙ ap (λ bs. encoded short (tree_of term) ++ bs) (row_written rest h.1)
+    alone_whole : (args targets : Trees) (scope : AbsolutePath) → IsAlone W64 known args targets scope → AreWhole args × AreWhole targets
+    alone_whole (tree t no_trees) no_trees scope h = ((ready_whole t scope h.1, tt), tt)
+    alone_whole _ _ scope h = absurd h
 
-    args_written : (op : Op) (i : ℕ) {m : _} (row : D.Row_of-Node m) → AreWhole (row_trees row) → row_args short op i row ≡ tree_args op i (row_trees row)
-    args_written op i D.end_of-Node h = refl
-    args_written op i (D.more_of-Node id place term rest) h =
-        ap (λ bs. bs ++ row_args short op (suc i) rest) (by_byte (is_raw_byte op i) term (written term h.0))
-        ∙ ap (λ bs. (if is_raw_byte op i then raw_tree (tree_of term) else encoded short (tree_of term)) ++ bs) (args_written op (suc i) rest h.1)
+    operands_whole : (letters : List Letter) (ts : Trees) (scope : AbsolutePath) → AreOperands W64 known letters ts scope → AreWhole ts
+    operands_whole [] no_trees scope h = tt
+    operands_whole (letter ∷ letters) (tree t ts) scope h =
+        (letter_whole letter t scope _ _ h.0 (λ k. ready_whole t scope k.1) (spot_whole t scope), operands_whole letters ts scope h.1)
+    operands_whole _ _ scope h = absurd h
 
-  nodes_written : (ns : List Node) → AreWhole (trees_of ns) → nodes_bytes short ns ≡ encoded_all short (trees_of ns)
-  unfolding trees_of
+    spots_whole : (ts : Trees) (scope : AbsolutePath) → AreSpots W64 known ts scope → AreWhole ts
+    spots_whole no_trees scope h = tt
+    spots_whole (tree t ts) scope h = (spot_whole t scope h.0, spots_whole ts scope h.1)
+
+    values_whole : (ts : Trees) (scope : AbsolutePath) → AreValues W64 known ts scope → AreWhole ts
+    values_whole no_trees scope h = tt
+    values_whole (tree t ts) scope h = (ready_whole t scope h.1, values_whole ts scope h.2)
+
+    elements_whole : (ts : Trees) (scope : AbsolutePath) → AreElements W64 known ts scope → AreWhole ts
+    elements_whole no_trees scope h = tt
+    elements_whole (tree t ts) scope h = (element_whole t (IsReady W64 known t scope) h.0 (ready_whole t scope), elements_whole ts scope h.1)
+
+    all_whole : (ts : Trees) (scope : AbsolutePath) → AreReady W64 known ts scope → AreWhole ts
+    all_whole no_trees scope h = tt
+    all_whole (tree t ts) scope h = (ready_whole t scope h.0, all_whole ts scope h.1)
+
+-- the bodies of a Buffer and of a field are looked at as they are listed
+abbrev BodyWhole : Op → Trees → Type 0
+BodyWhole (Op.Special Special.Buffer) body = Unit {0}
+BodyWhole (Op.Declaration Declaration.Field) body = Unit {0}
+BodyWhole (Op.Declaration Declaration.IndexField) body = Unit {0}
+BodyWhole (Op.Declaration Declaration.BankField) body = Unit {0}
+BodyWhole op body = AreWhole body
+
+packaged_whole : (size : Tree) (body : Trees) → IsWhole (packaged size body) → IsWhole size × AreWhole body
+packaged_whole Omitted body h = by_few (nat_le (count body) 255) h
+  where
+    by_few : (c : Bool) → IsWhole (if c then Package (count body) body else VarPackage (Integer (count body)) body) → Unit {0} × AreWhole body
+    by_few true h = (tt, h)
+    by_few false h = (tt, h.1)
+packaged_whole (Integer n) body h = by_few (nat_le n 255) h
+  where
+    by_few : (c : Bool) → IsWhole (if c then Package n body else VarPackage (Integer n) body) → Unit {0} × AreWhole body
+    by_few true h = (tt, h)
+    by_few false h = (tt, h.1)
+packaged_whole _ body h = h
+
+buffer_whole : (size : Tree) (bytes : List ℕ) → IsWhole (buffer size bytes) → IsWhole size
+buffer_whole Omitted bytes h = tt
+buffer_whole _ bytes h = h
+
+by_items : {R : Type 0} (items : Option (List (FieldItem UnitName))) (f : List (FieldItem UnitName) → Tree) → IsWhole (choose items Misshapen f) → ((found : List (FieldItem UnitName)) → IsWhole (f found) → R) → R
+by_items None f h g = absurd h
+by_items (Some found) f h g = g found h
+
+form_whole : (here : At) (op : Op) (args body : Trees) → IsWhole (form here op args body) → AreWhole args × BodyWhole op body
+form_whole here (Op.Declaration Declaration.Name) (tree (Use at name) (tree value no_trees)) no_trees h = ((h.0, (h.1, tt)), tt)
+form_whole here (Op.Declaration Declaration.Alias) (tree (Use from source) (tree (Use at name) no_trees)) no_trees h = ((h.0, (h.1, tt)), tt)
+form_whole here (Op.Declaration Declaration.External) (tree (Use at name) (tree (Integer type) no_trees)) no_trees h = ((h, (tt, tt)), tt)
+form_whole here (Op.Declaration Declaration.External) (tree (Use at name) (tree (Integer type) (tree (Integer count) no_trees))) no_trees h = ((h, (tt, (tt, tt))), tt)
+form_whole here (Op.Declaration Declaration.Method) (tree (Use at name) (tree (Integer arity) no_trees)) body h = ((h.0, (tt, tt)), h.1)
+form_whole here (Op.Declaration Declaration.Mutex) (tree (Use at name) (tree (Integer level) no_trees)) no_trees h = ((h, (tt, tt)), tt)
+form_whole here (Op.Declaration Declaration.Event) (tree (Use at name) no_trees) no_trees h = ((h, tt), tt)
+form_whole here (Op.Declaration Declaration.Device) (tree (Use at name) no_trees) body h = ((h.0, tt), h.1)
+form_whole here (Op.Declaration Declaration.ThermalZone) (tree (Use at name) no_trees) body h = ((h.0, tt), h.1)
+form_whole here (Op.Declaration Declaration.PowerResource) (tree (Use at name) (tree (Integer level) (tree (Integer order) no_trees))) body h = ((h.0, (tt, (tt, tt))), h.1)
+form_whole here (Op.Declaration Declaration.Processor) (tree (Use at name) (tree (Integer number) (tree (Integer address) (tree (Integer size) no_trees)))) body h = ((h.0, (tt, (tt, (tt, tt)))), h.1)
+form_whole here (Op.Declaration Declaration.Scope) (tree (Use at name) no_trees) body h = ((h.0, tt), h.1)
+form_whole here (Op.Declaration Declaration.OperationRegion) (tree (Use at name) (tree (Integer space) (tree offset (tree size no_trees)))) no_trees h = ((h.0, (tt, h.1)), tt)
+form_whole here (Op.Declaration Declaration.Field) (tree (Use from region) (tree (Integer flags) no_trees)) body h = by_items (items_in body) (λ items. Field here from region flags items) h (λ items k. ((k.0, (tt, tt)), tt))
+form_whole here (Op.Declaration Declaration.IndexField) (tree (Use from index) (tree (Use to register) (tree (Integer flags) no_trees))) body h = by_items (items_in body) (λ items. IndexField here from index to register flags items) h (λ items k. ((k.0, (k.1, (tt, tt))), tt))
+form_whole here (Op.Declaration Declaration.BankField) (tree (Use from region) (tree (Use to bank) (tree value (tree (Integer flags) no_trees)))) body h = by_items (items_in body) (λ items. BankField here from region to bank value flags items) h (λ items k. ((k.0, (k.1, (k.2, (tt, tt)))), tt))
+form_whole here (Op.Declaration Declaration.CreateField) (tree source (tree index (tree bits (tree (Use at name) no_trees)))) no_trees h = ((h.0.0, (h.0.1.0, (h.0.1.1.0, (h.1, tt)))), tt)
+form_whole here (Op.Declaration Declaration.CreateBitField) (tree source (tree index (tree (Use at name) no_trees))) no_trees h = ((h.0.0, (h.0.1.0, (h.1, tt))), tt)
+form_whole here (Op.Declaration Declaration.CreateByteField) (tree source (tree index (tree (Use at name) no_trees))) no_trees h = ((h.0.0, (h.0.1.0, (h.1, tt))), tt)
+form_whole here (Op.Declaration Declaration.CreateWordField) (tree source (tree index (tree (Use at name) no_trees))) no_trees h = ((h.0.0, (h.0.1.0, (h.1, tt))), tt)
+form_whole here (Op.Declaration Declaration.CreateDWordField) (tree source (tree index (tree (Use at name) no_trees))) no_trees h = ((h.0.0, (h.0.1.0, (h.1, tt))), tt)
+form_whole here (Op.Declaration Declaration.CreateQWordField) (tree source (tree index (tree (Use at name) no_trees))) no_trees h = ((h.0.0, (h.0.1.0, (h.1, tt))), tt)
+form_whole here (Op.Control Control.Return) (tree value no_trees) no_trees h = ((h, tt), tt)
+form_whole here (Op.Control Control.If) (tree test no_trees) body h = ((h.0, tt), h.1)
+form_whole here (Op.Control Control.Else) no_trees body h = (tt, h)
+form_whole here (Op.Control Control.While) (tree test no_trees) body h = ((h.0, tt), h.1)
+form_whole here (Op.Control Control.Break) no_trees no_trees h = (tt, tt)
+form_whole here (Op.Control Control.Continue) no_trees no_trees h = (tt, tt)
+form_whole here (Op.Literal literal) no_trees no_trees h = (tt, tt)
+form_whole here (Op.Plain op) args no_trees h = (apply_whole op args h, tt)
+form_whole here (Op.Special Special.CondRefOf) (tree place (tree target no_trees)) no_trees h = ((h.0, (h.1, tt)), tt)
+form_whole here (Op.Special Special.Buffer) (tree size no_trees) body h = ((buffer_whole size _ h, tt), tt)
+form_whole here (Op.Special Special.Package) (tree size no_trees) body h = let w = packaged_whole size body h in ((w.0, tt), w.1)
+form_whole here _ _ _ h = absurd h
+
+leaf_is : (at : At) (t : Term) → leaf_of t ≡ tree_leaf (tree_of at t)
+unfolding tree_of
+leaf_is at (D.Form' op shape args shape' body) = sym (form_leaf at op (row_trees args) (row_trees body))
+leaf_is at _ = refl
+
+row_leaves : (m : _) (row : D.Row_of-Node m) → leaves_of (D.items-the_row-Node m row) ≡ tree_leaves (row_trees row)
+unfolding tree_of
+row_leaves m D.end_of-Node = refl
+row_leaves m (D.more_of-Node id place term rest) =
+    ap (λ leaf. leaf ∷ leaves_of (D.items-the_row-Node _ rest)) (leaf_is (record { id = id; place = place }) term)
+    ∙ ap (λ leaves. tree_leaf (tree_of (record { id = id; place = place }) term) ∷ leaves) (row_leaves _ rest)
+
+module _ (short : Bool) where
+  -- the body's terms are written where they are a part of the form
+  by_body : (op : Op) (args : List Leaf) (front : List ℕ) (leaves : List Leaf) (body : Trees) (content content' list : List ℕ) → BodyWhole op body → (AreWhole body → content ≡ content') → formed_bytes short (is_field op) op args front leaves content list ≡ formed_bytes short (is_field op) op args front leaves content' list
+  by_body (Op.Special Special.Buffer) args front leaves body content content' list h f = refl
+  by_body (Op.Declaration Declaration.Field) args front leaves body content content' list h f = refl
+  by_body (Op.Declaration Declaration.IndexField) args front leaves body content content' list h f = refl
+  by_body (Op.Declaration Declaration.BankField) args front leaves body content content' list h f = refl
+  by_body op args front leaves body content content' list h f = ap (λ bs. formed_bytes short (is_field op) op args front leaves bs list) (f h)
+
+  formed_written : (at : At) (op : Op) (args body : Trees) (front content list : List ℕ) → IsWhole (form at op args body) → (AreWhole args → front ≡ trees_bytes short (letters_of op) args) → (AreWhole body → content ≡ encoded_all W64 short body) → IsWritten 0 list (items_in body) →
+      formed_bytes short (is_field op) op (tree_leaves args) front (tree_leaves body) content list ≡ encoded W64 short (form at op args body)
+  formed_written at op args body front content list h f g w =
+      let k = form_whole at op args body h in
+      ap (λ bs. formed_bytes short (is_field op) op (tree_leaves args) bs (tree_leaves body) content list) (f k.0)
+      ∙ by_body op (tree_leaves args) (trees_bytes short (letters_of op) args) (tree_leaves body) body content (encoded_all W64 short body) list k.1 g
+      ∙ form_is short at op args body list h w
+
+  local_written : (base i : ℕ) → base + i < 256 → ((base + i) % 256) ∷ [] ≡ (base + i) ∷ []
+  local_written base i lt = ap (λ n. n ∷ []) (omega arith)
+
+  mutual
+    unfolding tree_of term_bytes
+
+    written : (at : At) (t : Term) → IsWhole (tree_of at t) → term_bytes short t ≡ encoded W64 short (tree_of at t)
+    written at (D.Local index) h = local_written 0x60 index (omega (arith, h))
+    written at (D.Arg index) h = local_written 0x68 index (omega (arith, h))
+    written at (D.Name path) h = name_written path h
+    written at (D.Call' path shape args) h =
+        ap (λ bs. bs ++ row_bytes short [] args) (name_written path h.0) ∙ ap (λ bs. name_bytes path ++ bs) (row_written [] args h.1 ∙ all_is short (row_trees args))
+    written at (D.Form' op shape args shape' body) h =
+        ap (λ leaves. whole_form short op leaves (row_bytes short (letters_of op) args) (leaves_of (D.items-the_row-Node _ body)) (row_bytes short [] body) (written_items 0 (D.items-the_row-Node _ body))) (row_leaves _ args)
+        ∙ ap (λ leaves. whole_form short op (tree_leaves (row_trees args)) (row_bytes short (letters_of op) args) leaves (row_bytes short [] body) (written_items 0 (D.items-the_row-Node _ body))) (row_leaves _ body)
+        ∙ formed_parts short op (tree_leaves (row_trees args)) (row_bytes short (letters_of op) args) (tree_leaves (row_trees body)) (row_bytes short [] body) (written_items 0 (D.items-the_row-Node _ body))
+        ∙ formed_written at op (row_trees args) (row_trees body) (row_bytes short (letters_of op) args) (row_bytes short [] body) (written_items 0 (D.items-the_row-Node _ body)) h (row_written (letters_of op) args) (λ w. row_written [] body w ∙ all_is short (row_trees body)) (items_written 0 _ body)
+    written at _ h = refl
+
+    row_written : (letters : List Letter) {m : _} (row : D.Row_of-Node m) → AreWhole (row_trees row) → row_bytes short letters row ≡ trees_bytes short letters (row_trees row)
+    row_written letters D.end_of-Node h = refl
+    row_written letters (D.more_of-Node id place term rest) h =
+        let at : At = record { id = id; place = place } in
+        ap (λ leaf. operand_bytes (first_letter letters) leaf (term_bytes short term) ++ row_bytes short (letters_behind letters) rest) (leaf_is at term)
+        ∙ ap (λ bs. operand_bytes (first_letter letters) (tree_leaf (tree_of at term)) bs ++ row_bytes short (letters_behind letters) rest) (written at term h.0)
+        ∙ ap (λ bs. operand_bytes (first_letter letters) (tree_leaf (tree_of at term)) (encoded W64 short (tree_of at term)) ++ bs) (row_written (letters_behind letters) rest h.1)
+
+  nodes_written : (ns : List Node) → AreWhole (trees_of ns) → nodes_bytes short [] ns ≡ encoded_all W64 short (trees_of ns)
+  unfolding trees_of nodes_bytes
   nodes_written [] h = refl
-  nodes_written (n ∷ ns) h = ap (λ bs. bs ++ nodes_bytes short ns) (written n.term h.0) ∙ ap (λ bs. encoded short (tree_of n.term) ++ bs) (nodes_written ns h.1)
+  nodes_written (n ∷ ns) h =
+      let at : At = record { id = n.id; place = n.place } in
+      ap (λ bs. bs ++ nodes_bytes short [] ns) (written at n.term h.0) ∙ ap (λ bs. encoded W64 short (tree_of at n.term) ++ bs) (nodes_written ns h.1)
 
 -- the bytes of ready terms are their encoding
-pub ready_bytes : (short : Bool) (ns : List Node) → AreReady (trees_of ns) → nodes_bytes short ns ≡ encoded_all short (trees_of ns)
-ready_bytes short ns ready = nodes_written short ns (all_whole (trees_of ns) ready)
+pub ready_bytes : (known : Known) (short : Bool) (ns : List Node) → AreReady W64 known (trees_of ns) [] → nodes_bytes short [] ns ≡ encoded_all W64 short (trees_of ns)
+ready_bytes known short ns ready = nodes_written short ns (all_whole known (trees_of ns) [] ready)
 
 -- what a ready block's pieces join to is its table
-pub table_of : (short : Bool) (lines : List Line) (block : Block) (pieces : List Piece) → length (nodes_bytes short block.terms.items) ≤ most_content_bytes → pieces ≡ table_pieces short lines block → IsReadyBlock block → IsTableOf block short (joined_pieces pieces)
-table_of short lines block pieces within is ready =
+pub table_of : (known : Known) (externals : Names) (short : Bool) (lines : List Line) (block : Block) (pieces : List Piece) → length (nodes_bytes short [] block.terms.items) ≤ most_content_bytes → pieces ≡ table_pieces short lines block → IsKnownStart known externals → IsReadyBlock known block → IsTableOf known externals block short (joined_pieces pieces)
+table_of known externals short lines block pieces within is start ready =
     let bytes = joined_pieces pieces in
     let fields = fields_of block in
-    let content = encoded_all short (trees_of block.terms.items) in
-    let written_is : nodes_bytes short block.terms.items ≡ content = nodes_written short block.terms.items (all_whole (trees_of block.terms.items) ready.terms) in
+    let content = encoded_all W64 short (trees_of block.terms.items) in
+    let written_is : nodes_bytes short [] block.terms.items ≡ content = ready_bytes known short block.terms.items ready.terms in
     let size : length content ≤ most_content_bytes = subst (λ bs. length bs ≤ most_content_bytes) written_is within in
-    let joined : joined_pieces (table_pieces short lines block) ≡ table_bytes fields (nodes_bytes short block.terms.items) =
-    ap (λ bs. header_with fields (header_length + length (nodes_bytes short block.terms.items)) (checksum_of (header_with fields (header_length + length (nodes_bytes short block.terms.items)) 0 ++ nodes_bytes short block.terms.items)) ++ bs) (nodes_joined short lines block.terms.items) in
+    let joined : joined_pieces (table_pieces short lines block) ≡ table_bytes fields (nodes_bytes short [] block.terms.items) =
+    ap (λ bs. header_with fields (header_length + length (nodes_bytes short [] block.terms.items)) (checksum_of (header_with fields (header_length + length (nodes_bytes short [] block.terms.items)) 0 ++ nodes_bytes short [] block.terms.items)) ++ bs) (nodes_joined short lines block.terms.items) in
     let table : bytes ≡ table_bytes fields content = ap joined_pieces is ∙ joined ∙ ap (table_bytes fields) written_is in
     record {
       encoded = table;
       within = subst (λ bs. length bs ≤ most_table_bytes) (sym table) (let l = length_is fields content ready.signature in omega (arith, l, size));
       header = subst (λ bs. IsHeader bytes fields) table (subst (λ bs. IsHeader bs fields) (sym table) (is_header fields content ready.signature (omega (arith, size)) ready.oem_revision));
-      faithful = subst (λ bs. IsFaithful (trees_of block.terms.items) bs) (sym table) (faithful short (trees_of block.terms.items) (table_bytes fields content) ready.terms (omega (arith, size)) (definition_is fields content ready.signature (omega (arith, size))));
+      faithful = subst (λ bs. IsFaithful W64 known externals (trees_of block.terms.items) bs) (sym table) (faithful W64 known short externals (trees_of block.terms.items) (table_bytes fields content) start ready.terms (omega (arith, size)) (definition_is fields content ready.signature (omega (arith, size))));
     }
 
 -- the pieces in their order, with the header before them
-pub whole_pieces : (short : Bool) (lines : List Line) (block : Block) (reversed pieces : List Piece) (size check : ℕ) (header0 header : List ℕ) → reversed ≡ reverse (nodes_pieces short lines block.terms.items) → pieces ≡ reverse reversed → size ≡ length (nodes_bytes short block.terms.items) → header0 ≡ header_with (fields_of block) (36 + size) 0 → check ≡ checksum_of (header0 ++ joined_pieces pieces) → header ≡ header_with (fields_of block) (36 + size) check → piece_at lines block.place header ∷ pieces ≡ table_pieces short lines block
+pub whole_pieces : (short : Bool) (lines : List Line) (block : Block) (reversed pieces : List Piece) (size check : ℕ) (header0 header : List ℕ) → reversed ≡ reverse (nodes_pieces short lines block.terms.items) → pieces ≡ reverse reversed → size ≡ length (nodes_bytes short [] block.terms.items) → header0 ≡ header_with (fields_of block) (36 + size) 0 → check ≡ checksum_of (header0 ++ joined_pieces pieces) → header ≡ header_with (fields_of block) (36 + size) check → piece_at lines block.place header ∷ pieces ≡ table_pieces short lines block
 whole_pieces short lines block reversed pieces size check header0 header ereversed epieces esize eheader0 echeck eheader =
-    let content = nodes_bytes short block.terms.items in
+    let content = nodes_bytes short [] block.terms.items in
     let fields = fields_of block in
     let in_order : pieces ≡ nodes_pieces short lines block.terms.items = epieces ∙ ap reverse ereversed ∙ reverse-reverse (nodes_pieces short lines block.terms.items) in
     let joined : joined_pieces pieces ≡ content = ap joined_pieces in_order ∙ nodes_joined short lines block.terms.items in

@@ -1,5 +1,6 @@
+pub mod Literals
 pub mod Names
+pub mod FieldItems
 pub mod Tree
 pub mod View
-pub mod Meaning
-pub mod SourceSession
+pub mod Constants

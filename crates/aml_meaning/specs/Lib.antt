@@ -1,0 +1,4 @@
+pub mod Codes
+pub mod Encoded
+pub mod ByteMeaning
+pub mod ByteSession

@@ -1,0 +1,5 @@
+pub mod FieldTerms
+pub mod Meaning
+pub mod Declarations
+pub mod SourceSession
+pub mod Starts

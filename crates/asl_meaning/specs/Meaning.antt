@@ -1,0 +1,221 @@
+-- What a program means (ACPI Specification 6.4, 19): terms are taken from its tree, and names from what the program
+-- declares.
+use Rattle.std.specs.Prelude.{ℕ, zero, suc, Bool, false, List, [], ◌∷◌, Option, Some, None, if◌then◌else◌, true}
+use Rattle.acpi_values.specs.declared.width.Width.{Width}
+use Rattle.acpi_values.specs.declared.operator.Plain.{Plain}
+use Rattle.acpi_values.specs.declared.operator.DataOp.TheVariants as DataOp
+use Rattle.acpi_values.specs.declared.fault.Fault.TheVariants.{WrongType}
+use Rattle.acpi_values.specs.Paths.{AbsolutePath}
+use Rattle.acpi_values.specs.Values as V
+use Rattle.acpi_values.specs.Values.{Value, Data, Reference, Elements, no_elements, element, Place, Named}
+use Rattle.acpi_values.specs.Operators.{Letter, Valued, Kept, Placed, Used, Row, row_of}
+use Rattle.acpi_values.specs.Operators as L
+use Rattle.acpi_values.specs.Integers.{wrapped}
+use Rattle.acpi_state.specs.Objects.{Object, DataObject, MethodObject, ContainerObject, MutexObject, EventObject, AliasObject}
+use Rattle.acpi_state.specs.Outcomes.{Flow, Normal, Gives, Stop, Unfinished, Broken, Run, done, stop, fault, then_run, act, choose, value_of, on_flow}
+use Rattle.acpi_state.specs.Outcomes as O
+use Rattle.acpi_state.specs.Loops.{is_true, loop}
+use Rattle.acpi_state.specs.Actions.{computed, write_named}
+use Rattle.acpi_state.specs.Activations.{create, keep_body, body_at, activation}
+use Rattle.acpi_state.specs.Finds.{first_there, reached, existing, reach}
+use Rattle.acpi_state.specs.Stores.{Spot, Nowhere, DebugObject, At, read, store}
+use Rattle.acpi_state.specs.Acts.{Operand, OfValue, OfKept, OfSpot, OfNumber, number_of, act_of, last_of}
+use Rattle.acpi_state.specs.Forms.{buffer_of, package_of, slot_here, if_data, spot_in, cond_ref_of}
+use Rattle.acpi_state.specs.Uses.{use_object, call_written}
+use Rattle.asl_tree.specs.declared.path.Path.{Path}
+use Rattle.acpi_state.specs.FieldUnits.{FieldUnit, InRegion, InBank, BehindIndex}
+use Rattle.acpi_state.specs.Registers.{register_of}
+use Rattle.acpi_state.specs.FieldActs.{region_letters, make_region, field_letters, make_buffer_field}
+use Rattle.asl_tree.specs.FieldItems.{placed_from}
+use Rattle.asl_meaning.specs.FieldTerms.{create_units}
+use Rattle.asl_tree.specs.Literals.{literal_number}
+use Rattle.asl_tree.specs.Names.{Known, is_known, place_of, denoted, element_path}
+use Rattle.asl_tree.specs.Tree.{Tree, Integer, Constant, String, InSlot, Debug, Omitted, Raw, Use, Call, Apply, Buffer, Package, VarPackage, CondRefOf, Return, Name, Alias, External, Method, Mutex, Event, Container', Scope, Fill, Misshapen, Trees, no_trees, tree, OperationRegion, Field, IndexField, BankField, CreateField, If, Else, While, Break, Continue, Item}
+
+-- a run that keeps the bodies of methods as trees
+abbrev pub SourceRun : Type 0 → Type 0
+SourceRun = Run Trees
+
+-- how an operator stands where a place is asked for: its result is a Reference to it, or its operand's value is
+pub data SpotForm : Type 0 where
+  OfResult OfInside NoSpot : SpotForm
+
+abbrev pub spot_form : Plain → SpotForm
+spot_form (Plain.Data DataOp.Index) = OfResult
+spot_form (Plain.Data DataOp.DerefOf) = OfInside
+spot_form _ = NoSpot
+
+-- a plain operator: its operands, what it does, and then its targets
+abbrev pub apply_with : {B : Type 0} → Width → Plain → Run B (List Operand) → (List Value → Run B (Unit {0})) → Run B Flow
+apply_with width op operands targets =
+    then_run operands (λ os. then_run (act (act_of op width os)) (λ rs. then_run (targets rs) (λ u. done (last_of rs))))
+
+module _ (known : Known) where
+  -- the path that a name denotes, where it is there now
+  abbrev pub find : Path → AbsolutePath → SourceRun AbsolutePath
+  find name scope s = existing (choose (denoted (is_known known) name scope) None (λ path. first_there s.names (path ∷ []))) s
+
+  -- what it leads to
+  abbrev pub found : Path → AbsolutePath → SourceRun (AbsolutePath × Object)
+  found name scope = then_run (find name scope) reach
+
+  -- the same, of a name that may lead nowhere
+  abbrev pub sought : Path → AbsolutePath → SourceRun (Option (AbsolutePath × Object))
+  sought name scope s = done (choose (choose (denoted (is_known known) name scope) None (λ path. first_there s.names (path ∷ []))) None (reached s.names)) s
+
+  -- the region that a name leads to, and the register
+  abbrev pub region_at : Path → AbsolutePath → SourceRun AbsolutePath
+  region_at name scope = then_run (found name scope) (λ e. done e.0)
+
+  abbrev pub register_at : Path → AbsolutePath → SourceRun FieldUnit
+  register_at name scope = then_run (found name scope) (λ e. act (register_of e))
+
+module _ (width : Width) (known : Known) where
+  abbrev pub spot_by : SpotForm → SourceRun Flow → SourceRun Value → SourceRun Spot
+  spot_by OfResult result inside = then_run (then_run result value_of) (λ v. act (spot_in v))
+  spot_by OfInside result inside = then_run inside (λ v. act (spot_in v))
+  spot_by NoSpot result inside = stop Broken
+
+  abbrev pub place_of_name : Path → AbsolutePath → SourceRun (Option Place)
+  place_of_name name scope = then_run (found known name scope) (λ e. done (if_data e.1 (Some (Named e.0)) None))
+
+  -- the place of an expression's data, where it is a name of data, a Local or an Arg
+  abbrev pub place_by : Tree → AbsolutePath → SourceRun (Option Place)
+  place_by (InSlot slot) scope = then_run (act (slot_here slot)) (λ place. done (Some place))
+  place_by (Use at name) scope = place_of_name name scope
+  place_by (Call at name args) scope = place_of_name name scope
+  place_by t scope = done None
+
+  abbrev pub used_by : Tree → AbsolutePath → SourceRun Operand
+  used_by (Use at name) scope = then_run (found known name scope) (λ e. done (OfSpot (At (Named e.0))))
+  used_by t scope = stop Broken
+
+  abbrev pub raw_by : Tree → SourceRun Operand
+  raw_by (Raw size number) = done (OfNumber number)
+  raw_by t = stop Broken
+
+  -- an operand as its letter asks
+  abbrev pub operand_by : Letter → Tree → SourceRun Flow → SourceRun Spot → AbsolutePath → SourceRun Operand
+  operand_by Valued t m spot scope = then_run (then_run m value_of) (λ v. done (OfValue v))
+  operand_by Kept t m spot scope = then_run (place_by t scope) (λ place. then_run (then_run m value_of) (λ v. done (OfKept place v)))
+  operand_by Placed t m spot scope = then_run spot (λ p. done (OfSpot p))
+  operand_by Used t m spot scope = used_by t scope
+  operand_by (L.Raw size) t m spot scope = raw_by t
+
+  abbrev pub cond_by : Tree → SourceRun Spot → AbsolutePath → SourceRun (Option Spot)
+  cond_by (Use at name) spot scope = then_run (sought known name scope) (λ o. done (choose o None (λ e. Some (At (Named e.0)))))
+  cond_by t spot scope = then_run spot (λ p. done (Some p))
+
+  -- a value as a number
+  abbrev pub size_by : SourceRun Flow → SourceRun ℕ
+  size_by m = then_run (then_run m value_of) (λ v. act (number_of width v))
+
+  abbrev pub element_by : Tree → SourceRun Flow → AbsolutePath → SourceRun Value
+  element_by (Use at name) m scope = done (Reference (Named (element_path (is_known known) name scope)))
+  element_by t m scope = then_run m value_of
+
+  module _ (turns : ℕ) (call : AbsolutePath → List Value → SourceRun Flow) where
+    abbrev mutual
+      -- what a term does in a scope; `due` says whether an Else is to run
+      pub run : Tree → AbsolutePath → Bool → SourceRun Flow
+      run (Integer number) scope due = done (Gives (Data (V.Integer (wrapped width number))))
+      run (Constant literal) scope due = done (Gives (Data (V.Integer (literal_number width literal))))
+      run (String text) scope due = done (Gives (Data (V.String text)))
+      run (InSlot slot) scope due = then_run (act (slot_here slot)) (λ place. then_run (act (read width place)) (λ v. done (Gives v)))
+      run Debug scope due = fault WrongType
+      run Omitted scope due = stop Broken
+      run (Raw size number) scope due = stop Broken
+      run (Use at name) scope due = then_run (found known name scope) (λ e. use_object width call e.0 e.1 [])
+      run (Call at name args) scope due =
+          then_run (found known name scope) (λ e. then_run (values args scope) (λ vs. call_written width call e.0 e.1 vs))
+      run (Apply op args targets) scope due =
+          apply_with width op (operands (row_of op).operands args scope) (λ rs. store_all targets rs scope)
+      run (Buffer size bytes) scope due =
+          then_run (size_by (run size scope false)) (λ n. then_run (act (computed (buffer_of n bytes))) (λ v. done (Gives v)))
+      run (Package count items) scope due =
+          then_run (elements items scope) (λ es. then_run (act (computed (package_of count es))) (λ v. done (Gives v)))
+      run (VarPackage count items) scope due =
+          then_run (size_by (run count scope false)) (λ n. then_run (elements items scope) (λ es. then_run (act (computed (package_of n es))) (λ v. done (Gives v))))
+      run (CondRefOf place target) scope due =
+          then_run (cond_by place (spot place scope) scope) (λ o. then_run (spot target scope) (λ t. then_run (act (cond_ref_of width o t)) (λ v. done (Gives v))))
+      run (Return value) scope due = then_run (then_run (run value scope false) value_of) (λ v. done (O.Return v))
+      run (Name at name value) scope due =
+          then_run (then_run (run value scope false) value_of) (λ v. then_run (create (place_of name scope) DataObject) (λ u. then_run (act (write_named (place_of name scope) v)) (λ u. done (Normal false))))
+      run (Alias from source at name) scope due =
+          then_run (found known source scope) (λ e. then_run (create (place_of name scope) (AliasObject e.0)) (λ u. done (Normal false)))
+      run (External here at name type parameters) scope due = done (Normal false)
+      run (Method at name flags body) scope due =
+          then_run (create (place_of name scope) (MethodObject flags)) (λ u. then_run (keep_body (place_of name scope) body) (λ u. done (Normal false)))
+      run (Mutex at name level) scope due = then_run (create (place_of name scope) (MutexObject level)) (λ u. done (Normal false))
+      run (Event at name) scope due = then_run (create (place_of name scope) EventObject) (λ u. done (Normal false))
+      run (Container' kind at name body) scope due =
+          then_run (create (place_of name scope) (ContainerObject kind)) (λ u. run_all body (place_of name scope) false)
+      run (Scope here at name body) scope due = then_run (find known name scope) (λ path. run_all body path false)
+      run (If test body) scope due =
+          then_run (size_by (run test scope false)) (λ n. if is_true n then run_all body scope false else done (Normal true))
+      run (Else body) scope due = if due then run_all body scope false else done (Normal false)
+      run (While test body) scope due =
+          loop {X = Unit {0}} turns (then_run (size_by (run test scope false)) (λ n. done (is_true n, tt))) (λ u. run_all body scope false)
+      run Break scope due = done O.Break
+      run Continue scope due = done O.Continue
+      run (OperationRegion at name space args) scope due =
+          then_run (operands region_letters args scope) (λ os. make_region width (place_of name scope) space os)
+      run (Field here from region flags items) scope due =
+          then_run (region_at known region scope) (λ r. create_units (InRegion r) flags scope (placed_from 0 items))
+      run (IndexField here from index to register flags items) scope due =
+          then_run (register_at known index scope) (λ i. then_run (register_at known register scope) (λ r. create_units (BehindIndex i r) flags scope (placed_from 0 items)))
+      run (BankField here from region to bank value flags items) scope due =
+          then_run (region_at known region scope) (λ r. then_run (register_at known bank scope) (λ b.
+          then_run (size_by (run value scope false)) (λ n. create_units (InBank r b n) flags scope (placed_from 0 items))))
+      run (CreateField form args at name) scope due =
+          then_run (operands (field_letters form) args scope) (λ os. make_buffer_field width form (place_of name scope) os)
+      run (Item item) scope due = stop Broken
+      run (Fill bytes) scope due = stop Broken
+      run Misshapen scope due = stop Broken
+
+      -- the place that a term stands for
+      pub spot : Tree → AbsolutePath → SourceRun Spot
+      spot Omitted scope = done Nowhere
+      spot Debug scope = done DebugObject
+      spot (InSlot slot) scope = then_run (act (slot_here slot)) (λ place. done (At place))
+      spot (Use at name) scope = then_run (found known name scope) (λ e. done (At (Named e.0)))
+      spot (Apply op args targets) scope =
+          spot_by (spot_form op) (apply_with width op (operands (row_of op).operands args scope) (λ rs. store_all targets rs scope)) (first_value args scope)
+      spot _ scope = stop Broken
+
+      pub operands : List Letter → Trees → AbsolutePath → SourceRun (List Operand)
+      operands [] no_trees scope = done []
+      operands (letter ∷ letters) (tree t ts) scope =
+          then_run (operand_by letter t (run t scope false) (spot t scope) scope) (λ o. then_run (operands letters ts scope) (λ os. done (o ∷ os)))
+      operands _ _ scope = stop Broken
+
+      -- each target in order takes its result
+      pub store_all : Trees → List Value → AbsolutePath → SourceRun (Unit {0})
+      store_all no_trees vs scope = done tt
+      store_all (tree t ts) [] scope = fault WrongType
+      store_all (tree t ts) (v ∷ vs) scope = then_run (spot t scope) (λ p. then_run (act (store width p v)) (λ u. store_all ts vs scope))
+
+      pub first_value : Trees → AbsolutePath → SourceRun Value
+      first_value no_trees scope = stop Broken
+      first_value (tree t ts) scope = then_run (run t scope false) value_of
+
+      -- the values of arguments
+      pub values : Trees → AbsolutePath → SourceRun (List Value)
+      values no_trees scope = done []
+      values (tree t ts) scope = then_run (then_run (run t scope false) value_of) (λ v. then_run (values ts scope) (λ vs. done (v ∷ vs)))
+
+      -- the elements of a Package
+      pub elements : Trees → AbsolutePath → SourceRun Elements
+      elements no_trees scope = done no_elements
+      elements (tree t ts) scope = then_run (element_by t (run t scope false) scope) (λ v. then_run (elements ts scope) (λ vs. done (element v vs)))
+
+      -- the terms of a list, until one leaves it
+      pub run_all : Trees → AbsolutePath → Bool → SourceRun Flow
+      run_all no_trees scope due = done (Normal false)
+      run_all (tree term terms) scope due = then_run (run term scope due) (λ flow. on_flow flow (run_all terms scope))
+
+module _ (width : Width) (known : Known) (turns : ℕ) where
+  -- a call of the method at a path, where calls may nest so many deep, this one counted
+  abbrev pub call_method : ℕ → AbsolutePath → List Value → SourceRun Flow
+  call_method zero path args = stop Unfinished
+  call_method (suc depth) path args = then_run (body_at path) (λ body. activation args (run_all width known turns (call_method depth) body path false))

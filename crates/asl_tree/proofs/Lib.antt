@@ -1,0 +1,2 @@
+pub mod ConstantForms
+mod ViewRows

@@ -1,0 +1,3 @@
+//! Worked rows alone: programs and tables whose outcomes, objects and events are computed by both meanings and compared
+//! with values from outside.
+#![tactic(auto)]

@@ -1,0 +1,5 @@
+pub mod Spelled
+pub mod Ready
+pub mod Chains
+pub mod Settles
+pub mod Main
