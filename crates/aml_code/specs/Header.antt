@@ -4,7 +4,6 @@ use Rattle.byteorder.specs.Endian.{little_bytes, little_number}
 use Rattle.asl_tree.specs.declared.program.Block.{Block}
 use Rattle.asl_tree.specs.View.{trees_of}
 use Rattle.acpi_values.specs.declared.width.Width.TheVariants.{W64}
-use Rattle.aml_meaning.specs.Encoded.{encoded_all}
 
 -- what a table's header says of it
 pub record HeaderFields : Type 0 where
