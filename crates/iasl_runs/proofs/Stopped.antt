@@ -1,9 +1,9 @@
 -- A delivery that stops, and is then told.
-use Rattle.std.proofs.Common.{◌≡◌, ◌⊎◌, inl, inr, ℕ, ◌≤◌, List, [], ◌++◌, take, drop, map, refl, Result, Err, Option, Some, arith}
+use Rattle.std.proofs.Common.{◌≡◌, ◌⊎◌, inl, inr, ℕ, ◌≤◌, List, [], take, drop, map, refl, Result, Err, Option, arith}
 use Rattle.iasl_ports.specs.Counts.{Rose, Quiet}
 use Rattle.iasl_ports.specs.Gained.{Named, Gains, GainsSome, IsPartOfFirst}
 use Rattle.iasl_ports.specs.GainedLaws.{gains_then}
-use Rattle.iasl_ports.specs.Delivery.{answer_of, name_and_bytes, IsSettled, OutsGained, ConsoleGained, FaultTold}
+use Rattle.iasl_ports.specs.Delivery.{name_and_bytes}
 use Rattle.iasl_ports.specs.declared.delivery.Due.{Due}
 use Rattle.iasl_ports.specs.declared.delivery.Stop.{Stop}
 use Rattle.iasl_ports.specs.declared.delivery.Stop.TheVariants.{Fault, Memory}

@@ -1,16 +1,16 @@
 -- How a run ends follows from what it decides and from how that is delivered.
-use Rattle.std.specs.Prelude.{◌≡◌, ◌⊎◌, ℕ, ◌≤◌, List, [], ◌++◌, take, map, None, Result, refl}
+use Rattle.std.specs.Prelude.{◌≡◌, ◌⊎◌, ℕ, ◌≤◌, List, [], map, None, Result, refl}
 use Rattle.std.specs.declared.option.Option.{Option}
 use Rattle.std.specs.Option.{ForSome}
 use Rattle.std.proofs.Common.{inl, inr, sym, ◌∙◌, ap, subst, arith, rules}
 use Rattle.iasl_ports.specs.Counts.{Rose, Quiet}
 use Rattle.iasl_ports.specs.Gained.{Named, Gains}
 use Rattle.iasl_ports.specs.GainedLaws.{gains_none}
-use Rattle.iasl_ports.specs.Delivery.{Answer, answer_of, status_of, text_of, due_of, name_and_bytes, OutsGained, ConsoleGained, IsSettled, FaultCause}
+use Rattle.iasl_ports.specs.Delivery.{Answer, answer_of, status_of, due_of, name_and_bytes, OutsGained, ConsoleGained, FaultCause}
 use Rattle.iasl_ports.specs.declared.delivery.Due.{Due}
 use Rattle.iasl_ports.specs.declared.delivery.Stop.{Stop}
 use Rattle.iasl_ports.specs.declared.delivery.Stop.TheVariants.{Fault, Memory}
-use Rattle.iasl_runs.specs.Ends.{FilesSeen, OutputsSeen, ConsoleSeen, World, world, IsQuiet, Decides, Ends, Delivers, Fails, Finishes}
+use Rattle.iasl_runs.specs.Ends.{FilesSeen, OutputsSeen, ConsoleSeen, world, Decides, Ends, Delivers, Finishes}
 
 -- a status that is due, or 3 for a reason, or 4
 low : {A : Type 0} (status due : ℕ) → status ≤ 2 → (status ≡ due) ⊎ (((status ≡ 3) × A) ⊎ (status ≡ 4)) → status ≡ due
@@ -81,7 +81,7 @@ module _ (answer : List Named → Option Answer) (fault memory : List ℕ) (stat
             subst (λ files. Gains put.written now_put.written (map name_and_bytes files)) none (e.outs.ended h);
         outs = λ all is.
             let gained : OutsGained (Option.Some (answer_of due)) status (Rose put.faults now_put.faults) (Quiet files.faults now_files.faults × Quiet put.faults now_put.faults) put.written now_put.written =
-                record { ended = e.outs.ended; stopped = e.outs.stopped; all_but_told = λ h q. e.outs.all_but_told h q.1 } in
+            record { ended = e.outs.ended; stopped = e.outs.stopped; all_but_told = λ h q. e.outs.all_but_told h q.1 } in
             subst (λ a. OutsGained a status (Rose put.faults now_put.faults) (Quiet files.faults now_files.faults × Quiet put.faults now_put.faults) put.written now_put.written) (sym (d.due all is)) gained;
         console = λ all is. subst (λ a. ConsoleGained fault a status told.told now_told.told) (sym (d.due all is)) e.console;
         fault_told = e.fault_told;
