@@ -1,10 +1,9 @@
 // What a call is to end with.
 ghost use Rattle.std.specs.Prelude.{◌≡◌, ◌≤◌, ◌+◌, ◌<◌, ◌^◌, ◌++◌, [], ◌∷◌, ℕ, List, length, map, All, IfOk, OnOk, IsErrOf, ◌⊎◌, Some, None, string_bytes};
-ghost use Rattle.std.specs.Option.{ForSome};
-ghost use Rattle.iasl_ports.specs.Counts.{Rose};
 ghost use Rattle.iasl_ports.specs.Fetched.{most_bytes};
 ghost use Rattle.iasl_ports.specs.Delivery.{name_and_bytes, answer_of, IsSettled};
 ghost use Rattle.iasl_messages.specs.Console.{summary_line, table_line};
+ghost use Rattle.iasl_runs.specs.Ends.{files_seen, Decides};
 ghost use Rattle.acpi_extract.specs.Dump.{stem_of, dump_of};
 ghost use Rattle.acpi_extract.specs.Table.{dumped, message_of};
 ghost use Rattle.acpi_extract.specs.Due.{file_name, file_of, line_of, success, refusal, usage, answer_to_dump, answer_for};
@@ -161,12 +160,7 @@ fn too_large(alloc: Global, file: &str) -> Result<Due, AllocError>
 /// What is due for these words, where the file that they name is fetched. It ends without an answer only where the
 /// file is absent, a fetch failed, or memory is wanted.
 pub(crate) fn decide<F: Files>(alloc: Global, words: &[String], files: &mut F) -> Result<Due, Stop>
-    ensures due { IfOk result (λ due. ForSome (F.contents files.old) (λ told. answer_for (map string_bytes words.now) told ≡ Some (answer_of due))) }
-    ensures settled { IfOk result IsSettled }
-    ensures fault { IsErrOf result Stop.Fault → Rose (F.faults files.old) (F.faults files.new) ⊎ (Rose (F.absents files.old) (F.absents files.new) × ForSome (F.contents files.old) (λ told. answer_for (map string_bytes words.now) told ≡ None)) }
-    ensures faults { OnOk result (F.faults files.new ≡ F.faults files.old) }
-    ensures contents { F.contents files.new ≡ F.contents files.old }
-    ensures later { F.faults files.old ≤ F.faults files.new }
+    ensures { Decides (answer_for (map string_bytes words.now)) result (files_seen (F.contents files.old) (F.faults files.old) (F.absents files.old)) (files_seen (F.contents files.new) (F.faults files.new) (F.absents files.new)) }
 {
     let Some(wish) = wish_of(words) else {
         return Ok(usage(alloc)?);
