@@ -4,6 +4,7 @@
 pub mod console;
 pub mod cut;
 pub mod message;
+pub mod number;
 pub mod order;
 pub mod place;
 pub mod severity;

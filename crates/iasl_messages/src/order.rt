@@ -11,11 +11,7 @@ use std::cmp::Ordering;
 fn place_order(first: &Place, second: &Place) -> Ordering
     ensures { result ≡ spec.place_order first.now second.now }
 {
-    first
-        .file
-        .cmp(&second.file)
-        .then(first.line.cmp(&second.line))
-        .then(first.column.cmp(&second.column))
+    first.cmp(second)
 }
 
 fn message_order(first: &Message, second: &Message) -> Ordering

@@ -5,10 +5,13 @@ ghost use Rattle.iasl_messages.specs.Severity as spec;
 use crate::message::Messages;
 
 /// How grave a message is.
-#[derive(Clone, Copy, Debug)]
+#[derive(Clone, Copy, Debug, PartialEq, Eq)]
 pub enum Severity {
+    /// A note that asks for nothing.
     Remark,
+    /// What is likely a mistake; the table is written all the same.
     Warning,
+    /// What keeps the table from being written.
     Error,
 }
 
@@ -37,12 +40,7 @@ pub fn word_of(severity: Severity) -> &'static str
 fn is_same(first: Severity, second: Severity) -> bool
     ensures { result ≡ spec.is_same first second }
 {
-    matches!(
-        (first, second),
-        (Severity::Remark, Severity::Remark)
-            | (Severity::Warning, Severity::Warning)
-            | (Severity::Error, Severity::Error)
-    )
+    first == second
 }
 
 /// How many of the messages are of a severity.

@@ -2,6 +2,7 @@
 ghost use Rattle.std.specs.Prelude.{◌≡◌, ℕ, List, None};
 ghost use Rattle.iasl_ports.specs.Reading.{IsWithin};
 
+use crate::counts::raise;
 use crate::files::{FetchFault, Files, MOST_BYTES};
 use crate::outputs::{Outputs, PutFault};
 use crate::sink::{Sink, SinkFault};
@@ -20,7 +21,12 @@ pub struct HostFiles<R: HostFileSystem + Drop> {
 }
 
 impl<R: HostFileSystem + Drop> HostFiles<R> {
-    pub fn new(system: R) -> Self {
+    /// The files of this system, of which no fetch has failed yet.
+    pub fn new(system: R) -> Self
+        ensures faults { result.faults ≡ 0 }
+        ensures absents { result.absents ≡ 0 }
+        ensures larges { result.larges ≡ 0 }
+    {
         HostFiles {
             system,
             faults: 0,
@@ -28,6 +34,12 @@ impl<R: HostFileSystem + Drop> HostFiles<R> {
             larges: 0,
         }
     }
+}
+
+// Whether an error says that there is no file of a name: it is absent, or its path leads through what is
+// no directory.
+fn is_absence(kind: ErrorKind) -> bool {
+    kind == ErrorKind::NotFound || kind == ErrorKind::NotADirectory
 }
 
 enum Reading {
@@ -46,7 +58,7 @@ fn read_file<R: HostFileSystem>(system: &R, alloc: Global, name: &str) -> Readin
     match std::fs::metadata(system, name) {
         Ok(found) if found.is_file() => read_regular(system, alloc, name),
         Ok(_) => Reading::Failed,
-        Err(e) if e.kind() == ErrorKind::NotFound => Reading::Absent,
+        Err(e) if is_absence(e.kind()) => Reading::Absent,
         Err(_) => Reading::Failed,
     }
 }
@@ -56,7 +68,7 @@ fn read_regular<R: HostFileSystem>(system: &R, alloc: Global, name: &str) -> Rea
 {
     let mut file = match File::open(system, name) {
         Ok(file) => file,
-        Err(e) if e.kind() == ErrorKind::NotFound => return Reading::Absent,
+        Err(e) if is_absence(e.kind()) => return Reading::Absent,
         Err(_) => return Reading::Failed,
     };
     let mut bytes = Vec::new(alloc);
@@ -84,15 +96,15 @@ impl<R: HostFileSystem + Drop> Files for HostFiles<R> {
         match read_file(&self.system, alloc, name) {
             Reading::Whole(bytes) => Ok(bytes),
             Reading::Longer => {
-                self.larges = self.larges.saturating_add(1);
+                raise(&mut self.larges);
                 Err(FetchFault::TooLarge)
             }
             Reading::Absent => {
-                self.absents = self.absents.saturating_add(1);
+                raise(&mut self.absents);
                 Err(FetchFault::Absent)
             }
             Reading::Failed => {
-                self.faults = self.faults.saturating_add(1);
+                raise(&mut self.faults);
                 Err(FetchFault::Failed)
             }
             Reading::Memory => Err(FetchFault::Memory),
@@ -108,7 +120,10 @@ pub struct HostOutputs<R: HostFileSystem + Drop> {
 }
 
 impl<R: HostFileSystem + Drop> HostOutputs<R> {
-    pub fn new(system: R) -> Self {
+    /// The outputs of this system, of which no put has failed yet.
+    pub fn new(system: R) -> Self
+        ensures { result.faults ≡ 0 }
+    {
         HostOutputs { system, faults: 0 }
     }
 }
@@ -122,7 +137,7 @@ impl<R: HostFileSystem + Drop> Outputs for HostOutputs<R> {
         match std::fs::write(&self.system, name, bytes) {
             Ok(()) => Ok(()),
             Err(_) => {
-                self.faults = self.faults.saturating_add(1);
+                raise(&mut self.faults);
                 Err(PutFault::Failed)
             }
         }
@@ -137,7 +152,10 @@ pub struct HostSink<P: Print + Drop> {
 }
 
 impl<P: Print + Drop> HostSink<P> {
-    pub fn new(out: P) -> Self {
+    /// The standard output, of which no write has failed yet.
+    pub fn new(out: P) -> Self
+        ensures { result.faults ≡ 0 }
+    {
         HostSink { out, faults: 0 }
     }
 }
@@ -151,7 +169,7 @@ impl<P: Print + Drop> Sink for HostSink<P> {
         match self.out.write_some(bytes) {
             Ok(count) if count > 0 || bytes.is_empty() => Ok(count),
             _ => {
-                self.faults = self.faults.saturating_add(1);
+                raise(&mut self.faults);
                 Err(SinkFault)
             }
         }

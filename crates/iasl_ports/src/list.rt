@@ -1,6 +1,7 @@
 //! A list over a vector, and a text as a list of bytes. Contracts see both as lists.
-ghost use Rattle.std.specs.Prelude.{◌≡◌, ◌≤◌, ◌∷◌, ◌++◌, [], length, take, slice_get, IfOk, OnOk, OnErr, IsTrue, ◌↔◌};
+ghost use Rattle.std.specs.Prelude.{◌≡◌, ◌≤◌, ◌∷◌, ◌++◌, [], length, map, take, drop, slice_get, IfOk, OnOk, OnErr, IsTrue, ◌↔◌};
 ghost use Rattle.std.specs.Option.{option_copied};
+ghost use Rattle.std.specs.Char.{to_ascii_uppercase};
 ghost use Rattle.iasl_ports.specs.Texts.{bytes_of};
 
 use std::alloc::{AllocError, Global};
@@ -119,14 +120,25 @@ impl Model for Text {
     ghost view = { λ text. bytes_of text.bytes };
 }
 
-// The first so many bytes.
-fn front(bytes: &[u8], count: usize) -> &[u8]
+/// The first so many bytes, or all where there are no more.
+pub fn front(bytes: &[u8], count: usize) -> &[u8]
     ensures { result.now ≡ take count bytes.now }
 {
     if count < bytes.len() {
         bytes.split_at(count).0
     } else {
         bytes
+    }
+}
+
+/// The bytes behind the first so many.
+pub fn behind(bytes: &[u8], count: usize) -> &[u8]
+    ensures { result.now ≡ drop count bytes.now }
+{
+    if count < bytes.len() {
+        bytes.split_at(count).1
+    } else {
+        b""
     }
 }
 
@@ -137,6 +149,21 @@ fn inline(bytes: &[u8]) -> Bytes
 {
     let mut own = [0; INLINE];
     own.split_at_mut(bytes.len()).0.copy_from_slice(bytes);
+    Bytes::Inline {
+        bytes: own,
+        count: bytes.len() as u8,
+    }
+}
+
+// The same with their letters in upper case.
+fn inline_uppercase(bytes: &[u8]) -> Bytes
+    requires { length bytes.now ≤ 14 }
+    ensures { bytes_of result ≡ map to_ascii_uppercase bytes.now }
+{
+    let mut own = [0; INLINE];
+    for (index, byte) in bytes.iter().enumerate() {
+        own[index] = byte.to_ascii_uppercase();
+    }
     Bytes::Inline {
         bytes: own,
         count: bytes.len() as u8,
@@ -166,6 +193,19 @@ impl Text {
             });
         }
         Text::from_vec(alloc, bytes.to_vec(alloc)?)
+    }
+
+    /// A text of the same bytes with their letters in upper case.
+    pub fn from_uppercase(alloc: Global, bytes: &[u8]) -> Result<Text, AllocError>
+        ensures { IfOk result (λ text. text ≡ map to_ascii_uppercase bytes.now) }
+    {
+        if bytes.len() <= INLINE {
+            return Ok(Text {
+                bytes: inline_uppercase(bytes),
+            });
+        }
+        let bytes = bytes.iter().map(|byte| byte.to_ascii_uppercase());
+        Text::from_vec(alloc, bytes.collect(alloc)?)
     }
 
     /// The text of a vector's bytes.

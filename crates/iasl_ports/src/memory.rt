@@ -5,6 +5,7 @@ ghost use Rattle.std.specs.declared.option.Option.{Option};
 ghost use Rattle.iasl_ports.specs.Gained.{Gains, Named};
 ghost use Rattle.iasl_ports.specs.Counts.{Rose};
 
+use crate::counts::raise;
 use crate::files::{FetchFault, Files, MOST_BYTES};
 use crate::list::{Text, Texts};
 use crate::outputs::{Outputs, PutFault};
@@ -46,7 +47,7 @@ impl Calls {
         ensures later { self.old.faults ≤ self.new.faults }
         ensures rose { Rose self.old.faults self.new.faults }
     {
-        self.faults = self.faults.saturating_add(1);
+        raise(&mut self.faults);
     }
 
     // Counts a call, and says whether it is to fail.
@@ -60,7 +61,7 @@ impl Calls {
         self.done = self.done.saturating_add(1);
         let fails = self.failing.contains(&self.done);
         if fails {
-            self.faults = self.faults.saturating_add(1);
+            raise(&mut self.faults);
         }
         fails
     }
@@ -173,12 +174,12 @@ impl Files for MemoryFiles {
         }
         match self.find(name) {
             None => {
-                self.absents = self.absents.saturating_add(1);
+                raise(&mut self.absents);
                 Err(FetchFault::Absent)
             }
             Some(bytes) => {
                 if bytes.len() > MOST_BYTES {
-                    self.larges = self.larges.saturating_add(1);
+                    raise(&mut self.larges);
                     return Err(FetchFault::TooLarge);
                 }
                 Ok(bytes.to_vec(alloc)?)
