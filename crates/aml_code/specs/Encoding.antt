@@ -1,11 +1,10 @@
 -- The bytes of a core tree (ACPI Specification 6.4, 20.2).
-use Rattle.std.specs.Prelude.{ℕ, zero, suc, ◌+◌, ◌-◌, ◌*◌, ◌/◌, ◌%◌, ◌^◌, Bool, nat_eq, nat_lt, ◌&&◌, if◌then◌else◌, List, [], ◌∷◌, ◌++◌, length, replicate, Option, Some, None}
+use Rattle.std.specs.Prelude.{ℕ, zero, suc, ◌+◌, ◌*◌, ◌/◌, ◌%◌, ◌^◌, Bool, nat_eq, nat_lt, ◌&&◌, if◌then◌else◌, List, [], ◌∷◌, ◌++◌, length, replicate}
 use Rattle.byteorder.specs.Endian.{little_bytes}
 use Rattle.acpi_values.specs.Paths.{NameSeg}
 use Rattle.acpi_values.specs.declared.width.Width.{Width}
 use Rattle.acpi_values.specs.Widths.{ones_of}
 use Rattle.asl_tree.specs.declared.path.Path.{Path}
-use Rattle.asl_tree.specs.declared.term.Literal.{Literal}
 
 -- the PkgLength of a content, where `more` bytes follow the first
 abbrev pub package_length_form : ℕ → ℕ → List ℕ
@@ -70,4 +69,3 @@ name_path_bytes segs = 0x2F ∷ length segs ∷ joined_segments segs
 -- a NameString
 abbrev pub name_bytes : Path → List ℕ
 name_bytes name = prefix_bytes name ++ name_path_bytes name.segs
-

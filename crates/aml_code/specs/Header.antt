@@ -1,9 +1,7 @@
 -- A table's header (ACPI Specification 6.4, 5.2.6).
-use Rattle.std.specs.Prelude.{◌≡◌, ℕ, ◌+◌, ◌-◌, ◌%◌, Bool, List, ◌∷◌, ◌++◌, length, take, replicate, sum, codes, slice_index, slice_range}
+use Rattle.std.specs.Prelude.{◌≡◌, ℕ, ◌+◌, ◌-◌, ◌%◌, List, ◌∷◌, ◌++◌, length, take, replicate, sum, codes, slice_index, slice_range}
 use Rattle.byteorder.specs.Endian.{little_bytes, little_number}
 use Rattle.asl_tree.specs.declared.program.Block.{Block}
-use Rattle.asl_tree.specs.View.{trees_of}
-use Rattle.acpi_values.specs.declared.width.Width.TheVariants.{W64}
 
 -- what a table's header says of it
 pub record HeaderFields : Type 0 where

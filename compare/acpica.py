@@ -1,0 +1,44 @@
+"""What the comparisons share: compilers, interpreter, and tables without what differs by right."""
+
+import re
+import subprocess
+
+# Names and words of the language that have at most four characters, which are no segments.
+WORDS = """add and nand or nor xor mod not land lor lnot mid wait zero one ones noop if else case arg0 arg1 arg2 arg3
+arg4 arg5 arg6 name irq dma io lock pcc ipmi mtr meq mle mlt mge mgt edge load for""".split()
+ROOT = ["_GPE", "_PR_", "_SB_", "_SI_", "_TZ_", "_GL_", "_OSI", "_OS_", "_REV"]
+
+# ACPICA's compiler without its folding and its shorter names, which iasl does not do yet; -f writes the table also where it
+# has errors of its own, such as a Local that is read before it is stored to.
+THEIRS = ["iasl", "-f", "-vs", "-of", "-on"]
+
+
+def compiled(folder, words, text):
+    """The table that a compiler makes of a source."""
+    folder.mkdir(exist_ok=True)
+    (folder / "t.asl").write_bytes(text if isinstance(text, bytes) else text.encode("ascii"))
+    (folder / "t.aml").unlink(missing_ok=True)
+    run = subprocess.run(words + ["t.asl"], cwd=folder, capture_output=True, text=True, check=False)
+    table = folder / "t.aml"
+    if not table.exists():
+        raise SystemExit(f"{words[0]} wrote no table of:\n{text}\n{run.stdout}{run.stderr}")
+    return table.read_bytes()
+
+
+def without_creator(table):
+    """A table whose creator and checksum are zero."""
+    assert sum(table) % 256 == 0, "checksum"
+    return table[:9] + b"\0" + table[10:28] + bytes(8) + table[36:]
+
+
+def evaluated(folder, calls):
+    """What the interpreter gives for each call, a name and its Integers: an Integer, a String, or the exception's name."""
+    commands = ";".join(f"evaluate \\{name} " + " ".join(hex(n) for n in args) for name, args in calls)
+    run = subprocess.run(["acpiexec", "-b", commands, "t.aml"], cwd=folder, capture_output=True, text=True, check=False)
+    answers = []
+    for part in run.stdout.split("Evaluating ")[1:]:
+        number = re.search(r"\[Integer\] = ([0-9A-F]+)", part)
+        string = re.search(r'\[String\] Length [0-9A-F]+ = "(.*)"', part)
+        fault = re.search(r"failed with status (AE_\w+)", part)
+        answers.append(int(number[1], 16) if number else string[1] if string else fault[1] if fault else None)
+    return answers
