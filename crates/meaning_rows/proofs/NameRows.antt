@@ -21,7 +21,7 @@ use Rattle.aml_meaning.specs.ByteSession.{byte_session}
 use Rattle.aml_meaning.specs.Codes.{code_front}
 use Rattle.meaning_rows.proofs.Rows.{fields}
 use Rattle.acpi_names.specs.Errors.{Twice, Missing, WrongCount, name_errors, type_errors}
-use Rattle.named_sessions.proofs.Main.{core_of}
+use Rattle.named_sessions.specs.Core.{core_of}
 
 abbrev seg : ℕ → List ℕ
 seg letter = letter ∷ 0x5F ∷ 0x5F ∷ 0x5F ∷ []

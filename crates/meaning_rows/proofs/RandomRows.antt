@@ -25,7 +25,7 @@ use Rattle.asl_meaning.specs.SourceSession.{source_session}
 use Rattle.aml_meaning.specs.Encoded.{encoded_all}
 use Rattle.aml_code.specs.Header.{table_bytes}
 use Rattle.acpi_names.specs.Errors.{name_errors, type_errors}
-use Rattle.named_sessions.proofs.Main.{core_of}
+use Rattle.named_sessions.specs.Core.{core_of}
 
 abbrev seg : ℕ → ℕ → ℕ → ℕ → NameSeg
 seg a b c d = a ∷ b ∷ c ∷ d ∷ []

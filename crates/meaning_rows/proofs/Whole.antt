@@ -26,7 +26,8 @@ use Rattle.aml_meaning.specs.ByteSession.{byte_session, IsFaithful}
 use Rattle.aml_meaning.specs.Codes.{code_front}
 use Rattle.acpi_names.specs.Errors.{name_errors, type_errors}
 use Rattle.named_sessions.specs.Shaped.{AreShaped}
-use Rattle.named_sessions.proofs.Main.{core_of, is_faithful}
+use Rattle.named_sessions.specs.Core.{core_of}
+use Rattle.named_sessions.proofs.Main.{is_faithful}
 
 abbrev seg : ℕ → NameSeg
 seg letter = letter ∷ 0x5F ∷ 0x5F ∷ 0x5F ∷ []

@@ -3,3 +3,4 @@ pub mod Ready
 pub mod Chains
 pub mod Settles
 pub mod Main
+pub mod Blocks

@@ -1,27 +1,19 @@
 -- The bytes of a program without errors do what the program does.
 use Rattle.std.proofs.Common.{◌≡◌, ℕ, ◌+◌, ◌<◌, ◌^◌, Bool, List, [], length, ◌∙◌}
 use Rattle.acpi_values.specs.declared.width.Width.{Width}
-use Rattle.acpi_values.specs.Paths.{AbsolutePath}
 use Rattle.acpi_state.specs.Sessions.{present_ones}
-use Rattle.asl_tree.specs.Names.{is_known}
-use Rattle.asl_meaning.specs.Declarations.{ExternalType, written_external, nothing_declared, declarations, externals, known_of}
+use Rattle.asl_meaning.specs.Declarations.{nothing_declared, declarations, externals, known_of}
 use Rattle.asl_tree.specs.Tree.{Trees}
 use Rattle.aml_meaning.specs.Encoded.{encoded_all}
 use Rattle.aml_meaning.specs.ByteSession.{definition_bytes, IsFaithful}
 use Rattle.aml_sessions.specs.Ready.{AreReady}
 use Rattle.aml_sessions.proofs.Sessions.{faithful}
 use Rattle.acpi_names.specs.Errors.{whole_of, name_errors, type_errors}
-use Rattle.acpi_names.specs.Spelled.{spelled_all}
 use Rattle.named_sessions.specs.Shaped.{AreShaped}
+use Rattle.named_sessions.specs.Core.{says_of, core_of}
 use Rattle.named_sessions.proofs.Spelled.{same_source}
 use Rattle.named_sessions.proofs.Ready.{within_same, ready_all}
 use Rattle.named_sessions.proofs.Settles.{settles, knows_start}
-
-abbrev pub says_of : Trees → AbsolutePath → ExternalType → ExternalType
-says_of program = written_external (whole_of program).calls
-
-abbrev pub core_of : Trees → Trees
-core_of program = spelled_all (is_known (known_of program)) (says_of program) program []
 
 -- a shaped program without errors is ready once its names are spelled
 pub is_ready : (width : Width) (program : Trees) → AreShaped width program → name_errors program ≡ [] → type_errors program ≡ [] → AreReady width (known_of program) (core_of program) []

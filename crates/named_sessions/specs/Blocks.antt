@@ -1,0 +1,39 @@
+-- A definition block, what may be wrong with it, and its table.
+use Rattle.std.specs.Prelude.{◌≡◌, ℕ, true, ◌<◌, ◌≤◌, ◌^◌, List, [], length}
+use Rattle.acpi_values.specs.declared.width.Width.TheVariants.{W64}
+use Rattle.asl_tree.specs.declared.program.Block.{Block}
+use Rattle.asl_tree.specs.Tree.{Trees}
+use Rattle.asl_tree.specs.View.{trees_of}
+use Rattle.asl_meaning.specs.Declarations.{known_of, externals}
+use Rattle.aml_code.specs.Header.{table_bytes, fields_of, IsHeader}
+use Rattle.aml_meaning.specs.Encoded.{encoded_all}
+use Rattle.aml_meaning.specs.ByteSession.{IsFaithful}
+use Rattle.acpi_names.specs.Errors.{name_errors, type_errors}
+use Rattle.named_sessions.specs.Shaped.{AreShaped}
+use Rattle.named_sessions.specs.Core.{core_of}
+
+-- the terms of a block
+abbrev pub terms_of : Block → Trees
+terms_of block = trees_of block.terms.items
+
+-- The header's texts have room, and the terms are shaped; until tables of 32 bits are written the width is 64.
+pub record IsShapedBlock (block : Block) : Type 0 where
+  pub signature : length block.signature ≡ 4
+  pub oem_id : length block.oem_id ≤ 6
+  pub table_id : length block.table_id ≤ 8
+  pub oem_revision : block.oem_revision < 2 ^ 32
+  pub terms : AreShaped W64 (terms_of block)
+
+-- nothing is wrong with its names, nor with how many arguments its calls have
+pub record IsRightBlock (block : Block) : Type 0 where
+  pub names : name_errors (terms_of block) ≡ []
+  pub counts : type_errors (terms_of block) ≡ []
+
+-- the table of a block: its header, and the bytes of its terms with their names spelled
+abbrev pub block_table : Block → List ℕ
+block_table block = table_bytes (fields_of block) (encoded_all W64 true (core_of (terms_of block)))
+
+-- bytes that begin with the header that the block states, and that do what the block does
+pub record DoesAs (block : Block) (bytes : List ℕ) : Type 0 where
+  pub header : IsHeader bytes (fields_of block)
+  pub faithful : IsFaithful W64 (known_of (terms_of block)) (externals (terms_of block)) (terms_of block) bytes
