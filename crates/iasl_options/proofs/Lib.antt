@@ -8,3 +8,4 @@ mod CommandLines
 mod Offending
 mod OneOffending
 mod Worked
+pub mod Directories

@@ -1,5 +1,5 @@
 -- The names of outputs, as a function and as what is true of them.
-use Rattle.std.specs.Prelude.{◌≡◌, ℕ, ◌==◌, ◌&&◌, ◌⊎◌, Bool, true, false, not, if◌then◌else◌, List, [], ◌∷◌, ◌++◌, Some, None}
+use Rattle.std.specs.Prelude.{◌≡◌, ℕ, ◌==◌, ◌&&◌, ◌⊎◌, Bool, true, false, not, if◌then◌else◌, List, [], ◌∷◌, ◌++◌, Some, None, codes}
 use Rattle.std.specs.declared.option.Option.{Option}
 use Rattle.std.specs.Option.{unwrap_or}
 use Rattle.std.specs.List.{list_any}
@@ -28,6 +28,18 @@ output_stem None file = stem_of file
 abbrev pub output_name : Option (List ℕ) → List ℕ → List ℕ → List ℕ
 output_name prefix file extension = output_stem prefix file ++ extension
 
+-- the directory of a file's name: its front up to the last slash (47), which is part of it
+abbrev pub directory_of : List ℕ → List ℕ
+directory_of [] = []
+directory_of (c ∷ cs) = if has_slash (c ∷ cs) then c ∷ directory_of cs else []
+
+-- the name of a table's file: the prefix that was asked for and the extension; or the block's own name in the file's directory; or,
+-- where that is empty, the file's name with the extension in place of its own
+abbrev pub table_name : Option (List ℕ) → List ℕ → List ℕ → List ℕ
+table_name (Some prefix) file own = output_name (Some prefix) file (codes ".aml")
+table_name None file [] = output_name None file (codes ".aml")
+table_name None file (c ∷ own) = directory_of file ++ (c ∷ own)
+
 -- ---- what is true of them
 
 abbrev pub has_dot : List ℕ → Bool
@@ -44,3 +56,15 @@ IsStem file stem =
 abbrev pub IsOutputName : Option (List ℕ) → List ℕ → List ℕ → List ℕ → Type 0
 IsOutputName (Some prefix) file extension name = name ≡ prefix ++ extension
 IsOutputName None file extension name = (stem : List ℕ) × IsStem file stem × (name ≡ stem ++ extension)
+
+-- The directory of a file's name ends with the last slash; a name without a slash has none.
+abbrev pub IsDirectory : List ℕ → List ℕ → Type 0
+IsDirectory file directory =
+    ((front rest : List ℕ) × (file ≡ front ++ 47 ∷ rest) × (has_slash rest ≡ false) × (directory ≡ front ++ 47 ∷ []))
+    ⊎ ((has_slash file ≡ false) × (directory ≡ []))
+
+-- the name of a table's file
+abbrev pub IsTableName : Option (List ℕ) → List ℕ → List ℕ → List ℕ → Type 0
+IsTableName (Some prefix) file own name = IsOutputName (Some prefix) file (codes ".aml") name
+IsTableName None file [] name = IsOutputName None file (codes ".aml") name
+IsTableName None file (c ∷ own) name = (directory : List ℕ) × IsDirectory file directory × (name ≡ directory ++ (c ∷ own))
