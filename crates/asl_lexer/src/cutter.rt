@@ -8,12 +8,11 @@ ghost use Rattle.asl_lexer.specs.Fine.{IsFine};
 ghost use Rattle.asl_lexer.specs.Marks.{line_marks, break_mark, following, tokens_of, Leads, Answers};
 
 use crate::mode::{Fault, Mode, Stop};
-use crate::start::{
-    BAD_CHARACTER, OPEN_COMMENT, OPEN_STRING, add_name, add_number, add_symbol, begin, refuse,
-};
+use crate::start::{add_name, add_number, add_symbol, begin, end_at, refuse};
 use crate::token::Tokens;
 use crate::{names, numbers, strings, symbols};
 use iasl_messages::message::{Message, Stage};
+use iasl_messages::number::{BAD_CHARACTER, OPEN_COMMENT, OPEN_STRING};
 use iasl_messages::place::{Line, Lines, Place};
 use iasl_ports::list::{List, Text};
 use std::alloc::{AllocError, Global};
@@ -33,10 +32,13 @@ fn step(alloc: Global, tokens: &mut Tokens, mode: Mode, at: Place, byte: u8) -> 
         Mode::Root { from } => names::root(alloc, tokens, from, at, byte),
         Mode::Carets { before, last } => names::carets(alloc, tokens, before, last, at, byte),
         Mode::Zero { from } => numbers::zero(alloc, tokens, from, at, byte),
-        Mode::Prefix { from, x } => numbers::prefix(from, x, byte),
-        Mode::Number { from, radix, value } => {
-            numbers::number(alloc, tokens, from, radix, value, at, byte)
-        }
+        Mode::Prefix { from, x } => numbers::prefix(from, x, at, byte),
+        Mode::Number {
+            from,
+            radix,
+            value,
+            end,
+        } => numbers::number(alloc, tokens, from, radix, value, end, at, byte),
         Mode::Text { from, text } => strings::text(alloc, tokens, from, text, at, byte),
         Mode::Escape { from, text, slash } => strings::escape(from, text, slash, byte),
         Mode::Coded { from, text, slash } => strings::coded(from, text, slash, byte),
@@ -77,9 +79,9 @@ fn finish(alloc: Global, mut tokens: Tokens, mode: Mode) -> Result<Tokens, Stop>
             names::add_carets(alloc, &mut tokens, before.as_slice())?;
             add_symbol(alloc, &mut tokens, last, b"^")?;
         }
-        Mode::Zero { from } => add_number(alloc, &mut tokens, from, 0)?,
+        Mode::Zero { from } => add_number(alloc, &mut tokens, from, 0, end_at(from))?,
         Mode::Prefix { x, .. } => return Err(refuse(BAD_CHARACTER, x)),
-        Mode::Number { from, value, .. } => add_number(alloc, &mut tokens, from, value)?,
+        Mode::Number { from, value, end, .. } => add_number(alloc, &mut tokens, from, value, end)?,
         Mode::Text { from, .. }
         | Mode::Escape { from, .. }
         | Mode::Coded { from, .. }
