@@ -3,3 +3,4 @@ pub mod Scan
 pub mod Marks
 pub mod Cut
 pub mod Fine
+pub mod Within

@@ -1,10 +1,11 @@
 //! Lines to tokens.
-ghost use Rattle.std.specs.Prelude.{◌≡◌, ◌++◌, ◌∷◌, ◌<◌, ◌^◌, [], List as AList, length, All, OnOk, IfOk, IfErr, Ok, Err};
+ghost use Rattle.std.specs.Prelude.{◌≡◌, ℕ, ◌++◌, ◌∷◌, ◌<◌, ◌^◌, [], List as AList, length, All, OnOk, IfOk, IfErr, Ok, Err};
 ghost use Rattle.asl_lexer.specs.declared.token.Token.{Token};
 ghost use Rattle.asl_lexer.specs.Scan as spec;
 ghost use Rattle.asl_lexer.specs.Scan.{Mark, Moves, Gives};
 ghost use Rattle.asl_lexer.specs.Cut.{IsCut, HasFault, Explains};
 ghost use Rattle.asl_lexer.specs.Fine.{IsFine};
+ghost use Rattle.asl_lexer.specs.Within.{IsWithin};
 ghost use Rattle.asl_lexer.specs.Marks.{line_marks, break_mark, following, tokens_of, Leads, Answers};
 
 use crate::mode::{Fault, Mode, Stop};
@@ -199,6 +200,9 @@ pub fn tokens(alloc: Global, lines: &Lines) -> Result<Tokens, Stage>
     // The one message tells the first fault, and no other is it.
     ensures fault { IfErr result (λ stage. Explains stage lines.now.list) }
     ensures first { (fault : Fault) → HasFault lines.now.list fault → Answers result (Err fault) }
+
+    // What is told stands in the files of the lines.
+    ensures within { (files : ℕ) → All (λ line. line.file < files) lines.now.list → IsWithin files result }
 {
     answer(alloc, lines.list.as_slice())
 }
