@@ -24,18 +24,18 @@ unfolding then_scan
 faults b rest mode done x e = scan_steps b rest mode done (Err x) e
 
 -- a step by the class that a byte is known to have
-begin_is : (k : Class) (b : Mark) (done : List Token) → class b ≡ k → begin b.place b.byte done ≡ begin_by k b.place b.byte done
+pub begin_is : (k : Class) (b : Mark) (done : List Token) → class b ≡ k → begin b.place b.byte done ≡ begin_by k b.place b.byte done
 unfolding begin
 begin_is k b done is = ap (λ j. begin_by j b.place b.byte done) is
 
-begins : (k : Class) (next : Mode) (b : Mark) (rest : List Mark) (done more_done : List Token) → class b ≡ k → begin_by k b.place b.byte done ≡ Ok (next, more_done) → scan (b ∷ rest) m.Between done ≡ scan rest next more_done
+pub begins : (k : Class) (next : Mode) (b : Mark) (rest : List Mark) (done more_done : List Token) → class b ≡ k → begin_by k b.place b.byte done ≡ Ok (next, more_done) → scan (b ∷ rest) m.Between done ≡ scan rest next more_done
 begins k next b rest done more_done is e = scan_goes b rest m.Between next done more_done (begin_is k b done is ∙ e)
 
-begins_by : (next : Mode) (b : Mark) (rest : List Mark) (done more_done : List Token) → begin_by (class b) b.place b.byte done ≡ Ok (next, more_done) → scan (b ∷ rest) m.Between done ≡ scan rest next more_done
+pub begins_by : (next : Mode) (b : Mark) (rest : List Mark) (done more_done : List Token) → begin_by (class b) b.place b.byte done ≡ Ok (next, more_done) → scan (b ∷ rest) m.Between done ≡ scan rest next more_done
 begins_by next b rest done more_done e = begins (class b) next b rest done more_done refl e
 
 -- a mode that ends before the next byte
-then_between : (mode : Mode) (rest : List Mark) (done more_done : List Token) → finish mode done ≡ Ok more_done → ((b : Mark) (bs : List Mark) → rest ≡ b ∷ bs → step mode b.place b.byte done ≡ begin b.place b.byte more_done)
+pub then_between : (mode : Mode) (rest : List Mark) (done more_done : List Token) → finish mode done ≡ Ok more_done → ((b : Mark) (bs : List Mark) → rest ≡ b ∷ bs → step mode b.place b.byte done ≡ begin b.place b.byte more_done)
     → scan rest mode done ≡ scan rest m.Between more_done
 unfolding scan then_scan
 then_between mode [] done more_done e h = e
@@ -56,7 +56,7 @@ regrouped w v rest mode done = ap (λ ms. scan ms mode done) (append_assoc w v r
 
 -- ---- words and paths
 
-begin_name : (k : Class) (at : Place) (b : ℕ) (done : List Token) → begins_name_class k ≡ true → begin_by k at b done ≡ Ok (m.Name at false (to_ascii_uppercase b ∷ []), done)
+pub begin_name : (k : Class) (at : Place) (b : ℕ) (done : List Token) → begins_name_class k ≡ true → begin_by k at b done ≡ Ok (m.Name at false (to_ascii_uppercase b ∷ []), done)
 begin_name c.Letter at b done h = refl
 begin_name c.Underscore at b done h = refl
 begin_name _ at b done h = absurd cc
@@ -71,7 +71,7 @@ root_out c.Letter from at b done h = absurd cc
 root_out c.Underscore from at b done h = absurd cc
 root_out _ from at b done h = refl
 
-name_in : (k : Class) (from : Place) (path : Bool) (name : List ℕ) (at : Place) (b : ℕ) (done : List Token) → in_name_class k ≡ true → name_by k from path name at b done ≡ Ok (m.Name from path (name ++ to_ascii_uppercase b ∷ []), done)
+pub name_in : (k : Class) (from : Place) (path : Bool) (name : List ℕ) (at : Place) (b : ℕ) (done : List Token) → in_name_class k ≡ true → name_by k from path name at b done ≡ Ok (m.Name from path (name ++ to_ascii_uppercase b ∷ []), done)
 name_in c.Letter from path name at b done h = refl
 name_in c.Underscore from path name at b done h = refl
 name_in c.Zero from path name at b done h = refl
@@ -178,7 +178,7 @@ name_ends k from path name b rest done is out dot =
     let same : b ≡ x = cc in
     subst (λ y. name_by (class y) from path name y.place y.byte done ≡ begin y.place y.byte (with_name done path from name)) same (ap (λ j. name_by j from path name b.place b.byte done) is))
 
-names_end : (from : Place) (path : Bool) (name : List ℕ) (rest : List Mark) (done : List Token) → EndsName rest → scan rest (m.Name from path name) done ≡ scan rest m.Between (with_name done path from name)
+pub names_end : (from : Place) (path : Bool) (name : List ℕ) (rest : List Mark) (done : List Token) → EndsName rest → scan rest (m.Name from path name) done ≡ scan rest m.Between (with_name done path from name)
 unfolding scan
 names_end from path name [] done ends = refl
 names_end from path name (b ∷ rest) done ends = name_ends (class b) from path name b rest done refl ends.0 ends.1
@@ -237,7 +237,7 @@ behind_in c.Zero from value end at b done h = refl
 behind_in c.Digit from value end at b done h = refl
 behind_in _ from value end at b done h = absurd cc
 
-number_small : (from : Place) (radix : Radix) (value end : ℕ) (b : Mark) (done : List Token) → digit_in (base_of radix) b ≡ true → more value radix b.byte < 2 ^ 64
+pub number_small : (from : Place) (radix : Radix) (value end : ℕ) (b : Mark) (done : List Token) → digit_in (base_of radix) b ≡ true → more value radix b.byte < 2 ^ 64
     → step (m.Number from radix value end) b.place b.byte done ≡ Ok (m.Number from radix (more value radix b.byte) (end_at b.place), done)
 number_small from radix value end b done is small =
     ap (λ t. number_by t from radix value end b.place b.byte done) is ∙ ap (λ t. digit_by t from radix (more value radix b.byte) (end_at b.place) done) (lt-ltb (more value radix b.byte) (2 ^ 64) small)
@@ -279,7 +279,7 @@ numeral_run (g.IsNumeral.hexadecimal {z = z} {x = x} {m = b} zero is_x is) rest 
     ∙ scan_goes b rest (m.Prefix z.place x.place) (m.Number z.place Hexadecimal (digit_value b.byte) (end_at b.place)) done done (ap (λ t. prefix_by t z.place x.place b.place b.byte done) is))
 numeral_run (g.IsNumeral.more {radix = radix} {from = from} {value = value} {w = w} b numeral is) rest done = one_more radix from value w b rest done is (numeral_run numeral (b ∷ rest) done)
 
-number_ends : (from : Place) (radix : Radix) (value end : ℕ) (rest : List Mark) (done : List Token) → Stops (digit_in (base_of radix)) rest → Stops behind_number rest
+pub number_ends : (from : Place) (radix : Radix) (value end : ℕ) (rest : List Mark) (done : List Token) → Stops (digit_in (base_of radix)) rest → Stops behind_number rest
     → scan rest (m.Number from radix value end) done ≡ scan rest m.Between (with_number done from value end)
 number_ends from radix value end rest done no_digit none =
     then_between (m.Number from radix value end) rest done (with_number done from value end) refl (λ b bs e.
@@ -299,7 +299,7 @@ abbrev text_mode : Result (List ℕ) Fault → Place → Mode
 text_mode (Ok string) from = m.Text from string
 text_mode (Err fault) from = m.Broken from fault
 
-text_in : (k : Class) (from : Place) (string : List ℕ) (at : Place) (b : ℕ) (done : List Token) → in_text_class k ≡ true → text_by k from string at b done ≡ plain_by (is_plain b) from string at b done
+pub text_in : (k : Class) (from : Place) (string : List ℕ) (at : Place) (b : ℕ) (done : List Token) → in_text_class k ≡ true → text_by k from string at b done ≡ plain_by (is_plain b) from string at b done
 text_in c.Break from string at b done h = absurd cc
 text_in c.Quote from string at b done h = absurd cc
 text_in c.Backslash from string at b done h = absurd cc
@@ -412,7 +412,7 @@ abbrev blocked : Bool → Place → Mode
 blocked true from = m.Star from
 blocked false from = m.Block from
 
-block_out : (k : Class) (from : Place) (done : List Token) → (k ≡ c.Star → ⊥) → block_by k from done ≡ Ok (m.Block from, done)
+pub block_out : (k : Class) (from : Place) (done : List Token) → (k ≡ c.Star → ⊥) → block_by k from done ≡ Ok (m.Block from, done)
 block_out c.Star from done h = absurd (h refl)
 block_out _ from done h = refl
 
@@ -442,7 +442,7 @@ to_slash a rest done is = begins c.Slash (m.Slash a.place) a rest done done is r
 to_block : (a b : Mark) (rest : List Mark) (done : List Token) → class a ≡ c.Slash → class b ≡ c.Star → scan (a ∷ b ∷ rest) m.Between done ≡ scan rest (m.Block a.place) done
 to_block a b rest done first second = to_slash a (b ∷ rest) done first ∙ scan_goes b rest (m.Slash a.place) (m.Block a.place) done done (ap (λ k. slash_by k a.place b.place b.byte done) second)
 
-line_in : (k : Class) (done : List Token) → in_line_class k ≡ true → line_by k done ≡ Ok (m.Line, done)
+pub line_in : (k : Class) (done : List Token) → in_line_class k ≡ true → line_by k done ≡ Ok (m.Line, done)
 line_in c.Break done h = absurd cc
 line_in _ done h = refl
 
@@ -471,10 +471,10 @@ begin_sign c.Equals at b done h = refl
 begin_sign c.Sign at b done h = refl
 begin_sign _ at b done h = absurd cc
 
-to_sign : (b : Mark) (rest : List Mark) (done : List Token) → begins_sign_class (class b) ≡ true → scan (b ∷ rest) m.Between done ≡ scan rest (m.Sign b.place b.byte) done
+pub to_sign : (b : Mark) (rest : List Mark) (done : List Token) → begins_sign_class (class b) ≡ true → scan (b ∷ rest) m.Between done ≡ scan rest (m.Sign b.place b.byte) done
 to_sign b rest done is = begins_by (m.Sign b.place b.byte) b rest done done (begin_sign (class b) b.place b.byte done is)
 
-sign_ends : (from : Place) (first : ℕ) (rest : List Mark) (done : List Token) → Stops (λ n. are_two first n.byte) rest → scan rest (m.Sign from first) done ≡ scan rest m.Between (with_symbol done from (first ∷ []))
+pub sign_ends : (from : Place) (first : ℕ) (rest : List Mark) (done : List Token) → Stops (λ n. are_two first n.byte) rest → scan rest (m.Sign from first) done ≡ scan rest m.Between (with_symbol done from (first ∷ []))
 sign_ends from first rest done s =
     then_between (m.Sign from first) rest done (with_symbol done from (first ∷ [])) refl (λ b bs e.
     let none = neither ((b.byte == 61) && takes_equals first) ((b.byte == first) && doubles first) (stops_at (λ n. are_two first n.byte) rest b bs s e) in
@@ -525,7 +525,7 @@ three_run b n o rest done is =
 
 -- ---- all
 
-blank_by : (k : Class) (at : Place) (b : ℕ) (done : List Token) → is_blank_class k ≡ true → begin_by k at b done ≡ Ok (m.Between, done)
+pub blank_by : (k : Class) (at : Place) (b : ℕ) (done : List Token) → is_blank_class k ≡ true → begin_by k at b done ≡ Ok (m.Between, done)
 blank_by c.Blank at b done h = refl
 blank_by c.Break at b done h = refl
 blank_by _ at b done h = absurd cc

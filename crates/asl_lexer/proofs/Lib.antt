@@ -5,3 +5,4 @@ pub mod Complete
 pub mod Told
 pub mod FineTokens
 pub mod Within
+pub mod Runs

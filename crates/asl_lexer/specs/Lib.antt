@@ -4,3 +4,4 @@ pub mod Marks
 pub mod Cut
 pub mod Fine
 pub mod Within
+pub mod Runs

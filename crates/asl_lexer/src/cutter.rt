@@ -9,13 +9,14 @@ ghost use Rattle.asl_lexer.specs.Within.{IsWithin};
 ghost use Rattle.asl_lexer.specs.Marks.{line_marks, break_mark, following, tokens_of, Leads, Answers};
 
 use crate::mode::{Fault, Mode, Stop};
+use crate::run::run;
 use crate::start::{add_name, add_number, add_symbol, begin, end_at, refuse};
 use crate::token::Tokens;
 use crate::{names, numbers, strings, symbols};
 use iasl_messages::message::{Message, Stage};
 use iasl_messages::number::{BAD_CHARACTER, OPEN_COMMENT, OPEN_STRING};
 use iasl_messages::place::{Line, Lines, Place};
-use iasl_ports::list::{List, Text};
+use iasl_ports::list::{List, Text, behind};
 use std::alloc::{AllocError, Global};
 
 fn step(alloc: Global, tokens: &mut Tokens, mode: Mode, at: Place, byte: u8) -> Result<Mode, Stop>
@@ -101,13 +102,21 @@ fn scan_line(alloc: Global, tokens: &mut Tokens, mut mode: Mode, line: &Line) ->
     requires { length line.now.text < 2 ^ 32 }
     ensures { (rest : AList Mark) → Leads result tokens.new rest (spec.scan (line_marks line.now ++ rest) mode tokens.old) }
 {
-    for (index, byte) in line.text.as_bytes().iter().enumerate() {
+    let bytes = line.text.as_bytes();
+    let mut index = 0;
+    while index < bytes.len() {
         let at = Place {
             file: line.file,
             line: line.number,
             column: index as u32 + 1,
         };
-        mode = step(alloc, tokens, mode, at, *byte)?;
+        let width = run(alloc, tokens, &mode, at, behind(bytes, index))?;
+        if width > 0 {
+            index += width;
+        } else {
+            mode = step(alloc, tokens, mode, at, bytes[index])?;
+            index += 1;
+        }
     }
     Ok(mode)
 }

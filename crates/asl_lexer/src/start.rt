@@ -1,5 +1,6 @@
 //! Where a token begins.
-ghost use Rattle.std.specs.Prelude.{◌≡◌, ◌++◌, ◌∷◌, [], List as AList, OnOk, IfOk};
+ghost use Rattle.std.specs.Prelude.{◌≡◌, ◌++◌, ◌∷◌, [], List as AList, OnOk, IfOk, map, false};
+ghost use Rattle.std.specs.Char.{to_ascii_uppercase};
 ghost use Rattle.asl_lexer.specs.declared.token.Token.{Token};
 ghost use Rattle.asl_lexer.specs.Scan as spec;
 ghost use Rattle.asl_lexer.specs.Scan.{Moves};
@@ -107,6 +108,35 @@ pub fn add_string(
     ensures { OnOk result (tokens.new ≡ spec.with_string tokens.old place end text) }
 {
     let text = Text::from_vec(alloc, text.into_vec())?;
+    add(tokens, TokenKind::Text, place, end, 0, text)
+}
+
+/// Adds a word of these bytes.
+#[tactic(auto, using(std::proofs::lemmas::Grind::common_steps))]
+pub fn add_word(
+    alloc: Global,
+    tokens: &mut Tokens,
+    place: Place,
+    bytes: &[u8],
+) -> Result<(), AllocError>
+    ensures { OnOk result (tokens.new ≡ spec.with_name tokens.old false place (map to_ascii_uppercase bytes.now)) }
+{
+    let end = column_after(place.column, bytes.len());
+    let text = Text::from_uppercase(alloc, bytes)?;
+    add(tokens, TokenKind::Word, place, end, 0, text)
+}
+
+/// Adds a string of these bytes.
+pub fn add_plain_string(
+    alloc: Global,
+    tokens: &mut Tokens,
+    place: Place,
+    end: u32,
+    bytes: &[u8],
+) -> Result<(), AllocError>
+    ensures { OnOk result (tokens.new ≡ spec.with_string tokens.old place end bytes.now) }
+{
+    let text = Text::from_bytes(alloc, bytes)?;
     add(tokens, TokenKind::Text, place, end, 0, text)
 }
 
