@@ -8,8 +8,8 @@ use Rattle.asl_lexer.specs.declared.class.Class.{Class}
 use Rattle.asl_lexer.specs.declared.class.Radix.{Radix}
 use Rattle.asl_lexer.specs.declared.class.Radix.TheVariants.{Octal, Decimal, Hexadecimal}
 use Rattle.asl_lexer.specs.Class.{class_of, base_of, doubles, shifts}
-use Rattle.asl_lexer.specs.Scan.{Mark, more, is_plain}
-use Rattle.asl_lexer.specs.Cut.{Each, Stops, are_three}
+use Rattle.asl_lexer.specs.Scan.{Mark, end_at, more, is_plain}
+use Rattle.asl_lexer.specs.Cut.{Each, Stops, end_of, are_three}
 
 pub both : (a b : Bool) → (a && b) ≡ true → (a ≡ true) × (b ≡ true)
 both true b e = (refl, e)
@@ -49,6 +49,11 @@ Stops-all p (m ∷ ms) h = h m
 pub Each-snoc : (p : Mark → Bool) (w : List Mark) (m : Mark) → Each p w → p m ≡ true → Each p (w ++ m ∷ [])
 Each-snoc p [] m h e = (e, tt)
 Each-snoc p (x ∷ w) m h e = (h.0, Each-snoc p w m h.1 e)
+
+pub end_of-snoc : (w : List Mark) (m : Mark) → end_of (w ++ m ∷ []) ≡ end_at m.place
+end_of-snoc [] m = refl
+end_of-snoc (x ∷ []) m = refl
+end_of-snoc (x ∷ y ∷ w) m = end_of-snoc (y ∷ w) m
 
 pub value_small : (b : ℕ) → digit_value b ≤ 36
 value_small b = grind (arith, nat_tests)

@@ -13,29 +13,29 @@ use Rattle.asl_lexer.specs.declared.mode.Fault.{Fault}
 use Rattle.asl_lexer.specs.declared.mode.Mode.{Mode}
 use Rattle.asl_lexer.specs.declared.mode.Mode.TheVariants as m
 use Rattle.asl_lexer.specs.Class.{base_of, takes_equals, doubles, shifts}
-use Rattle.asl_lexer.specs.Scan.{Mark, bad_character, open_string, open_comment, bad_escape, large_number, with_name, with_number, with_string, with_symbol, begin_by, begin, name_by, dot_by, root_by, caret_text, first_of, carets_by, behind_by, digit_by, more, number_by, zero_by, prefix_by, broken_by, broken_escape_by, is_plain, plain_by, text_by, escaped, digits_by, escaped_by, escape_by, coded_by, value_by, escape_digit_by, slash_by, line_by, block_by, star_by, doubled_by, sign_by, shift_by, step, finish, scan}
-use Rattle.asl_lexer.specs.Cut.{Each, Stops, class, in_name_class, begins_name_class, behind_number_class, in_line_class, is_blank_class, in_text_class, behind_slash_class, begins_none_class, begins_sign_class, is_caret_class, is_equals_class, in_line, in_text, in_name, begins_name, behind_number, behind_slash, is_caret, is_equals, is_x, upper, digit_in, places, IsName, EndsName, no_name_by, no_name_behind, IsNumeral, IsCode, Content, Breaks, Inside, are_two, are_three, Cut, Bad, FailsWith}
+use Rattle.asl_lexer.specs.Scan.{Mark, end_at, bad_character, open_string, open_comment, bad_escape, large_number, with_name, with_number, with_string, with_symbol, begin_by, begin, name_by, dot_by, root_by, caret_text, first_of, carets_by, behind_by, digit_by, more, number_by, zero_by, prefix_by, broken_by, broken_escape_by, is_plain, plain_by, text_by, escaped, digits_by, escaped_by, escape_by, coded_by, value_by, escape_digit_by, slash_by, line_by, block_by, star_by, doubled_by, sign_by, shift_by, step, finish, scan}
+use Rattle.asl_lexer.specs.Cut.{Each, Stops, class, end_of, in_name_class, begins_name_class, behind_number_class, in_line_class, is_blank_class, in_text_class, behind_slash_class, begins_none_class, begins_sign_class, is_caret_class, is_equals_class, in_line, in_text, in_name, begins_name, behind_number, behind_slash, is_caret, is_equals, is_x, upper, digit_in, places, IsName, EndsName, no_name_by, no_name_behind, IsNumeral, IsCode, Content, Breaks, Inside, are_two, are_three, Cut, Bad, FailsWith}
 use Rattle.asl_lexer.specs.Cut as g
 use Rattle.asl_lexer.proofs.Steps.{then_scan, scan_steps, scan_goes}
-use Rattle.asl_lexer.proofs.Bits.{both, both_true, value_small, value_min, more_min, more_grows, plain_min, plain_is, x_no_digit, left_false, neither, shift_doubles, shift_no_equals}
+use Rattle.asl_lexer.proofs.Bits.{both, both_true, value_small, value_min, more_min, more_grows, plain_min, plain_is, x_no_digit, end_of-snoc, left_false, neither, shift_doubles, shift_no_equals}
 
 faults : (b : Mark) (rest : List Mark) (mode : Mode) (done : List Token) (x : Fault) → step mode b.place b.byte done ≡ Err x → scan (b ∷ rest) mode done ≡ Err x
 unfolding then_scan
 faults b rest mode done x e = scan_steps b rest mode done (Err x) e
 
 -- a step by the class that a byte is known to have
-begin_is : (k : Class) (b : Mark) (done : List Token) → class b ≡ k → begin b.place b.byte done ≡ begin_by k b.place b.byte done
+pub begin_is : (k : Class) (b : Mark) (done : List Token) → class b ≡ k → begin b.place b.byte done ≡ begin_by k b.place b.byte done
 unfolding begin
 begin_is k b done is = ap (λ j. begin_by j b.place b.byte done) is
 
-begins : (k : Class) (next : Mode) (b : Mark) (rest : List Mark) (done more_done : List Token) → class b ≡ k → begin_by k b.place b.byte done ≡ Ok (next, more_done) → scan (b ∷ rest) m.Between done ≡ scan rest next more_done
+pub begins : (k : Class) (next : Mode) (b : Mark) (rest : List Mark) (done more_done : List Token) → class b ≡ k → begin_by k b.place b.byte done ≡ Ok (next, more_done) → scan (b ∷ rest) m.Between done ≡ scan rest next more_done
 begins k next b rest done more_done is e = scan_goes b rest m.Between next done more_done (begin_is k b done is ∙ e)
 
-begins_by : (next : Mode) (b : Mark) (rest : List Mark) (done more_done : List Token) → begin_by (class b) b.place b.byte done ≡ Ok (next, more_done) → scan (b ∷ rest) m.Between done ≡ scan rest next more_done
+pub begins_by : (next : Mode) (b : Mark) (rest : List Mark) (done more_done : List Token) → begin_by (class b) b.place b.byte done ≡ Ok (next, more_done) → scan (b ∷ rest) m.Between done ≡ scan rest next more_done
 begins_by next b rest done more_done e = begins (class b) next b rest done more_done refl e
 
 -- a mode that ends before the next byte
-then_between : (mode : Mode) (rest : List Mark) (done more_done : List Token) → finish mode done ≡ Ok more_done → ((b : Mark) (bs : List Mark) → rest ≡ b ∷ bs → step mode b.place b.byte done ≡ begin b.place b.byte more_done)
+pub then_between : (mode : Mode) (rest : List Mark) (done more_done : List Token) → finish mode done ≡ Ok more_done → ((b : Mark) (bs : List Mark) → rest ≡ b ∷ bs → step mode b.place b.byte done ≡ begin b.place b.byte more_done)
     → scan rest mode done ≡ scan rest m.Between more_done
 unfolding scan then_scan
 then_between mode [] done more_done e h = e
@@ -56,7 +56,7 @@ regrouped w v rest mode done = ap (λ ms. scan ms mode done) (append_assoc w v r
 
 -- ---- words and paths
 
-begin_name : (k : Class) (at : Place) (b : ℕ) (done : List Token) → begins_name_class k ≡ true → begin_by k at b done ≡ Ok (m.Name at false (to_ascii_uppercase b ∷ []), done)
+pub begin_name : (k : Class) (at : Place) (b : ℕ) (done : List Token) → begins_name_class k ≡ true → begin_by k at b done ≡ Ok (m.Name at false (to_ascii_uppercase b ∷ []), done)
 begin_name c.Letter at b done h = refl
 begin_name c.Underscore at b done h = refl
 begin_name _ at b done h = absurd cc
@@ -71,7 +71,7 @@ root_out c.Letter from at b done h = absurd cc
 root_out c.Underscore from at b done h = absurd cc
 root_out _ from at b done h = refl
 
-name_in : (k : Class) (from : Place) (path : Bool) (name : List ℕ) (at : Place) (b : ℕ) (done : List Token) → in_name_class k ≡ true → name_by k from path name at b done ≡ Ok (m.Name from path (name ++ to_ascii_uppercase b ∷ []), done)
+pub name_in : (k : Class) (from : Place) (path : Bool) (name : List ℕ) (at : Place) (b : ℕ) (done : List Token) → in_name_class k ≡ true → name_by k from path name at b done ≡ Ok (m.Name from path (name ++ to_ascii_uppercase b ∷ []), done)
 name_in c.Letter from path name at b done h = refl
 name_in c.Underscore from path name at b done h = refl
 name_in c.Zero from path name at b done h = refl
@@ -178,7 +178,7 @@ name_ends k from path name b rest done is out dot =
     let same : b ≡ x = cc in
     subst (λ y. name_by (class y) from path name y.place y.byte done ≡ begin y.place y.byte (with_name done path from name)) same (ap (λ j. name_by j from path name b.place b.byte done) is))
 
-names_end : (from : Place) (path : Bool) (name : List ℕ) (rest : List Mark) (done : List Token) → EndsName rest → scan rest (m.Name from path name) done ≡ scan rest m.Between (with_name done path from name)
+pub names_end : (from : Place) (path : Bool) (name : List ℕ) (rest : List Mark) (done : List Token) → EndsName rest → scan rest (m.Name from path name) done ≡ scan rest m.Between (with_name done path from name)
 unfolding scan
 names_end from path name [] done ends = refl
 names_end from path name (b ∷ rest) done ends = name_ends (class b) from path name b rest done refl ends.0 ends.1
@@ -225,33 +225,33 @@ caret_run b rest done is no_equals no_name = begins c.Caret (m.Carets [] b.place
 
 -- ---- numbers
 
-behind_out : (k : Class) (from : Place) (value : ℕ) (at : Place) (b : ℕ) (done : List Token) → behind_number_class k ≡ false → behind_by k from value at b done ≡ begin at b (with_number done from value)
-behind_out c.Letter from value at b done h = absurd cc
-behind_out c.Zero from value at b done h = absurd cc
-behind_out c.Digit from value at b done h = absurd cc
-behind_out _ from value at b done h = refl
+behind_out : (k : Class) (from : Place) (value end : ℕ) (at : Place) (b : ℕ) (done : List Token) → behind_number_class k ≡ false → behind_by k from value end at b done ≡ begin at b (with_number done from value end)
+behind_out c.Letter from value end at b done h = absurd cc
+behind_out c.Zero from value end at b done h = absurd cc
+behind_out c.Digit from value end at b done h = absurd cc
+behind_out _ from value end at b done h = refl
 
-behind_in : (k : Class) (from : Place) (value : ℕ) (at : Place) (b : ℕ) (done : List Token) → behind_number_class k ≡ true → behind_by k from value at b done ≡ Err (bad_character at)
-behind_in c.Letter from value at b done h = refl
-behind_in c.Zero from value at b done h = refl
-behind_in c.Digit from value at b done h = refl
-behind_in _ from value at b done h = absurd cc
+behind_in : (k : Class) (from : Place) (value end : ℕ) (at : Place) (b : ℕ) (done : List Token) → behind_number_class k ≡ true → behind_by k from value end at b done ≡ Err (bad_character at)
+behind_in c.Letter from value end at b done h = refl
+behind_in c.Zero from value end at b done h = refl
+behind_in c.Digit from value end at b done h = refl
+behind_in _ from value end at b done h = absurd cc
 
-number_small : (from : Place) (radix : Radix) (value : ℕ) (b : Mark) (done : List Token) → digit_in (base_of radix) b ≡ true → more value radix b.byte < 2 ^ 64
-    → step (m.Number from radix value) b.place b.byte done ≡ Ok (m.Number from radix (more value radix b.byte), done)
-number_small from radix value b done is small =
-    ap (λ t. number_by t from radix value b.place b.byte done) is ∙ ap (λ t. digit_by t from radix (more value radix b.byte) done) (lt-ltb (more value radix b.byte) (2 ^ 64) small)
+pub number_small : (from : Place) (radix : Radix) (value end : ℕ) (b : Mark) (done : List Token) → digit_in (base_of radix) b ≡ true → more value radix b.byte < 2 ^ 64
+    → step (m.Number from radix value end) b.place b.byte done ≡ Ok (m.Number from radix (more value radix b.byte) (end_at b.place), done)
+number_small from radix value end b done is small =
+    ap (λ t. number_by t from radix value end b.place b.byte done) is ∙ ap (λ t. digit_by t from radix (more value radix b.byte) (end_at b.place) done) (lt-ltb (more value radix b.byte) (2 ^ 64) small)
 
-number_large : (from : Place) (radix : Radix) (value : ℕ) (b : Mark) (done : List Token) → digit_in (base_of radix) b ≡ true → 2 ^ 64 ≤ more value radix b.byte
-    → step (m.Number from radix value) b.place b.byte done ≡ Err (large_number from)
-number_large from radix value b done is large =
-    ap (λ t. number_by t from radix value b.place b.byte done) is ∙ ap (λ t. digit_by t from radix (more value radix b.byte) done) (le-ltb (more value radix b.byte) (2 ^ 64) large)
+number_large : (from : Place) (radix : Radix) (value end : ℕ) (b : Mark) (done : List Token) → digit_in (base_of radix) b ≡ true → 2 ^ 64 ≤ more value radix b.byte
+    → step (m.Number from radix value end) b.place b.byte done ≡ Err (large_number from)
+number_large from radix value end b done is large =
+    ap (λ t. number_by t from radix value end b.place b.byte done) is ∙ ap (λ t. digit_by t from radix (more value radix b.byte) (end_at b.place) done) (le-ltb (more value radix b.byte) (2 ^ 64) large)
 
 record NumeralRun (radix : Radix) (from : Place) (value : ℕ) (w rest : List Mark) (done : List Token) : Type 0 where
-  small : value < 2 ^ 64 → scan (w ++ rest) m.Between done ≡ scan rest (m.Number from radix value) done
+  small : value < 2 ^ 64 → scan (w ++ rest) m.Between done ≡ scan rest (m.Number from radix value (end_of w)) done
   large : 2 ^ 64 ≤ value → scan (w ++ rest) m.Between done ≡ Err (large_number from)
 
-first_digit : (radix : Radix) (from : Place) (b : ℕ) (w rest : List Mark) (done : List Token) → scan (w ++ rest) m.Between done ≡ scan rest (m.Number from radix (digit_value b)) done → NumeralRun radix from (digit_value b) w rest done
+first_digit : (radix : Radix) (from : Place) (b : ℕ) (w rest : List Mark) (done : List Token) → scan (w ++ rest) m.Between done ≡ scan rest (m.Number from radix (digit_value b) (end_of w)) done → NumeralRun radix from (digit_value b) w rest done
 first_digit radix from b w rest done e = record { small = λ h. e; large = λ h. absurd (omega (arith, value_small b)) }
 
 one_more : (radix : Radix) (from : Place) (value : ℕ) (w : List Mark) (b : Mark) (rest : List Mark) (done : List Token) → digit_in (base_of radix) b ≡ true → NumeralRun radix from value w (b ∷ rest) done
@@ -259,38 +259,39 @@ one_more : (radix : Radix) (from : Place) (value : ℕ) (w : List Mark) (b : Mar
 one_more radix from value w b rest done is run = record {
   small = λ h.
       let front : value < 2 ^ 64 = omega (arith, more_grows radix value b.byte) in
-      regrouped w (b ∷ []) rest m.Between done ∙ run.small front ∙ scan_goes b rest (m.Number from radix value) (m.Number from radix (more value radix b.byte)) done done (number_small from radix value b done is h);
+      regrouped w (b ∷ []) rest m.Between done ∙ run.small front ∙ scan_goes b rest (m.Number from radix value (end_of w)) (m.Number from radix (more value radix b.byte) (end_at b.place)) done done (number_small from radix value (end_of w) b done is h)
+      ∙ ap (λ n. scan rest (m.Number from radix (more value radix b.byte) n) done) (sym (end_of-snoc w b));
   large = λ h. elim (cases_lt value (2 ^ 64)) [
-    | inl lt ↦ regrouped w (b ∷ []) rest m.Between done ∙ run.small lt ∙ faults b rest (m.Number from radix value) done (large_number from) (number_large from radix value b done is h)
+    | inl lt ↦ regrouped w (b ∷ []) rest m.Between done ∙ run.small lt ∙ faults b rest (m.Number from radix value (end_of w)) done (large_number from) (number_large from radix value (end_of w) b done is h)
     | inr le ↦ regrouped w (b ∷ []) rest m.Between done ∙ run.large le
   ];
 }
 
 numeral_run : {radix : Radix} {from : Place} {value : ℕ} {w : List Mark} → IsNumeral radix from value w → (rest : List Mark) (done : List Token) → NumeralRun radix from value w rest done
-numeral_run (g.IsNumeral.decimal {m = b} is) rest done = first_digit Decimal b.place b.byte (b ∷ []) rest done (begins c.Digit (m.Number b.place Decimal (digit_value b.byte)) b rest done done is refl)
+numeral_run (g.IsNumeral.decimal {m = b} is) rest done = first_digit Decimal b.place b.byte (b ∷ []) rest done (begins c.Digit (m.Number b.place Decimal (digit_value b.byte) (end_at b.place)) b rest done done is refl)
 numeral_run (g.IsNumeral.octal {z = z} {m = b} zero is) rest done =
     first_digit Octal z.place b.byte (z ∷ b ∷ []) rest done
-    (begins c.Zero (m.Zero z.place) z (b ∷ rest) done done zero refl ∙ scan_goes b rest (m.Zero z.place) (m.Number z.place Octal (digit_value b.byte)) done done (ap (λ t. zero_by t (b.byte == 120) z.place b.place b.byte done) is))
+    (begins c.Zero (m.Zero z.place) z (b ∷ rest) done done zero refl ∙ scan_goes b rest (m.Zero z.place) (m.Number z.place Octal (digit_value b.byte) (end_at b.place)) done done (ap (λ t. zero_by t (b.byte == 120) z.place b.place b.byte done) is))
 numeral_run (g.IsNumeral.hexadecimal {z = z} {x = x} {m = b} zero is_x is) rest done =
     first_digit Hexadecimal z.place b.byte (z ∷ x ∷ b ∷ []) rest done
     (begins c.Zero (m.Zero z.place) z (x ∷ b ∷ rest) done done zero refl
     ∙ scan_goes x (b ∷ rest) (m.Zero z.place) (m.Prefix z.place x.place) done done (ap (λ t. zero_by t (x.byte == 120) z.place x.place x.byte done) (x_no_digit x.byte is_x) ∙ ap (λ u. zero_by false u z.place x.place x.byte done) is_x)
-    ∙ scan_goes b rest (m.Prefix z.place x.place) (m.Number z.place Hexadecimal (digit_value b.byte)) done done (ap (λ t. prefix_by t z.place x.place b.byte done) is))
+    ∙ scan_goes b rest (m.Prefix z.place x.place) (m.Number z.place Hexadecimal (digit_value b.byte) (end_at b.place)) done done (ap (λ t. prefix_by t z.place x.place b.place b.byte done) is))
 numeral_run (g.IsNumeral.more {radix = radix} {from = from} {value = value} {w = w} b numeral is) rest done = one_more radix from value w b rest done is (numeral_run numeral (b ∷ rest) done)
 
-number_ends : (from : Place) (radix : Radix) (value : ℕ) (rest : List Mark) (done : List Token) → Stops (digit_in (base_of radix)) rest → Stops behind_number rest
-    → scan rest (m.Number from radix value) done ≡ scan rest m.Between (with_number done from value)
-number_ends from radix value rest done no_digit none =
-    then_between (m.Number from radix value) rest done (with_number done from value) refl (λ b bs e.
-    ap (λ t. number_by t from radix value b.place b.byte done) (stops_at (digit_in (base_of radix)) rest b bs no_digit e) ∙ behind_out (class b) from value b.place b.byte done (stops_at behind_number rest b bs none e))
+pub number_ends : (from : Place) (radix : Radix) (value end : ℕ) (rest : List Mark) (done : List Token) → Stops (digit_in (base_of radix)) rest → Stops behind_number rest
+    → scan rest (m.Number from radix value end) done ≡ scan rest m.Between (with_number done from value end)
+number_ends from radix value end rest done no_digit none =
+    then_between (m.Number from radix value end) rest done (with_number done from value end) refl (λ b bs e.
+    ap (λ t. number_by t from radix value end b.place b.byte done) (stops_at (digit_in (base_of radix)) rest b bs no_digit e) ∙ behind_out (class b) from value end b.place b.byte done (stops_at behind_number rest b bs none e))
 
-zero_is : (from : Place) (b : Mark) (done : List Token) → digit_in 8 b ≡ false → is_x b ≡ false → step (m.Zero from) b.place b.byte done ≡ behind_by (class b) from 0 b.place b.byte done
+zero_is : (from : Place) (b : Mark) (done : List Token) → digit_in 8 b ≡ false → is_x b ≡ false → step (m.Zero from) b.place b.byte done ≡ behind_by (class b) from 0 (end_at from) b.place b.byte done
 zero_is from b done no_digit no_x = ap (λ t. zero_by t (b.byte == 120) from b.place b.byte done) no_digit ∙ ap (λ t. zero_by false t from b.place b.byte done) no_x
 
-zero_ends : (from : Place) (rest : List Mark) (done : List Token) → Stops (digit_in 8) rest → Stops is_x rest → Stops behind_number rest → scan rest (m.Zero from) done ≡ scan rest m.Between (with_number done from 0)
+zero_ends : (from : Place) (rest : List Mark) (done : List Token) → Stops (digit_in 8) rest → Stops is_x rest → Stops behind_number rest → scan rest (m.Zero from) done ≡ scan rest m.Between (with_number done from 0 (end_at from))
 zero_ends from rest done no_digit no_x none =
-    then_between (m.Zero from) rest done (with_number done from 0) refl (λ b bs e.
-    zero_is from b done (stops_at (digit_in 8) rest b bs no_digit e) (stops_at is_x rest b bs no_x e) ∙ behind_out (class b) from 0 b.place b.byte done (stops_at behind_number rest b bs none e))
+    then_between (m.Zero from) rest done (with_number done from 0 (end_at from)) refl (λ b bs e.
+    zero_is from b done (stops_at (digit_in 8) rest b bs no_digit e) (stops_at is_x rest b bs no_x e) ∙ behind_out (class b) from 0 (end_at from) b.place b.byte done (stops_at behind_number rest b bs none e))
 
 -- ---- strings
 
@@ -298,7 +299,7 @@ abbrev text_mode : Result (List ℕ) Fault → Place → Mode
 text_mode (Ok string) from = m.Text from string
 text_mode (Err fault) from = m.Broken from fault
 
-text_in : (k : Class) (from : Place) (string : List ℕ) (at : Place) (b : ℕ) (done : List Token) → in_text_class k ≡ true → text_by k from string at b done ≡ plain_by (is_plain b) from string at b done
+pub text_in : (k : Class) (from : Place) (string : List ℕ) (at : Place) (b : ℕ) (done : List Token) → in_text_class k ≡ true → text_by k from string at b done ≡ plain_by (is_plain b) from string at b done
 text_in c.Break from string at b done h = absurd cc
 text_in c.Quote from string at b done h = absurd cc
 text_in c.Backslash from string at b done h = absurd cc
@@ -411,7 +412,7 @@ abbrev blocked : Bool → Place → Mode
 blocked true from = m.Star from
 blocked false from = m.Block from
 
-block_out : (k : Class) (from : Place) (done : List Token) → (k ≡ c.Star → ⊥) → block_by k from done ≡ Ok (m.Block from, done)
+pub block_out : (k : Class) (from : Place) (done : List Token) → (k ≡ c.Star → ⊥) → block_by k from done ≡ Ok (m.Block from, done)
 block_out c.Star from done h = absurd (h refl)
 block_out _ from done h = refl
 
@@ -441,7 +442,7 @@ to_slash a rest done is = begins c.Slash (m.Slash a.place) a rest done done is r
 to_block : (a b : Mark) (rest : List Mark) (done : List Token) → class a ≡ c.Slash → class b ≡ c.Star → scan (a ∷ b ∷ rest) m.Between done ≡ scan rest (m.Block a.place) done
 to_block a b rest done first second = to_slash a (b ∷ rest) done first ∙ scan_goes b rest (m.Slash a.place) (m.Block a.place) done done (ap (λ k. slash_by k a.place b.place b.byte done) second)
 
-line_in : (k : Class) (done : List Token) → in_line_class k ≡ true → line_by k done ≡ Ok (m.Line, done)
+pub line_in : (k : Class) (done : List Token) → in_line_class k ≡ true → line_by k done ≡ Ok (m.Line, done)
 line_in c.Break done h = absurd cc
 line_in _ done h = refl
 
@@ -470,10 +471,10 @@ begin_sign c.Equals at b done h = refl
 begin_sign c.Sign at b done h = refl
 begin_sign _ at b done h = absurd cc
 
-to_sign : (b : Mark) (rest : List Mark) (done : List Token) → begins_sign_class (class b) ≡ true → scan (b ∷ rest) m.Between done ≡ scan rest (m.Sign b.place b.byte) done
+pub to_sign : (b : Mark) (rest : List Mark) (done : List Token) → begins_sign_class (class b) ≡ true → scan (b ∷ rest) m.Between done ≡ scan rest (m.Sign b.place b.byte) done
 to_sign b rest done is = begins_by (m.Sign b.place b.byte) b rest done done (begin_sign (class b) b.place b.byte done is)
 
-sign_ends : (from : Place) (first : ℕ) (rest : List Mark) (done : List Token) → Stops (λ n. are_two first n.byte) rest → scan rest (m.Sign from first) done ≡ scan rest m.Between (with_symbol done from (first ∷ []))
+pub sign_ends : (from : Place) (first : ℕ) (rest : List Mark) (done : List Token) → Stops (λ n. are_two first n.byte) rest → scan rest (m.Sign from first) done ≡ scan rest m.Between (with_symbol done from (first ∷ []))
 sign_ends from first rest done s =
     then_between (m.Sign from first) rest done (with_symbol done from (first ∷ [])) refl (λ b bs e.
     let none = neither ((b.byte == 61) && takes_equals first) ((b.byte == first) && doubles first) (stops_at (λ n. are_two first n.byte) rest b bs s e) in
@@ -524,7 +525,7 @@ three_run b n o rest done is =
 
 -- ---- all
 
-blank_by : (k : Class) (at : Place) (b : ℕ) (done : List Token) → is_blank_class k ≡ true → begin_by k at b done ≡ Ok (m.Between, done)
+pub blank_by : (k : Class) (at : Place) (b : ℕ) (done : List Token) → is_blank_class k ≡ true → begin_by k at b done ≡ Ok (m.Between, done)
 blank_by c.Blank at b done h = refl
 blank_by c.Break at b done h = refl
 blank_by _ at b done h = absurd cc
@@ -551,10 +552,10 @@ module _ (text : List Mark) where
       ∙ then_between (m.Root b.place) rest done (with_name done true b.place (92 ∷ [])) refl (λ x xs e. root_out (class x) b.place x.place x.byte done (stops_at begins_name rest x xs s e))
   cuts (g.a_zero {done = done} {m = b} {rest = rest} cut is no_digit no_x none) = cuts cut ∙ begins c.Zero (m.Zero b.place) b rest done done is refl ∙ zero_ends b.place rest done no_digit no_x none
   cuts (g.a_number {done = done} {radix = radix} {from = from} {value = value} {rest = rest} w cut is small no_digit none) =
-      cuts cut ∙ (numeral_run is rest done).small small ∙ number_ends from radix value rest done no_digit none
+      cuts cut ∙ (numeral_run is rest done).small small ∙ number_ends from radix value (end_of w) rest done no_digit none
   cuts (g.a_string {done = done} {q = q} {e = e} {string = string} {bytes = bytes} {rest = rest} cut is content ends) =
       cuts cut ∙ begins c.Quote (m.Text q.place []) q bytes done done is refl ∙ content_run content q.place done
-      ∙ scan_goes e rest (m.Text q.place string) m.Between done (with_string done q.place string) (ap (λ k. text_by k q.place string e.place e.byte done) ends)
+      ∙ scan_goes e rest (m.Text q.place string) m.Between done (with_string done q.place (end_at e.place) string) (ap (λ k. text_by k q.place string e.place e.byte done) ends)
   cuts (g.a_caret {done = done} {m = b} {rest = rest} cut is no_equals no_name) = cuts cut ∙ caret_run b rest done is no_equals no_name
   cuts (g.caret_equals {done = done} {m = b} {e = e} {rest = rest} cut is equals) =
       cuts cut ∙ begins c.Caret (m.Carets [] b.place) b (e ∷ rest) done done is refl
@@ -576,16 +577,16 @@ module _ (text : List Mark) where
 prefix_faults : (from x : Place) (rest : List Mark) (done : List Token) → Stops (digit_in 16) rest → scan rest (m.Prefix from x) done ≡ Err (bad_character x)
 unfolding scan
 prefix_faults from x [] done s = refl
-prefix_faults from x (b ∷ rest) done s = faults b rest (m.Prefix from x) done (bad_character x) (ap (λ t. prefix_by t from x b.byte done) s)
+prefix_faults from x (b ∷ rest) done s = faults b rest (m.Prefix from x) done (bad_character x) (ap (λ t. prefix_by t from x b.place b.byte done) s)
 
 bad_is : {rest : List Mark} {x : Fault} → Bad rest x → (done : List Token) → scan rest m.Between done ≡ Err x
 bad_is (g.no_token {m = b} {rest = rest} is) done = faults b rest m.Between done (bad_character b.place) (begin_is (class b) b done refl ∙ none_by (class b) b.place b.byte done is)
 bad_is (g.large w rest is large) done = (numeral_run is rest done).large large
 bad_is (g.behind_numeral {radix = radix} {from = from} {value = value} w b rest is small no_digit behind) done =
     (numeral_run is (b ∷ rest) done).small small
-    ∙ faults b rest (m.Number from radix value) done (bad_character b.place) (ap (λ t. number_by t from radix value b.place b.byte done) no_digit ∙ behind_in (class b) from value b.place b.byte done behind)
+    ∙ faults b rest (m.Number from radix value (end_of w)) done (bad_character b.place) (ap (λ t. number_by t from radix value (end_of w) b.place b.byte done) no_digit ∙ behind_in (class b) from value (end_of w) b.place b.byte done behind)
 bad_is (g.behind_zero {z = z} {m = b} {rest = rest} zero no_digit no_x behind) done =
-    begins c.Zero (m.Zero z.place) z (b ∷ rest) done done zero refl ∙ faults b rest (m.Zero z.place) done (bad_character b.place) (zero_is z.place b done no_digit no_x ∙ behind_in (class b) z.place 0 b.place b.byte done behind)
+    begins c.Zero (m.Zero z.place) z (b ∷ rest) done done zero refl ∙ faults b rest (m.Zero z.place) done (bad_character b.place) (zero_is z.place b done no_digit no_x ∙ behind_in (class b) z.place 0 (end_at z.place) b.place b.byte done behind)
 bad_is (g.no_hexadecimal {z = z} {x = x} {rest = rest} zero ex s) done =
     begins c.Zero (m.Zero z.place) z (x ∷ rest) done done zero refl
     ∙ scan_goes x rest (m.Zero z.place) (m.Prefix z.place x.place) done done (ap (λ t. zero_by t (x.byte == 120) z.place x.place x.byte done) (x_no_digit x.byte ex) ∙ ap (λ u. zero_by false u z.place x.place x.byte done) ex)

@@ -10,7 +10,7 @@ use Rattle.asl_lexer.specs.declared.token.Token.{Token}
 use Rattle.asl_lexer.specs.declared.token.TokenKind.{TokenKind}
 use Rattle.asl_lexer.specs.declared.token.TokenKind.TheVariants as k
 use Rattle.asl_lexer.specs.declared.mode.Fault.{Fault}
-use Rattle.asl_lexer.specs.Scan.{Mark, is_plain, escaped, with, name_kind}
+use Rattle.asl_lexer.specs.Scan.{Mark, is_plain, escaped, with, with_symbol, name_kind}
 use Rattle.asl_lexer.specs.Marks.{joined}
 use Rattle.asl_lexer.specs.Cut.{Content, Cut, IsCut}
 use Rattle.asl_lexer.specs.Cut as g
@@ -42,26 +42,26 @@ content_plain (g.no_escape content slash line none no_digit no_x) = tt
 content_plain (g.passed content is) = tt
 content_plain (g.passed_escape content slash line) = tt
 
-one_more : (done : List Token) (kind : TokenKind) (place : Place) (number : ℕ) (text : List ℕ) → All IsFine done → number < 2 ^ 64 → (kind ≡ k.Text → All (λ b. is_plain b ≡ true) text) → All IsFine (with done kind place number text)
-one_more done kind place number text all fits plain = All-push IsFine done (record { kind = kind; place = place; number = number; text = text }) all (record { fits = fits; plain = plain })
+one_more : (done : List Token) (kind : TokenKind) (place : Place) (end number : ℕ) (text : List ℕ) → All IsFine done → number < 2 ^ 64 → (kind ≡ k.Text → All (λ b. is_plain b ≡ true) text) → All IsFine (with done kind place end number text)
+one_more done kind place end number text all fits plain = All-push IsFine done (record { kind = kind; place = place; end = end; number = number; text = text }) all (record { fits = fits; plain = plain })
 
 name_no_text : (path : Bool) → name_kind path ≡ k.Text → ⊥
 name_no_text true e = cc
 name_no_text false e = cc
 
-a_symbol : (done : List Token) (place : Place) (text : List ℕ) → All IsFine done → All IsFine (with done k.Symbol place 0 text)
-a_symbol done place text all = one_more done k.Symbol place 0 text all (omega arith) (λ e. absurd cc)
+a_symbol : (done : List Token) (place : Place) (text : List ℕ) → All IsFine done → All IsFine (with_symbol done place text)
+a_symbol done place text all = one_more done k.Symbol place _ 0 text all (omega arith) (λ e. absurd cc)
 
 fine : (text : List Mark) {done : List Token} {rest : List Mark} → Cut text done rest → All IsFine done
 fine text g.begun = λ i d h. absurd (omega arith)
 fine text (g.a_blank cut is) = fine text cut
 fine text (g.a_line w cut first second each s) = fine text cut
 fine text (g.a_block cut first second inside slash) = fine text cut
-fine text (g.a_name {done = done} {path = path} {from = from} {name = name} w cut is ends) = one_more done (name_kind path) from 0 name (fine text cut) (omega arith) (λ e. absurd (name_no_text path e))
-fine text (g.a_root {done = done} {m = b} cut is s) = one_more done k.Path b.place 0 (92 ∷ []) (fine text cut) (omega arith) (λ e. absurd cc)
-fine text (g.a_zero {done = done} {m = b} cut is no_digit no_x none) = one_more done k.Number b.place 0 [] (fine text cut) (omega arith) (λ e. absurd cc)
-fine text (g.a_number {done = done} {from = from} {value = value} w cut is small no_digit none) = one_more done k.Number from value [] (fine text cut) small (λ e. absurd cc)
-fine text (g.a_string {done = done} {q = q} {string = string} cut is content ends) = one_more done k.Text q.place 0 string (fine text cut) (omega arith) (λ e. content_plain content)
+fine text (g.a_name {done = done} {path = path} {from = from} {name = name} w cut is ends) = one_more done (name_kind path) from _ 0 name (fine text cut) (omega arith) (λ e. absurd (name_no_text path e))
+fine text (g.a_root {done = done} {m = b} cut is s) = one_more done k.Path b.place _ 0 (92 ∷ []) (fine text cut) (omega arith) (λ e. absurd cc)
+fine text (g.a_zero {done = done} {m = b} cut is no_digit no_x none) = one_more done k.Number b.place _ 0 [] (fine text cut) (omega arith) (λ e. absurd cc)
+fine text (g.a_number {done = done} {from = from} {value = value} w cut is small no_digit none) = one_more done k.Number from _ value [] (fine text cut) small (λ e. absurd cc)
+fine text (g.a_string {done = done} {q = q} {string = string} cut is content ends) = one_more done k.Text q.place _ 0 string (fine text cut) (omega arith) (λ e. content_plain content)
 fine text (g.a_caret {done = done} {m = b} cut is no_equals no_name) = a_symbol done b.place (94 ∷ []) (fine text cut)
 fine text (g.caret_equals {done = done} {m = b} cut is equals) = a_symbol done b.place (94 ∷ 61 ∷ []) (fine text cut)
 fine text (g.a_slash {done = done} {m = b} cut is s) = a_symbol done b.place (47 ∷ []) (fine text cut)

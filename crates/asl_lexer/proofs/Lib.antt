@@ -4,3 +4,5 @@ pub mod Sound
 pub mod Complete
 pub mod Told
 pub mod FineTokens
+pub mod Within
+pub mod Runs

@@ -12,11 +12,11 @@ use Rattle.asl_lexer.specs.declared.mode.Fault.{Fault}
 use Rattle.asl_lexer.specs.declared.mode.Mode.{Mode}
 use Rattle.asl_lexer.specs.declared.mode.Mode.TheVariants as m
 use Rattle.asl_lexer.specs.Class.{class_of, base_of, takes_equals, doubles, shifts}
-use Rattle.asl_lexer.specs.Scan.{Mark, bad_character, open_string, bad_escape, with_name, with_number, with_symbol, with_carets, Moved, begin_by, begin, name_by, dot_by, root_by, caret_text, first_of, carets_by, behind_by, digit_by, more, number_by, zero_by, prefix_by, broken_by, broken_escape_by, is_plain, plain_by, text_by, escaped, digits_by, escaped_by, escape_by, coded_by, value_by, escape_digit_by, slash_by, line_by, block_by, star_by, doubled_by, sign_by, shift_by, step, finish, scan}
-use Rattle.asl_lexer.specs.Cut.{Each, Stops, in_name_class, begins_name_class, behind_number_class, in_line_class, is_blank_class, in_text_class, behind_slash_class, begins_none_class, begins_sign_class, is_caret_class, is_equals_class, in_line, begins_name, is_caret, is_equals, digit_in, places, IsName, EndsName, no_name_by, no_name_behind, IsNumeral, IsCode, Content, Breaks, Inside, are_two, are_three, Cut, Bad, FailsWith}
+use Rattle.asl_lexer.specs.Scan.{Mark, end_at, bad_character, open_string, bad_escape, with_name, with_number, with_symbol, with_carets, Moved, begin_by, begin, name_by, dot_by, root_by, caret_text, first_of, carets_by, behind_by, digit_by, more, number_by, zero_by, prefix_by, broken_by, broken_escape_by, is_plain, plain_by, text_by, escaped, digits_by, escaped_by, escape_by, coded_by, value_by, escape_digit_by, slash_by, line_by, block_by, star_by, doubled_by, sign_by, shift_by, step, finish, scan}
+use Rattle.asl_lexer.specs.Cut.{Each, Stops, end_of, behind_number, in_name_class, begins_name_class, behind_number_class, in_line_class, is_blank_class, in_text_class, behind_slash_class, begins_none_class, begins_sign_class, is_caret_class, is_equals_class, in_line, begins_name, is_caret, is_equals, digit_in, places, IsName, EndsName, no_name_by, no_name_behind, IsNumeral, IsCode, Content, Breaks, Inside, are_two, are_three, Cut, Bad, FailsWith}
 use Rattle.asl_lexer.specs.Cut as g
 use Rattle.asl_lexer.proofs.Steps.{then_scan}
-use Rattle.asl_lexer.proofs.Bits.{both, left_false, either_true, left_true, neither_true, both_true, never, Stops-all, Each-snoc, value_fits, value_min, more_min, plain_min, plain_is, no_three, no_three_unshifted}
+use Rattle.asl_lexer.proofs.Bits.{both, left_false, either_true, left_true, neither_true, both_true, never, Stops-all, Each-snoc, value_fits, end_of-snoc, value_min, more_min, plain_min, plain_is, no_three, no_three_unshifted}
 
 abbrev pub mark : Place → ℕ → Mark
 mark p b = record { place = p; byte = b }
@@ -72,9 +72,10 @@ module _ (text : List Mark) where
     is : (b == 120) ≡ true
     cut : Cut text done (mark from z ∷ mark x b ∷ rest)
 
-  record HeldNumber (from : Place) (radix : Radix) (value : ℕ) (done : List Token) (rest : List Mark) : Type 0 where
+  record HeldNumber (from : Place) (radix : Radix) (value end : ℕ) (done : List Token) (rest : List Mark) : Type 0 where
     w : List Mark
     is : IsNumeral radix from value w
+    ends : end ≡ end_of w
     fits : value < 2 ^ 64
     cut : Cut text done (w ++ rest)
 
@@ -152,7 +153,7 @@ module _ (text : List Mark) where
   Held (m.Carets before last) done rest = HeldCarets before last done rest
   Held (m.Zero from) done rest = HeldOne c.Zero from done rest
   Held (m.Prefix from x) done rest = HeldPrefix from x done rest
-  Held (m.Number from radix value) done rest = HeldNumber from radix value done rest
+  Held (m.Number from radix value end) done rest = HeldNumber from radix value end done rest
   Held (m.Text from string) done rest = HeldString (Ok string) from done rest
   Held (m.Escape from string slash) done rest = HeldEscape string from slash done rest
   Held (m.Coded from string slash) done rest = HeldCoded string from slash done rest
@@ -176,7 +177,7 @@ module _ (text : List Mark) where
   begin_by_keeps c.Letter at b done rest is cut = record { w = mark at b ∷ []; is = g.IsName.word {m = mark at b} (ap begins_name_class is); cut = cut }
   begin_by_keeps c.Underscore at b done rest is cut = record { w = mark at b ∷ []; is = g.IsName.word {m = mark at b} (ap begins_name_class is); cut = cut }
   begin_by_keeps c.Zero at b done rest is cut = record { b = b; is = is; cut = cut }
-  begin_by_keeps c.Digit at b done rest is cut = record { w = mark at b ∷ []; is = g.IsNumeral.decimal {m = mark at b} is; fits = value_fits b; cut = cut }
+  begin_by_keeps c.Digit at b done rest is cut = record { w = mark at b ∷ []; is = g.IsNumeral.decimal {m = mark at b} is; ends = refl; fits = value_fits b; cut = cut }
   begin_by_keeps c.Dot at b done rest is cut = record { done = done; rest = mark at b ∷ rest; cut = cut; bad = g.no_token (ap begins_none_class is) }
   begin_by_keeps c.Backslash at b done rest is cut = record { b = b; is = is; cut = cut }
   begin_by_keeps c.Caret at b done rest is cut = record { ms = mark at b ∷ []; each = (ap is_caret_class is, tt); at = refl; cut = cut }
@@ -292,49 +293,55 @@ module _ (text : List Mark) where
 
   -- ---- numbers
 
-  behind_keeps : (k : Class) (from : Place) (value : ℕ) (at : Place) (b : ℕ) (done : List Token) (rest : List Mark) → (behind_number_class k ≡ false → Cut text (with_number done from value) (mark at b ∷ rest))
-      → (behind_number_class k ≡ true → FailsWith text (bad_character at)) → Keeps (behind_by k from value at b done) rest
-  behind_keeps c.Letter from value at b done rest good bad = bad refl
-  behind_keeps c.Zero from value at b done rest good bad = bad refl
-  behind_keeps c.Digit from value at b done rest good bad = bad refl
-  behind_keeps _ from value at b done rest good bad = begin_keeps at b (with_number done from value) rest (good refl)
+  behind_keeps : (k : Class) (from : Place) (value end : ℕ) (at : Place) (b : ℕ) (done : List Token) (rest : List Mark) → (behind_number_class k ≡ false → Cut text (with_number done from value end) (mark at b ∷ rest))
+      → (behind_number_class k ≡ true → FailsWith text (bad_character at)) → Keeps (behind_by k from value end at b done) rest
+  behind_keeps c.Letter from value end at b done rest good bad = bad refl
+  behind_keeps c.Zero from value end at b done rest good bad = bad refl
+  behind_keeps c.Digit from value end at b done rest good bad = bad refl
+  behind_keeps _ from value end at b done rest good bad = begin_keeps at b (with_number done from value end) rest (good refl)
 
-  digit_keeps : (t : Bool) (from : Place) (radix : Radix) (value : ℕ) (at : Place) (b : ℕ) (done : List Token) (rest : List Mark) → nat_lt (more value radix b) (2 ^ 64) ≡ t → digit_in (base_of radix) (mark at b) ≡ true
-      → HeldNumber from radix value done (mark at b ∷ rest) → Keeps (digit_by t from radix (more value radix b) done) rest
-  digit_keeps true from radix value at b done rest small is h = record {
+  digit_keeps : (t : Bool) (from : Place) (radix : Radix) (value end : ℕ) (at : Place) (b : ℕ) (done : List Token) (rest : List Mark) → nat_lt (more value radix b) (2 ^ 64) ≡ t → digit_in (base_of radix) (mark at b) ≡ true
+      → HeldNumber from radix value end done (mark at b ∷ rest) → Keeps (digit_by t from radix (more value radix b) (end_at at) done) rest
+  digit_keeps true from radix value end at b done rest small is h = record {
     w = h.w ++ mark at b ∷ [];
     is = g.IsNumeral.more (mark at b) h.is is;
+    ends = sym (end_of-snoc h.w (mark at b));
     fits = ltb-true (more value radix b) (2 ^ 64) small;
     cut = regroup done h.w (mark at b ∷ []) rest h.cut;
   }
-  digit_keeps false from radix value at b done rest large is h = record {
+  digit_keeps false from radix value end at b done rest large is h = record {
     done = done;
     rest = (h.w ++ mark at b ∷ []) ++ rest;
     cut = regroup done h.w (mark at b ∷ []) rest h.cut;
     bad = g.large (h.w ++ mark at b ∷ []) rest (g.IsNumeral.more (mark at b) h.is is) (ltb-false (more value radix b) (2 ^ 64) large);
   }
 
-  number_keeps : (t : Bool) (from : Place) (radix : Radix) (value : ℕ) (at : Place) (b : ℕ) (done : List Token) (rest : List Mark) → is_digit b (base_of radix) ≡ t → HeldNumber from radix value done (mark at b ∷ rest)
-      → Keeps (number_by t from radix value at b done) rest
-  number_keeps true from radix value at b done rest is h = digit_keeps (nat_lt (more value radix b) (2 ^ 64)) from radix value at b done rest refl is h
-  number_keeps false from radix value at b done rest is h =
-      behind_keeps (class_of b) from value at b done rest (λ s. g.a_number h.w h.cut h.is h.fits is s)
+  a_number_ends : (from : Place) (radix : Radix) (value end : ℕ) (done : List Token) (rest : List Mark) → HeldNumber from radix value end done rest → Stops (digit_in (base_of radix)) rest → Stops behind_number rest
+      → Cut text (with_number done from value end) rest
+  a_number_ends from radix value end done rest h no_digit none = subst (λ n. Cut text (with_number done from value n) rest) (sym h.ends) (g.a_number h.w h.cut h.is h.fits no_digit none)
+
+  number_keeps : (t : Bool) (from : Place) (radix : Radix) (value end : ℕ) (at : Place) (b : ℕ) (done : List Token) (rest : List Mark) → is_digit b (base_of radix) ≡ t → HeldNumber from radix value end done (mark at b ∷ rest)
+      → Keeps (number_by t from radix value end at b done) rest
+  number_keeps true from radix value end at b done rest is h = digit_keeps (nat_lt (more value radix b) (2 ^ 64)) from radix value end at b done rest refl is h
+  number_keeps false from radix value end at b done rest is h =
+      behind_keeps (class_of b) from value end at b done rest (λ s. a_number_ends from radix value end done (mark at b ∷ rest) h is s)
       (λ s. record { done = done; rest = h.w ++ mark at b ∷ rest; cut = h.cut; bad = g.behind_numeral h.w (mark at b) rest h.is h.fits is s })
 
   zero_keeps : (t x : Bool) (from at : Place) (b : ℕ) (done : List Token) (rest : List Mark) → is_digit b 8 ≡ t → (b == 120) ≡ x → HeldOne c.Zero from done (mark at b ∷ rest) → Keeps (zero_by t x from at b done) rest
-  zero_keeps true x from at b done rest is is_x h = record { w = mark from h.b ∷ mark at b ∷ []; is = g.IsNumeral.octal {z = mark from h.b} {m = mark at b} h.is is; fits = value_fits b; cut = h.cut }
+  zero_keeps true x from at b done rest is is_x h = record { w = mark from h.b ∷ mark at b ∷ []; is = g.IsNumeral.octal {z = mark from h.b} {m = mark at b} h.is is; ends = refl; fits = value_fits b; cut = h.cut }
   zero_keeps false true from at b done rest is is_x h = record { z = h.b; b = b; zero = h.is; is = is_x; cut = h.cut }
   zero_keeps false false from at b done rest is is_x h =
-      behind_keeps (class_of b) from 0 at b done rest (λ s. g.a_zero h.cut h.is is is_x s)
+      behind_keeps (class_of b) from 0 (end_at from) at b done rest (λ s. g.a_zero h.cut h.is is is_x s)
       (λ s. record { done = done; rest = mark from h.b ∷ mark at b ∷ rest; cut = h.cut; bad = g.behind_zero h.is is is_x s })
 
   no_digits : (from x : Place) (done : List Token) (rest : List Mark) → Stops (digit_in 16) rest → HeldPrefix from x done rest → FailsWith text (bad_character x)
   no_digits from x done rest s h = record { done = done; rest = mark from h.z ∷ mark x h.b ∷ rest; cut = h.cut; bad = g.no_hexadecimal {x = mark x h.b} h.zero h.is s }
 
-  prefix_keeps : (t : Bool) (from x at : Place) (b : ℕ) (done : List Token) (rest : List Mark) → is_digit b 16 ≡ t → HeldPrefix from x done (mark at b ∷ rest) → Keeps (prefix_by t from x b done) rest
+  prefix_keeps : (t : Bool) (from x at : Place) (b : ℕ) (done : List Token) (rest : List Mark) → is_digit b 16 ≡ t → HeldPrefix from x done (mark at b ∷ rest) → Keeps (prefix_by t from x at b done) rest
   prefix_keeps true from x at b done rest is h = record {
     w = mark from h.z ∷ mark x h.b ∷ mark at b ∷ [];
     is = g.IsNumeral.hexadecimal {z = mark from h.z} {x = mark x h.b} {m = mark at b} h.zero h.is is;
+    ends = refl;
     fits = value_fits b;
     cut = h.cut;
   }
@@ -522,7 +529,7 @@ module _ (text : List Mark) where
   step_keeps (m.Carets before last) at b done rest h = carets_keeps (class_of b) before last at b done rest refl h
   step_keeps (m.Zero from) at b done rest h = zero_keeps (is_digit b 8) (b == 120) from at b done rest refl refl h
   step_keeps (m.Prefix from x) at b done rest h = prefix_keeps (is_digit b 16) from x at b done rest refl h
-  step_keeps (m.Number from radix value) at b done rest h = number_keeps (is_digit b (base_of radix)) from radix value at b done rest refl h
+  step_keeps (m.Number from radix value end) at b done rest h = number_keeps (is_digit b (base_of radix)) from radix value end at b done rest refl h
   step_keeps (m.Text from string) at b done rest h = text_keeps (class_of b) from string at b done rest refl h
   step_keeps (m.Escape from string slash) at b done rest h = escape_keeps (class_of b) from string slash at b done rest refl h
   step_keeps (m.Coded from string slash) at b done rest h = coded_keeps (is_digit b 16) from string slash at b done rest refl h
@@ -552,7 +559,7 @@ module _ (text : List Mark) where
   finish_tells (m.Carets before last) done h = caret_ends before last done [] refl tt h
   finish_tells (m.Zero from) done h = g.a_zero h.cut h.is tt tt tt
   finish_tells (m.Prefix from x) done h = no_digits from x done [] tt h
-  finish_tells (m.Number from radix value) done h = g.a_number h.w h.cut h.is h.fits tt tt
+  finish_tells (m.Number from radix value end) done h = a_number_ends from radix value end done [] h tt tt
   finish_tells (m.Text from string) done h = open_keeps (Ok string) from done [] h g.at_end
   finish_tells (m.Escape from string slash) done h = open_keeps (Ok string) from done (mark slash h.b ∷ []) h.held (g.at_escape h.is)
   finish_tells (m.Coded from string slash) done h = open_keeps (Err (bad_escape slash)) from done [] (no_code from string slash done [] tt h) g.at_end

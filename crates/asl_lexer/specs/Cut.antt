@@ -12,7 +12,7 @@ use Rattle.asl_lexer.specs.declared.class.Radix.TheVariants.{Octal, Decimal, Hex
 use Rattle.asl_lexer.specs.declared.token.Token.{Token}
 use Rattle.asl_lexer.specs.declared.mode.Fault.{Fault}
 use Rattle.asl_lexer.specs.Class.{class_of, base_of, takes_equals, doubles, shifts}
-use Rattle.asl_lexer.specs.Scan.{Mark, bad_character, open_string, open_comment, bad_escape, large_number, with_name, with_number, with_string, with_symbol, caret_text, first_of, is_plain, escaped}
+use Rattle.asl_lexer.specs.Scan.{Mark, end_at, bad_character, open_string, open_comment, bad_escape, large_number, with_name, with_number, with_string, with_symbol, caret_text, first_of, is_plain, escaped}
 use Rattle.asl_lexer.specs.Marks.{joined, message_of}
 
 -- ---- bytes
@@ -40,6 +40,12 @@ abbrev pub begins_name_class : Class → Bool
 begins_name_class c.Letter = true
 begins_name_class c.Underscore = true
 begins_name_class _ = false
+
+-- the column behind the last of some bytes
+abbrev pub end_of : List Mark → ℕ
+end_of [] = 0
+end_of (m ∷ []) = end_at m.place
+end_of (m ∷ n ∷ ms) = end_of (n ∷ ms)
 
 -- a letter or a digit
 abbrev pub behind_number_class : Class → Bool
@@ -234,11 +240,11 @@ pub data Cut (text : List Mark) : List Token → List Mark → Type 0 where
       → Cut text (with_name done path from name) rest
   a_root : {done : List Token} {m : Mark} {rest : List Mark} → Cut text done (m ∷ rest) → class m ≡ c.Backslash → Stops begins_name rest → Cut text (with_name done true m.place (92 ∷ [])) rest
   a_zero : {done : List Token} {m : Mark} {rest : List Mark} → Cut text done (m ∷ rest) → class m ≡ c.Zero → Stops (digit_in 8) rest → Stops is_x rest → Stops behind_number rest
-      → Cut text (with_number done m.place 0) rest
+      → Cut text (with_number done m.place 0 (end_at m.place)) rest
   a_number : {done : List Token} {radix : Radix} {from : Place} {value : ℕ} {rest : List Mark} (w : List Mark) → Cut text done (w ++ rest) → IsNumeral radix from value w → value < 2 ^ 64
-      → Stops (digit_in (base_of radix)) rest → Stops behind_number rest → Cut text (with_number done from value) rest
+      → Stops (digit_in (base_of radix)) rest → Stops behind_number rest → Cut text (with_number done from value (end_of w)) rest
   a_string : {done : List Token} {q e : Mark} {string : List ℕ} {bytes rest : List Mark} → Cut text done (q ∷ bytes) → class q ≡ c.Quote → Content (Ok string) bytes (e ∷ rest) → class e ≡ c.Quote
-      → Cut text (with_string done q.place string) rest
+      → Cut text (with_string done q.place (end_at e.place) string) rest
   a_caret : {done : List Token} {m : Mark} {rest : List Mark} → Cut text done (m ∷ rest) → class m ≡ c.Caret → Stops is_equals rest → no_name_behind rest ≡ true
       → Cut text (with_symbol done m.place (94 ∷ [])) rest
   caret_equals : {done : List Token} {m e : Mark} {rest : List Mark} → Cut text done (m ∷ e ∷ rest) → class m ≡ c.Caret → class e ≡ c.Equals → Cut text (with_symbol done m.place (94 ∷ 61 ∷ [])) rest

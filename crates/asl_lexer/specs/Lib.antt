@@ -3,3 +3,5 @@ pub mod Scan
 pub mod Marks
 pub mod Cut
 pub mod Fine
+pub mod Within
+pub mod Runs

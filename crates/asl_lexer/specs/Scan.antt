@@ -1,5 +1,5 @@
 -- The tokens of marked bytes, by one step for each.
-use Rattle.std.specs.Prelude.{◌≡◌, ℕ, ◌+◌, ◌*◌, ◌-◌, ◌^◌, min, Bool, true, false, ◌&&◌, ◌==◌, nat_lt, nat_le, if◌then◌else◌, List, [], ◌∷◌, ◌++◌, Option, Some, None, Result, Ok, Err}
+use Rattle.std.specs.Prelude.{◌≡◌, ℕ, ◌+◌, ◌*◌, ◌-◌, ◌^◌, min, Bool, true, false, ◌&&◌, ◌==◌, nat_lt, nat_le, if◌then◌else◌, List, [], ◌∷◌, ◌++◌, length, Option, Some, None, Result, Ok, Err}
 use Rattle.std.specs.Char.{digit_value, is_digit, to_ascii_uppercase}
 use Rattle.iasl_messages.specs.declared.place.Place.{Place}
 use Rattle.asl_lexer.specs.declared.class.Class.{Class}
@@ -40,24 +40,35 @@ large_number place = record { number = 6014; place = place }
 
 -- ---- tokens
 
-abbrev pub with : List Token → TokenKind → Place → ℕ → List ℕ → List Token
-with done kind place number text = done ++ record { kind = kind; place = place; number = number; text = text } ∷ []
+-- the column behind so many bytes from this one on; a column is at most 2^32 - 1
+abbrev pub column_after : ℕ → ℕ → ℕ
+column_after column count = min (column + count) (2 ^ 32 - 1)
+
+-- the column behind the byte of a place
+abbrev pub end_at : Place → ℕ
+end_at place = column_after place.column 1
+
+-- with one more token, which ends before the column `end` of its line
+abbrev pub with : List Token → TokenKind → Place → ℕ → ℕ → List ℕ → List Token
+with done kind place end number text = done ++ record { kind = kind; place = place; end = end; number = number; text = text } ∷ []
 
 abbrev pub name_kind : Bool → TokenKind
 name_kind true = k.Path
 name_kind false = k.Word
 
+-- a word or path has a byte of its line for each of its text
 abbrev pub with_name : List Token → Bool → Place → List ℕ → List Token
-with_name done path place text = with done (name_kind path) place 0 text
+with_name done path place text = with done (name_kind path) place (column_after place.column (length text)) 0 text
 
-abbrev pub with_number : List Token → Place → ℕ → List Token
-with_number done place value = with done k.Number place value []
+abbrev pub with_number : List Token → Place → ℕ → ℕ → List Token
+with_number done place value end = with done k.Number place end value []
 
-abbrev pub with_string : List Token → Place → List ℕ → List Token
-with_string done place text = with done k.Text place 0 text
+abbrev pub with_string : List Token → Place → ℕ → List ℕ → List Token
+with_string done place end text = with done k.Text place end 0 text
 
+-- and so has a symbol
 abbrev pub with_symbol : List Token → Place → List ℕ → List Token
-with_symbol done place text = with done k.Symbol place 0 text
+with_symbol done place text = with done k.Symbol place (column_after place.column (length text)) 0 text
 
 -- a caret for each place
 abbrev pub with_carets : List Token → List Place → List Token
@@ -75,7 +86,7 @@ begin_by c.Break at b done = Ok (m.Between, done)
 begin_by c.Letter at b done = Ok (m.Name at false (to_ascii_uppercase b ∷ []), done)
 begin_by c.Underscore at b done = Ok (m.Name at false (to_ascii_uppercase b ∷ []), done)
 begin_by c.Zero at b done = Ok (m.Zero at, done)
-begin_by c.Digit at b done = Ok (m.Number at Decimal (digit_value b), done)
+begin_by c.Digit at b done = Ok (m.Number at Decimal (digit_value b) (end_at at), done)
 begin_by c.Dot at b done = Err (bad_character at)
 begin_by c.Backslash at b done = Ok (m.Root at, done)
 begin_by c.Caret at b done = Ok (m.Carets [] at, done)
@@ -124,32 +135,32 @@ carets_by c.Equals before last at b done = Ok (m.Between, with_symbol (with_care
 carets_by _ before last at b done = begin at b (with_symbol (with_carets done before) last (94 ∷ []))
 
 -- behind a number no letter and no digit may stand
-abbrev pub behind_by : Class → Place → ℕ → Place → ℕ → List Token → Moved
-behind_by c.Letter from value at b done = Err (bad_character at)
-behind_by c.Zero from value at b done = Err (bad_character at)
-behind_by c.Digit from value at b done = Err (bad_character at)
-behind_by _ from value at b done = begin at b (with_number done from value)
+abbrev pub behind_by : Class → Place → ℕ → ℕ → Place → ℕ → List Token → Moved
+behind_by c.Letter from value end at b done = Err (bad_character at)
+behind_by c.Zero from value end at b done = Err (bad_character at)
+behind_by c.Digit from value end at b done = Err (bad_character at)
+behind_by _ from value end at b done = begin at b (with_number done from value end)
 
-abbrev pub digit_by : Bool → Place → Radix → ℕ → List Token → Moved
-digit_by true from radix value done = Ok (m.Number from radix value, done)
-digit_by false from radix value done = Err (large_number from)
+abbrev pub digit_by : Bool → Place → Radix → ℕ → ℕ → List Token → Moved
+digit_by true from radix value end done = Ok (m.Number from radix value end, done)
+digit_by false from radix value end done = Err (large_number from)
 
 -- the number with one more digit
 abbrev pub more : ℕ → Radix → ℕ → ℕ
 more value radix b = value * base_of radix + digit_value b
 
-abbrev pub number_by : Bool → Place → Radix → ℕ → Place → ℕ → List Token → Moved
-number_by true from radix value at b done = digit_by (nat_lt (more value radix b) (2 ^ 64)) from radix (more value radix b) done
-number_by false from radix value at b done = behind_by (class_of b) from value at b done
+abbrev pub number_by : Bool → Place → Radix → ℕ → ℕ → Place → ℕ → List Token → Moved
+number_by true from radix value end at b done = digit_by (nat_lt (more value radix b) (2 ^ 64)) from radix (more value radix b) (end_at at) done
+number_by false from radix value end at b done = behind_by (class_of b) from value end at b done
 
 abbrev pub zero_by : Bool → Bool → Place → Place → ℕ → List Token → Moved
-zero_by true x from at b done = Ok (m.Number from Octal (digit_value b), done)
+zero_by true x from at b done = Ok (m.Number from Octal (digit_value b) (end_at at), done)
 zero_by false true from at b done = Ok (m.Prefix from at, done)
-zero_by false false from at b done = behind_by (class_of b) from 0 at b done
+zero_by false false from at b done = behind_by (class_of b) from 0 (end_at from) at b done
 
-abbrev pub prefix_by : Bool → Place → Place → ℕ → List Token → Moved
-prefix_by true from x b done = Ok (m.Number from Hexadecimal (digit_value b), done)
-prefix_by false from x b done = Err (bad_character x)
+abbrev pub prefix_by : Bool → Place → Place → Place → ℕ → List Token → Moved
+prefix_by true from x at b done = Ok (m.Number from Hexadecimal (digit_value b) (end_at at), done)
+prefix_by false from x at b done = Err (bad_character x)
 
 abbrev pub broken_by : Class → Place → Fault → List Token → Moved
 broken_by c.Break from fault done = Err (open_string from)
@@ -171,7 +182,7 @@ plain_by false from text at b done = Ok (m.Broken from (bad_character at), done)
 
 abbrev pub text_by : Class → Place → List ℕ → Place → ℕ → List Token → Moved
 text_by c.Break from text at b done = Err (open_string from)
-text_by c.Quote from text at b done = Ok (m.Between, with_string done from text)
+text_by c.Quote from text at b done = Ok (m.Between, with_string done from (end_at at) text)
 text_by c.Backslash from text at b done = Ok (m.Escape from text at, done)
 text_by _ from text at b done = plain_by (is_plain b) from text at b done
 
@@ -247,8 +258,8 @@ step (m.Dot from path text dot) at b done = dot_by (class_of b) from text dot b 
 step (m.Root from) at b done = root_by (class_of b) from at b done
 step (m.Carets before last) at b done = carets_by (class_of b) before last at b done
 step (m.Zero from) at b done = zero_by (is_digit b 8) (b == 120) from at b done
-step (m.Prefix from x) at b done = prefix_by (is_digit b 16) from x b done
-step (m.Number from radix value) at b done = number_by (is_digit b (base_of radix)) from radix value at b done
+step (m.Prefix from x) at b done = prefix_by (is_digit b 16) from x at b done
+step (m.Number from radix value end) at b done = number_by (is_digit b (base_of radix)) from radix value end at b done
 step (m.Text from text) at b done = text_by (class_of b) from text at b done
 step (m.Escape from text slash) at b done = escape_by (class_of b) from text slash b done
 step (m.Coded from text slash) at b done = coded_by (is_digit b 16) from text slash b done
@@ -270,9 +281,9 @@ finish (m.Name from path text) done = Ok (with_name done path from text)
 finish (m.Dot from path text dot) done = Err (bad_character dot)
 finish (m.Root from) done = Ok (with_name done true from (92 ∷ []))
 finish (m.Carets before last) done = Ok (with_symbol (with_carets done before) last (94 ∷ []))
-finish (m.Zero from) done = Ok (with_number done from 0)
+finish (m.Zero from) done = Ok (with_number done from 0 (end_at from))
 finish (m.Prefix from x) done = Err (bad_character x)
-finish (m.Number from radix value) done = Ok (with_number done from value)
+finish (m.Number from radix value end) done = Ok (with_number done from value end)
 finish (m.Text from text) done = Err (open_string from)
 finish (m.Escape from text slash) done = Err (open_string from)
 finish (m.Coded from text slash) done = Err (open_string from)

@@ -1,21 +1,22 @@
 //! Lines to tokens.
-ghost use Rattle.std.specs.Prelude.{◌≡◌, ◌++◌, ◌∷◌, ◌<◌, ◌^◌, [], List as AList, length, All, OnOk, IfOk, IfErr, Ok, Err};
+ghost use Rattle.std.specs.Prelude.{◌≡◌, ℕ, ◌++◌, ◌∷◌, ◌<◌, ◌^◌, [], List as AList, length, All, OnOk, IfOk, IfErr, Ok, Err};
 ghost use Rattle.asl_lexer.specs.declared.token.Token.{Token};
 ghost use Rattle.asl_lexer.specs.Scan as spec;
 ghost use Rattle.asl_lexer.specs.Scan.{Mark, Moves, Gives};
 ghost use Rattle.asl_lexer.specs.Cut.{IsCut, HasFault, Explains};
 ghost use Rattle.asl_lexer.specs.Fine.{IsFine};
+ghost use Rattle.asl_lexer.specs.Within.{IsWithin};
 ghost use Rattle.asl_lexer.specs.Marks.{line_marks, break_mark, following, tokens_of, Leads, Answers};
 
 use crate::mode::{Fault, Mode, Stop};
-use crate::start::{
-    BAD_CHARACTER, OPEN_COMMENT, OPEN_STRING, add_name, add_number, add_symbol, begin, refuse,
-};
+use crate::run::run;
+use crate::start::{add_name, add_number, add_symbol, begin, end_at, refuse};
 use crate::token::Tokens;
 use crate::{names, numbers, strings, symbols};
 use iasl_messages::message::{Message, Stage};
+use iasl_messages::number::{BAD_CHARACTER, OPEN_COMMENT, OPEN_STRING};
 use iasl_messages::place::{Line, Lines, Place};
-use iasl_ports::list::{List, Text};
+use iasl_ports::list::{List, Text, behind};
 use std::alloc::{AllocError, Global};
 
 fn step(alloc: Global, tokens: &mut Tokens, mode: Mode, at: Place, byte: u8) -> Result<Mode, Stop>
@@ -33,10 +34,13 @@ fn step(alloc: Global, tokens: &mut Tokens, mode: Mode, at: Place, byte: u8) -> 
         Mode::Root { from } => names::root(alloc, tokens, from, at, byte),
         Mode::Carets { before, last } => names::carets(alloc, tokens, before, last, at, byte),
         Mode::Zero { from } => numbers::zero(alloc, tokens, from, at, byte),
-        Mode::Prefix { from, x } => numbers::prefix(from, x, byte),
-        Mode::Number { from, radix, value } => {
-            numbers::number(alloc, tokens, from, radix, value, at, byte)
-        }
+        Mode::Prefix { from, x } => numbers::prefix(from, x, at, byte),
+        Mode::Number {
+            from,
+            radix,
+            value,
+            end,
+        } => numbers::number(alloc, tokens, from, radix, value, end, at, byte),
         Mode::Text { from, text } => strings::text(alloc, tokens, from, text, at, byte),
         Mode::Escape { from, text, slash } => strings::escape(from, text, slash, byte),
         Mode::Coded { from, text, slash } => strings::coded(from, text, slash, byte),
@@ -77,9 +81,9 @@ fn finish(alloc: Global, mut tokens: Tokens, mode: Mode) -> Result<Tokens, Stop>
             names::add_carets(alloc, &mut tokens, before.as_slice())?;
             add_symbol(alloc, &mut tokens, last, b"^")?;
         }
-        Mode::Zero { from } => add_number(alloc, &mut tokens, from, 0)?,
+        Mode::Zero { from } => add_number(alloc, &mut tokens, from, 0, end_at(from))?,
         Mode::Prefix { x, .. } => return Err(refuse(BAD_CHARACTER, x)),
-        Mode::Number { from, value, .. } => add_number(alloc, &mut tokens, from, value)?,
+        Mode::Number { from, value, end, .. } => add_number(alloc, &mut tokens, from, value, end)?,
         Mode::Text { from, .. }
         | Mode::Escape { from, .. }
         | Mode::Coded { from, .. }
@@ -98,13 +102,21 @@ fn scan_line(alloc: Global, tokens: &mut Tokens, mut mode: Mode, line: &Line) ->
     requires { length line.now.text < 2 ^ 32 }
     ensures { (rest : AList Mark) → Leads result tokens.new rest (spec.scan (line_marks line.now ++ rest) mode tokens.old) }
 {
-    for (index, byte) in line.text.as_bytes().iter().enumerate() {
+    let bytes = line.text.as_bytes();
+    let mut index = 0;
+    while index < bytes.len() {
         let at = Place {
             file: line.file,
             line: line.number,
             column: index as u32 + 1,
         };
-        mode = step(alloc, tokens, mode, at, *byte)?;
+        let width = run(alloc, tokens, &mode, at, behind(bytes, index))?;
+        if width > 0 {
+            index += width;
+        } else {
+            mode = step(alloc, tokens, mode, at, bytes[index])?;
+            index += 1;
+        }
     }
     Ok(mode)
 }
@@ -197,6 +209,9 @@ pub fn tokens(alloc: Global, lines: &Lines) -> Result<Tokens, Stage>
     // The one message tells the first fault, and no other is it.
     ensures fault { IfErr result (λ stage. Explains stage lines.now.list) }
     ensures first { (fault : Fault) → HasFault lines.now.list fault → Answers result (Err fault) }
+
+    // What is told stands in the files of the lines.
+    ensures within { (files : ℕ) → All (λ line. line.file < files) lines.now.list → IsWithin files result }
 {
     answer(alloc, lines.list.as_slice())
 }

@@ -6,6 +6,7 @@ mod cutter;
 mod mode;
 mod names;
 mod numbers;
+mod run;
 mod start;
 mod strings;
 mod symbols;

@@ -64,10 +64,12 @@ pub enum Mode {
         from: Place,
         x: Place,
     },
+    /// A number so far, and the column behind it.
     Number {
         from: Place,
         radix: Radix,
         value: u64,
+        end: u32,
     },
     /// A string so far.
     Text {

@@ -7,8 +7,9 @@ ghost use Rattle.asl_lexer.specs.Class.{class_of as class_by};
 
 use crate::class::{Class, class_of};
 use crate::mode::{Mode, Stop};
-use crate::start::{BAD_CHARACTER, add_name, add_symbol, begin, longer, refuse};
+use crate::start::{add_name, add_symbol, begin, longer, refuse};
 use crate::token::Tokens;
+use iasl_messages::number::BAD_CHARACTER;
 use iasl_messages::place::Place;
 use iasl_ports::list::List;
 use std::alloc::{AllocError, Global};

@@ -8,8 +8,9 @@ ghost use Rattle.asl_lexer.specs.Class.{class_of as class_by, base_of as base_by
 
 use crate::class::{Class, Radix, base_of, class_of, value_of};
 use crate::mode::{Mode, Stop};
-use crate::start::{BAD_CHARACTER, LARGE_NUMBER, add_number, begin, refuse};
+use crate::start::{add_number, begin, end_at, refuse};
 use crate::token::Tokens;
+use iasl_messages::number::{BAD_CHARACTER, NUMBER_IS_TOO_LARGE};
 use iasl_messages::place::Place;
 use std::alloc::Global;
 
@@ -19,15 +20,16 @@ fn behind(
     tokens: &mut Tokens,
     from: Place,
     value: u64,
+    end: u32,
     at: Place,
     byte: u8,
 ) -> Result<Mode, Stop>
-    ensures { Moves result tokens.new (spec.behind_by (class_by byte) from value at byte tokens.old) }
+    ensures { Moves result tokens.new (spec.behind_by (class_by byte) from value end at byte tokens.old) }
 {
     match class_of(byte) {
         Class::Letter | Class::Zero | Class::Digit => Err(refuse(BAD_CHARACTER, at)),
         _ => {
-            add_number(alloc, tokens, from, value)?;
+            add_number(alloc, tokens, from, value, end)?;
             begin(alloc, at, byte)
         }
     }
@@ -40,23 +42,29 @@ pub fn number(
     from: Place,
     radix: Radix,
     value: u64,
+    end: u32,
     at: Place,
     byte: u8,
 ) -> Result<Mode, Stop>
-    ensures { Moves result tokens.new (spec.number_by (is_digit byte (base_by radix)) from radix value at byte tokens.old) }
+    ensures { Moves result tokens.new (spec.number_by (is_digit byte (base_by radix)) from radix value end at byte tokens.old) }
 {
     let digit = value_of(byte);
     let base = base_of(radix);
     if digit < base {
         let Some(front) = value.checked_mul(base) else {
-            return Err(refuse(LARGE_NUMBER, from));
+            return Err(refuse(NUMBER_IS_TOO_LARGE, from));
         };
         let Some(value) = front.checked_add(digit) else {
-            return Err(refuse(LARGE_NUMBER, from));
+            return Err(refuse(NUMBER_IS_TOO_LARGE, from));
         };
-        Ok(Mode::Number { from, radix, value })
+        Ok(Mode::Number {
+            from,
+            radix,
+            value,
+            end: end_at(at),
+        })
     } else {
-        behind(alloc, tokens, from, value, at, byte)
+        behind(alloc, tokens, from, value, end, at, byte)
     }
 }
 
@@ -76,17 +84,18 @@ pub fn zero(
             from,
             radix: Radix::Octal,
             value,
+            end: end_at(at),
         })
     } else if byte == b'x' {
         Ok(Mode::Prefix { from, x: at })
     } else {
-        behind(alloc, tokens, from, 0, at, byte)
+        behind(alloc, tokens, from, 0, end_at(from), at, byte)
     }
 }
 
 /// A byte behind a zero and an `x`.
-pub fn prefix(from: Place, x: Place, byte: u8) -> Result<Mode, Stop>
-    ensures { (tokens : AList Token) → Moves result tokens (spec.prefix_by (is_digit byte 16) from x byte tokens) }
+pub fn prefix(from: Place, x: Place, at: Place, byte: u8) -> Result<Mode, Stop>
+    ensures { (tokens : AList Token) → Moves result tokens (spec.prefix_by (is_digit byte 16) from x at byte tokens) }
 {
     let value = value_of(byte);
     if value < 16 {
@@ -94,6 +103,7 @@ pub fn prefix(from: Place, x: Place, byte: u8) -> Result<Mode, Stop>
             from,
             radix: Radix::Hexadecimal,
             value,
+            end: end_at(at),
         })
     } else {
         Err(refuse(BAD_CHARACTER, x))

@@ -1,5 +1,6 @@
 //! Where a token begins.
-ghost use Rattle.std.specs.Prelude.{◌≡◌, ◌++◌, ◌∷◌, [], List as AList, OnOk, IfOk};
+ghost use Rattle.std.specs.Prelude.{◌≡◌, ◌++◌, ◌∷◌, [], List as AList, OnOk, IfOk, map, false};
+ghost use Rattle.std.specs.Char.{to_ascii_uppercase};
 ghost use Rattle.asl_lexer.specs.declared.token.Token.{Token};
 ghost use Rattle.asl_lexer.specs.Scan as spec;
 ghost use Rattle.asl_lexer.specs.Scan.{Moves};
@@ -7,19 +8,10 @@ ghost use Rattle.asl_lexer.specs.Scan.{Moves};
 use crate::class::{Class, Radix, class_of, value_of};
 use crate::mode::{Fault, Mode, Stop};
 use crate::token::{Token, TokenKind, Tokens};
+use iasl_messages::number::BAD_CHARACTER;
 use iasl_messages::place::Place;
 use iasl_ports::list::{List, Text};
 use std::alloc::{AllocError, Global};
-
-pub const BAD_CHARACTER: u16 = 6010;
-
-pub const OPEN_STRING: u16 = 6011;
-
-pub const OPEN_COMMENT: u16 = 6012;
-
-pub const BAD_ESCAPE: u16 = 6013;
-
-pub const LARGE_NUMBER: u16 = 6014;
 
 /// The refusal of a message at a place.
 pub fn refuse(number: u16, place: Place) -> Stop
@@ -36,18 +28,36 @@ pub fn longer(mut text: List<u8>, byte: u8) -> Result<List<u8>, AllocError>
     Ok(text)
 }
 
+/// The column behind so many bytes from this one on, or the largest column.
+pub fn column_after(column: u32, count: usize) -> u32
+    ensures { result ≡ spec.column_after column count }
+{
+    (column as usize)
+        .saturating_add(count)
+        .min(u32::MAX as usize) as u32
+}
+
+/// The column behind the byte of a place.
+pub fn end_at(place: Place) -> u32
+    ensures { result ≡ spec.end_at place }
+{
+    column_after(place.column, 1)
+}
+
 fn add(
     tokens: &mut Tokens,
     kind: TokenKind,
     place: Place,
+    end: u32,
     number: u64,
     text: Text,
 ) -> Result<(), AllocError>
-    ensures { OnOk result (tokens.new ≡ spec.with tokens.old kind place number text) }
+    ensures { OnOk result (tokens.new ≡ spec.with tokens.old kind place end number text) }
 {
     tokens.push(Token {
         kind,
         place,
+        end,
         number,
         text,
     })
@@ -68,8 +78,9 @@ pub fn add_name(
     } else {
         TokenKind::Word
     };
+    let end = column_after(place.column, text.len());
     let text = Text::from_vec(alloc, text.into_vec())?;
-    add(tokens, kind, place, 0, text)
+    add(tokens, kind, place, end, 0, text)
 }
 
 /// Adds a number.
@@ -78,10 +89,12 @@ pub fn add_number(
     tokens: &mut Tokens,
     place: Place,
     value: u64,
+    end: u32,
 ) -> Result<(), AllocError>
-    ensures { OnOk result (tokens.new ≡ spec.with_number tokens.old place value) }
+    ensures { OnOk result (tokens.new ≡ spec.with_number tokens.old place value end) }
 {
-    add(tokens, TokenKind::Number, place, value, Text::new(alloc))
+    let text = Text::new(alloc);
+    add(tokens, TokenKind::Number, place, end, value, text)
 }
 
 /// Adds a string.
@@ -89,12 +102,42 @@ pub fn add_string(
     alloc: Global,
     tokens: &mut Tokens,
     place: Place,
+    end: u32,
     text: List<u8>,
 ) -> Result<(), AllocError>
-    ensures { OnOk result (tokens.new ≡ spec.with_string tokens.old place text) }
+    ensures { OnOk result (tokens.new ≡ spec.with_string tokens.old place end text) }
 {
     let text = Text::from_vec(alloc, text.into_vec())?;
-    add(tokens, TokenKind::Text, place, 0, text)
+    add(tokens, TokenKind::Text, place, end, 0, text)
+}
+
+/// Adds a word of these bytes.
+#[tactic(auto, using(std::proofs::lemmas::Grind::common_steps))]
+pub fn add_word(
+    alloc: Global,
+    tokens: &mut Tokens,
+    place: Place,
+    bytes: &[u8],
+) -> Result<(), AllocError>
+    ensures { OnOk result (tokens.new ≡ spec.with_name tokens.old false place (map to_ascii_uppercase bytes.now)) }
+{
+    let end = column_after(place.column, bytes.len());
+    let text = Text::from_uppercase(alloc, bytes)?;
+    add(tokens, TokenKind::Word, place, end, 0, text)
+}
+
+/// Adds a string of these bytes.
+pub fn add_plain_string(
+    alloc: Global,
+    tokens: &mut Tokens,
+    place: Place,
+    end: u32,
+    bytes: &[u8],
+) -> Result<(), AllocError>
+    ensures { OnOk result (tokens.new ≡ spec.with_string tokens.old place end bytes.now) }
+{
+    let text = Text::from_bytes(alloc, bytes)?;
+    add(tokens, TokenKind::Text, place, end, 0, text)
 }
 
 /// Adds a symbol.
@@ -106,8 +149,9 @@ pub fn add_symbol(
 ) -> Result<(), AllocError>
     ensures { OnOk result (tokens.new ≡ spec.with_symbol tokens.old place text.now) }
 {
+    let end = column_after(place.column, text.len());
     let text = Text::from_bytes(alloc, text)?;
-    add(tokens, TokenKind::Symbol, place, 0, text)
+    add(tokens, TokenKind::Symbol, place, end, 0, text)
 }
 
 /// A byte between tokens.
@@ -127,6 +171,7 @@ pub fn begin(alloc: Global, at: Place, byte: u8) -> Result<Mode, Stop>
             from: at,
             radix: Radix::Decimal,
             value: value_of(byte),
+            end: end_at(at),
         }),
         Class::Backslash => Ok(Mode::Root { from: at }),
         Class::Caret => Ok(Mode::Carets {

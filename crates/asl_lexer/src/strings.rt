@@ -8,8 +8,9 @@ ghost use Rattle.asl_lexer.specs.Class.{class_of as class_by, base_of as base_by
 
 use crate::class::{Class, Radix, base_of, class_of, value_of};
 use crate::mode::{Fault, Mode, Stop};
-use crate::start::{BAD_CHARACTER, BAD_ESCAPE, OPEN_STRING, add_string, longer, refuse};
+use crate::start::{add_string, end_at, longer, refuse};
 use crate::token::Tokens;
+use iasl_messages::number::{BAD_CHARACTER, BAD_ESCAPE, OPEN_STRING};
 use iasl_messages::place::Place;
 use iasl_ports::list::List;
 use std::alloc::Global;
@@ -56,7 +57,7 @@ pub fn text(
     match class_of(byte) {
         Class::Break => Err(refuse(OPEN_STRING, from)),
         Class::Quote => {
-            add_string(alloc, tokens, from, text)?;
+            add_string(alloc, tokens, from, end_at(at), text)?;
             Ok(Mode::Between)
         }
         Class::Backslash => Ok(Mode::Escape {

@@ -17,14 +17,19 @@ pub enum TokenKind {
     Symbol,
 }
 
-/// A token: its class, the place of its first character, the value of a number (else 0), and its text:
-/// of a word or path its characters in upper case, of a string its bytes with the escapes read, of a
-/// symbol its characters, of a number none.
+/// A token. It stands in one line.
 #[derive(Drop)]
 pub struct Token {
+    /// Its class.
     pub kind: TokenKind,
+    /// The place of its first character.
     pub place: Place,
+    /// The column behind its last character: of a string behind the closing quote.
+    pub end: u32,
+    /// The value of a number, else 0.
     pub number: u64,
+    /// Of a word or path its characters in upper case, of a string its bytes with the escapes read, of a symbol
+    /// its characters, of a number none.
     pub text: Text,
 }
 

@@ -7,3 +7,4 @@ pub mod Grammar
 pub mod Front
 pub mod Depth
 pub mod Parse
+pub mod Place

@@ -2,6 +2,7 @@ use Rattle.std.proofs.Common.{subst}
 use Rattle.asl_lexer.specs.Marks.{tokens_of, Answers}
 use Rattle.asl_lexer.proofs.FineTokens.{is_fine}
 use Rattle.asl_lexer.proofs.Told.{is_cut, is_only, is_fault, is_that_fault}
+use Rattle.asl_lexer.proofs.Within.{stands_within}
 use Rattle.asl_lexer.proofs.cutter.tokens.Goals as goal
 
 pub returns-clause-found : goal.returns-clause-found
@@ -18,3 +19,6 @@ returns-clause-first c = is_that_fault c.args.lines.now.list c.answer.result (su
 
 pub returns-clause-fine : goal.returns-clause-fine
 returns-clause-fine c = is_fine c.args.lines.now.list c.answer.result (is_cut c.args.lines.now.list c.answer.result (subst (λ ls. Answers c.answer.result (tokens_of ls)) c.as_slice.ensures c.answer.ensures))
+
+pub returns-clause-within : goal.returns-clause-within
+returns-clause-within c = λ files h. stands_within files c.args.lines.now.list c.answer.result (subst (λ ls. Answers c.answer.result (tokens_of ls)) c.as_slice.ensures c.answer.ensures) h

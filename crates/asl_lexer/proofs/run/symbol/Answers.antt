@@ -1,0 +1,12 @@
+use Rattle.std.proofs.Common.{◌≡◌, ◌∷◌, [], sym, ap, ◌∙◌, subst, get_or}
+use Rattle.asl_lexer.specs.declared.mode.Mode.TheVariants as m
+use Rattle.asl_lexer.specs.Cut.{begins_sign_class}
+use Rattle.asl_lexer.specs.Runs.{Passes}
+use Rattle.asl_lexer.proofs.Runs.{passes_alone}
+use Rattle.asl_lexer.proofs.run.symbol.Goals as goal
+
+pub returns-then-is_alone-clause-passes : goal.returns-then-is_alone-clause-passes
+returns-then-is_alone-clause-passes c =
+    let old = c.args.tokens.now in
+    subst (λ ts. Passes c.args.at c.args.bytes.now 1 m.Between old m.Between ts) (sym c.in_ok-add_symbol.ensures)
+    (passes_alone c.args.at c.args.bytes.now old c.requires.some (ap begins_sign_class c.requires.begins) (sym c.is_alone.ensures ∙ c.if-is_alone.true))

@@ -1,0 +1,280 @@
+//! Runs of bytes of a line, read at once.
+ghost use Rattle.std.specs.Prelude.{◌≡◌, ◌<◌, ◌≤◌, length, take, IfOk, IfSome, slice_index, true};
+ghost use Rattle.std.specs.List.{take_while};
+ghost use Rattle.std.specs.Char.{is_digit as is_digit_by};
+ghost use Rattle.asl_lexer.specs.Class.{class_of as class_by};
+ghost use Rattle.asl_lexer.specs.declared.class.Class.TheVariants as classes;
+ghost use Rattle.asl_lexer.specs.declared.mode.Mode.TheVariants as modes;
+ghost use Rattle.asl_lexer.specs.Runs as spec;
+ghost use Rattle.asl_lexer.specs.Runs.{Passes};
+
+use crate::class::{Class, class_of, doubles, takes_equals, value_of};
+use crate::mode::Mode;
+use crate::start::{add_number, add_plain_string, add_symbol, add_word, column_after};
+use crate::token::Tokens;
+use iasl_messages::place::Place;
+use iasl_ports::list::{behind, front};
+use std::alloc::{AllocError, Global};
+
+fn is_blank(byte: u8) -> bool
+    ensures { result ≡ spec.is_blank byte }
+{
+    matches!(class_of(byte), Class::Blank | Class::Break)
+}
+
+fn blank_width(bytes: &[u8]) -> usize
+    ensures { result ≡ length (take_while spec.is_blank bytes.now) }
+{
+    bytes.iter().take_while(|byte| is_blank(**byte)).count()
+}
+
+fn in_word(byte: u8) -> bool
+    ensures { result ≡ spec.in_word byte }
+{
+    matches!(
+        class_of(byte),
+        Class::Letter | Class::Underscore | Class::Zero | Class::Digit
+    )
+}
+
+fn word_width(bytes: &[u8]) -> usize
+    ensures { result ≡ length (take_while spec.in_word bytes.now) }
+{
+    bytes.iter().take_while(|byte| in_word(**byte)).count()
+}
+
+fn in_string(byte: u8) -> bool
+    ensures { result ≡ spec.in_string byte }
+{
+    let ends = matches!(
+        class_of(byte),
+        Class::Break | Class::Quote | Class::Backslash
+    );
+    !ends && 1 <= byte && byte <= 127
+}
+
+fn string_width(bytes: &[u8]) -> usize
+    ensures { result ≡ length (take_while spec.in_string bytes.now) }
+{
+    bytes.iter().take_while(|byte| in_string(**byte)).count()
+}
+
+fn in_comment(byte: u8) -> bool
+    ensures { result ≡ spec.in_comment byte }
+{
+    !matches!(class_of(byte), Class::Break)
+}
+
+fn comment_width(bytes: &[u8]) -> usize
+    ensures { result ≡ length (take_while spec.in_comment bytes.now) }
+{
+    bytes.iter().take_while(|byte| in_comment(**byte)).count()
+}
+
+fn in_block(byte: u8) -> bool
+    ensures { result ≡ spec.in_block byte }
+{
+    !matches!(class_of(byte), Class::Star)
+}
+
+fn block_width(bytes: &[u8]) -> usize
+    ensures { result ≡ length (take_while spec.in_block bytes.now) }
+{
+    bytes.iter().take_while(|byte| in_block(**byte)).count()
+}
+
+fn digit_width(bytes: &[u8], base: u64) -> usize
+    ensures { result ≡ length (take_while (λ b. is_digit_by b base) bytes.now) }
+{
+    bytes
+        .iter()
+        .take_while(|byte| value_of(**byte) < base)
+        .count()
+}
+
+fn adjoins_number(byte: u8) -> bool
+    ensures { result ≡ spec.adjoins_number byte }
+{
+    matches!(
+        class_of(byte),
+        Class::Letter | Class::Zero | Class::Digit
+    )
+}
+
+fn is_alone(byte: u8) -> bool
+    ensures { result ≡ spec.is_alone byte }
+{
+    !takes_equals(byte) && !doubles(byte)
+}
+
+fn is_dot(byte: u8) -> bool
+    ensures { result ≡ spec.is_dot byte }
+{
+    matches!(class_of(byte), Class::Dot)
+}
+
+// The number that digits write, where it is below 2^64.
+fn value_in(digits: &[u8], base: u64) -> Option<u64>
+    ensures { IfSome result (λ value. value ≡ spec.number_of base 0 digits.now) }
+{
+    let mut value = 0u64;
+    for digit in digits {
+        value = value.checked_mul(base)?.checked_add(value_of(*digit))?;
+    }
+    Some(value)
+}
+
+// A word behind which a byte of the line stands that goes on with it no more. Answers how many bytes were read.
+fn word(
+    alloc: Global,
+    tokens: &mut Tokens,
+    at: Place,
+    bytes: &[u8],
+) -> Result<usize, AllocError>
+    requires some { 0 < length bytes.now }
+    requires begins { spec.begins_word (slice_index bytes.now 0) ≡ true }
+    ensures within { IfOk result (λ width. width ≤ length bytes.now) }
+    ensures passes { IfOk result (λ width. Passes at bytes.now width modes.Between tokens.old modes.Between tokens.new) }
+{
+    let width = word_width(bytes);
+    if width >= bytes.len() || is_dot(bytes[width]) {
+        return Ok(0);
+    }
+    add_word(alloc, tokens, at, front(bytes, width))?;
+    Ok(width)
+}
+
+// A string without an escape.
+fn string(
+    alloc: Global,
+    tokens: &mut Tokens,
+    at: Place,
+    bytes: &[u8],
+) -> Result<usize, AllocError>
+    requires some { 0 < length bytes.now }
+    requires opens { class_by (slice_index bytes.now 0) ≡ classes.Quote }
+    ensures within { IfOk result (λ width. width ≤ length bytes.now) }
+    ensures passes { IfOk result (λ width. Passes at bytes.now width modes.Between tokens.old modes.Between tokens.new) }
+{
+    let inner = behind(bytes, 1);
+    let width = string_width(inner);
+    if width >= inner.len() || inner[width] != b'"' {
+        return Ok(0);
+    }
+    let end = column_after(at.column, width + 2);
+    add_plain_string(alloc, tokens, at, end, front(inner, width))?;
+    Ok(width + 2)
+}
+
+// A decimal number behind which neither a letter nor a digit stands.
+fn decimal(
+    alloc: Global,
+    tokens: &mut Tokens,
+    at: Place,
+    bytes: &[u8],
+) -> Result<usize, AllocError>
+    requires some { 0 < length bytes.now }
+    requires begins { class_by (slice_index bytes.now 0) ≡ classes.Digit }
+    ensures within { IfOk result (λ width. width ≤ length bytes.now) }
+    ensures passes { IfOk result (λ width. Passes at bytes.now width modes.Between tokens.old modes.Between tokens.new) }
+{
+    let width = digit_width(bytes, 10);
+    if width == 0 || width >= bytes.len() || adjoins_number(bytes[width]) {
+        return Ok(0);
+    }
+    let Some(value) = value_in(front(bytes, width), 10) else {
+        return Ok(0);
+    };
+    add_number(alloc, tokens, at, value, column_after(at.column, width))?;
+    Ok(width)
+}
+
+// A hexadecimal number behind which neither a letter nor a digit stands.
+fn hexadecimal(
+    alloc: Global,
+    tokens: &mut Tokens,
+    at: Place,
+    bytes: &[u8],
+) -> Result<usize, AllocError>
+    requires begins { class_by (slice_index bytes.now 0) ≡ classes.Zero }
+    ensures within { IfOk result (λ width. width ≤ length bytes.now) }
+    ensures passes { IfOk result (λ width. Passes at bytes.now width modes.Between tokens.old modes.Between tokens.new) }
+{
+    if bytes.len() < 2 || bytes[1] != b'x' {
+        return Ok(0);
+    }
+    let digits = behind(bytes, 2);
+    let width = digit_width(digits, 16);
+    if width == 0 || width >= digits.len() || adjoins_number(digits[width]) {
+        return Ok(0);
+    }
+    let Some(value) = value_in(front(digits, width), 16) else {
+        return Ok(0);
+    };
+    let end = column_after(at.column, width + 2);
+    add_number(alloc, tokens, at, value, end)?;
+    Ok(width + 2)
+}
+
+// A character that is a symbol whatever stands behind it.
+fn symbol(
+    alloc: Global,
+    tokens: &mut Tokens,
+    at: Place,
+    bytes: &[u8],
+) -> Result<usize, AllocError>
+    requires some { 0 < length bytes.now }
+    requires begins { class_by (slice_index bytes.now 0) ≡ classes.Sign }
+    ensures within { IfOk result (λ width. width ≤ length bytes.now) }
+    ensures passes { IfOk result (λ width. Passes at bytes.now width modes.Between tokens.old modes.Between tokens.new) }
+{
+    let first = bytes[0];
+    if is_alone(first) {
+        add_symbol(alloc, tokens, at, &[first])?;
+        return Ok(1);
+    }
+    Ok(0)
+}
+
+// Where no token is open: blanks, or a plain token.
+fn between(
+    alloc: Global,
+    tokens: &mut Tokens,
+    at: Place,
+    bytes: &[u8],
+) -> Result<usize, AllocError>
+    requires { 0 < length bytes.now }
+    ensures within { IfOk result (λ width. width ≤ length bytes.now) }
+    ensures passes { IfOk result (λ width. Passes at bytes.now width modes.Between tokens.old modes.Between tokens.new) }
+{
+    match class_of(bytes[0]) {
+        Class::Blank => Ok(blank_width(bytes)),
+        Class::Letter | Class::Underscore => word(alloc, tokens, at, bytes),
+        Class::Zero => hexadecimal(alloc, tokens, at, bytes),
+        Class::Digit => decimal(alloc, tokens, at, bytes),
+        Class::Quote => string(alloc, tokens, at, bytes),
+        Class::Sign => symbol(alloc, tokens, at, bytes),
+        _ => Ok(0),
+    }
+}
+
+/// Reads over a run of these bytes of a line, the first of which has this place. Answers how many they are: 0 where the
+/// first is to be read by itself.
+pub fn run(
+    alloc: Global,
+    tokens: &mut Tokens,
+    mode: &Mode,
+    at: Place,
+    bytes: &[u8],
+) -> Result<usize, AllocError>
+    requires { 0 < length bytes.now }
+    ensures within { IfOk result (λ width. width ≤ length bytes.now) }
+    ensures passes { IfOk result (λ width. Passes at bytes.now width mode.now tokens.old mode.now tokens.new) }
+{
+    match mode {
+        Mode::Between => between(alloc, tokens, at, bytes),
+        Mode::Line => Ok(comment_width(bytes)),
+        Mode::Block { .. } => Ok(block_width(bytes)),
+        _ => Ok(0),
+    }
+}
