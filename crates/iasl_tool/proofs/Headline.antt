@@ -14,9 +14,11 @@ use Rattle.asl_lexer.specs.declared.mode.Fault.{Fault}
 use Rattle.asl_lexer.specs.Marks.{tokens_of}
 use Rattle.asl_parser.specs.declared.raw.Raw.{Raw}
 use Rattle.asl_parser.specs.Parse.{Outcome, outcome, read, stopped, sunk, tall}
-use Rattle.aml_code.specs.Encoding.{encoded_all}
+use Rattle.acpi_values.specs.declared.width.Width.TheVariants.{W64}
+use Rattle.aml_meaning.specs.Encoded.{encoded_all}
+use Rattle.named_sessions.specs.Core.{core_of}
+use Rattle.named_sessions.proofs.Main.{is_faithful}
 use Rattle.aml_code.specs.Header.{header_length, checksum_of, header_with}
-use Rattle.aml_sessions.proofs.Sessions.{faithful}
 use Rattle.aml_sessions.proofs.Tables.{definition_is, is_header}
 use Rattle.aml_writer.specs.Written.{most_table_bytes}
 use Rattle.iasl_options.specs.Asking.{Asked, asked_by}
@@ -28,7 +30,7 @@ use Rattle.iasl_tool.specs.Sources.{source_of}
 use Rattle.iasl_tool.specs.Compiled.{of_lines, of_source, of_form, of_outcome, of_tokens, source_table, too_long}
 use Rattle.iasl_tool.specs.Readiness.{IsReadySource}
 use Rattle.iasl_tool.specs.Due.{table_name, is_fetched, made_file, in_use, made_or_in_use, answer_to_text, answer_to_compiled, answer_to_lines, answer_to_preprocessed, answer_to_file, answer_to_asked, answer_for}
-use Rattle.iasl_tool.specs.Headline.{Request, table_of, NamesSource, PutsFaithfulTable, WritesItsTable, only_by, asks_for_text}
+use Rattle.iasl_tool.specs.Headline.{Request, table_of, NamesSource, PutsFaithfulTable, AreItsTables, WritesItsTable, only_by, asks_for_text}
 use Rattle.iasl_tool.proofs.Ready.{ready_of}
 
 fits_table : (source : Source) → length (source_table source) ≤ most_table_bytes → of_source source ≡ Table source.signature (source_table source)
@@ -44,7 +46,7 @@ answer_is : (words : List (List ℕ)) (told : List Named) (request : Request) (s
 answer_is words told request source h =
     let asked = request.asked in
     let file = request.file in
-    let table : of_lines h.lines ≡ Table source.signature (source_table source) = ap (of_tokens h.lines) h.tokens_are ∙ ap (of_outcome h.lines h.tokens) h.tokens_spell ∙ ap of_form h.source_is ∙ fits_table source h.table_within in
+    let table : of_lines h.lines ≡ Table source.signature (source_table source) = ap of_tokens h.tokens_are ∙ ap (of_outcome h.tokens) h.tokens_spell ∙ ap of_form h.source_is ∙ fits_table source h.table_within in
     ap (answer_to_asked told) h.words_are
     ∙ ap (answer_to_file asked told) h.file_is
     ∙ ap (answer_to_preprocessed asked file) h.lines_are
@@ -57,7 +59,9 @@ puts_faithful_table words told request source h =
     let answer = answer_is words told request source h in
     let ready : IsReadySource source = ready_of h.items source h.source_is in
     let fields = source_fields source in
-    let content = encoded_all true (items_trees source.items) in
+    let program = items_trees source.items in
+    let content = encoded_all W64 true program in
+    let core : encoded_all W64 true (core_of program) ≡ content = ap (encoded_all W64 true) ready.core in
     let size = header_length + length content in
     let header = header_with fields size (checksum_of (header_with fields size 0 ++ content)) in
     let small : length content ≤ most_table_bytes = omega (arith, h.table_within, length-append header content) in
@@ -65,7 +69,7 @@ puts_faithful_table words told request source h =
       status = ap status_of answer;
       due = ap due_of answer;
       header = is_header fields content ready.signature (omega (arith, small)) ready.oem_revision;
-      faithful = faithful true (items_trees source.items) (source_table source) ready.terms (omega (arith, small)) (definition_is fields content ready.signature (omega (arith, small)));
+      faithful = is_faithful W64 true program (source_table source) ready.terms ready.names ready.counts (omega (arith, small, ap length core)) (definition_is fields content ready.signature (omega (arith, small)) ∙ sym core);
     }
 
 -- the source that the words name
@@ -122,13 +126,13 @@ module _ (words : List (List ℕ)) (told : List Named) where
   by_source k tokens items None et eo es h = absurd (omega (arith, h))
   by_source k tokens items (Some source) et eo es h = by_table k tokens items source (nat_le (length (source_table source)) most_table_bytes) et eo es refl h
 
-  by_outcome : (k : Known words told) (tokens : List Token) (o : Outcome) → tokens_of k.lines ≡ Ok tokens → outcome tokens ≡ o → status_with words told k (of_outcome k.lines tokens o) ≡ 0 → FoundSource words told
+  by_outcome : (k : Known words told) (tokens : List Token) (o : Outcome) → tokens_of k.lines ≡ Ok tokens → outcome tokens ≡ o → status_with words told k (of_outcome tokens o) ≡ 0 → FoundSource words told
   by_outcome k tokens (read items) et eo h = by_source k tokens items (source_of items) et eo refl h
   by_outcome k tokens (stopped rest) et eo h = absurd (omega (arith, h))
   by_outcome k tokens (sunk rest) et eo h = absurd (omega (arith, h))
   by_outcome k tokens (tall number) et eo h = absurd (omega (arith, h))
 
-  by_tokens : (k : Known words told) (r : Result (List Token) Fault) → tokens_of k.lines ≡ r → status_with words told k (of_tokens k.lines r) ≡ 0 → FoundSource words told
+  by_tokens : (k : Known words told) (r : Result (List Token) Fault) → tokens_of k.lines ≡ r → status_with words told k (of_tokens r) ≡ 0 → FoundSource words told
   by_tokens k (Err fault) et h = absurd (omega (arith, h))
   by_tokens k (Ok tokens) et h = by_outcome k tokens (outcome tokens) et refl h
 
@@ -169,3 +173,51 @@ writes_its_table words told old new z h gained =
 pub status_of_source : (words : List (List ℕ)) (told : List Named) (request : Request) (source : Source) (result : ℕ) → NamesSource words told request source → (result ≡ status_of (answer_for words told)) ⊎ (result ≡ 4) → (result ≡ 0) ⊎ (result ≡ 4)
 status_of_source words told request source result h (inl e) = inl (e ∙ (puts_faithful_table words told request source h).status)
 status_of_source words told request source result h (inr e) = inr e
+
+-- what is due of a status other than 0 is nothing
+abbrev Settled : Option Answer → Type 0
+Settled None = Unit {0}
+Settled (Some answer) = (answer.status ≡ 0) ⊎ (answer.due ≡ [])
+
+module _ (words : List (List ℕ)) (told : List Named) where
+  named_settled : (c : Bool) (files : List (List ℕ)) (notes : List Message) (line name bytes : List ℕ) → Settled (Some (cond c (in_use name) (made_file files notes line name bytes)))
+  named_settled true files notes line name bytes = inr refl
+  named_settled false files notes line name bytes = inl refl
+
+  compiled_settled : (asked : Asked) (file : List ℕ) (files : List (List ℕ)) (notes : List Message) (it : Compiled) → Settled (Some (answer_to_compiled asked file files notes it))
+  compiled_settled asked file files notes (Table signature bytes) = named_settled (is_fetched files (table_name asked file)) files notes (table_line (table_name asked file) signature (length bytes)) (table_name asked file) bytes
+  compiled_settled asked file files notes (Refused messages) = inr refl
+
+  lines_settled : (asked : Asked) (file : List ℕ) (files : List (List ℕ)) (lines : List Line) (notes : List Message) (c : Bool) → c ≡ false → Settled (Some (cond c (answer_to_text asked file files lines notes) (answer_to_compiled asked file files notes (of_lines lines))))
+  lines_settled asked file files lines notes true e = absurd cc
+  lines_settled asked file files lines notes false e = compiled_settled asked file files notes (of_lines lines)
+
+  given_settled : (asked : Asked) (file : List ℕ) (p : Preprocessed) → asked.only ≡ false → Settled (answer_to_preprocessed asked file p)
+  given_settled asked file (Given files lines notes) z = lines_settled asked file files lines notes asked.only z
+  given_settled asked file (Stopped message files) z = inr refl
+  given_settled asked file Absent z = tt
+
+  file_settled : (asked : Asked) (f : Option (List ℕ)) → asked.only ≡ false → Settled (answer_to_file asked told f)
+  file_settled asked None z = inr refl
+  file_settled asked (Some file) z = given_settled asked file (preprocessed told file asked.directories asked.definitions asked.enabled) z
+
+  words_settled : (r : Result Asked ℕ) → only_by r ≡ false → Settled (answer_to_asked told r)
+  words_settled (Err word) z = inr refl
+  words_settled (Ok asked) z = file_settled asked asked.file z
+
+  one_table : (request : Request) (source : Source) → NamesSource words told request source → AreItsTables words told ((table_of request, source_table source) ∷ [])
+  one_table request source names =
+      let puts : PutsFaithfulTable words told request source = puts_faithful_table words told request source names in
+      (record { request = request; source = source; names = names; name = refl; bytes = refl; header = puts.header; faithful = puts.faithful }, tt)
+
+  by_settled : (o : Option Answer) → answer_for words told ≡ o → asks_for_text words ≡ false → Settled o → AreItsTables words told (due_of o)
+  by_settled None is z h = tt
+  by_settled (Some answer) is z (inr none) = subst (AreItsTables words told) (sym none) tt
+  by_settled (Some answer) is z (inl zero) =
+      let found : FoundSource words told = by_words words told (asked_by words) refl z (ap status_of is ∙ zero) in
+      let puts : PutsFaithfulTable words told found.request found.source = puts_faithful_table words told found.request found.source found.names in
+      subst (AreItsTables words told) (sym (sym (ap due_of is) ∙ puts.due)) (one_table found.request found.source found.names)
+
+  -- whatever the status, each file that is due is the table of a source that the words name
+  pub are_its_tables : asks_for_text words ≡ false → AreItsTables words told (due_of (answer_for words told))
+  are_its_tables z = by_settled (answer_for words told) refl z (words_settled (asked_by words) z)

@@ -1,9 +1,9 @@
 pub mod Distinct
 pub mod ItemLists
 pub mod Trees
+pub mod ItemNames
 pub mod Ready
 pub mod Written
-pub mod Quotes
 pub mod Outcomes
 pub mod Homes
 pub mod Sorting

@@ -11,7 +11,9 @@ use Rattle.asl_parser.specs.declared.raw.Raw.{Raw, out-Raw}
 use Rattle.asl_parser.specs.declared.raw.Raw.TheOpen as node
 use Rattle.asl_parser.specs.declared.raw.Raw.TheOpen.{Raw-F}
 use Rattle.aml_code.specs.Fronts.{IsName, is_segment as is_whole_segment}
-use Rattle.aml_sessions.specs.Ready.{IsReady, AreReady}
+use Rattle.acpi_values.specs.declared.width.Width.TheVariants.{W64}
+use Rattle.named_sessions.specs.Shaped.{IsShaped, AreShaped}
+use Rattle.iasl_tool.proofs.ItemNames.{no_name_errors, no_type_errors, core_is}
 use Rattle.iasl_tool.specs.declared.items.Item.{Item}
 use Rattle.iasl_tool.specs.declared.items.ItemKind.{ItemKind}
 use Rattle.iasl_tool.specs.declared.items.ItemKind.TheVariants as kind
@@ -66,12 +68,15 @@ pub record IsGood (item : Item) : Type 0 where
 one_name : (segment : NameSeg) → IsValid segment → IsName (path_of segment)
 one_name segment valid = record { segments = (valid, tt); count = omega arith; rooted = λ e. refl }
 
-good_ready : (item : Item) → IsGood item → IsReady (item_tree item)
+good_ready : (item : Item) → IsGood item → IsShaped W64 (item_tree item)
 good_ready item good = by_kind item.kind
   where
-    by_kind : (k : ItemKind) → IsReady (kind_tree k item.segment item.number)
-    by_kind kind.Name = (one_name item.segment good.segment, good.number)
-    by_kind kind.Method = (one_name item.segment good.segment, omega arith, (good.number, tt))
+    fits : item.number ≤ 18446744073709551615
+    fits = omega (arith, good.number)
+
+    by_kind : (k : ItemKind) → IsShaped W64 (kind_tree k item.place item.segment item.number)
+    by_kind kind.Name = (one_name item.segment good.segment, refl, fits)
+    by_kind kind.Method = (one_name item.segment good.segment, omega arith, ((refl, fits), tt))
 
 -- what an optional choice gives, where each choice gives it
 of_choose : {A B : Type 0} (P : B → Type 0) (o : Option A) (f : A → Option B) → ((a : A) → o ≡ Some a → Of P (f a)) → Of P (choose o None f)
@@ -171,14 +176,18 @@ items_good (raw ∷ raws) = by_item (items_good raws)
     by_item : Of AreGood (items_of raws) → Of AreGood (choose (item_in raw) None (λ item. prepend (item ∷ []) (items_of raws)))
     by_item more = of_choose AreGood (item_in raw) _ (λ item e. prepend_good item (items_of raws) (of_some IsGood (item_in raw) item (item_good raw) e) more)
 
-distinct_good : (body : List Raw) → Of AreGood (distinct_items body)
-distinct_good body = of_choose AreGood (items_of body) _ (λ items e. by_distinct items (are_distinct items) (of_some AreGood (items_of body) items (items_good body) e))
-  where
-    by_distinct : (items : List Item) (c : Bool) → AreGood items → Of AreGood (if c then Some items else None)
-    by_distinct items true h = h
-    by_distinct items false h = tt
+-- good items whose names are new
+abbrev AreNewGood : List Item → Type 0
+AreNewGood items = AreGood items × (are_distinct items ≡ true)
 
-trees_ready : (items : List Item) → AreGood items → AreReady (items_trees items)
+distinct_good : (body : List Raw) → Of AreNewGood (distinct_items body)
+distinct_good body = of_choose AreNewGood (items_of body) _ (λ items e. by_distinct items (are_distinct items) refl (of_some AreGood (items_of body) items (items_good body) e))
+  where
+    by_distinct : (items : List Item) (c : Bool) → are_distinct items ≡ c → AreGood items → Of AreNewGood (if c then Some items else None)
+    by_distinct items true e h = (h, e)
+    by_distinct items false e h = tt
+
+trees_ready : (items : List Item) → AreGood items → AreShaped W64 (items_trees items)
 trees_ready [] g = tt
 trees_ready (item ∷ items) g = (good_ready item g.0, trees_ready items g.1)
 
@@ -231,15 +240,18 @@ header_good _ = tt
 block_ready : (place : Place) (args body : List Raw) → Of IsReadySource (block_in place args body)
 block_ready place args body =
     of_choose IsReadySource (distinct_items body) _ (λ items ei.
-    of_choose IsReadySource (header_of args) _ (λ header eh. by_room items header (of_some AreGood (distinct_items body) items (distinct_good body) ei) (of_some HasRoom (header_of args) header (header_good args) eh)))
+    of_choose IsReadySource (header_of args) _ (λ header eh. by_room items header (of_some AreNewGood (distinct_items body) items (distinct_good body) ei) (of_some HasRoom (header_of args) header (header_good args) eh)))
   where
-    by_room : (items : List Item) (header : Header) → AreGood items → HasRoom header → IsReadySource (source_with place items header)
+    by_room : (items : List Item) (header : Header) → AreNewGood items → HasRoom header → IsReadySource (source_with place items header)
     by_room items header g room = record {
       signature = room.signature;
       oem_id = room.oem_id;
       table_id = room.table_id;
       oem_revision = omega (arith, room.oem_revision);
-      terms = trees_ready items g;
+      terms = trees_ready items g.0;
+      names = no_name_errors items g.1;
+      counts = no_type_errors items;
+      core = core_is items;
     }
 
 if_ready : (c : Bool) (o : Option Source) → Of IsReadySource o → Of IsReadySource (if c then o else None)

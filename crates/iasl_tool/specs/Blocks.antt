@@ -3,7 +3,8 @@ use Rattle.std.specs.Prelude.{◌≡◌, ℕ, false, List, [], ◌∷◌}
 use Rattle.acpi_values.specs.Paths.{NameSeg}
 use Rattle.asl_tree.specs.declared.path.Path.{Path}
 use Rattle.asl_tree.specs.declared.program.Block.{Block}
-use Rattle.asl_tree.specs.Tree.{Tree, Integer, Return, Name, Method, Trees, no_trees, tree}
+use Rattle.iasl_messages.specs.declared.place.Place.{Place}
+use Rattle.asl_tree.specs.Tree.{At, Tree, Integer, Return, Name, Method, Trees, no_trees, tree}
 use Rattle.asl_tree.specs.View.{trees_of}
 use Rattle.aml_code.specs.Header.{HeaderFields}
 use Rattle.iasl_tool.specs.declared.items.Item.{Item}
@@ -15,21 +16,25 @@ use Rattle.iasl_tool.specs.declared.source.Source.{Source}
 abbrev pub path_of : NameSeg → Path
 path_of segment = record { root = false; up = 0; segs = segment ∷ [] }
 
-abbrev pub name_tree : NameSeg → ℕ → Tree
-name_tree segment number = Name (path_of segment) (Integer number)
+-- the node of a term at a place; the form has no use for the numbers of nodes
+abbrev pub node_at : Place → At
+node_at place = record { id = 0; place = place }
+
+abbrev pub name_tree : Place → NameSeg → ℕ → Tree
+name_tree place segment number = Name (node_at place) (path_of segment) (Integer number)
 
 abbrev pub return_tree : ℕ → Tree
 return_tree number = Return (Integer number)
 
-abbrev pub method_tree : NameSeg → ℕ → Tree
-method_tree segment number = Method (path_of segment) 0 (tree (return_tree number) no_trees)
+abbrev pub method_tree : Place → NameSeg → ℕ → Tree
+method_tree place segment number = Method (node_at place) (path_of segment) 0 (tree (return_tree number) no_trees)
 
-abbrev pub kind_tree : ItemKind → NameSeg → ℕ → Tree
-kind_tree kind.Name segment number = name_tree segment number
-kind_tree kind.Method segment number = method_tree segment number
+abbrev pub kind_tree : ItemKind → Place → NameSeg → ℕ → Tree
+kind_tree kind.Name place segment number = name_tree place segment number
+kind_tree kind.Method place segment number = method_tree place segment number
 
 abbrev pub item_tree : Item → Tree
-item_tree item = kind_tree item.kind item.segment item.number
+item_tree item = kind_tree item.kind item.place item.segment item.number
 
 abbrev pub items_trees : List Item → Trees
 items_trees [] = no_trees

@@ -6,7 +6,8 @@ use Rattle.iasl_messages.specs.declared.message.Message.{Message}
 use Rattle.asl_lexer.specs.declared.token.Token.{Token}
 use Rattle.asl_lexer.specs.declared.mode.Fault.{Fault}
 use Rattle.asl_lexer.specs.Marks.{tokens_of, message_of}
-use Rattle.aml_code.specs.Encoding.{encoded_all}
+use Rattle.acpi_values.specs.declared.width.Width.TheVariants.{W64}
+use Rattle.aml_meaning.specs.Encoded.{encoded_all}
 use Rattle.aml_code.specs.Header.{table_bytes}
 use Rattle.aml_writer.specs.Written.{most_table_bytes}
 use Rattle.iasl_tool.specs.declared.source.Source.{Source}
@@ -27,7 +28,7 @@ too_long place = record { number = 6080; place = place; name = [] }
 
 -- the table of a source
 abbrev pub source_table : Source → List ℕ
-source_table source = table_bytes (source_fields source) (encoded_all true (items_trees source.items))
+source_table source = table_bytes (source_fields source) (encoded_all W64 true (items_trees source.items))
 
 -- what a source comes to, whose form is known
 abbrev pub of_source : Source → Compiled
@@ -39,20 +40,20 @@ of_form None = Refused (unknown ∷ [])
 of_form (Some source) = of_source source
 
 -- tokens that are a source, or the place where they stop being one or nest too deep
-abbrev pub of_outcome : List Line → List Token → Outcome → Compiled
-of_outcome lines tokens (read items) = of_form (source_of items)
-of_outcome lines tokens (stopped rest) = Refused (not_source lines tokens (length tokens - length rest) ∷ [])
-of_outcome lines tokens (sunk rest) = Refused (too_deep lines tokens (length tokens - suc (length rest)) ∷ [])
-of_outcome lines tokens (tall number) = Refused (too_deep lines tokens number ∷ [])
+abbrev pub of_outcome : List Token → Outcome → Compiled
+of_outcome tokens (read items) = of_form (source_of items)
+of_outcome tokens (stopped rest) = Refused (not_source tokens (length tokens - length rest) ∷ [])
+of_outcome tokens (sunk rest) = Refused (too_deep tokens (length tokens - suc (length rest)) ∷ [])
+of_outcome tokens (tall number) = Refused (too_deep tokens number ∷ [])
 
 -- the first fault of the tokens, or what they come to
-abbrev pub of_tokens : List Line → Result (List Token) Fault → Compiled
-of_tokens lines (Err fault) = Refused (message_of fault ∷ [])
-of_tokens lines (Ok tokens) = of_outcome lines tokens (outcome tokens)
+abbrev pub of_tokens : Result (List Token) Fault → Compiled
+of_tokens (Err fault) = Refused (message_of fault ∷ [])
+of_tokens (Ok tokens) = of_outcome tokens (outcome tokens)
 
 -- what lines come to
 abbrev pub of_lines : List Line → Compiled
-of_lines lines = of_tokens lines (tokens_of lines)
+of_lines lines = of_tokens (tokens_of lines)
 
 -- each message stands in one of so many files
 abbrev pub AreWithin : ℕ → List Message → Type 0

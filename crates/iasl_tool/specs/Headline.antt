@@ -9,7 +9,10 @@ use Rattle.asl_lexer.specs.declared.token.Token.{Token}
 use Rattle.asl_lexer.specs.Marks.{tokens_of}
 use Rattle.asl_parser.specs.declared.raw.Raw.{Raw}
 use Rattle.asl_parser.specs.Parse.{outcome, read}
-use Rattle.aml_code.specs.ByteSession.{IsFaithful}
+use Rattle.acpi_values.specs.declared.width.Width.TheVariants.{W64}
+use Rattle.asl_meaning.specs.Declarations.{known_of, externals}
+use Rattle.asl_tree.specs.Tree.{Trees}
+use Rattle.aml_meaning.specs.ByteSession.{IsFaithful}
 use Rattle.aml_code.specs.Header.{IsHeader}
 use Rattle.aml_writer.specs.Written.{most_table_bytes}
 use Rattle.iasl_options.specs.Asking.{Asked, asked_by}
@@ -46,12 +49,30 @@ pub record NamesSource (words : List (List ℕ)) (told : List Named) (request : 
   pub table_within : length (source_table source) ≤ most_table_bytes
   pub name_is_free : is_fetched files (table_of request) ≡ false
 
+-- for every bound, answers and calls that may be asked, whatever other tables are there, every session over the bytes is the program's
+abbrev pub DoesAs : Trees → List ℕ → Type 0
+DoesAs program bytes = IsFaithful W64 (known_of program) (externals program) program bytes
+
 -- the call puts the source's table, and nothing else; the table has the source's header and does what the source says
 pub record PutsFaithfulTable (words : List (List ℕ)) (told : List Named) (request : Request) (source : Source) : Type 0 where
   pub status : status_of (answer_for words told) ≡ 0
   pub due : due_of (answer_for words told) ≡ (table_of request, source_table source) ∷ []
   pub header : IsHeader (source_table source) (source_fields source)
-  pub faithful : IsFaithful (items_trees source.items) (source_table source)
+  pub faithful : DoesAs (items_trees source.items) (source_table source)
+
+-- a file is the table of a source that the words name: it has the source's header and does what the source says
+pub record IsItsTable (words : List (List ℕ)) (told : List Named) (file : Named) : Type 0 where
+  pub request : Request
+  pub source : Source
+  pub names : NamesSource words told request source
+  pub name : file.0 ≡ table_of request
+  pub bytes : file.1 ≡ source_table source
+  pub header : IsHeader file.1 (source_fields source)
+  pub faithful : DoesAs (items_trees source.items) file.1
+
+abbrev pub AreItsTables : List (List ℕ) → List Named → List Named → Type 0
+AreItsTables words told [] = Unit {0}
+AreItsTables words told (file ∷ files) = IsItsTable words told file × AreItsTables words told files
 
 -- The words name a source, and the outputs gained its table and nothing else. The table has the header that the
 -- source states, and every session over its bytes is the source's.
@@ -61,7 +82,7 @@ pub record WritesItsTable (words : List (List ℕ)) (told : List Named) (old new
   pub names : NamesSource words told request source
   pub table : Gains old new ((table_of request, source_table source) ∷ [])
   pub header : IsHeader (source_table source) (source_fields source)
-  pub faithful : IsFaithful (items_trees source.items) (source_table source)
+  pub faithful : DoesAs (items_trees source.items) (source_table source)
 
 -- whether words ask for preprocessed text alone
 abbrev pub only_by : Result Asked ℕ → Bool

@@ -1,7 +1,7 @@
 //! The definition block of a source.
 ghost use Rattle.std.specs.Prelude.{◌≡◌, ◌∷◌, ◌++◌, [], take, IfOk};
 ghost use Rattle.asl_tree.specs.View.{tree_of, trees_of};
-ghost use Rattle.iasl_tool.specs.Blocks.{path_of as one_segment, item_tree, items_trees, name_tree, return_tree, method_tree, IsBlockOf};
+ghost use Rattle.iasl_tool.specs.Blocks.{path_of as one_segment, node_at, item_tree, items_trees, name_tree, return_tree, method_tree, IsBlockOf};
 
 use crate::items::{Item, ItemKind};
 use crate::source::Source;
@@ -12,20 +12,13 @@ use iasl_messages::place::Place;
 use iasl_ports::list::Text;
 use std::alloc::{AllocError, Global};
 
-/// The numbers that nodes get, in the order in which they are made.
-#[derive(Drop)]
-struct Numbers {
-    next: u32,
-}
-
-impl Numbers {
-    fn node(&mut self, place: Place, term: Term) -> Node
-        ensures { result.term ≡ term }
-    {
-        let id = self.next;
-        self.next = id.wrapping_add(1);
-        Node { id, place, term }
-    }
+// The node of a term; the form has no use for the numbers of nodes.
+fn node(place: Place, term: Term) -> Node
+    ensures id { result.id ≡ 0 }
+    ensures place { result.place ≡ place }
+    ensures term { result.term ≡ term }
+{
+    Node { id: 0, place, term }
 }
 
 fn path_of(alloc: Global, segment: NameSeg) -> Result<Path, AllocError>
@@ -59,11 +52,11 @@ fn one(alloc: Global, node: Node) -> Result<Vec<Node>, AllocError>
 
 // `Name (SEGMENT, NUMBER)`
 #[tactic(auto, using(crate::proofs::Trees::name_form))]
-fn name_term(alloc: Global, numbers: &mut Numbers, item: &Item) -> Result<Term, AllocError>
-    ensures { IfOk result (λ term. tree_of term ≡ name_tree item.now.segment item.now.number) }
+fn name_term(alloc: Global, item: &Item) -> Result<Term, AllocError>
+    ensures { IfOk result (λ term. tree_of (node_at item.now.place) term ≡ name_tree item.now.place item.now.segment item.now.number) }
 {
-    let name = numbers.node(item.place, Term::Name(path_of(alloc, item.segment)?));
-    let value = numbers.node(item.place, Term::Integer(item.number));
+    let name = node(item.place, Term::Name(path_of(alloc, item.segment)?));
+    let value = node(item.place, Term::Integer(item.number));
     Ok(Term::Form {
         op: Op::Declaration(Declaration::Name),
         args: two(alloc, name, value)?,
@@ -73,10 +66,10 @@ fn name_term(alloc: Global, numbers: &mut Numbers, item: &Item) -> Result<Term, 
 
 // `Return (NUMBER)`
 #[tactic(auto, using(crate::proofs::Trees::return_form))]
-fn return_term(alloc: Global, numbers: &mut Numbers, item: &Item) -> Result<Term, AllocError>
-    ensures { IfOk result (λ term. tree_of term ≡ return_tree item.now.number) }
+fn return_term(alloc: Global, item: &Item) -> Result<Term, AllocError>
+    ensures { IfOk result (λ term. tree_of (node_at item.now.place) term ≡ return_tree item.now.number) }
 {
-    let value = numbers.node(item.place, Term::Integer(item.number));
+    let value = node(item.place, Term::Integer(item.number));
     Ok(Term::Form {
         op: Op::Control(Control::Return),
         args: one(alloc, value)?,
@@ -86,13 +79,13 @@ fn return_term(alloc: Global, numbers: &mut Numbers, item: &Item) -> Result<Term
 
 // `Method (SEGMENT, 0) { Return (NUMBER) }`
 #[tactic(auto, using(crate::proofs::Trees::method_form))]
-fn method_term(alloc: Global, numbers: &mut Numbers, item: &Item) -> Result<Term, AllocError>
-    ensures { IfOk result (λ term. tree_of term ≡ method_tree item.now.segment item.now.number) }
+fn method_term(alloc: Global, item: &Item) -> Result<Term, AllocError>
+    ensures { IfOk result (λ term. tree_of (node_at item.now.place) term ≡ method_tree item.now.place item.now.segment item.now.number) }
 {
-    let name = numbers.node(item.place, Term::Name(path_of(alloc, item.segment)?));
-    let arity = numbers.node(item.place, Term::Integer(0));
-    let term = return_term(alloc, numbers, item)?;
-    let body = numbers.node(item.place, term);
+    let name = node(item.place, Term::Name(path_of(alloc, item.segment)?));
+    let arity = node(item.place, Term::Integer(0));
+    let term = return_term(alloc, item)?;
+    let body = node(item.place, term);
     Ok(Term::Form {
         op: Op::Declaration(Declaration::Method),
         args: two(alloc, name, arity)?,
@@ -100,12 +93,12 @@ fn method_term(alloc: Global, numbers: &mut Numbers, item: &Item) -> Result<Term
     })
 }
 
-fn item_term(alloc: Global, numbers: &mut Numbers, item: &Item) -> Result<Term, AllocError>
-    ensures { IfOk result (λ term. tree_of term ≡ item_tree item.now) }
+fn item_term(alloc: Global, item: &Item) -> Result<Term, AllocError>
+    ensures { IfOk result (λ term. tree_of (node_at item.now.place) term ≡ item_tree item.now) }
 {
     match item.kind {
-        ItemKind::Name => name_term(alloc, numbers, item),
-        ItemKind::Method => method_term(alloc, numbers, item),
+        ItemKind::Name => name_term(alloc, item),
+        ItemKind::Method => method_term(alloc, item),
     }
 }
 
@@ -113,11 +106,10 @@ fn item_term(alloc: Global, numbers: &mut Numbers, item: &Item) -> Result<Term, 
 fn terms_of(alloc: Global, items: &[Item]) -> Result<Vec<Node>, AllocError>
     ensures { IfOk result (λ nodes. trees_of nodes.items ≡ items_trees items.now) }
 {
-    let mut numbers = Numbers { next: 0 };
     let mut nodes = Vec::new(alloc);
     for item in items {
-        let term = item_term(alloc, &mut numbers, item)?;
-        nodes.push(numbers.node(item.place, term))?;
+        let term = item_term(alloc, item)?;
+        nodes.push(node(item.place, term))?;
     }
     Ok(nodes)
 }

@@ -1,9 +1,7 @@
 //! What a call is to end with.
 ghost use Rattle.std.specs.Prelude.{◌≡◌, ◌≤◌, ◌++◌, [], ◌∷◌, ℕ, List, length, map, All, IfOk, OnOk, IsErrOf, ◌⊎◌, Some, None, string_bytes};
-ghost use Rattle.std.specs.Option.{ForSome};
-ghost use Rattle.iasl_ports.specs.Counts.{Rose};
 ghost use Rattle.iasl_ports.specs.Delivery.{name_and_bytes, answer_of, IsSettled};
-ghost use Rattle.asl_preprocess.specs.Preprocess.{preprocessed as preprocessed_of};
+ghost use Rattle.iasl_runs.specs.Ends.{files_seen, Decides};
 ghost use Rattle.asl_preprocess.specs.Sound.{IsGoodLine, IsGoodNote};
 ghost use Rattle.iasl_options.specs.Shown.{AreTexts, asked_of};
 ghost use Rattle.iasl_tool.specs.Compiled.{AreWithin, of_lines};
@@ -257,12 +255,7 @@ fn usage(alloc: Global) -> Result<Due, AllocError>
 // What is due for these options, where their file and its includes are fetched.
 fn answer<F: Files>(alloc: Global, options: &Options, files: &mut F) -> Result<Due, Stop>
     requires { AreTexts options.now }
-    ensures due { IfOk result (λ due. ForSome (F.contents files.old) (λ told. answer_to_file (asked_of options.now) told (Some options.now.file) ≡ Some (answer_of due))) }
-    ensures settled { IfOk result IsSettled }
-    ensures fault { IsErrOf result Stop.Fault → Rose (F.faults files.old) (F.faults files.new) ⊎ (Rose (F.absents files.old) (F.absents files.new) × ForSome (F.contents files.old) (λ told. answer_to_file (asked_of options.now) told (Some options.now.file) ≡ None)) }
-    ensures faults { OnOk result (F.faults files.new ≡ F.faults files.old) }
-    ensures contents { F.contents files.new ≡ F.contents files.old }
-    ensures later { F.faults files.old ≤ F.faults files.new }
+    ensures { Decides (λ told. answer_to_file (asked_of options.now) told (Some options.now.file)) result (files_seen (F.contents files.old) (F.faults files.old) (F.absents files.old)) (files_seen (F.contents files.new) (F.faults files.new) (F.absents files.new)) }
 {
     match preprocess(
         alloc,
@@ -286,12 +279,7 @@ fn answer<F: Files>(alloc: Global, options: &Options, files: &mut F) -> Result<D
 /// What is due for these words, where the file that they name and its includes are fetched. It ends without an answer only
 /// where the file is absent, a fetch failed, or memory is wanted.
 pub(crate) fn decide<F: Files>(alloc: Global, words: &[String], files: &mut F) -> Result<Due, Stop>
-    ensures due { IfOk result (λ due. ForSome (F.contents files.old) (λ told. answer_for (map string_bytes words.now) told ≡ Some (answer_of due))) }
-    ensures settled { IfOk result IsSettled }
-    ensures fault { IsErrOf result Stop.Fault → Rose (F.faults files.old) (F.faults files.new) ⊎ (Rose (F.absents files.old) (F.absents files.new) × ForSome (F.contents files.old) (λ told. answer_for (map string_bytes words.now) told ≡ None)) }
-    ensures faults { OnOk result (F.faults files.new ≡ F.faults files.old) }
-    ensures contents { F.contents files.new ≡ F.contents files.old }
-    ensures later { F.faults files.old ≤ F.faults files.new }
+    ensures { Decides (answer_for (map string_bytes words.now)) result (files_seen (F.contents files.old) (F.faults files.old) (F.absents files.old)) (files_seen (F.contents files.new) (F.faults files.new) (F.absents files.new)) }
 {
     match options(alloc, words) {
         Ok(options) => answer(alloc, &options, files),
