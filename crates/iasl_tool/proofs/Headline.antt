@@ -29,7 +29,7 @@ use Rattle.iasl_tool.specs.Blocks.{source_fields, items_trees}
 use Rattle.iasl_tool.specs.Sources.{source_of}
 use Rattle.iasl_tool.specs.Compiled.{of_lines, of_source, of_form, of_outcome, of_tokens, source_table, too_long}
 use Rattle.iasl_tool.specs.Readiness.{IsReadySource}
-use Rattle.iasl_tool.specs.Due.{table_name, is_fetched, made_file, in_use, made_or_in_use, answer_to_text, answer_to_compiled, answer_to_lines, answer_to_preprocessed, answer_to_file, answer_to_asked, answer_for}
+use Rattle.iasl_tool.specs.Due.{table_name, is_fetched, made_file, in_use, answer_to_text, answer_to_compiled, answer_to_preprocessed, answer_to_file, answer_to_asked, answer_for}
 use Rattle.iasl_tool.specs.Headline.{Request, table_of, NamesSource, PutsFaithfulTable, AreItsTables, WritesItsTable, only_by, asks_for_text}
 use Rattle.iasl_tool.proofs.Ready.{ready_of}
 

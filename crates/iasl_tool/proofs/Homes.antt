@@ -1,26 +1,14 @@
 -- Messages and tokens are in files that there are.
-use Rattle.std.proofs.Common.{◌≡◌, ℕ, suc, ◌+◌, ◌-◌, ◌<◌, ◌≤◌, Bool, true, false, List, [], ◌∷◌, ◌++◌, length, drop, codes, Option, Some, None, Result, Ok, Err, refl, sym, ap, ◌∙◌, subst, arith, length-append}
-use Rattle.std.specs.Prelude.{nat_le, if◌then◌else◌, slice_get, IfOk, MatchResult}
+use Rattle.std.proofs.Common.{◌≡◌, ℕ, ◌+◌, ◌-◌, ◌<◌, Bool, true, false, List, [], ◌∷◌, ◌++◌, length, codes, Option, Some, None, Result, Ok, Err, refl, sym, ap, ◌∙◌, subst, arith, length-append}
+use Rattle.std.specs.Prelude.{nat_le, if◌then◌else◌, slice_get, IfOk}
 use Rattle.std.specs.declared.alloc.AllocError.{AllocError}
 use Rattle.std.specs.List.{All}
 use Rattle.std.specs.Str.{bytes_eq}
 use Rattle.std.proofs.lemmas.List.Elements.{All-push}
 use Rattle.std.proofs.lemmas.Option.{get_or_from_slice_get, slice_get_within}
 use Rattle.iasl_messages.specs.declared.place.Place.{Place}
-use Rattle.iasl_messages.specs.declared.place.Line.{Line}
 use Rattle.iasl_messages.specs.declared.message.Message.{Message}
-use Rattle.iasl_messages.specs.declared.message.Stage.{Stage}
-use Rattle.iasl_messages.specs.declared.message.Stage.TheVariants.{Refused as Refused'}
-use Rattle.asl_lexer.specs.declared.class.Radix.{Radix}
 use Rattle.asl_lexer.specs.declared.token.Token.{Token}
-use Rattle.asl_lexer.specs.declared.token.TokenKind.{TokenKind}
-use Rattle.asl_lexer.specs.declared.token.TokenKind.TheVariants as k
-use Rattle.asl_lexer.specs.declared.mode.Fault.{Fault}
-use Rattle.asl_lexer.specs.Scan.{Mark, with, name_kind, first_of}
-use Rattle.asl_lexer.specs.Marks.{marks_from, line_marks, following, joined, tokens_of, message_of, Answers}
-use Rattle.asl_lexer.specs.Cut.{IsNumeral, IsName, Content, Inside, Cut, Bad, FailsWith, IsCut, HasFault, places}
-use Rattle.asl_lexer.specs.Cut as g
-use Rattle.asl_lexer.proofs.Told.{fault_is, tokens_are_cut}
 use Rattle.asl_parser.specs.declared.raw.Raw.{Raw, out-Raw}
 use Rattle.asl_parser.specs.declared.raw.Raw.TheViews.{outs-Number, outs-Text, outs-Item, outs-Apply, outs-List, outs-Comma, outs-Semicolon, outs-Empty}
 use Rattle.asl_parser.specs.declared.raw.Raw.TheOpen as node

@@ -1,14 +1,12 @@
 -- Nothing is wrong with the names of items that are new, and they stand in the bytes as they are written.
-use Rattle.std.proofs.Common.{◌≡◌, ℕ, Bool, true, false, List, [], ◌∷◌, ◌++◌, map, Option, Some, None, refl, sym, ap, ◌∙◌}
+use Rattle.std.proofs.Common.{◌≡◌, Bool, true, false, List, [], ◌∷◌, ◌++◌, map, Option, Some, refl, sym, ap, ◌∙◌}
 use Rattle.std.specs.Prelude.{nat_eq, not, ◌&&◌, ◌||◌, is_some, if◌then◌else◌}
-use Rattle.std.specs.List.{list_any}
 use Rattle.std.specs.Cmp.Lexicographic.{pointwise}
 use Rattle.std.proofs.lemmas.List.Folds.{list_any-append}
 use Rattle.acpi_values.specs.Paths.{NameSeg, AbsolutePath, is_same_segment, is_same_path}
-use Rattle.acpi_state.specs.Objects.{Object, DataObject, MethodObject, ContainerObject, OfRoot, MutexObject, ExternalObject, ExternalMethod, ExternalData, lookup, root_objects}
-use Rattle.asl_tree.specs.declared.path.Path.{Path}
-use Rattle.asl_tree.specs.Tree.{At, Tree, Trees, no_trees, tree}
-use Rattle.asl_meaning.specs.Declarations.{Declared, As, ExternalType, Declarations, nothing_declared, in_root, is_named, with_declared, declare, known_of}
+use Rattle.acpi_state.specs.Objects.{Object, DataObject, MethodObject, ContainerObject, OfRoot, MutexObject, ExternalObject, ExternalMethod, ExternalData, lookup}
+use Rattle.asl_tree.specs.Tree.{At, tree}
+use Rattle.asl_meaning.specs.Declarations.{Declared, As, ExternalType, Declarations, nothing_declared, in_root, with_declared, declare, known_of}
 use Rattle.acpi_names.specs.Errors.{NameError, Twice, Missing, Whole, whole_of, unless, is_new, has_parent, declared_errors, names, names_all, types, types_all, name_errors, type_errors}
 use Rattle.acpi_names.specs.Spelled.{spelled, spelled_all}
 use Rattle.named_sessions.specs.Core.{says_of, core_of}

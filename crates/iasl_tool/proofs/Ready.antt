@@ -1,6 +1,6 @@
 -- A source that is read is ready to be written.
-use Rattle.std.proofs.Common.{◌≡◌, ℕ, zero, suc, ◌^◌, ◌<◌, ◌≤◌, Bool, true, false, List, [], ◌∷◌, length, Option, Some, None, refl, sym, ap, ◌∙◌, subst, arith}
-use Rattle.std.specs.Prelude.{nat_eq, nat_le, ◌&&◌, ◌||◌, if◌then◌else◌, codes}
+use Rattle.std.proofs.Common.{◌≡◌, ℕ, ◌^◌, ◌<◌, ◌≤◌, Bool, true, false, List, [], ◌∷◌, length, Option, Some, None, refl, ap, subst, arith}
+use Rattle.std.specs.Prelude.{nat_le, ◌&&◌, ◌||◌, if◌then◌else◌, codes}
 use Rattle.std.proofs.lemmas.Bool.Decides.{nat_tests}
 use Rattle.acpi_values.specs.Paths.{NameSeg}
 use Rattle.acpi_state.specs.Outcomes.{choose}
@@ -21,7 +21,7 @@ use Rattle.iasl_tool.specs.declared.source.Source.{Source}
 use Rattle.iasl_tool.specs.Segments.{segment_of, filled_segment, valid_segment, is_reserved}
 use Rattle.std.specs.Str.{bytes_eq}
 use Rattle.std.proofs.lemmas.Slice.Eq.{bytes_eq-Decides}
-use Rattle.iasl_tool.specs.Forms.{number_in, text_in, segment_at, segment_in, number_within, integer_in, is_signature, signature_in, letters_in}
+use Rattle.iasl_tool.specs.Forms.{number_in, text_in, segment_at, segment_in, number_within, integer_in, signature_in, letters_in}
 use Rattle.iasl_tool.specs.Items.{item_with, name_item, one_number, returned_at, returned_number, body_number, method_item, item_at, item_in, prepend, items_of}
 use Rattle.iasl_tool.specs.Sources.{Header, are_distinct, distinct_items, header_of, source_with, block_in, source_at, source_in, source_of}
 use Rattle.iasl_tool.specs.Blocks.{items_trees, item_tree, kind_tree, path_of}

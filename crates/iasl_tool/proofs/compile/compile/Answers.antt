@@ -1,4 +1,4 @@
-use Rattle.std.proofs.Common.{◌≡◌, length, subst, Err}
+use Rattle.std.proofs.Common.{length, subst, Err}
 use Rattle.asl_lexer.specs.Within.{IsWithin}
 use Rattle.iasl_messages.specs.declared.message.Stage.{Stage}
 use Rattle.iasl_tool.proofs.compile.compile.Goals as goal

@@ -1,7 +1,7 @@
 use Rattle.std.proofs.Common.{subst, sym}
 use Rattle.iasl_tool.specs.Sources.{source_of}
 use Rattle.iasl_tool.specs.Compiled.{of_form, RefusesWithin}
-use Rattle.iasl_tool.proofs.Homes.{form_home, same_home, at_token_home}
+use Rattle.iasl_tool.proofs.Homes.{form_home, same_home}
 use Rattle.iasl_tool.proofs.compile.compile_tokens.Goals as goal
 
 pub returns-in-Ok-clause-within : goal.returns-in-Ok-clause-within

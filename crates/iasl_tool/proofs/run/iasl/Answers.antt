@@ -1,4 +1,4 @@
-use Rattle.std.proofs.Common.{map, string_bytes, sym, ◌∙◌, ◌≤◌, ◌≡◌, arith}
+use Rattle.std.proofs.Common.{map, string_bytes, ◌∙◌, arith}
 use Rattle.iasl_runs.specs.EndLaws.{ends}
 use Rattle.iasl_tool.specs.Due.{answer_for, fault_text, memory_text}
 use Rattle.iasl_tool.proofs.Headline.{writes_its_table, status_of_source, are_its_tables}
