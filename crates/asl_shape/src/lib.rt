@@ -1,0 +1,12 @@
+//! From the tree of the syntax to the program tree, by the one table of operators.
+#![tactic(auto)]
+
+mod item;
+mod leaf;
+mod lists;
+pub mod operator;
+pub mod parameters;
+mod settle;
+mod shape;
+pub mod table;
+mod work;
