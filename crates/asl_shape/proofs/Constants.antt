@@ -18,14 +18,13 @@ argument_is D.Omitted r = refl
 argument_is _ r = refl
 
 mutual
-  pub constant_is : (t : Term) → constant_term W64 t ≡ constant_of (plan_of t)
   unfolding plan_of
+  pub constant_is : (t : Term) → constant_term W64 t ≡ constant_of (plan_of t)
   constant_is (D.Form' op shape args shape' body) =
       ap (λ args. constant_form op W64 args (row_length body)) (arguments_are _ args) ∙ ap (constant_form op W64 (arguments_as (row_plans args))) (length_is _ body)
   constant_is _ = refl
 
   arguments_are : (m : _) (row : D.Row_of-Node m) → row_arguments W64 row ≡ arguments_as (row_plans row)
-  unfolding plan_of
   arguments_are m D.end_of-Node = refl
   arguments_are m (D.more_of-Node id place term rest) =
       ap (λ r. argument_of term r ∷ row_arguments W64 rest) (constant_is term)

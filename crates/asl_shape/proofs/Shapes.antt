@@ -11,6 +11,7 @@ use Rattle.asl_tree.specs.declared.term.Op.{Op}
 use Rattle.asl_tree.specs.declared.term.Node.{Node}
 use Rattle.asl_tree.specs.declared.term.Term.{Term}
 use Rattle.asl_tree.specs.declared.term.Term as D
+use Rattle.asl_shape.specs.Paths.{path_of}
 use Rattle.asl_shape.specs.Plans.{plan_of, plans_of, Plan, omitted, a_call, a_form, Plans, no_plans, plan, join}
 use Rattle.asl_shape.proofs.Plans.{plan_form, plan_call, no_plans_are}
 use Rattle.asl_shape.specs.declared.operator.Known.{Known}
@@ -24,7 +25,7 @@ use Rattle.asl_shape.specs.declared.item.Reading.TheVariants as read
 use Rattle.asl_shape.specs.Written.{size, sizes, size_in, size_at, sizes_at, size_in_at, Written, Group, writtens, written, written_in, item, given, absent}
 use Rattle.asl_shape.specs.Operators.{parameters_of, body_of}
 use Rattle.asl_shape.specs.Shapes
-use Rattle.asl_shape.specs.Shapes.{Shaped, fine, refused, is_given, inside_of, has_arguments, item_fault, meaning_of, reading_of, after, checked, evaluated, number_shape, text_shape, listed_shape, form_shape, read_shape, item_shape, path_shape, path_of, call_shape, known_plan, within, place_of, joined, left_out, list_shape, skipped, is_separator, nowhere, bare, call_args, arguments, contents}
+use Rattle.asl_shape.specs.Shapes.{Shaped, fine, refused, is_given, inside_of, has_arguments, item_fault, meaning_of, reading_of, after, checked, evaluated, number_shape, text_shape, listed_shape, form_shape, read_shape, item_shape, path_shape, call_shape, known_plan, within, place_of, joined, left_out, list_shape, skipped, is_separator, nowhere, bare, call_args, arguments, contents}
 use Rattle.asl_shape.specs.AtRaw.{has_arguments_at, inside_at, bare_at, listed_at, place_at, shape_at, is_separator_at, behind_if_at, operands_at, call_at, arguments_at, arguments_in_at, contents_at, members_at, terms_at, member_at, argument_at, form_at, read_at, is_some, one_at, left_at, is_listed_at, byte_slot_at, item_at}
 use Rattle.asl_shape.proofs.Views.{written_number, written_text, written_item, written_apply, written_list, written_comma, written_semicolon, written_empty}
 use Rattle.asl_shape.proofs.Terms.{term_rules, omitted_term, nothing_more}
