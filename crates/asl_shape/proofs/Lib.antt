@@ -9,3 +9,4 @@ pub mod Braces
 pub mod Types
 pub mod Settled
 pub mod Shapes
+pub mod Units

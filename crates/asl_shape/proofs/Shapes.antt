@@ -81,7 +81,7 @@ pub bare_empty : (s : Slot) (inside : Bool) → bare_at s inside (raw.Empty) ≡
 unfolding bare_at
 bare_empty s inside = ap (bare s inside) (written_empty)
 
-inside_written : (raws : Option (List Raw)) → inside_of (written_in raws) ≡ writtens (inside_at raws)
+pub inside_written : (raws : Option (List Raw)) → inside_of (written_in raws) ≡ writtens (inside_at raws)
 unfolding writtens
 inside_written None = refl
 inside_written (Some raws) = refl
@@ -125,7 +125,7 @@ unfolding call_at operands_at writtens
 call_is inside None = refl
 call_is inside (Some raws) = refl
 
-arguments_are : (qs : List Parameter) (place : Place) (inside : Bool) (args : Option (List Raw)) → arguments_at qs place inside args ≡ arguments_in_at qs place inside (inside_at args)
+pub arguments_are : (qs : List Parameter) (place : Place) (inside : Bool) (args : Option (List Raw)) → arguments_at qs place inside args ≡ arguments_in_at qs place inside (inside_at args)
 unfolding arguments_at arguments_in_at writtens
 arguments_are [] place inside None = refl
 arguments_are (q ∷ qs) place inside None = refl

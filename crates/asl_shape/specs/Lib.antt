@@ -1,6 +1,8 @@
 pub mod Plans
+pub mod Numbers
 pub mod Written
 pub mod Operators
 pub mod Paths
 pub mod Shapes
 pub mod AtRaw
+pub mod Forms

@@ -168,7 +168,7 @@ fn may_end(parameters: &[Parameter]) -> bool
 }
 
 #[tactic(auto, using(crate::proofs::ItemLaws::takes_rules))]
-fn takes(parameters: &[Parameter], args: &[Raw]) -> bool
+pub fn takes(parameters: &[Parameter], args: &[Raw]) -> bool
     ensures { result ≡ at.takes_at parameters.now args.now }
 {
     let Some((parameter, others)) = parts(parameters) else {

@@ -7,6 +7,9 @@ mod lists;
 pub mod operator;
 pub mod parameters;
 mod settle;
-mod shape;
+mod tree;
 pub mod table;
+mod unit;
 mod work;
+
+pub use unit::shape;

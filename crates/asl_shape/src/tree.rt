@@ -273,7 +273,7 @@ fn add_argument(
 // The arguments of an operator, each by its letter.
 #[cycle(shape)]
 #[tactic(auto, using(crate::proofs::Shapes::size_rules, crate::proofs::Shapes::argument_all))]
-fn arguments(
+pub fn arguments(
     alloc: Global,
     work: &mut Work,
     nodes: &mut Vec<Node>,
@@ -360,7 +360,7 @@ fn members(
 
 #[cycle(shape)]
 #[tactic(auto, using(crate::proofs::Shapes::size_rules, crate::proofs::Shapes::term_steps))]
-fn terms(
+pub fn terms(
     alloc: Global,
     work: &mut Work,
     nodes: &mut Vec<Node>,

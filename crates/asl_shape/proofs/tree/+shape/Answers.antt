@@ -1,11 +1,10 @@
 use Rattle.std.proofs.Common.{◌≡◌, ◌++◌, append-nil, slice_get, Some, ◌+◌, arith, drop, get_or, ap, sym, ◌∙◌}
 use Rattle.asl_shape.specs.Shapes.{nowhere}
 use Rattle.asl_shape.specs.AtRaw.{shape_at, bare_at, member_at, one_at, behind_if_at, terms_at}
-use Rattle.asl_shape.specs.Plans.{plans_of, plan_of, join}
-use Rattle.asl_tree.specs.declared.term.Node.{Node}
+use Rattle.asl_shape.specs.Plans.{plans_of, join}
 use Rattle.asl_shape.specs.declared.operator.Slot.TheVariants as slot
 use Rattle.asl_shape.proofs.Shapes.{bare_item, operand_faults, operand_made, list_faults, list_made, run_faults, run_made, item_smaller, argument_some_faults, argument_some_made, left_faults, left_made, argument_faults, argument_made, got_some, got_none}
-use Rattle.asl_shape.proofs.shape.+shape.Goals as goal
+use Rattle.asl_shape.proofs.tree.+shape.Goals as goal
 
 pub bare-returns-in_ok-item-in-Item-clause-faults : goal.bare-returns-in_ok-item-in-Item-clause-faults
 bare-returns-in_ok-item-in-Item-clause-faults t c =

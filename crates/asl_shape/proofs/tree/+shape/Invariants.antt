@@ -1,8 +1,8 @@
-use Rattle.std.proofs.Common.{◌≡◌, ◌+◌, ◌*◌, ◌++◌, ◌≤◌, drop, false}
+use Rattle.std.proofs.Common.{◌≡◌, ◌+◌, ◌*◌, ◌++◌, drop, false}
 use Rattle.asl_shape.specs.Plans.{plans_of, join}
 use Rattle.asl_shape.specs.Written.{size_at, sizes_at, size_in_at}
 use Rattle.asl_shape.specs.AtRaw.{operands_at, arguments_in_at, members_at, terms_at}
-use Rattle.asl_shape.proofs.shape.+shape.Given as goal
+use Rattle.asl_shape.proofs.tree.+shape.Given as goal
 
 abbrev pub decreases-shape : goal.decreases-shape
 decreases-shape l = 16 * (size_at l.raw.now) + 2
