@@ -10,3 +10,4 @@ pub mod Types
 pub mod Settled
 pub mod Shapes
 pub mod Units
+pub mod NumberLaws

@@ -1,7 +1,9 @@
 -- Blocks and sources.
-use Rattle.std.proofs.Common.{◌≡◌, ℕ, ◌<◌, ◌≤◌, length, get_or, arith, List, [], ◌∷◌, ◌++◌, append_assoc, append-nil, refl, ap, ◌∙◌, sym, subst, Option, Some, None, Bool, true, false, not, if◌then◌else◌, Vec, Global}
+use Rattle.std.proofs.Common.{Result, Ok, Err, IfOk, IfErr, ◌≡◌, ℕ, ◌<◌, ◌≤◌, length, get_or, arith, List, [], ◌∷◌, ◌++◌, append_assoc, append-nil, refl, ap, ◌∙◌, sym, subst, Option, Some, None, Bool, true, false, not, if◌then◌else◌, Vec, Global}
 use Rattle.iasl_messages.specs.declared.place.Place.{Place}
 use Rattle.iasl_messages.specs.declared.message.Message.{Message}
+use Rattle.iasl_messages.specs.declared.message.Stage.{Stage}
+use Rattle.asl_tree.specs.declared.program.Program.{Program}
 use Rattle.asl_parser.specs.declared.raw.Infix.{Infix}
 use Rattle.asl_parser.specs.declared.raw.Raw.{Raw}
 use Rattle.asl_parser.specs.declared.raw.Raw.TheVariants as raw
@@ -15,8 +17,8 @@ use Rattle.asl_shape.specs.Written.{Written, Writtens, none, more, written, writ
 use Rattle.asl_shape.specs.Plans.{Plans, plan_of, plans_of, plan_at, text_of, join}
 use Rattle.asl_shape.specs.Operators.{block_parameters}
 use Rattle.asl_shape.specs.Shapes.{Shaped, fault_at, takes, inside_of, is_given, terms, place_of}
-use Rattle.asl_shape.specs.AtRaw.{takes_at, inside_at, is_some, terms_at, arguments_at, arguments_in_at, place_at}
-use Rattle.asl_shape.specs.Forms.{start, is_block_word, block_fault, errors_inside, block_errors, no_block, errors_before, first_errors, errors_of, block_args, block_terms, block_place, args_of, terms_of, IsBlock, errors_at, IsBlockOf, args_in, terms_in, errors_in, block_errors_at, item_errors_at, IsItemBlock}
+use Rattle.asl_shape.specs.AtRaw.{takes_at, inside_at, is_some, terms_at, arguments_at, arguments_in_at, place_at, Refuses}
+use Rattle.asl_shape.specs.Forms.{start, is_block_word, block_fault, errors_inside, block_errors, no_block, errors_before, first_errors, errors_of, block_args, block_terms, block_place, args_of, terms_of, IsBlock, errors_at, IsBlockOf, args_in, terms_in, errors_in, block_errors_at, item_errors_at, IsItemBlock, Forms}
 use Rattle.asl_shape.proofs.Plans.{plan_form, plan_call}
 use Rattle.asl_shape.proofs.Settled.{at_some, at_none}
 use Rattle.asl_shape.proofs.Terms.{term_rules, nothing_more}
@@ -134,3 +136,19 @@ block_is place word args body [] block h =
         (subst (λ x. IsBlock place x.made (terms false false (inside_of (written_in body))).made block) (sym (arguments_are block_parameters place false args))
             (subst (λ ws. IsBlock place (args_in place (inside_at args)).made (terms false false ws).made block) (sym (inside_written body)) h))
 block_is place word args body (r ∷ rs) block h = absurd h
+
+pub first_formed : (first : Raw) (place : Place) (word : List ℕ) (args body : Option (List Raw)) (rest : List Raw) (result : Result Block Stage) → first ≡ raw.Item place word args body
+    → IfOk result (λ block. (item_errors_at place word args body rest ≡ []) × IsItemBlock place args body rest block)
+    → IfOk result (λ block. (errors_at (first ∷ rest) ≡ []) × IsBlockOf (first ∷ rest) block)
+first_formed first place word args body rest (Ok block) e h =
+    (ap (λ f. errors_at (f ∷ rest)) e ∙ first_item place word args body rest ∙ h.0, subst (λ f. IsBlockOf (f ∷ rest) block) (sym e) (block_is place word args body rest block h.1))
+first_formed first place word args body rest (Err stage) e h = h
+
+pub first_refused : (first : Raw) (place : Place) (word : List ℕ) (args body : Option (List Raw)) (rest : List Raw) (result : Result Block Stage) → first ≡ raw.Item place word args body
+    → IfErr result (λ stage. Refuses stage (item_errors_at place word args body rest)) → IfErr result (λ stage. Refuses stage (errors_at (first ∷ rest)))
+first_refused first place word args body rest (Ok block) e h = h
+first_refused first place word args body rest (Err stage) e h =
+    subst (λ es. Refuses stage es) (sym (ap (λ f. errors_at (f ∷ rest)) e ∙ first_item place word args body rest)) h
+
+pub one_block : (raws : List Raw) (block : Block) (program : Program) → errors_at raws ≡ [] → IsBlockOf raws block → program.blocks ≡ block ∷ [] → Forms raws program
+one_block raws block program e h b = record { no_errors = e; one_block = (block, b, h) }

@@ -6,6 +6,7 @@ mod leaf;
 mod lists;
 pub mod operator;
 pub mod parameters;
+mod number;
 mod settle;
 mod tree;
 pub mod table;
@@ -13,3 +14,6 @@ mod unit;
 mod work;
 
 pub use unit::shape;
+
+#[cfg(test)]
+mod tests;
