@@ -1,5 +1,5 @@
 -- Lists in braces.
-use Rattle.std.proofs.Common.{◌≡◌, ℕ, ◌+◌, ◌<◌, length, get_or, drop, drop-cons, add-one, arith, ◌≤◌, List, [], ◌∷◌, refl, ap, ◌∙◌, sym, Option, Some, None, Bool, true, false, not, ◌&&◌, if◌then◌else◌}
+use Rattle.std.proofs.Common.{◌≡◌, ℕ, ◌+◌, ◌<◌, length, get_or, drop, drop-cons, add-one, ◌≤◌, List, [], ◌∷◌, refl, ap, ◌∙◌, sym, Option, Some, None, Bool, true, false, ◌&&◌, if◌then◌else◌}
 use Rattle.std.proofs.lemmas.List.{drop_all}
 use Rattle.iasl_messages.specs.declared.place.Place.{Place}
 use Rattle.asl_parser.specs.declared.raw.Infix.{Infix}
@@ -7,8 +7,8 @@ use Rattle.asl_parser.specs.declared.raw.Raw.{Raw}
 use Rattle.asl_parser.specs.declared.raw.Raw.TheVariants as raw
 use Rattle.asl_shape.specs.declared.operator.Slot.TheVariants as slot
 use Rattle.asl_shape.specs.declared.operator.StringForm.TheVariants as form
-use Rattle.asl_shape.specs.Written.{Written, writtens, written, written_in}
-use Rattle.asl_shape.specs.Shapes.{is_separator, is_comma, behind_if, is_if, meaning_of, is_given, byte_slot, is_text, is_none}
+use Rattle.asl_shape.specs.Written.{writtens, written_in}
+use Rattle.asl_shape.specs.Shapes.{is_separator, is_comma, behind_if, is_if, meaning_of, is_given, is_text, is_none}
 use Rattle.asl_shape.specs.AtRaw.{is_separator_at, is_comma_at, behind_if_at, is_listed_at, byte_slot_at, is_some, is_text_at, due_at}
 use Rattle.acpi_state.specs.Outcomes.{choose}
 use Rattle.asl_shape.proofs.ItemLaws.{is_none_short, is_none_long}

@@ -1,5 +1,5 @@
 -- The value of a constant argument, read at its plan.
-use Rattle.std.proofs.Common.{◌≡◌, ℕ, suc, List, ◌∷◌, refl, ap, ◌∙◌, Result}
+use Rattle.std.proofs.Common.{◌≡◌, ℕ, suc, ◌∷◌, refl, ap, ◌∙◌, Result}
 use Rattle.acpi_values.specs.declared.width.Width.TheVariants.{W64}
 use Rattle.asl_tree.specs.declared.constant.NoConstant.{NoConstant}
 use Rattle.asl_tree.specs.declared.term.Term.{Term}

@@ -1,15 +1,13 @@
 -- Items, argument by argument.
-use Rattle.std.proofs.Common.{◌≡◌, ℕ, suc, ◌≤◌, ◌<◌, nat_le, length, arith, List, [], ◌∷◌, refl, sym, ap, ◌∙◌, Bool, true, false, not, ◌&&◌, ◌||◌, Option, Some, None, if◌then◌else◌}
+use Rattle.std.proofs.Common.{◌≡◌, suc, nat_le, length, arith, List, [], ◌∷◌, refl, ap, true, false, not, ◌&&◌, ◌||◌, None}
 use Rattle.asl_parser.specs.declared.raw.Raw.{Raw}
 use Rattle.asl_tree.specs.declared.term.Op.{Op}
 use Rattle.asl_shape.specs.declared.operator.Known.{Known}
 use Rattle.asl_shape.specs.declared.operator.Parameter.{Parameter}
-use Rattle.asl_shape.specs.declared.operator.Slot.{Slot}
-use Rattle.asl_shape.specs.declared.item.Meaning.{Meaning}
 use Rattle.asl_shape.specs.declared.item.Meaning.TheVariants as is
-use Rattle.asl_shape.specs.Written.{Written, Writtens, Group, none, more, absent, given, written, writtens, written_in}
+use Rattle.asl_shape.specs.Written.{written, writtens}
 use Rattle.asl_shape.specs.Operators.{parameters_of}
-use Rattle.asl_shape.specs.Shapes.{is_empty, may_end, takes, count, none_empty, is_none, has_arguments, is_unknown, may_be, is_same, wants_braces, is_call}
+use Rattle.asl_shape.specs.Shapes.{is_empty, may_end, count, none_empty, is_none}
 use Rattle.asl_shape.specs.AtRaw.{takes_at, none_empty_at, has_arguments_at, inside_at, is_call_at}
 
 pub takes_no : (raws : List Raw) → takes_at [] raws ≡ is_none (writtens raws)

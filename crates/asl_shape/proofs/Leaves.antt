@@ -1,5 +1,5 @@
 -- The places of nodes.
-use Rattle.std.proofs.Common.{◌≡◌, ℕ, List, Option, refl, ap}
+use Rattle.std.proofs.Common.{◌≡◌, ℕ, List, Option, ap}
 use Rattle.iasl_messages.specs.declared.place.Place.{Place}
 use Rattle.asl_parser.specs.declared.raw.Infix.{Infix}
 use Rattle.asl_parser.specs.declared.raw.Raw.{Raw}

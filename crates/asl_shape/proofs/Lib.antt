@@ -10,4 +10,3 @@ pub mod Types
 pub mod Settled
 pub mod Shapes
 pub mod Units
-pub mod NumberLaws

@@ -1,14 +1,12 @@
 -- The plans of nodes that are made or taken apart.
-use Rattle.std.proofs.Common.{◌≡◌, ℕ, ◌+◌, ◌<◌, List, [], ◌∷◌, ◌++◌, length, take, get_or, Vec, Global, refl, sym, ap, ◌∙◌, Bool, true, false}
+use Rattle.std.proofs.Common.{◌≡◌, List, [], ◌∷◌, Vec, Global, refl, ap, ◌∙◌}
 use mathlib.Core.Former.{Count}
-use Rattle.iasl_messages.specs.declared.place.Place.{Place}
 use Rattle.asl_tree.specs.declared.path.Path.{Path}
 use Rattle.asl_tree.specs.declared.term.Op.{Op}
-use Rattle.asl_tree.specs.declared.term.Word.{Word}
 use Rattle.asl_tree.specs.declared.term.Node.{Node}
 use Rattle.asl_tree.specs.declared.term.Term.{Term}
 use Rattle.asl_tree.specs.declared.term.Term as D
-use Rattle.asl_shape.specs.Plans.{Plan, a_call, a_form, Plans, no_plans, plan, plan_of, row_plans, plans_of}
+use Rattle.asl_shape.specs.Plans.{a_call, a_form, no_plans, plan, plan_of, row_plans, plans_of}
 
 rows : (m : _) (row : D.Row_of-Node m) → row_plans row ≡ plans_of (D.items-the_row-Node m row)
 unfolding plan_of plans_of

@@ -1,13 +1,12 @@
 -- The arguments of forms, by their nodes.
-use Rattle.std.proofs.Common.{◌≡◌, ℕ, zero, suc, ◌<◌, ◌≤◌, length, get_or, take, slice_get, arith, List, [], ◌∷◌, ◌++◌, refl, ap, ◌∙◌, sym, Option, Some, None, Bool, true, false, not, if◌then◌else◌, Vec, Global}
-use Rattle.iasl_messages.specs.declared.place.Place.{Place}
+use Rattle.std.proofs.Common.{◌≡◌, ℕ, zero, suc, ◌<◌, ◌≤◌, length, get_or, take, arith, List, [], ◌∷◌, ◌++◌, refl, ap, ◌∙◌, sym, false, Vec, Global}
 use Rattle.asl_tree.specs.declared.path.Path.{Path}
 use Rattle.asl_tree.specs.declared.term.Op.{Op}
 use Rattle.asl_tree.specs.declared.term.Literal.{Literal}
 use Rattle.asl_tree.specs.declared.term.Node.{Node}
 use Rattle.asl_tree.specs.declared.term.Term.{Term}
 use Rattle.asl_tree.specs.declared.term.Term as D
-use Rattle.asl_shape.specs.Plans.{Plan, Plans, no_plans, plan, omitted, a_form, plan_of, plans_of, plan_at, number_of, first_alone, join}
+use Rattle.asl_shape.specs.Plans.{Plans, no_plans, plan, omitted, a_form, plan_of, plans_of, plan_at, number_of, first_alone, join}
 use Rattle.asl_shape.specs.Shapes.{is_stated, one_plan, zero_plan}
 use Rattle.asl_shape.proofs.Plans.{plan_form, plan_call}
 use Rattle.asl_shape.proofs.Terms.{term_rules}

@@ -6,13 +6,10 @@ use Rattle.iasl_messages.specs.declared.message.Message.{Message}
 use Rattle.asl_parser.specs.declared.raw.Infix.{Infix}
 use Rattle.asl_parser.specs.declared.raw.Raw.{Raw}
 use Rattle.asl_parser.specs.declared.raw.Raw.TheVariants as raw
-use Rattle.asl_tree.specs.declared.path.Path.{Path}
 use Rattle.asl_tree.specs.declared.term.Op.{Op}
 use Rattle.asl_tree.specs.declared.term.Node.{Node}
-use Rattle.asl_tree.specs.declared.term.Term.{Term}
-use Rattle.asl_tree.specs.declared.term.Term as D
 use Rattle.asl_shape.specs.Paths.{path_of}
-use Rattle.asl_shape.specs.Plans.{plan_of, plans_of, Plan, omitted, a_call, a_form, Plans, no_plans, plan, join}
+use Rattle.asl_shape.specs.Plans.{plan_of, plans_of, Plan, omitted, Plans, no_plans, plan, join}
 use Rattle.asl_shape.proofs.Plans.{plan_form, plan_call, no_plans_are}
 use Rattle.asl_shape.specs.declared.operator.Known.{Known}
 use Rattle.asl_shape.specs.declared.operator.Parameter.{Parameter}
@@ -20,9 +17,8 @@ use Rattle.asl_shape.specs.declared.operator.Slot.{Slot}
 use Rattle.asl_shape.specs.declared.operator.Slot.TheVariants as slot
 use Rattle.asl_shape.specs.declared.operator.Body.{Body}
 use Rattle.asl_shape.specs.declared.operator.Body.TheVariants as braces
-use Rattle.asl_shape.specs.declared.item.Reading.{Reading}
 use Rattle.asl_shape.specs.declared.item.Reading.TheVariants as read
-use Rattle.asl_shape.specs.Written.{size, sizes, size_in, size_at, sizes_at, size_in_at, Written, Group, writtens, written, written_in, item, given, absent}
+use Rattle.asl_shape.specs.Written.{size, sizes, size_at, sizes_at, size_in_at, writtens, written, written_in}
 use Rattle.asl_shape.specs.Operators.{parameters_of, body_of}
 use Rattle.asl_shape.specs.Shapes
 use Rattle.asl_shape.specs.Shapes.{Shaped, fine, refused, is_given, inside_of, has_arguments, item_fault, meaning_of, reading_of, after, checked, evaluated, number_shape, text_shape, listed_shape, form_shape, read_shape, item_shape, path_shape, call_shape, known_plan, within, place_of, joined, left_out, list_shape, skipped, is_separator, nowhere, bare, call_args, arguments, contents}

@@ -1,7 +1,5 @@
 -- The tables of the code are those of the definition.
 use Rattle.std.proofs.Common.{◌≡◌, List, ℕ, refl, sym, ap}
-use Rattle.asl_shape.specs.declared.operator.Operator.{Operator}
-use Rattle.asl_shape.specs.declared.operator.Named.{Named}
 use Rattle.asl_shape.specs.declared.table.TheConstants.{OPERATORS, WORDS}
 use Rattle.asl_shape.specs.Operators.{operators, words, row_in, named_in, op_in, known_in, operator_of, word_of}
 

@@ -1,5 +1,5 @@
 -- Terms that are made.
-use Rattle.std.proofs.Common.{◌≡◌, ℕ, List, [], ◌∷◌, ◌++◌, append-nil, Vec, Global, refl, sym, ap, ◌∙◌, Bool, true, false}
+use Rattle.std.proofs.Common.{◌≡◌, ℕ, List, [], ◌++◌, append-nil, Vec, Global, refl, ap, true, false}
 use Rattle.iasl_messages.specs.declared.message.Message.{Message}
 use Rattle.asl_tree.specs.declared.path.Path.{Path}
 use Rattle.asl_tree.specs.declared.term.Op.{Op}
@@ -13,7 +13,7 @@ use Rattle.asl_tree.specs.declared.term.Word.{Word}
 use Rattle.asl_tree.specs.declared.term.Node.{Node}
 use Rattle.asl_tree.specs.declared.term.Term.{Term}
 use Rattle.asl_tree.specs.declared.term.Term as D
-use Rattle.asl_shape.specs.Plans.{plan_of, Plan, Plans, an_integer, a_text, a_fill, a_word, a_local, an_arg, debug, omitted, a_name, a_unit, a_skip, an_offset, a_call, a_form, is_omitted}
+use Rattle.asl_shape.specs.Plans.{plan_of, an_integer, a_text, a_fill, a_word, a_local, an_arg, debug, omitted, a_name, a_unit, a_skip, an_offset, is_omitted}
 use Rattle.asl_shape.proofs.Plans.{plan_form, plan_call}
 use Rattle.asl_shape.specs.Shapes.{is_member}
 

@@ -1,16 +1,15 @@
 -- Lists of words for object types.
-use Rattle.std.proofs.Common.{◌≡◌, ℕ, ◌+◌, ◌<◌, ◌≤◌, suc, length, get_or, drop, arith, List, [], ◌∷◌, refl, ap, ◌∙◌, sym, Option, Some, None, Bool, true, false, ◌&&◌, nat_le, if◌then◌else◌}
+use Rattle.std.proofs.Common.{◌≡◌, ℕ, ◌+◌, ◌<◌, ◌≤◌, length, get_or, drop, List, ap, ◌∙◌, sym, Option, Some, None, true, false, ◌&&◌, nat_le, if◌then◌else◌}
 use Rattle.std.proofs.lemmas.List.{drop_all}
 use Rattle.iasl_messages.specs.declared.place.Place.{Place}
 use Rattle.asl_parser.specs.declared.raw.Infix.{Infix}
 use Rattle.asl_parser.specs.declared.raw.Raw.{Raw}
 use Rattle.asl_parser.specs.declared.raw.Raw.TheVariants as raw
 use Rattle.asl_shape.specs.declared.operator.Slot.{Slot}
-use Rattle.asl_shape.specs.declared.operator.Slot.TheVariants as slot
 use Rattle.acpi_state.specs.Outcomes.{choose}
-use Rattle.asl_shape.specs.Written.{writtens, written, written_in}
+use Rattle.asl_shape.specs.Written.{writtens, written_in}
 use Rattle.asl_shape.specs.Plans.{an_integer}
-use Rattle.asl_shape.specs.Shapes.{is_type, is_bare_type, is_given, is_type_or_list, are_types, count, types_shape, most_types, refused, fine, Shaped}
+use Rattle.asl_shape.specs.Shapes.{is_type, is_bare_type, is_given, is_type_or_list, types_shape, most_types, refused, fine}
 use Rattle.asl_shape.specs.AtRaw.{is_type_at, are_types_at, is_type_or_list_at, are_all_types_at, types_at, listed_at, is_some}
 use Rattle.asl_shape.proofs.Terms.{term_rules, nothing_more}
 use Rattle.asl_shape.proofs.Braces.{from_item, given_some}

@@ -1,7 +1,6 @@
 -- Blocks and sources.
 use Rattle.std.proofs.Common.{Result, Ok, Err, IfOk, IfErr, ◌≡◌, ℕ, ◌<◌, ◌≤◌, length, get_or, arith, List, [], ◌∷◌, ◌++◌, append_assoc, append-nil, refl, ap, ◌∙◌, sym, subst, Option, Some, None, Bool, true, false, not, if◌then◌else◌, Vec, Global}
 use Rattle.iasl_messages.specs.declared.place.Place.{Place}
-use Rattle.iasl_messages.specs.declared.message.Message.{Message}
 use Rattle.iasl_messages.specs.declared.message.Stage.{Stage}
 use Rattle.asl_tree.specs.declared.program.Program.{Program}
 use Rattle.asl_parser.specs.declared.raw.Infix.{Infix}
@@ -13,12 +12,12 @@ use Rattle.asl_tree.specs.declared.term.Op.{Op}
 use Rattle.asl_tree.specs.declared.term.Node.{Node}
 use Rattle.asl_tree.specs.declared.term.Term.{Term}
 use Rattle.asl_tree.specs.declared.term.Term as D
-use Rattle.asl_shape.specs.Written.{Written, Writtens, none, more, written, writtens, written_in}
-use Rattle.asl_shape.specs.Plans.{Plans, plan_of, plans_of, plan_at, text_of, join}
+use Rattle.asl_shape.specs.Written.{none, more, written, writtens, written_in}
+use Rattle.asl_shape.specs.Plans.{plan_of, plans_of, plan_at, text_of}
 use Rattle.asl_shape.specs.Operators.{block_parameters}
-use Rattle.asl_shape.specs.Shapes.{Shaped, fault_at, takes, inside_of, is_given, terms, place_of}
+use Rattle.asl_shape.specs.Shapes.{fault_at, takes, inside_of, is_given, terms, place_of}
 use Rattle.asl_shape.specs.AtRaw.{takes_at, inside_at, is_some, terms_at, arguments_at, arguments_in_at, place_at, Refuses}
-use Rattle.asl_shape.specs.Forms.{start, is_block_word, block_fault, errors_inside, block_errors, no_block, errors_before, first_errors, errors_of, block_args, block_terms, block_place, args_of, terms_of, IsBlock, errors_at, IsBlockOf, args_in, terms_in, errors_in, block_errors_at, item_errors_at, IsItemBlock, Forms}
+use Rattle.asl_shape.specs.Forms.{start, is_block_word, block_fault, errors_inside, block_errors, no_block, errors_before, first_errors, block_place, args_of, terms_of, IsBlock, errors_at, IsBlockOf, args_in, terms_in, errors_in, block_errors_at, item_errors_at, IsItemBlock, Forms}
 use Rattle.asl_shape.proofs.Plans.{plan_form, plan_call}
 use Rattle.asl_shape.proofs.Settled.{at_some, at_none}
 use Rattle.asl_shape.proofs.Terms.{term_rules, nothing_more}

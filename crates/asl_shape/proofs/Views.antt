@@ -1,14 +1,13 @@
 -- The parts of what is written.
 use Rattle.std.proofs.Common.{◌≡◌, ℕ, List, [], ◌∷◌, map, Option, Some, None, refl, sym, ap, ◌∙◌}
-use Rattle.std.specs.Option.{option_map}
 use Rattle.iasl_messages.specs.declared.place.Place.{Place}
 use Rattle.asl_parser.specs.declared.raw.Infix.{Infix}
 use Rattle.asl_parser.specs.declared.raw.Raw.{Raw}
 use Rattle.asl_parser.specs.declared.raw.Raw.TheVariants as raw
 use Rattle.asl_parser.specs.declared.raw.Raw.TheOpen as node
 use Rattle.asl_parser.specs.declared.raw.Raw.TheOpen.{Raw-F}
-use Rattle.asl_parser.specs.declared.raw.Raw.TheFolds.{fold-Raw, fold-roll-Raw, fold_out-Raw}
-use Rattle.asl_shape.specs.Written.{Written, Writtens, Group, number, text, item, apply, listed, comma, semicolon, empty, none, more, absent, given, row, group, layer, written, writtens, written_in}
+use Rattle.asl_parser.specs.declared.raw.Raw.TheFolds.{fold-roll-Raw}
+use Rattle.asl_shape.specs.Written.{Written, number, text, item, apply, listed, comma, semicolon, empty, none, more, absent, given, row, layer, written, writtens, written_in}
 
 row_written : (raws : List Raw) → row (map written raws) ≡ writtens raws
 unfolding writtens

@@ -12,8 +12,8 @@ use Rattle.asl_shape.specs.declared.operator.Slot.{Slot}
 use Rattle.asl_shape.specs.declared.operator.Body.{Body}
 use Rattle.asl_shape.specs.declared.item.Meaning.{Meaning}
 use Rattle.asl_shape.specs.declared.item.Reading.{Reading}
-use Rattle.asl_shape.specs.Written.{Written, Writtens, Group, written, writtens, written_in}
-use Rattle.asl_shape.specs.Shapes.{Shaped, fine, takes, none_empty, has_arguments, item_fault, is_comma, due_after, is_text, left_out, item_fault, meaning_of, reading_of, bare, behind_if, is_call, is_separator, is_listed, byte_slot, skipped, joined, operands, call_args, arguments, arguments_in, contents, members, terms, read_shape, form_shape, within, place_of, nowhere, checked, item_shape, listed_shape, types_shape, is_type, are_types, is_type_or_list, are_all_types}
+use Rattle.asl_shape.specs.Written.{written, writtens, written_in}
+use Rattle.asl_shape.specs.Shapes.{Shaped, fine, takes, none_empty, has_arguments, item_fault, is_comma, due_after, is_text, item_fault, meaning_of, reading_of, bare, behind_if, is_call, is_separator, is_listed, byte_slot, skipped, joined, operands, call_args, arguments, arguments_in, contents, members, terms, read_shape, form_shape, within, place_of, nowhere, checked, item_shape, listed_shape, types_shape, is_type, are_types, is_type_or_list, are_all_types}
 use Rattle.asl_shape.specs.Operators.{parameters_of, body_of}
 
 unfoldable pub takes_at : List Parameter → List Raw → Bool

@@ -11,7 +11,6 @@ use Rattle.asl_shape.specs.Plans.{Plans, no_plans, plans_of, plan_at, text_of, n
 use Rattle.asl_shape.specs.Operators.{block_parameters}
 use Rattle.asl_shape.specs.Shapes.{Shaped, fault_at, place_of, takes, inside_of, is_given, arguments, terms}
 use Rattle.asl_shape.specs.AtRaw.{arguments_in_at, terms_at, takes_at, inside_at, is_some}
-use Rattle.asl_shape.specs.Numbers.{are_numbered}
 
 -- the begin of the source
 abbrev pub start : Place

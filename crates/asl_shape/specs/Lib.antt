@@ -1,5 +1,4 @@
 pub mod Plans
-pub mod Numbers
 pub mod Written
 pub mod Operators
 pub mod Paths

@@ -1,6 +1,6 @@
 -- Paths as they are written (ACPI Specification 6.4, 19.2.2).
-use Rattle.std.specs.Prelude.{ℕ, suc, ◌==◌, nat_le, Bool, true, false, ◌&&◌, ◌||◌, if◌then◌else◌, List, [], ◌∷◌, length, Option, Some, None}
-use Rattle.std.specs.List.{list_any, list_all}
+use Rattle.std.specs.Prelude.{ℕ, ◌==◌, nat_le, Bool, false, ◌&&◌, ◌||◌, if◌then◌else◌, List, [], ◌∷◌, length, Option, Some, None}
+use Rattle.std.specs.List.{list_any}
 use Rattle.acpi_state.specs.Outcomes.{choose}
 use Rattle.acpi_values.specs.Paths.{NameSeg}
 use Rattle.asl_tree.specs.declared.path.Path.{Path}

@@ -1,6 +1,6 @@
 -- What a source comes to: a program's tree, or the errors in it.
-use Rattle.std.specs.Prelude.{ℕ, suc, ◌+◌, ◌*◌, ◌%◌, nat_eq, nat_le, nat_lt, ◌==◌, Bool, true, false, not, ◌&&◌, ◌||◌, if◌then◌else◌, List, [], ◌∷◌, ◌++◌, length, codes, Option, Some, None, Result, Ok, Err}
-use Rattle.std.specs.List.{list_any, list_all}
+use Rattle.std.specs.Prelude.{ℕ, suc, ◌+◌, ◌*◌, ◌%◌, nat_le, ◌==◌, Bool, true, false, not, ◌&&◌, ◌||◌, if◌then◌else◌, List, [], ◌∷◌, ◌++◌, length, codes, Option, Some, None, Result, Ok, Err}
+use Rattle.std.specs.List.{list_all}
 use Rattle.std.specs.Str.{bytes_eq}
 use Rattle.acpi_state.specs.Outcomes.{choose}
 use Rattle.iasl_messages.specs.declared.place.Place.{Place}
@@ -61,9 +61,9 @@ abbrev pub is_given : Group → Bool
 is_given absent = false
 is_given (given ws) = true
 
--- a word of at most four characters without a body is a name
+-- a word of at most four characters without a body is a name; no path of several segments or with a prefix is built
 abbrev pub name_or_unknown : List ℕ → Bool → Meaning
-name_or_unknown text has_body = if is_path text then is.Path else (if nat_le (length text) 4 && not has_body then is.Name else is.Unknown)
+name_or_unknown text has_body = if is_path text then is.Unknown else (if nat_le (length text) 4 && not has_body then is.Name else is.Unknown)
 
 abbrev pub known_as : Known → Meaning
 known_as known.LeftOut = is.Unknown

@@ -6,7 +6,6 @@ mod leaf;
 mod lists;
 pub mod operator;
 pub mod parameters;
-mod number;
 mod settle;
 mod tree;
 pub mod table;

@@ -68,13 +68,15 @@ fn errors(alloc: Global, text: &str) -> Result<String, AllocError> {
 
 #[test]
 fn tells_each_error_at_its_place(rt: HostRuntime) -> Result<(), Fail> {
-    let head = "DEFINITIONBLOCK ( \"a \"DSDT , ";
     let alloc = rt.alloc();
     for (text, want) in [
         // No definition block, or something beside it.
         ("", "6028@1 "),
         ("NAME ( A , 1 ) B", "6028@0 "),
-        ("DEFINITIONBLOCK ( \"a , \"DSDT , 2 , \"O , \"T , 1 ) { } NAME ( A , 1 )", "6028@15 "),
+        (
+            "DEFINITIONBLOCK ( \"a , \"DSDT , 2 , \"O , \"T , 1 ) { } NAME ( A , 1 )",
+            "6028@16 ",
+        ),
         // Its own arguments, all of them.
         ("DEFINITIONBLOCK ( \"a , \"DSDT , 2 , \"O , \"T ) { }", "6021@0 "),
         ("DEFINITIONBLOCK ( \"a , \"DSDT , 2 , \"O , \"T , 1 )", "6023@0 "),
@@ -82,44 +84,59 @@ fn tells_each_error_at_its_place(rt: HostRuntime) -> Result<(), Fail> {
             "DEFINITIONBLOCK ( A , \"OEMX , 1 , \"OEMOEMO , \"T , B ) { NAME ( C ) }",
             "6022@2 6024@6 6024@8 6022@12 6021@15 ",
         ),
-        ("DEFINITIONBLOCK ( \" , \"XSDT , 256 , \"OEMOEM , \"TABLETAB , ONES ) { }", "6024@4 6024@6 6024@12 "),
+        (
+            "DEFINITIONBLOCK ( \" , \"XSDT , 256 , \"OEMOEM , \"TABLETAB , ONES ) { }",
+            "6024@4 6024@6 6024@12 ",
+        ),
     ] {
         assert_eq!(rt; errors(alloc, text)?.as_str(), want);
     }
     for (text, want) in [
         // Unknown operators, also those of later, and nothing inside of them.
-        ("FOO12 ( BARBAR )", "6020@13 "),
-        ("SWITCH ( 1 ) { NAME ( ) }", "6020@13 "),
-        ("LOAD ( A )", "6020@13 "),
-        ("FOO { }", "6020@13 "),
+        ("FOO12 ( BARBAR )", "6020@15 "),
+        ("SWITCH ( 1 ) { NAME ( ) }", "6020@15 "),
+        ("LOAD ( A )", "6020@15 "),
+        ("FOO { }", "6020@15 "),
+        ("NAME ( \\\\A , 1 )", "6020@17 "),
+        ("NAME ( A , 1 + 2 )", "6020@20 "),
         // The first of 6020, 6025, 6021 and 6023 alone.
-        ("RETURN ( 1 , 2 )", "6025@13 "),
-        ("METHOD ( M ) { METHOD ( N , 1 , 2 , 3 , 4 , 5 , 6 , 7 ) }", "6025@18 "),
-        ("METHOD ( M ) { RETURN ( ADD ( ARG0 ) ) }", "6021@20 "),
-        ("METHOD ( M , 8 )", "6023@13 "),
-        ("NAME ( A , 1 ) { }", "6023@13 "),
-        ("NAME ( A , 1 , 2 )", "6021@13 "),
-        ("METHOD ( M ) { ADD ( 1 , , LOCAL0 ) }", "6021@18 "),
-        // Literals and words of the language are no terms.
-        ("1 \"a SERIALIZED", "6025@13 6025@14 6025@15 "),
-        ("METHOD ( M ) { ELSE { } IF ( 1 ) { } ; ELSE { } ELSE { } }", "6025@18 6025@33 "),
+        ("RETURN ( 1 , 2 )", "6025@15 "),
+        ("METHOD ( M ) { METHOD ( N , 1 , 2 , 3 , 4 , 5 , 6 ) }", "6025@20 "),
+        ("METHOD ( M ) { RETURN ( ADD ( ARG0 ) ) }", "6021@22 "),
+        ("METHOD ( M , 8 )", "6023@15 "),
+        ("NAME ( A , 1 ) { }", "6023@15 "),
+        ("NAME ( A , 1 , 2 )", "6021@15 "),
+        ("METHOD ( M ) { ADD ( 1 , , LOCAL0 ) }", "6021@20 "),
+        ("A ( 1 , , 2 )", "6021@15 "),
+        // Literals and words of the language are no terms, and an Else stands behind an If.
+        ("1 \"a SERIALIZED", "6025@15 6025@16 6025@17 "),
+        (
+            "METHOD ( M ) { ELSE { } IF ( 1 ) { } ; ELSE { } ELSE { } }",
+            "6025@20 6025@33 ",
+        ),
         // What the arguments are, one error for each.
-        ("NAME ( 1 , METHOD ( M ) { } )", "6022@15 6025@17 "),
-        ("METHOD ( M , ARG0 , IPMI , 1 )", "6023@13 "),
-        ("METHOD ( M , ARG0 , 1 , 16 ) { }", "6022@17 6022@19 6024@21 "),
-        ("METHOD ( M , 8 , SERIALIZED , DIVIDE ( 1 , 0 ) ) { }", "6024@17 6024@21 "),
-        ("METHOD ( M , DIVIDE ( 1 , A B ) ) { }", "no tree"),
-        ("METHOD ( M ) { ADD ( 1 , 2 , 3 ) INCREMENT ( \"a ) }", "6022@25 6022@30 "),
+        ("NAME ( 1 , METHOD ( M ) { } )", "6022@17 6022@19 "),
+        ("METHOD ( M , ARG0 , 1 , 16 ) { }", "6022@19 6022@21 6024@23 "),
+        (
+            "METHOD ( M , 8 , SERIALIZED , DIVIDE ( 1 , 0 ) ) { }",
+            "6024@19 6024@23 ",
+        ),
+        (
+            "METHOD ( M ) { ADD ( 1 , 2 , 3 ) INCREMENT ( \"a ) }",
+            "6022@26 6022@30 ",
+        ),
         // The error inside a constant stands alone.
-        ("METHOD ( M , ADD ( 1 ) ) { }", "6021@17 "),
-        // Names.
-        ("NAME ( ABCDE , 1 )", "6020@15 "),
-        ("A ( 1 , , 2 )", "6021@13 "),
-        // Types.
-        ("EXTERNAL ( A , INTOBJ , { INTOBJ , B } , 1 )", "6022@19 6022@25 "),
-        ("NAME ( A , 1 + 2 )", "6020@18 "),
+        ("METHOD ( M , ADD ( 1 ) ) { }", "6021@19 "),
+        ("NAME ( ABCDE , 1 )", "6020@17 "),
+        ("EXTERNAL ( A , INTOBJ , { INTOBJ , B } , 1 )", "6022@21 6022@27 "),
+        // No error: what may be left out, and where a constant may be an operator.
+        (
+            "METHOD ( M , ADD ( 1 , 2 ) , , ) { RETURN ( ) ADD ( ARG0 , 1 ) }",
+            "none",
+        ),
     ] {
-        let source = format!(in alloc; "{head} 2 , \"O , \"T , 1 ) {{ {text} }}")?;
+        let head = "DEFINITIONBLOCK ( \"a , \"DSDT , 2 , \"O , \"T , 1 ) {";
+        let source = format!(in alloc; "{head} {text} }}")?;
         assert_eq!(rt; errors(alloc, source.as_str())?.as_str(), want);
     }
     Ok(())
