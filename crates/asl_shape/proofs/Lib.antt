@@ -1,0 +1,12 @@
+pub mod Tables
+pub mod Plans
+pub mod Constants
+pub mod Views
+pub mod ItemLaws
+pub mod Terms
+pub mod Leaves
+pub mod Braces
+pub mod Types
+pub mod Settled
+pub mod Shapes
+pub mod Units

@@ -1,0 +1,82 @@
+-- The arguments of forms, by their nodes.
+use Rattle.std.proofs.Common.{◌≡◌, ℕ, zero, suc, ◌<◌, ◌≤◌, length, get_or, take, arith, List, [], ◌∷◌, ◌++◌, refl, ap, ◌∙◌, sym, false, Vec, Global}
+use Rattle.asl_tree.specs.declared.path.Path.{Path}
+use Rattle.asl_tree.specs.declared.term.Op.{Op}
+use Rattle.asl_tree.specs.declared.term.Literal.{Literal}
+use Rattle.asl_tree.specs.declared.term.Node.{Node}
+use Rattle.asl_tree.specs.declared.term.Term.{Term}
+use Rattle.asl_tree.specs.declared.term.Term as D
+use Rattle.asl_shape.specs.Plans.{Plans, no_plans, plan, omitted, a_form, plan_of, plans_of, plan_at, number_of, first_alone, join}
+use Rattle.asl_shape.specs.Shapes.{is_stated, one_plan, zero_plan}
+use Rattle.asl_shape.proofs.Plans.{plan_form, plan_call}
+use Rattle.asl_shape.proofs.Terms.{term_rules}
+
+pub number_form : (o : Op) (args body : Vec Node Global) → number_of (plan_of (D.Form o args body)) ≡ 0
+number_form o args body = ap number_of (plan_form o args body)
+
+pub number_call : (path : Path) (args : Vec Node Global) → number_of (plan_of (D.Call path args)) ≡ 0
+number_call path args = ap number_of (plan_call path args)
+
+pub ruleset number_rules = (term_rules, number_form, number_call)
+
+pub at_some : (nodes : List Node) (i : ℕ) (d : Node) → i < length nodes → plan_at (plans_of nodes) i ≡ plan_of (get_or nodes i d).term
+unfolding plans_of
+at_some [] i d lt = absurd (omega (arith, lt))
+at_some (node ∷ nodes) zero d lt = refl
+at_some (node ∷ nodes) (suc i) d lt = at_some nodes i d (omega (arith, lt))
+
+pub at_none : (nodes : List Node) (i : ℕ) → length nodes ≤ i → plan_at (plans_of nodes) i ≡ omitted
+unfolding plans_of
+at_none [] zero le = refl
+at_none [] (suc i) le = refl
+at_none (node ∷ nodes) zero le = absurd (omega (arith, le))
+at_none (node ∷ nodes) (suc i) le = at_none nodes i (omega (arith, le))
+
+pub number_some : (nodes : List Node) (i : ℕ) (d : Node) → i < length nodes → d ≡ get_or nodes i d → number_of (plan_of d.term) ≡ number_of (plan_at (plans_of nodes) i)
+number_some nodes i d lt e = ap (λ (n : Node). number_of (plan_of n.term)) e ∙ ap number_of (sym (at_some nodes i d lt))
+
+pub number_none : (nodes : List Node) (i : ℕ) → length nodes ≤ i → number_of (plan_at (plans_of nodes) i) ≡ 0
+number_none nodes i le = ap number_of (at_none nodes i le)
+
+pub stated_some : (nodes : List Node) (i : ℕ) (d : Node) → i < length nodes → d ≡ get_or nodes i d → is_stated (plan_of d.term) ≡ is_stated (plan_at (plans_of nodes) i)
+stated_some nodes i d lt e = ap (λ (n : Node). is_stated (plan_of n.term)) e ∙ ap is_stated (sym (at_some nodes i d lt))
+
+pub stated_none : (nodes : List Node) (i : ℕ) → length nodes ≤ i → is_stated (plan_at (plans_of nodes) i) ≡ false
+stated_none nodes i le = ap is_stated (at_none nodes i le)
+
+pub ruleset at_rules = (number_some, number_none)
+pub ruleset given_rules = (stated_some, stated_none)
+
+pub push_is : (nodes : List Node) (node : Node) → plans_of (nodes ++ node ∷ []) ≡ join (plans_of nodes) (one_plan node.place (plan_of node.term))
+unfolding plans_of
+push_is [] node = refl
+push_is (n ∷ ns) node = ap (plan n.place (plan_of n.term)) (push_is ns node)
+
+pub ruleset push_rules = (push_is)
+
+pub first_is : (nodes : List Node) → plans_of (take 1 nodes) ≡ first_alone (plans_of nodes)
+unfolding plans_of
+first_is [] = refl
+first_is (node ∷ nodes) = refl
+
+pub join_nothing : (ps : Plans) → join ps no_plans ≡ ps
+join_nothing no_plans = refl
+join_nothing (plan place p ps) = ap (plan place p) (join_nothing ps)
+
+pub ruleset external_rules = (term_rules, join_nothing)
+
+pub no_nodes : plans_of [] ≡ no_plans
+unfolding plans_of
+no_nodes = refl
+
+pub zero_is : (args body : Vec Node Global) → args.items ≡ [] → body.items ≡ [] → plan_of (D.Form (Op.Literal Literal.Zero) args body) ≡ zero_plan
+zero_is args body e f = plan_form (Op.Literal Literal.Zero) args body ∙ ap (λ ns. a_form (Op.Literal Literal.Zero) (plans_of ns) (plans_of body.items)) e ∙ ap (λ ns. a_form (Op.Literal Literal.Zero) (plans_of []) (plans_of ns)) f ∙ ap (λ ps. a_form (Op.Literal Literal.Zero) ps ps) no_nodes
+
+pub ruleset zero_rules = (zero_is)
+
+pub join_first : (ps : Plans) → join (plans_of []) ps ≡ ps
+unfolding plans_of
+join_first ps = refl
+
+pub ruleset single_rules = (join_first, no_nodes)
+pub ruleset return_rules = (term_rules)

@@ -1,0 +1,65 @@
+use Rattle.std.proofs.Common.{◌≡◌, ◌++◌, append-nil, slice_get, Some, ◌+◌, arith, drop, get_or, ap, sym, ◌∙◌}
+use Rattle.asl_shape.specs.Shapes.{nowhere}
+use Rattle.asl_shape.specs.AtRaw.{shape_at, bare_at, member_at, one_at, behind_if_at, terms_at}
+use Rattle.asl_shape.specs.Plans.{plans_of, join}
+use Rattle.asl_shape.specs.declared.operator.Slot.TheVariants as slot
+use Rattle.asl_shape.proofs.Shapes.{bare_item, operand_faults, operand_made, list_faults, list_made, run_faults, run_made, item_smaller, argument_some_faults, argument_some_made, left_faults, left_made, argument_faults, argument_made, got_some, got_none}
+use Rattle.asl_shape.proofs.tree.+shape.Goals as goal
+
+pub bare-returns-in_ok-item-in-Item-clause-faults : goal.bare-returns-in_ok-item-in-Item-clause-faults
+bare-returns-in_ok-item-in-Item-clause-faults t c =
+    c.in_ok-item-in-Item.ensures.faults ∙ ap (λ x. c.args.work.now.faults.items ++ x.faults) (sym (ap (bare_at c.args.slot c.args.inside) c.in-Item.is ∙ bare_item c.args.slot c.args.inside c.in-Item.place c.in-Item.word c.in-Item.args c.in-Item.body))
+
+pub bare-returns-in_ok-item-in-Item-clause-made : goal.bare-returns-in_ok-item-in-Item-clause-made
+bare-returns-in_ok-item-in-Item-clause-made t c =
+    c.in_ok-item-in-Item.ensures.made ∙ ap (λ x. x.made) (sym (ap (bare_at c.args.slot c.args.inside) c.in-Item.is ∙ bare_item c.args.slot c.args.inside c.in-Item.place c.in-Item.word c.in-Item.args c.in-Item.body))
+
+pub operands-loop-raw-preserved : goal.operands-loop-raw-preserved
+operands-loop-raw-preserved t c = record {
+    faults = operand_faults c.loop-raw.next c.args.inside c.args.args.now c.loop-raw.raw-index c.raw-item.result c.loop-raw.work.faults.items c.add.new.work.faults.items _ c.loop-raw-test.true c.loop-raw.invariant.faults
+        (c.in_ok-add.ensures.faults ∙ ap (λ r. c.loop-raw.work.faults.items ++ (shape_at c.loop-raw.next c.args.inside r).faults) c.raw-item.is);
+    made = operand_made c.loop-raw.next c.args.inside c.args.args.now c.loop-raw.raw-index c.raw-item.result (plans_of c.loop-raw.nodes.items) (plans_of c.add.new.nodes.items) _ c.loop-raw-test.true c.loop-raw.invariant.made
+        (c.in_ok-add.ensures.made ∙ ap (λ r. join (plans_of c.loop-raw.nodes.items) (one_at nowhere r (shape_at c.loop-raw.next c.args.inside r).made)) c.raw-item.is) }
+
+pub members-loop-raw-preserved : goal.members-loop-raw-preserved
+members-loop-raw-preserved t c = record {
+    faults = list_faults c.args.slot c.args.inside c.args.raws.now c.loop-raw.raw-index c.raw-item.result c.loop-raw.work.faults.items c.add_member.new.work.faults.items _ c.loop-raw-test.true c.loop-raw.invariant.faults
+        (c.in_ok-add_member.ensures.faults ∙ ap (λ r. c.loop-raw.work.faults.items ++ (member_at c.args.slot c.args.inside r).faults) c.raw-item.is);
+    made = list_made c.args.slot c.args.inside c.args.raws.now c.loop-raw.raw-index c.raw-item.result (plans_of c.loop-raw.nodes.items) (plans_of c.add_member.new.nodes.items) _ c.loop-raw-test.true c.loop-raw.invariant.made
+        (c.in_ok-add_member.ensures.made ∙ ap (λ r. join (plans_of c.loop-raw.nodes.items) (member_at c.args.slot c.args.inside r).made) c.raw-item.is) }
+
+pub terms-loop-raw-preserved : goal.terms-loop-raw-preserved
+terms-loop-raw-preserved t c =
+    let r = c.raw-item.result in
+    let run : c.behind_if-behind.result ≡ behind_if_at c.loop-raw.behind (get_or c.args.raws.now c.loop-raw.raw-index r) = c.behind_if-behind.ensures ∙ ap (behind_if_at c.loop-raw.behind) c.raw-item.is in
+    record {
+        faults = ap (λ n. c.add_member.new.work.faults.items ++ (terms_at c.args.inside n (drop (c.loop-raw.raw-index + 1) c.args.raws.now)).faults) run
+            ∙ run_faults c.args.inside c.loop-raw.behind c.args.raws.now c.loop-raw.raw-index r c.loop-raw.work.faults.items c.add_member.new.work.faults.items _ c.loop-raw-test.true c.loop-raw.invariant.faults
+                (c.in_ok-add_member.ensures.faults ∙ ap (λ r. c.loop-raw.work.faults.items ++ (member_at (slot.Term c.loop-raw.behind) c.args.inside r).faults) c.raw-item.is);
+        made = ap (λ n. join (plans_of c.add_member.new.nodes.items) (terms_at c.args.inside n (drop (c.loop-raw.raw-index + 1) c.args.raws.now)).made) run
+            ∙ run_made c.args.inside c.loop-raw.behind c.args.raws.now c.loop-raw.raw-index r (plans_of c.loop-raw.nodes.items) (plans_of c.add_member.new.nodes.items) _ c.loop-raw-test.true c.loop-raw.invariant.made
+                (c.in_ok-add_member.ensures.made ∙ ap (λ r. join (plans_of c.loop-raw.nodes.items) (member_at (slot.Term c.loop-raw.behind) c.args.inside r).made) c.raw-item.is) }
+
+pub bare-item-requires : goal.bare-item-requires
+bare-item-requires t c = (grind (arith, c.decreases, item_smaller c.args.raw.now c.in-Item.place c.in-Item.word c.in-Item.args c.in-Item.body c.in-Item.is), tt)
+
+pub add_argument-returns-in_ok-add-in-Some-clause-faults : goal.add_argument-returns-in_ok-add-in-Some-clause-faults
+add_argument-returns-in_ok-add-in-Some-clause-faults t c =
+    c.in_ok-add-in-Some.ensures.faults ∙ ap (λ ms. c.args.work.now.faults.items ++ ms) (sym (argument_some_faults c.args.parameter c.args.place c.args.inside (slice_get c.args.args.now c.args.i) c.in-Some.raw.now (got_some c.args.args.now c.args.i c.in-Some.raw.now c.in-Some.ensures.lookup.3.0 ∙ ap Some (sym c.in-Some.ensures.lookup.1))))
+
+pub add_argument-returns-in_ok-add-in-Some-clause-made : goal.add_argument-returns-in_ok-add-in-Some-clause-made
+add_argument-returns-in_ok-add-in-Some-clause-made t c =
+    c.in_ok-add-in-Some.ensures.made ∙ ap (λ ps. join (plans_of c.args.nodes.now.items) ps) (sym (argument_some_made c.args.parameter c.args.place c.args.inside (slice_get c.args.args.now c.args.i) c.in-Some.raw.now (got_some c.args.args.now c.args.i c.in-Some.raw.now c.in-Some.ensures.lookup.3.0 ∙ ap Some (sym c.in-Some.ensures.lookup.1))))
+
+pub add_argument-returns-in_ok-leave_out-in-None-clause-faults : goal.add_argument-returns-in_ok-leave_out-in-None-clause-faults
+add_argument-returns-in_ok-leave_out-in-None-clause-faults t c =
+    sym (append-nil c.args.work.now.faults.items) ∙ ap (λ ms. c.args.work.now.faults.items ++ ms) (sym (left_faults c.args.parameter c.args.place c.args.inside (slice_get c.args.args.now c.args.i) (got_none c.args.args.now c.args.i c.in-None.ensures.lookup.3)))
+
+pub add_argument-returns-in_ok-leave_out-in-None-clause-made : goal.add_argument-returns-in_ok-leave_out-in-None-clause-made
+add_argument-returns-in_ok-leave_out-in-None-clause-made t c =
+    c.in_ok-leave_out-in-None.ensures ∙ ap (λ ps. join (plans_of c.args.nodes.now.items) ps) (sym (left_made c.args.parameter c.args.place c.args.inside (slice_get c.args.args.now c.args.i) (got_none c.args.args.now c.args.i c.in-None.ensures.lookup.3)))
+
+pub arguments-loop-i-preserved : goal.arguments-loop-i-preserved
+arguments-loop-i-preserved t c = record {
+    faults = argument_faults c.args.parameters.now c.args.place c.args.inside c.args.args.now c.loop-i.i _ c.loop-i.work.faults.items c.add_argument.new.work.faults.items _ c.loop-i-test.true c.loop-i.invariant.faults c.in_ok-add_argument.ensures.faults;
+    made = argument_made c.args.parameters.now c.args.place c.args.inside c.args.args.now c.loop-i.i _ (plans_of c.loop-i.nodes.items) (plans_of c.add_argument.new.nodes.items) _ c.loop-i-test.true c.loop-i.invariant.made c.in_ok-add_argument.ensures.made }

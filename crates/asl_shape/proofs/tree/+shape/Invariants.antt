@@ -1,0 +1,70 @@
+use Rattle.std.proofs.Common.{◌≡◌, ◌+◌, ◌*◌, ◌++◌, drop, false}
+use Rattle.asl_shape.specs.Plans.{plans_of, join}
+use Rattle.asl_shape.specs.Written.{size_at, sizes_at, size_in_at}
+use Rattle.asl_shape.specs.AtRaw.{operands_at, arguments_in_at, members_at, terms_at}
+use Rattle.asl_shape.proofs.tree.+shape.Given as goal
+
+abbrev pub decreases-shape : goal.decreases-shape
+decreases-shape l = 16 * (size_at l.raw.now) + 2
+
+abbrev pub decreases-bare : goal.decreases-bare
+decreases-bare l = 16 * (size_at l.raw.now) + 1
+
+abbrev pub decreases-add : goal.decreases-add
+decreases-add l = 16 * (size_at l.raw.now) + 3
+
+abbrev pub decreases-operands : goal.decreases-operands
+decreases-operands l = 16 * (sizes_at l.args.now) + 5
+
+abbrev pub decreases-arguments : goal.decreases-arguments
+decreases-arguments l = 16 * (sizes_at l.args.now) + 5
+
+abbrev pub decreases-members : goal.decreases-members
+decreases-members l = 16 * (sizes_at l.raws.now) + 5
+
+abbrev pub decreases-terms : goal.decreases-terms
+decreases-terms l = 16 * (sizes_at l.raws.now) + 5
+
+abbrev pub decreases-elements : goal.decreases-elements
+decreases-elements l = 16 * (sizes_at l.raws.now) + 6
+
+abbrev pub decreases-contents : goal.decreases-contents
+decreases-contents l = 16 * (size_in_at l.raws.now) + 7
+
+abbrev pub decreases-call : goal.decreases-call
+decreases-call l = 16 * (size_in_at l.args.now) + 8
+
+abbrev pub decreases-form : goal.decreases-form
+decreases-form l = 16 * (size_in_at l.args.now + size_in_at l.body.now) + 8
+
+abbrev pub decreases-read : goal.decreases-read
+decreases-read l = 16 * (size_in_at l.args.now + size_in_at l.body.now) + 9
+
+abbrev pub decreases-item : goal.decreases-item
+decreases-item l = 16 * (size_in_at l.args.now + size_in_at l.body.now) + 10
+
+abbrev pub invariant-operands-loop-raw : goal.invariant-operands-loop-raw
+invariant-operands-loop-raw l = record {
+    faults : l.work.faults.items ++ (operands_at l.next l.inside (drop l.raw-index l.args)).faults ≡ l.fn.work.faults.items ++ (operands_at l.fn.slot l.inside l.args).faults;
+    made : join (plans_of l.nodes.items) (operands_at l.next l.inside (drop l.raw-index l.args)).made ≡ join (plans_of l.fn.nodes.items) (operands_at l.fn.slot l.inside l.args).made }
+
+abbrev pub invariant-members-loop-raw : goal.invariant-members-loop-raw
+invariant-members-loop-raw l = record {
+    faults : l.work.faults.items ++ (members_at l.slot l.inside (drop l.raw-index l.raws)).faults ≡ l.fn.work.faults.items ++ (members_at l.slot l.inside l.raws).faults;
+    made : join (plans_of l.nodes.items) (members_at l.slot l.inside (drop l.raw-index l.raws)).made ≡ join (plans_of l.fn.nodes.items) (members_at l.slot l.inside l.raws).made }
+
+abbrev pub invariant-terms-loop-raw : goal.invariant-terms-loop-raw
+invariant-terms-loop-raw l = record {
+    faults : l.work.faults.items ++ (terms_at l.inside l.behind (drop l.raw-index l.raws)).faults ≡ l.fn.work.faults.items ++ (terms_at l.inside false l.raws).faults;
+    made : join (plans_of l.nodes.items) (terms_at l.inside l.behind (drop l.raw-index l.raws)).made ≡ join (plans_of l.fn.nodes.items) (terms_at l.inside false l.raws).made }
+
+abbrev pub invariant-arguments-loop-i : goal.invariant-arguments-loop-i
+invariant-arguments-loop-i l = record {
+    faults : l.work.faults.items ++ (arguments_in_at (drop l.i l.parameters) l.place l.inside (drop l.i l.args)).faults ≡ l.fn.work.faults.items ++ (arguments_in_at l.fn.parameters l.place l.inside l.fn.args).faults;
+    made : join (plans_of l.nodes.items) (arguments_in_at (drop l.i l.parameters) l.place l.inside (drop l.i l.args)).made ≡ join (plans_of l.fn.nodes.items) (arguments_in_at l.fn.parameters l.place l.inside l.fn.args).made }
+
+abbrev pub decreases-add_argument : goal.decreases-add_argument
+decreases-add_argument l = 16 * sizes_at l.args.now + 4
+
+abbrev pub decreases-add_member : goal.decreases-add_member
+decreases-add_member l = 16 * size_at l.raw.now + 4

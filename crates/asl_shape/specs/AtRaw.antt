@@ -1,0 +1,142 @@
+-- The same of the tree of the syntax itself.
+use Rattle.std.specs.Prelude.{◌≡◌, ℕ, Bool, true, false, List, [], Option, Some, None}
+use Rattle.iasl_messages.specs.declared.place.Place.{Place}
+use Rattle.iasl_messages.specs.declared.message.Message.{Message}
+use Rattle.iasl_messages.specs.declared.message.Stage.{Stage}
+use Rattle.iasl_messages.specs.declared.message.Stage.TheVariants as stage
+use Rattle.asl_parser.specs.declared.raw.Raw.{Raw}
+use Rattle.asl_shape.specs.Plans.{Plan, omitted, Plans, no_plans, plan}
+use Rattle.asl_tree.specs.declared.term.Op.{Op}
+use Rattle.asl_shape.specs.declared.operator.Parameter.{Parameter}
+use Rattle.asl_shape.specs.declared.operator.Slot.{Slot}
+use Rattle.asl_shape.specs.declared.operator.Body.{Body}
+use Rattle.asl_shape.specs.declared.item.Meaning.{Meaning}
+use Rattle.asl_shape.specs.declared.item.Reading.{Reading}
+use Rattle.asl_shape.specs.Written.{written, writtens, written_in}
+use Rattle.asl_shape.specs.Shapes.{Shaped, fine, takes, none_empty, has_arguments, item_fault, is_comma, due_after, is_text, item_fault, meaning_of, reading_of, bare, behind_if, is_call, is_separator, is_listed, byte_slot, skipped, joined, operands, call_args, arguments, arguments_in, contents, members, terms, read_shape, form_shape, within, place_of, nowhere, checked, item_shape, listed_shape, types_shape, is_type, are_types, is_type_or_list, are_all_types}
+use Rattle.asl_shape.specs.Operators.{parameters_of, body_of}
+
+unfoldable pub takes_at : List Parameter → List Raw → Bool
+takes_at qs raws = takes qs (writtens raws)
+
+unfoldable pub none_empty_at : List Raw → Bool
+none_empty_at raws = none_empty (writtens raws)
+
+unfoldable pub is_call_at : List Raw → Bool
+is_call_at raws = is_call (writtens raws)
+
+unfoldable pub has_arguments_at : Meaning → List Raw → Bool
+has_arguments_at meaning raws = has_arguments meaning (writtens raws)
+
+abbrev pub inside_at : Option (List Raw) → List Raw
+inside_at None = []
+inside_at (Some raws) = raws
+
+unfoldable pub bare_at : Slot → Bool → Raw → Shaped Plan
+bare_at s inside raw = bare s inside (written raw)
+
+unfoldable pub place_at : Place → Raw → Place
+place_at place raw = place_of place (written raw)
+
+-- a part of a source where it is read so
+abbrev pub shape_at : Slot → Bool → Raw → Shaped Plan
+shape_at s inside raw = checked s (place_at nowhere raw) (bare_at s inside raw)
+
+unfoldable pub is_separator_at : Raw → Bool
+is_separator_at raw = is_separator (written raw)
+
+unfoldable pub behind_if_at : Bool → Raw → Bool
+behind_if_at behind raw = behind_if behind (written raw)
+
+unfoldable pub operands_at : Slot → Bool → List Raw → Shaped Plans
+operands_at s inside raws = operands s inside (writtens raws)
+
+unfoldable pub call_at : Bool → Option (List Raw) → Shaped Plans
+call_at inside raws = call_args inside (written_in raws)
+
+unfoldable pub arguments_at : List Parameter → Place → Bool → Option (List Raw) → Shaped Plans
+arguments_at qs place inside raws = arguments qs place inside (written_in raws)
+
+unfoldable pub arguments_in_at : List Parameter → Place → Bool → List Raw → Shaped Plans
+arguments_in_at qs place inside raws = arguments_in qs place inside (writtens raws)
+
+unfoldable pub contents_at : Body → Bool → Place → Option (List Raw) → Shaped Plans
+contents_at b inside place raws = contents b inside place (written_in raws)
+
+unfoldable pub members_at : Slot → Bool → List Raw → Shaped Plans
+members_at s inside raws = members s inside (writtens raws)
+
+unfoldable pub terms_at : Bool → Bool → List Raw → Shaped Plans
+terms_at inside behind raws = terms inside behind (writtens raws)
+
+-- a form with its arguments and its braces
+unfoldable pub form_at : Op → Place → Bool → Option (List Raw) → Option (List Raw) → Shaped Plan
+form_at o place inside args body = form_shape o place (arguments_at (parameters_of o) place inside args) (contents_at (body_of o) (within o inside) place body)
+
+-- an item as it is read
+unfoldable pub read_at : Slot → Place → List ℕ → Reading → Bool → Option (List Raw) → Option (List Raw) → Shaped Plan
+read_at s place w reading inside args body = read_shape s place w reading (call_at inside args) (λ o. form_at o place inside args body)
+
+abbrev pub is_some : Option (List Raw) → Bool
+is_some None = false
+is_some (Some raws) = true
+
+abbrev pub one_at : Place → Raw → Plan → Plans
+one_at place raw p = plan (place_at place raw) p no_plans
+
+abbrev pub left_at : Place → Plans
+left_at place = plan place omitted no_plans
+
+unfoldable pub is_comma_at : Raw → Bool
+is_comma_at raw = is_comma (written raw)
+
+unfoldable pub is_listed_at : Bool → List Raw → Bool
+is_listed_at due raws = is_listed due (writtens raws)
+
+unfoldable pub byte_slot_at : List Raw → Slot
+byte_slot_at raws = byte_slot (writtens raws)
+
+-- an item
+unfoldable pub item_at : Slot → Bool → Place → List ℕ → Option (List Raw) → Option (List Raw) → Shaped Plan
+item_at s inside place w args body =
+    item_shape place (item_fault s inside (meaning_of w (is_some body)) (has_arguments_at (meaning_of w (is_some body)) (inside_at args)) (is_some body))
+        (read_at s place w (reading_of s (meaning_of w (is_some body)) (is_some args)) inside args body)
+
+unfoldable pub is_text_at : Raw → Bool
+is_text_at raw = is_text (written raw)
+
+unfoldable pub due_at : Bool → Raw → Option Bool
+due_at due raw = due_after due (written raw)
+
+-- a member of a list alone
+unfoldable pub member_at : Slot → Bool → Raw → Shaped Plans
+member_at s inside raw = skipped (is_separator_at raw) (place_at nowhere raw) (shape_at s inside raw) (fine no_plans)
+
+-- an argument alone: one that is given, or one that is left out
+unfoldable pub argument_at : Parameter → Place → Bool → Option Raw → Shaped Plans
+argument_at q place inside None = joined place (fine omitted) (fine no_plans)
+argument_at q place inside (Some raw) = joined (place_at place raw) (shape_at q.slot inside raw) (fine no_plans)
+
+-- a refusal tells exactly these errors, at least one
+abbrev pub Refuses : Stage → List Message → Type 0
+Refuses (stage.Refused messages) errors = (messages ≡ errors) × (errors ≡ [] → ⊥)
+Refuses stage.Memory errors = Unit {0}
+
+-- a list as an argument
+unfoldable pub listed_at : Slot → Place → List Raw → Shaped Plan
+listed_at s place raws = listed_shape s place (writtens raws)
+
+unfoldable pub types_at : ℕ → Place → List Raw → Shaped Plan
+types_at most place raws = types_shape most place (writtens raws)
+
+unfoldable pub is_type_at : Raw → Bool
+is_type_at raw = is_type (written raw)
+
+unfoldable pub are_types_at : List Raw → Bool
+are_types_at raws = are_types (writtens raws)
+
+unfoldable pub is_type_or_list_at : Raw → Bool
+is_type_or_list_at raw = is_type_or_list (written raw)
+
+unfoldable pub are_all_types_at : List Raw → Bool
+are_all_types_at raws = are_all_types (writtens raws)

@@ -1,0 +1,553 @@
+-- What a source comes to: a program's tree, or the errors in it.
+use Rattle.std.specs.Prelude.{ℕ, suc, ◌+◌, ◌*◌, ◌%◌, nat_le, ◌==◌, Bool, true, false, not, ◌&&◌, ◌||◌, if◌then◌else◌, List, [], ◌∷◌, ◌++◌, length, codes, Option, Some, None, Result, Ok, Err}
+use Rattle.std.specs.List.{list_all}
+use Rattle.std.specs.Str.{bytes_eq}
+use Rattle.acpi_state.specs.Outcomes.{choose}
+use Rattle.iasl_messages.specs.declared.place.Place.{Place}
+use Rattle.iasl_messages.specs.declared.message.Message.{Message}
+use Rattle.acpi_values.specs.Integers.{wrapped}
+use Rattle.acpi_values.specs.declared.width.Width.TheVariants.{W64}
+use Rattle.asl_tree.specs.declared.constant.NoConstant.{NoConstant}
+use Rattle.asl_tree.specs.declared.path.Path.{Path}
+use Rattle.asl_tree.specs.declared.term.Op.{Op}
+use Rattle.asl_tree.specs.declared.term.Declaration.{Declaration}
+use Rattle.asl_tree.specs.declared.term.Control.{Control}
+use Rattle.asl_tree.specs.declared.term.Special.{Special}
+use Rattle.asl_tree.specs.declared.term.Literal.{Literal}
+use Rattle.asl_shape.specs.declared.operator.Parameter.{Parameter}
+use Rattle.asl_shape.specs.declared.operator.Slot.{Slot}
+use Rattle.asl_shape.specs.declared.operator.Slot.TheVariants as slot
+use Rattle.asl_shape.specs.declared.operator.Role.{Role}
+use Rattle.asl_shape.specs.declared.operator.Role.TheVariants as role
+use Rattle.asl_shape.specs.declared.operator.Body.{Body}
+use Rattle.asl_shape.specs.declared.operator.Body.TheVariants as braces
+use Rattle.asl_shape.specs.declared.operator.StringForm.{StringForm}
+use Rattle.asl_shape.specs.declared.operator.StringForm.TheVariants as form
+use Rattle.asl_shape.specs.declared.operator.WordKind.{WordKind}
+use Rattle.asl_shape.specs.declared.operator.WordKind.TheVariants as kind
+use Rattle.asl_shape.specs.declared.operator.Known.{Known}
+use Rattle.asl_shape.specs.declared.operator.Known.TheVariants as known
+use Rattle.asl_shape.specs.declared.item.Meaning.{Meaning}
+use Rattle.asl_shape.specs.declared.item.Meaning.TheVariants as is
+use Rattle.asl_shape.specs.declared.item.Reading.{Reading}
+use Rattle.asl_shape.specs.declared.item.Reading.TheVariants as read
+use Rattle.asl_shape.specs.Written as piece
+use Rattle.asl_shape.specs.Written.{Written, Writtens, Group, item, apply, listed, comma, semicolon, empty, none, more, absent, given}
+use Rattle.asl_shape.specs.Operators.{operator_of, word_of, parameters_of, body_of, role_of}
+use Rattle.asl_shape.specs.Paths.{path_of, is_path}
+use Rattle.asl_shape.specs.Plans.{Plan, an_integer, a_text, a_local, an_arg, debug, omitted, a_name, a_call, a_form, Plans, no_plans, plan, join, number_of, plan_at, first_alone, is_omitted, constant_of}
+
+-- ---- what comes of a part of a source: its errors in order, and its tree, which counts where there are none
+
+pub record Shaped (A : Type 0) : Type 0 where
+  pub faults : List Message
+  pub made : A
+
+abbrev pub fine : {A : Type 0} → A → Shaped A
+fine made = record { faults = []; made = made }
+
+abbrev pub fault_at : ℕ → Place → Message
+fault_at number place = record { number = number; place = place; name = [] }
+
+abbrev pub refused : ℕ → Place → Shaped Plan
+refused number place = record { faults = fault_at number place ∷ []; made = omitted }
+
+abbrev pub nowhere : Place
+nowhere = record { file = 0; line = 0; column = 0 }
+
+-- ---- items: what a word is, where it may stand, and what it takes
+
+abbrev pub is_given : Group → Bool
+is_given absent = false
+is_given (given ws) = true
+
+-- a word of at most four characters without a body is a name; no path of several segments or with a prefix is built
+abbrev pub name_or_unknown : List ℕ → Bool → Meaning
+name_or_unknown text has_body = if is_path text then is.Unknown else (if nat_le (length text) 4 && not has_body then is.Name else is.Unknown)
+
+abbrev pub known_as : Known → Meaning
+known_as known.LeftOut = is.Unknown
+known_as k = is.Known k
+
+-- what a word or path is: an operator, a word that stands for something, a name, or nothing that is known
+abbrev pub meaning_of : List ℕ → Bool → Meaning
+meaning_of text has_body = choose (operator_of text) (choose (word_of text) (name_or_unknown text has_body) known_as) is.Operator
+
+abbrev pub is_behind_if : Slot → Bool
+is_behind_if (slot.Term behind) = behind
+is_behind_if _ = false
+
+abbrev pub is_term : Slot → Bool
+is_term (slot.Term behind) = true
+is_term _ = false
+
+-- where an operator may stand
+abbrev pub may_stand : Slot → Bool → Role → Bool
+may_stand s inside role.MethodStatement = inside
+may_stand s inside role.OuterTerm = not inside
+may_stand s inside role.Else = is_behind_if s
+may_stand s inside _ = true
+
+abbrev pub is_word : Known → Bool
+is_word (known.Word k n) = true
+is_word _ = false
+
+abbrev pub is_declared : Slot → Bool
+is_declared slot.Declared = true
+is_declared _ = false
+
+-- inside a method a path that is declared is a single segment
+abbrev pub may_be : Slot → Bool → Meaning → Bool
+may_be s inside (is.Operator o) = may_stand s inside (role_of o)
+may_be s inside (is.Known k) = not (is_term s && is_word k)
+may_be s inside is.Path = not (is_declared s && inside)
+may_be s inside _ = true
+
+abbrev pub is_empty : Written → Bool
+is_empty empty = true
+is_empty _ = false
+
+-- nothing is left out that has to stand
+abbrev pub may_end : List Parameter → Bool
+may_end [] = true
+may_end (q ∷ qs) = q.omittable && may_end qs
+
+abbrev pub takes : List Parameter → Writtens → Bool
+takes [] none = true
+takes [] (more w ws) = false
+takes (q ∷ qs) none = may_end (q ∷ qs)
+takes (q ∷ qs) (more w ws) = (q.omittable || not (is_empty w)) && takes qs ws
+
+abbrev pub count : Writtens → ℕ
+count none = 0
+count (more w ws) = suc (count ws)
+
+abbrev pub none_empty : Writtens → Bool
+none_empty none = true
+none_empty (more w ws) = not (is_empty w) && none_empty ws
+
+abbrev pub is_none : Writtens → Bool
+is_none none = true
+is_none (more w ws) = false
+
+abbrev pub inside_of : Group → Writtens
+inside_of absent = none
+inside_of (given ws) = ws
+
+-- a call takes seven arguments at most, and none of them is left out
+abbrev pub is_call : Writtens → Bool
+is_call ws = nat_le (count ws) 7 && none_empty ws
+
+-- the arguments that a word takes
+abbrev pub has_arguments : Meaning → Writtens → Bool
+has_arguments (is.Operator o) ws = takes (parameters_of o) ws
+has_arguments (is.Known k) ws = is_none ws
+has_arguments is.Name ws = is_call ws
+has_arguments is.Path ws = is_call ws
+has_arguments is.Unknown ws = true
+
+abbrev pub has_braces : Body → Bool
+has_braces braces.No = false
+has_braces _ = true
+
+abbrev pub wants_braces : Meaning → Bool
+wants_braces (is.Operator o) = has_braces (body_of o)
+wants_braces _ = false
+
+abbrev pub is_unknown : Meaning → Bool
+is_unknown is.Unknown = true
+is_unknown _ = false
+
+abbrev pub is_same : Bool → Bool → Bool
+is_same true b = b
+is_same false b = not b
+
+-- the first of an item's errors: an unknown operator, one that may not stand here, its arguments, its body
+abbrev pub item_fault : Slot → Bool → Meaning → Bool → Bool → Option ℕ
+item_fault s inside meaning has has_body =
+    if is_unknown meaning then Some 6020 else (
+    if not (may_be s inside meaning) then Some 6025 else (
+    if not has then Some 6021 else (
+    if not (is_same (wants_braces meaning) has_body) then Some 6023 else None)))
+
+-- ---- what an item is read as
+
+abbrev pub is_value : Role → Bool
+is_value role.Expression = true
+is_value role.Place = true
+is_value _ = false
+
+abbrev pub is_place : Role → Bool
+is_place role.Place = true
+is_place _ = false
+
+-- where an expression is read
+abbrev pub takes_expression : Slot → Bool
+takes_expression slot.Expression = true
+takes_expression (slot.Constant least most) = true
+takes_expression slot.Element = true
+takes_expression (slot.Term behind) = true
+takes_expression _ = false
+
+abbrev pub takes_role : Slot → Role → Bool
+takes_role (slot.Term behind) r = true
+takes_role slot.Place r = is_place r
+takes_role s r = takes_expression s && is_value r
+
+abbrev pub takes_place : Slot → Bool
+takes_place slot.Place = true
+takes_place s = takes_expression s
+
+abbrev pub takes_slot : Slot → Bool
+takes_slot slot.Named = true
+takes_slot s = takes_place s
+
+abbrev pub takes_path : Slot → Bool
+takes_path slot.Declared = true
+takes_path slot.External = true
+takes_path slot.Used = true
+takes_path s = takes_slot s
+
+abbrev pub is_kind : WordKind → WordKind → Bool
+is_kind kind.Serialize kind.Serialize = true
+is_kind kind.ObjectType kind.ObjectType = true
+is_kind kind.Match kind.Match = true
+is_kind _ _ = false
+
+abbrev pub takes_word : Slot → WordKind → Bool
+takes_word (slot.Word asked) k = is_kind asked k
+takes_word (slot.Types most) k = is_kind kind.ObjectType k
+takes_word _ k = false
+
+abbrev pub takes_known : Slot → Known → Bool
+takes_known s (known.Word k n) = takes_word s k
+takes_known s known.Debug = takes_place s
+takes_known s known.LeftOut = false
+takes_known s _ = takes_slot s
+
+abbrev pub unless_wrong : Bool → Reading → Reading
+unless_wrong good reading = if good then reading else read.Wrong
+
+abbrev pub name_reading : Slot → Bool → Reading
+name_reading s true = unless_wrong (takes_expression s) read.Call
+name_reading s false = unless_wrong (takes_path s) read.Path
+
+abbrev pub reading_of : Slot → Meaning → Bool → Reading
+reading_of s (is.Operator o) called = unless_wrong (takes_role s (role_of o)) (read.Form o)
+reading_of s (is.Known k) called = unless_wrong (takes_known s k) (read.Known k)
+reading_of s is.Name called = name_reading s called
+reading_of s is.Path called = name_reading s called
+reading_of s is.Unknown called = read.Wrong
+
+-- ---- constants: an argument that has to be one stands as its value
+
+abbrev pub valued : ℕ → ℕ → Place → Result ℕ NoConstant → Shaped Plan
+valued least most place (Ok n) = if nat_le least n && nat_le n most then fine (an_integer n) else refused 6024 place
+valued least most place (Err NoConstant.Fault) = refused 6024 place
+valued least most place (Err NoConstant.Form) = refused 6022 place
+
+-- what a Package has beside constants; a word for an integer stays as it is
+abbrev pub is_member : Plan → Bool
+is_member (a_text bytes) = true
+is_member (a_name path) = true
+is_member (a_form (Op.Literal l) args body) = true
+is_member (a_form (Op.Special Special.Buffer) args body) = true
+is_member (a_form (Op.Special Special.Package) args body) = true
+is_member _ = false
+
+-- an expression where a constant may be asked for; one that is left out is none
+abbrev pub evaluated : Slot → Place → Plan → Shaped Plan
+evaluated (slot.Constant least most) place p = if is_omitted p then fine p else valued least most place (constant_of p)
+evaluated slot.Element place p = if is_member p then fine p else valued 0 18446744073709551615 place (constant_of p)
+evaluated _ place p = fine p
+
+abbrev pub after : List Message → Shaped Plan → Shaped Plan → Shaped Plan
+after [] old new = new
+after (m ∷ ms) old new = old
+
+-- the same, where it has no error inside
+abbrev pub checked : Slot → Place → Shaped Plan → Shaped Plan
+checked s place shape = after shape.faults shape (evaluated s place shape.made)
+
+-- ---- leaves
+
+abbrev pub number_shape : Slot → Place → ℕ → Shaped Plan
+number_shape (slot.Term behind) place n = refused 6025 place
+number_shape s place n = if takes_expression s then fine (an_integer (wrapped W64 n)) else refused 6022 place
+
+-- bytes 01 to 7F; there are no others in a string
+abbrev pub is_text_byte : ℕ → Bool
+is_text_byte b = nat_le 1 b && nat_le b 127
+
+abbrev pub is_all_text : List ℕ → Bool
+is_all_text bytes = list_all is_text_byte bytes
+
+abbrev pub is_upper_or_digit : ℕ → Bool
+is_upper_or_digit b = (nat_le 65 b && nat_le b 90) || (nat_le 48 b && nat_le b 57)
+
+-- OEM and one letter or digit
+abbrev pub is_oem_signature : List ℕ → Bool
+is_oem_signature (a ∷ b ∷ c ∷ d ∷ []) = (a == 79) && ((b == 69) && ((c == 77) && is_upper_or_digit d))
+is_oem_signature _ = false
+
+abbrev pub is_signature : List ℕ → Bool
+is_signature text = bytes_eq text (codes "DSDT") || (bytes_eq text (codes "SSDT") || (bytes_eq text (codes "PSDT") || is_oem_signature text))
+
+abbrev pub has_form : StringForm → List ℕ → Bool
+has_form form.Any bytes = true
+has_form form.Signature bytes = is_signature bytes
+has_form (form.AtMost most) bytes = nat_le (length bytes) most
+
+abbrev pub text_plan : List ℕ → Plan
+text_plan bytes = a_text bytes
+
+abbrev pub string_shape : StringForm → Place → List ℕ → Shaped Plan
+string_shape f place bytes = if has_form f bytes && is_all_text bytes then fine (text_plan bytes) else refused 6024 place
+
+abbrev pub text_shape : Slot → Place → List ℕ → Shaped Plan
+text_shape slot.Expression place bytes = string_shape form.Any place bytes
+text_shape slot.Element place bytes = string_shape form.Any place bytes
+text_shape (slot.String f) place bytes = string_shape f place bytes
+text_shape (slot.Term behind) place bytes = refused 6025 place
+text_shape _ place bytes = refused 6022 place
+
+-- ---- names
+
+abbrev pub path_shape : Place → Option Path → Shaped Plan
+path_shape place None = refused 6024 place
+path_shape place (Some path) = fine (a_name path)
+
+abbrev pub call_shape : Place → Option Path → Shaped Plans → Shaped Plan
+call_shape place None args = refused 6024 place
+call_shape place (Some path) args = record { faults = args.faults; made = a_call path args.made }
+
+-- a word stands as its number; where types are asked for, as how many there are
+abbrev pub word_number : Slot → ℕ → ℕ
+word_number (slot.Types most) n = 1
+word_number _ n = n
+
+abbrev pub known_plan : Slot → Known → Plan
+known_plan s (known.Word k n) = an_integer (word_number s n)
+known_plan s (known.Local i) = a_local i
+known_plan s (known.Arg i) = an_arg i
+known_plan s known.Debug = debug
+known_plan s known.LeftOut = omitted
+
+-- ---- lists of types
+
+abbrev pub is_type_word : Meaning → Bool
+is_type_word (is.Known k) = takes_known (slot.Word kind.ObjectType) k
+is_type_word _ = false
+
+-- a word for an object type alone
+abbrev pub is_bare_type : List ℕ → Bool → Bool → Bool
+is_bare_type w has_args has_body = not has_args && (not has_body && is_type_word (meaning_of w false))
+
+abbrev pub is_type : Written → Bool
+is_type (item place w args body) = is_bare_type w (is_given args) (is_given body)
+is_type _ = false
+
+abbrev pub are_types : Writtens → Bool
+are_types none = true
+are_types (more w ws) = is_type w && are_types ws
+
+-- such a word, or a list of these
+abbrev pub is_type_or_list : Written → Bool
+is_type_or_list (listed place ws) = are_types ws
+is_type_or_list w = is_type w
+
+abbrev pub are_all_types : Writtens → Bool
+are_all_types none = true
+are_all_types (more w ws) = is_type_or_list w && are_all_types ws
+
+abbrev pub types_shape : ℕ → Place → Writtens → Shaped Plan
+types_shape most place ws =
+    if are_all_types ws then (if nat_le (count ws) most then fine (an_integer (count ws)) else refused 6024 place) else refused 6022 place
+
+-- how many types may be listed, where they may
+abbrev pub most_types : Slot → Option ℕ
+most_types (slot.Types most) = Some most
+most_types _ = None
+
+abbrev pub listed_shape : Slot → Place → Writtens → Shaped Plan
+listed_shape s place ws = choose (most_types s) (refused 6022 place) (λ most. types_shape most place ws)
+
+-- ---- forms
+
+-- the flags of a method: the number of its arguments, whether it is serialized, and its sync level
+abbrev pub method_flags : Plans → ℕ
+method_flags ps = number_of (plan_at ps 1) % 8 + 8 * (number_of (plan_at ps 2) % 2) + 16 * (number_of (plan_at ps 3) % 16)
+
+abbrev pub one_plan : Place → Plan → Plans
+one_plan place p = plan place p no_plans
+
+abbrev pub zero_plan : Plan
+zero_plan = a_form (Op.Literal Literal.Zero) no_plans no_plans
+
+abbrev pub is_stated : Plan → Bool
+is_stated p = not (is_omitted p)
+
+-- how many parameters an External states, where it does
+abbrev pub stated_parameters : Place → Plan → Plans
+stated_parameters place p = if is_stated p then one_plan place (an_integer (number_of p)) else no_plans
+
+abbrev pub method_settled : Place → Plans → Plans
+method_settled place ps = join (first_alone ps) (one_plan place (an_integer (method_flags ps)))
+
+abbrev pub mutex_settled : Place → Plans → Plans
+mutex_settled place ps = join (first_alone ps) (one_plan place (an_integer (number_of (plan_at ps 1) % 16)))
+
+abbrev pub external_settled : Place → Plans → Plans
+external_settled place ps = join (join (first_alone ps) (one_plan place (an_integer (number_of (plan_at ps 1))))) (stated_parameters place (plan_at ps 3))
+
+-- a Return without an argument returns Zero
+abbrev pub return_settled : Place → Plans → Plans
+return_settled place ps = if is_stated (plan_at ps 0) then ps else one_plan place zero_plan
+
+-- the arguments of a form, from those that are written; what they come to stands at the operator
+abbrev pub settled : Op → Place → Plans → Plans
+settled (Op.Declaration Declaration.Method) place ps = method_settled place ps
+settled (Op.Declaration Declaration.Mutex) place ps = mutex_settled place ps
+settled (Op.Declaration Declaration.External) place ps = external_settled place ps
+settled (Op.Control Control.Return) place ps = return_settled place ps
+settled _ place ps = ps
+
+abbrev pub form_shape : Op → Place → Shaped Plans → Shaped Plans → Shaped Plan
+form_shape o place args body = record { faults = args.faults ++ body.faults; made = a_form o (settled o place args.made) body.made }
+
+abbrev pub read_shape : Slot → Place → List ℕ → Reading → Shaped Plans → (Op → Shaped Plan) → Shaped Plan
+read_shape s place text read.Wrong args form = refused 6022 place
+read_shape s place text read.Path args form = path_shape place (path_of text)
+read_shape s place text read.Call args form = call_shape place (path_of text) args
+read_shape s place text (read.Known k) args form = fine (known_plan s k)
+read_shape s place text (read.Form o) args form = form o
+
+abbrev pub item_shape : Place → Option ℕ → Shaped Plan → Shaped Plan
+item_shape place (Some number) shape = refused number place
+item_shape place None shape = shape
+
+-- the terms of a method stand inside one
+abbrev pub within : Op → Bool → Bool
+within (Op.Declaration Declaration.Method) inside = true
+within _ inside = inside
+
+-- the place of a node
+abbrev pub place_of : Place → Written → Place
+place_of place (piece.number p n) = p
+place_of place (piece.text p t) = p
+place_of place (item p w args body) = p
+place_of place (apply p o args) = p
+place_of place (listed p ws) = p
+place_of place _ = place
+
+abbrev pub joined : Place → Shaped Plan → Shaped Plans → Shaped Plans
+joined place first rest = record { faults = first.faults ++ rest.faults; made = plan place first.made rest.made }
+
+abbrev pub left_out : Place → List Parameter → Plans
+left_out place [] = no_plans
+left_out place (q ∷ qs) = plan place omitted (left_out place qs)
+
+-- ---- lists in braces
+
+abbrev pub is_comma : Written → Bool
+is_comma comma = true
+is_comma _ = false
+
+abbrev pub is_separator : Written → Bool
+is_separator comma = true
+is_separator semicolon = true
+is_separator _ = false
+
+-- whether an element is to come behind a member: none where it may not stand
+abbrev pub due_after : Bool → Written → Option Bool
+due_after due w = if is_separator w then (if is_comma w then (if due then None else Some true) else None) else (if due then Some false else None)
+
+-- elements with commas between them, and one behind the last perhaps; `due` says that an element is to come
+abbrev pub is_listed : Bool → Writtens → Bool
+is_listed due none = true
+is_listed due (more w ws) = choose (due_after due w) false (λ next. is_listed next ws)
+
+abbrev pub is_text : Written → Bool
+is_text (piece.text p t) = true
+is_text _ = false
+
+-- bytes, or one string
+abbrev pub byte_slot : Writtens → Slot
+byte_slot none = slot.Constant 0 255
+byte_slot (more w ws) = if is_none ws && is_text w then slot.String form.Any else slot.Constant 0 255
+
+abbrev pub list_shape : Place → Bool → Shaped Plans → Shaped Plans
+list_shape place true members = members
+list_shape place false members = record { faults = fault_at 6022 place ∷ []; made = no_plans }
+
+abbrev pub skipped : Bool → Place → Shaped Plan → Shaped Plans → Shaped Plans
+skipped true place first rest = rest
+skipped false place first rest = joined place first rest
+
+abbrev pub is_if : Meaning → Bool
+is_if (is.Operator (Op.Control Control.If)) = true
+is_if _ = false
+
+-- whether an If stands directly before what follows a member
+abbrev pub behind_if : Bool → Written → Bool
+behind_if behind comma = behind
+behind_if behind semicolon = behind
+behind_if behind (item p w args body) = is_if (meaning_of w (is_given body))
+behind_if behind _ = false
+
+-- ---- the tree
+
+abbrev mutual
+  -- a part of a source where it is read so, but for the range of a constant; `inside` a method or not
+  pub bare : Slot → Bool → Written → Shaped Plan
+  bare s inside (piece.number place n) = number_shape s place n
+  bare s inside (piece.text place bytes) = text_shape s place bytes
+  bare s inside (listed place ws) = listed_shape s place ws
+  -- no symbol is built so far
+  bare s inside (apply place o ws) = refused 6020 place
+  bare s inside (item place w args body) =
+      item_shape place (item_fault s inside (meaning_of w (is_given body)) (has_arguments (meaning_of w (is_given body)) (inside_of args)) (is_given body))
+          (read_shape s place w (reading_of s (meaning_of w (is_given body)) (is_given args)) (call_args inside args)
+          (λ o. form_shape o place (arguments (parameters_of o) place inside args) (contents (body_of o) (within o inside) place body)))
+  bare s inside _ = fine omitted
+
+  -- the arguments of a call
+  pub operands : Slot → Bool → Writtens → Shaped Plans
+  operands s inside none = fine no_plans
+  operands s inside (more w ws) = joined (place_of nowhere w) (checked s (place_of nowhere w) (bare s inside w)) (operands slot.Expression inside ws)
+
+  pub call_args : Bool → Group → Shaped Plans
+  call_args inside absent = fine no_plans
+  call_args inside (given ws) = operands slot.Expression inside ws
+
+  -- the arguments of an operator, each by its letter; one that is left out stands at the operator
+  pub arguments : List Parameter → Place → Bool → Group → Shaped Plans
+  arguments qs place inside absent = fine (left_out place qs)
+  arguments qs place inside (given ws) = arguments_in qs place inside ws
+
+  pub arguments_in : List Parameter → Place → Bool → Writtens → Shaped Plans
+  arguments_in qs place inside none = fine (left_out place qs)
+  arguments_in [] place inside (more w ws) = fine no_plans
+  arguments_in (q ∷ qs) place inside (more w ws) = joined (place_of place w) (checked q.slot (place_of nowhere w) (bare q.slot inside w)) (arguments_in qs place inside ws)
+
+  -- what stands in braces
+  pub contents : Body → Bool → Place → Group → Shaped Plans
+  contents b inside place absent = fine no_plans
+  contents braces.No inside place (given ws) = fine no_plans
+  contents braces.Terms inside place (given ws) = terms inside false ws
+  contents braces.Bytes inside place (given ws) = list_shape place (is_listed true ws) (members (byte_slot ws) inside ws)
+  contents braces.Elements inside place (given ws) = list_shape place (is_listed true ws) (members slot.Element inside ws)
+
+  pub members : Slot → Bool → Writtens → Shaped Plans
+  members s inside none = fine no_plans
+  members s inside (more w ws) = skipped (is_separator w) (place_of nowhere w) (checked s (place_of nowhere w) (bare s inside w)) (members s inside ws)
+
+  -- the terms of a list; `behind` says that an If stands directly before
+  pub terms : Bool → Bool → Writtens → Shaped Plans
+  terms inside behind none = fine no_plans
+  terms inside behind (more w ws) =
+      skipped (is_separator w) (place_of nowhere w) (checked (slot.Term behind) (place_of nowhere w) (bare (slot.Term behind) inside w)) (terms inside (behind_if behind w) ws)
+
+-- a part of a source where it is read so
+abbrev pub shape : Slot → Bool → Written → Shaped Plan
+shape s inside w = checked s (place_of nowhere w) (bare s inside w)

@@ -1,0 +1,357 @@
+//! Numbers, strings, names, words and lists of types.
+ghost use Rattle.std.specs.Prelude.{◌≡◌, ◌++◌, ◌∷◌, [], OnOk, IfOk};
+ghost use Rattle.asl_shape.specs.Shapes as spec;
+ghost use Rattle.asl_shape.specs.Paths;
+ghost use Rattle.asl_shape.specs.AtRaw as at;
+ghost use Rattle.asl_shape.specs.Plans.{plan_of};
+
+use crate::item::{Meaning, is_given, meaning_of, takes_expression, takes_known};
+use crate::operator::{Known, Slot, StringForm, WordKind};
+use crate::work::{Work, refuse};
+use acpi_values::integer::wrap;
+use acpi_values::width::Width;
+use asl_parser::Raw;
+use asl_tree::path::{NameSeg, Path, Segs};
+use asl_tree::term::Term;
+use iasl_messages::place::Place;
+use iasl_ports::list::Text;
+use std::alloc::{AllocError, Global};
+
+/// The place of a node, or this one where it has none.
+#[tactic(auto, using(crate::proofs::Leaves::place_rules))]
+pub fn place_in(place: Place, raw: &Raw) -> Place
+    ensures { result ≡ at.place_at place raw.now }
+{
+    match raw {
+        Raw::Number { place, .. } => *place,
+        Raw::Text { place, .. } => *place,
+        Raw::Item { place, .. } => *place,
+        Raw::Apply { place, .. } => *place,
+        Raw::List { place, .. } => *place,
+        Raw::Comma => place,
+        Raw::Semicolon => place,
+        Raw::Empty => place,
+    }
+}
+
+#[tactic(auto, using(crate::proofs::Terms::term_rules, crate::proofs::Terms::nothing_more))]
+pub fn number(
+    alloc: Global,
+    work: &mut Work,
+    slot: Slot,
+    place: Place,
+    value: u64,
+) -> Result<Term, AllocError>
+    ensures faults { OnOk result (work.new.faults.items ≡ work.old.faults.items ++ (spec.number_shape slot place value).faults) }
+    ensures made { IfOk result (λ term. plan_of term ≡ (spec.number_shape slot place value).made) }
+{
+    match slot {
+        Slot::Term { .. } => Ok(refuse(alloc, work, 6025, place)?),
+        _ => {
+            if takes_expression(slot) {
+                Ok(Term::Integer(wrap(Width::W64, value)))
+            } else {
+                Ok(refuse(alloc, work, 6022, place)?)
+            }
+        }
+    }
+}
+
+fn is_text_byte(byte: u8) -> bool
+    ensures { result ≡ spec.is_text_byte byte }
+{
+    1 <= byte && byte <= 127
+}
+
+fn is_text(bytes: &[u8]) -> bool
+    ensures { result ≡ spec.is_all_text bytes.now }
+{
+    bytes.iter().all(|byte| is_text_byte(*byte))
+}
+
+fn is_upper_or_digit(byte: u8) -> bool
+    ensures { result ≡ spec.is_upper_or_digit byte }
+{
+    (65 <= byte && byte <= 90) || (48 <= byte && byte <= 57)
+}
+
+fn is_oem_signature(text: &[u8]) -> bool
+    ensures { result ≡ spec.is_oem_signature text.now }
+{
+    let [first, second, third, last] = text else {
+        return false;
+    };
+    *first == b'O' && (*second == b'E' && (*third == b'M' && is_upper_or_digit(*last)))
+}
+
+fn is_signature(text: &[u8]) -> bool
+    ensures { result ≡ spec.is_signature text.now }
+{
+    matches!(text, b"DSDT" | b"SSDT" | b"PSDT") || is_oem_signature(text)
+}
+
+fn has_form(form: StringForm, text: &[u8]) -> bool
+    ensures { result ≡ spec.has_form form text.now }
+{
+    match form {
+        StringForm::Any => true,
+        StringForm::Signature => is_signature(text),
+        StringForm::AtMost(most) => text.len() <= most as usize,
+    }
+}
+
+#[tactic(auto, using(crate::proofs::Terms::term_rules))]
+fn copied(alloc: Global, bytes: &Text) -> Result<Term, AllocError>
+    ensures { IfOk result (λ term. plan_of term ≡ spec.text_plan bytes.now) }
+{
+    Ok(Term::Text(Text::from_bytes(alloc, bytes.as_bytes())?))
+}
+
+#[tactic(auto, using(crate::proofs::Terms::nothing_more))]
+fn string(
+    alloc: Global,
+    work: &mut Work,
+    form: StringForm,
+    place: Place,
+    bytes: &Text,
+) -> Result<Term, AllocError>
+    ensures faults { OnOk result (work.new.faults.items ≡ work.old.faults.items ++ (spec.string_shape form place bytes.now).faults) }
+    ensures made { IfOk result (λ term. plan_of term ≡ (spec.string_shape form place bytes.now).made) }
+{
+    if has_form(form, bytes.as_bytes()) && is_text(bytes.as_bytes()) {
+        Ok(copied(alloc, bytes)?)
+    } else {
+        Ok(refuse(alloc, work, 6024, place)?)
+    }
+}
+
+pub fn text(
+    alloc: Global,
+    work: &mut Work,
+    slot: Slot,
+    place: Place,
+    bytes: &Text,
+) -> Result<Term, AllocError>
+    ensures faults { OnOk result (work.new.faults.items ≡ work.old.faults.items ++ (spec.text_shape slot place bytes.now).faults) }
+    ensures made { IfOk result (λ term. plan_of term ≡ (spec.text_shape slot place bytes.now).made) }
+{
+    match slot {
+        Slot::Expression => Ok(string(alloc, work, StringForm::Any, place, bytes)?),
+        Slot::Element => Ok(string(alloc, work, StringForm::Any, place, bytes)?),
+        Slot::String(form) => Ok(string(alloc, work, form, place, bytes)?),
+        Slot::Term { .. } => Ok(refuse(alloc, work, 6025, place)?),
+        _ => Ok(refuse(alloc, work, 6022, place)?),
+    }
+}
+
+fn is_lead(byte: u8) -> bool
+    ensures { result ≡ Paths.is_lead byte }
+{
+    (65 <= byte && byte <= 90) || byte == b'_'
+}
+
+fn is_name_byte(byte: u8) -> bool
+    ensures { result ≡ Paths.is_name_byte byte }
+{
+    is_lead(byte) || (48 <= byte && byte <= 57)
+}
+
+fn segment_with(a: u8, b: u8, c: u8, d: u8) -> Option<NameSeg>
+    ensures { result ≡ Paths.segment_with a b c d }
+{
+    if is_lead(a) && (is_name_byte(b) && (is_name_byte(c) && is_name_byte(d))) {
+        Some([a, b, c, d])
+    } else {
+        None
+    }
+}
+
+// A segment of at most four characters, filled with `_`.
+fn segment_of(text: &[u8]) -> Option<NameSeg>
+    ensures { result ≡ Paths.segment_of text.now }
+{
+    match text {
+        [a] => segment_with(*a, b'_', b'_', b'_'),
+        [a, b] => segment_with(*a, *b, b'_', b'_'),
+        [a, b, c] => segment_with(*a, *b, *c, b'_'),
+        [a, b, c, d] => segment_with(*a, *b, *c, *d),
+        _ => None,
+    }
+}
+
+/// The path of a word.
+pub fn path_of(alloc: Global, text: &[u8]) -> Result<Option<Path>, AllocError>
+    ensures { IfOk result (λ path. path ≡ Paths.path_of text.now) }
+{
+    let Some(segment) = segment_of(text) else {
+        return Ok(None);
+    };
+    let mut segs = Segs::new(alloc);
+    segs.push(segment)?;
+    Ok(Some(Path {
+        root: false,
+        up: 0,
+        segs,
+    }))
+}
+
+#[tactic(auto, using(crate::proofs::Terms::term_rules, crate::proofs::Terms::nothing_more))]
+pub fn path(
+    alloc: Global,
+    work: &mut Work,
+    place: Place,
+    text: &[u8],
+) -> Result<Term, AllocError>
+    ensures faults { OnOk result (work.new.faults.items ≡ work.old.faults.items ++ (spec.path_shape place (Paths.path_of text.now)).faults) }
+    ensures made { IfOk result (λ term. plan_of term ≡ (spec.path_shape place (Paths.path_of text.now)).made) }
+{
+    match path_of(alloc, text)? {
+        Some(path) => Ok(Term::Name(path)),
+        None => Ok(refuse(alloc, work, 6024, place)?),
+    }
+}
+
+fn word_number(slot: Slot, number: u64) -> u64
+    ensures { result ≡ spec.word_number slot number }
+{
+    match slot {
+        Slot::Types { .. } => 1,
+        _ => number,
+    }
+}
+
+#[tactic(auto, using(crate::proofs::Terms::term_rules))]
+pub fn known_term(slot: Slot, known: Known) -> Term
+    ensures { plan_of result ≡ spec.known_plan slot known }
+{
+    match known {
+        Known::Word { number, .. } => Term::Integer(word_number(slot, number)),
+        Known::Local(index) => Term::Local(index),
+        Known::Arg(index) => Term::Arg(index),
+        Known::Debug => Term::Debug,
+        Known::LeftOut => Term::Omitted,
+    }
+}
+
+fn is_type_word(meaning: Meaning) -> bool
+    ensures { result ≡ spec.is_type_word meaning }
+{
+    match meaning {
+        Meaning::Known(known) => takes_known(Slot::Word(WordKind::ObjectType), known),
+        _ => false,
+    }
+}
+
+fn is_bare_type(word: &Text, has_args: bool, has_body: bool) -> bool
+    ensures { result ≡ spec.is_bare_type word.now has_args has_body }
+{
+    !has_args && (!has_body && is_type_word(meaning_of(word.as_bytes(), false)))
+}
+
+// Whether this is a word for an object type alone.
+#[tactic(auto, using(crate::proofs::Types::type_rules))]
+fn is_type(raw: &Raw) -> bool
+    ensures { result ≡ at.is_type_at raw.now }
+{
+    match raw {
+        Raw::Item {
+            word, args, body, ..
+        } => is_bare_type(word, is_given(args), is_given(body)),
+        Raw::Number { .. } => false,
+        Raw::Text { .. } => false,
+        Raw::Apply { .. } => false,
+        Raw::List { .. } => false,
+        Raw::Comma => false,
+        Raw::Semicolon => false,
+        Raw::Empty => false,
+    }
+}
+
+#[tactic(auto, using(crate::proofs::Types::types_steps))]
+fn are_types(raws: &[Raw]) -> bool
+    ensures { result ≡ at.are_types_at raws.now }
+{
+    for raw in raws {
+        if !is_type(raw) {
+            return false;
+        }
+    }
+    true
+}
+
+#[tactic(auto, using(crate::proofs::Types::list_rules))]
+fn is_type_or_list(raw: &Raw) -> bool
+    ensures { result ≡ at.is_type_or_list_at raw.now }
+{
+    match raw {
+        Raw::List { items, .. } => are_types(items.as_slice()),
+        Raw::Item { .. } => is_type(raw),
+        Raw::Number { .. } => false,
+        Raw::Text { .. } => false,
+        Raw::Apply { .. } => false,
+        Raw::Comma => false,
+        Raw::Semicolon => false,
+        Raw::Empty => false,
+    }
+}
+
+#[tactic(auto, using(crate::proofs::Types::all_steps))]
+fn are_all_types(raws: &[Raw]) -> bool
+    ensures { result ≡ at.are_all_types_at raws.now }
+{
+    for raw in raws {
+        if !is_type_or_list(raw) {
+            return false;
+        }
+    }
+    true
+}
+
+#[tactic(auto, using(crate::proofs::Types::counted_rules))]
+fn types(
+    alloc: Global,
+    work: &mut Work,
+    most: u64,
+    place: Place,
+    raws: &[Raw],
+) -> Result<Term, AllocError>
+    ensures faults { OnOk result (work.new.faults.items ≡ work.old.faults.items ++ (at.types_at most place raws.now).faults) }
+    ensures made { IfOk result (λ term. plan_of term ≡ (at.types_at most place raws.now).made) }
+{
+    if !are_all_types(raws) {
+        return Ok(refuse(alloc, work, 6022, place)?);
+    }
+    if raws.len() as u64 <= most {
+        Ok(Term::Integer(raws.len() as u64))
+    } else {
+        Ok(refuse(alloc, work, 6024, place)?)
+    }
+}
+
+// How many types may be listed, where they may.
+fn most_types(slot: Slot) -> Option<u64>
+    ensures { result ≡ spec.most_types slot }
+{
+    match slot {
+        Slot::Types { most } => Some(most),
+        _ => None,
+    }
+}
+
+/// A list as an argument.
+#[tactic(auto, using(crate::proofs::Types::listed_rules))]
+pub fn listed(
+    alloc: Global,
+    work: &mut Work,
+    slot: Slot,
+    place: Place,
+    raws: &[Raw],
+) -> Result<Term, AllocError>
+    ensures faults { OnOk result (work.new.faults.items ≡ work.old.faults.items ++ (at.listed_at slot place raws.now).faults) }
+    ensures made { IfOk result (λ term. plan_of term ≡ (at.listed_at slot place raws.now).made) }
+{
+    match most_types(slot) {
+        Some(most) => Ok(types(alloc, work, most, place, raws)?),
+        None => Ok(refuse(alloc, work, 6022, place)?),
+    }
+}

@@ -1,0 +1,143 @@
+//! What stands in braces.
+ghost use Rattle.std.specs.Prelude.{◌≡◌, ◌≤◌, ◌<◌, drop, true, false};
+ghost use Rattle.asl_shape.specs.Shapes as spec;
+ghost use Rattle.asl_shape.specs.AtRaw as at;
+
+use crate::item::{Meaning, is_given, meaning_of, parts};
+use crate::operator::{Slot, StringForm};
+use asl_parser::Raw;
+use asl_tree::term::{Control, Declaration, Op};
+
+/// The terms of a method stand inside one.
+pub fn within(op: Op, inside: bool) -> bool
+    ensures { result ≡ spec.within op inside }
+{
+    match op {
+        Op::Declaration(Declaration::Method) => true,
+        _ => inside,
+    }
+}
+
+/// Whether a member of a list only separates others.
+#[tactic(auto, using(crate::proofs::Braces::separator_rules))]
+pub fn is_separator(raw: &Raw) -> bool
+    ensures { result ≡ at.is_separator_at raw.now }
+{
+    match raw {
+        Raw::Comma => true,
+        Raw::Semicolon => true,
+        Raw::Number { .. } => false,
+        Raw::Text { .. } => false,
+        Raw::Item { .. } => false,
+        Raw::Apply { .. } => false,
+        Raw::List { .. } => false,
+        Raw::Empty => false,
+    }
+}
+
+#[tactic(auto, using(crate::proofs::Braces::comma_rules))]
+fn is_comma(raw: &Raw) -> bool
+    ensures { result ≡ at.is_comma_at raw.now }
+{
+    match raw {
+        Raw::Comma => true,
+        Raw::Semicolon => false,
+        Raw::Number { .. } => false,
+        Raw::Text { .. } => false,
+        Raw::Item { .. } => false,
+        Raw::Apply { .. } => false,
+        Raw::List { .. } => false,
+        Raw::Empty => false,
+    }
+}
+
+// Whether an element is to come behind this member: none where it may not stand.
+#[tactic(auto, using(crate::proofs::Braces::due_rules))]
+fn due_after(due: bool, raw: &Raw) -> Option<bool>
+    ensures { result ≡ at.due_at due raw.now }
+{
+    if is_separator(raw) {
+        if is_comma(raw) {
+            if due { None } else { Some(true) }
+        } else {
+            None
+        }
+    } else {
+        if due { Some(false) } else { None }
+    }
+}
+
+/// Whether elements stand with commas between them.
+#[tactic(auto, using(crate::proofs::Braces::listed_steps))]
+pub fn is_listed(raws: &[Raw]) -> bool
+    ensures { result ≡ at.is_listed_at true raws.now }
+{
+    let mut due = true;
+    for raw in raws {
+        match due_after(due, raw) {
+            Some(next) => due = next,
+            None => return false,
+        }
+    }
+    true
+}
+
+#[tactic(auto, using(crate::proofs::Braces::is_text_rules))]
+fn is_text(raw: &Raw) -> bool
+    ensures { result ≡ at.is_text_at raw.now }
+{
+    match raw {
+        Raw::Text { .. } => true,
+        Raw::Comma => false,
+        Raw::Semicolon => false,
+        Raw::Number { .. } => false,
+        Raw::Item { .. } => false,
+        Raw::Apply { .. } => false,
+        Raw::List { .. } => false,
+        Raw::Empty => false,
+    }
+}
+
+/// How the bytes of a Buffer are read: as one string, or as bytes.
+#[tactic(auto, using(crate::proofs::Braces::byte_rules))]
+pub fn byte_slot(raws: &[Raw]) -> Slot
+    ensures { result ≡ at.byte_slot_at raws.now }
+{
+    let Some((first, rest)) = parts(raws) else {
+        return Slot::Constant {
+            least: 0,
+            most: 255,
+        };
+    };
+    if rest.is_empty() && is_text(first) {
+        Slot::String(StringForm::Any)
+    } else {
+        Slot::Constant {
+            least: 0,
+            most: 255,
+        }
+    }
+}
+
+fn is_if(meaning: Meaning) -> bool
+    ensures { result ≡ spec.is_if meaning }
+{
+    matches!(meaning, Meaning::Operator(Op::Control(Control::If)))
+}
+
+/// Whether an If stands directly before what follows a member.
+#[tactic(auto, using(crate::proofs::Braces::run_rules))]
+pub fn behind_if(behind: bool, raw: &Raw) -> bool
+    ensures { result ≡ at.behind_if_at behind raw.now }
+{
+    match raw {
+        Raw::Comma => behind,
+        Raw::Semicolon => behind,
+        Raw::Item { word, body, .. } => is_if(meaning_of(word.as_bytes(), is_given(body))),
+        Raw::Number { .. } => false,
+        Raw::Text { .. } => false,
+        Raw::Apply { .. } => false,
+        Raw::List { .. } => false,
+        Raw::Empty => false,
+    }
+}

@@ -1,0 +1,156 @@
+//! The arguments of a form, from those that are written.
+ghost use Rattle.std.specs.Prelude.{◌≡◌, ◌∷◌, [], slice_get, take, OnOk, IfOk};
+ghost use Rattle.asl_shape.specs.Shapes as spec;
+ghost use Rattle.asl_shape.specs.Plans.{plan_of, plans_of, plan_at, number_of, first_alone, join};
+
+use crate::work::{is_omitted, value_of};
+use asl_tree::term::{Control, Declaration, Literal, Node, Op, Special, Term};
+use iasl_messages::place::Place;
+use std::alloc::{AllocError, Global};
+
+#[tactic(auto, using(crate::proofs::Settled::number_rules))]
+fn number_in(term: &Term) -> u64
+    ensures { result ≡ number_of (plan_of term.now) }
+{
+    match term {
+        Term::Integer(number) => *number,
+        Term::Text(_) => 0,
+        Term::Name(_) => 0,
+        Term::Form { .. } => 0,
+        Term::Fill(_) => 0,
+        Term::Word(_) => 0,
+        Term::Local(_) => 0,
+        Term::Arg(_) => 0,
+        Term::Debug => 0,
+        Term::Omitted => 0,
+        Term::Unit { .. } => 0,
+        Term::Skip(_) => 0,
+        Term::Offset(_) => 0,
+        Term::Call { .. } => 0,
+    }
+}
+
+/// The number that an argument is, counted from 0; 0 where it is none.
+#[tactic(auto, using(crate::proofs::Settled::at_rules))]
+pub fn number_at(nodes: &[Node], i: usize) -> u64
+    ensures { result ≡ number_of (plan_at (plans_of nodes.now) i) }
+{
+    match nodes.get(i) {
+        Some(node) => number_in(&node.term),
+        None => 0,
+    }
+}
+
+#[tactic(auto, using(crate::proofs::Settled::given_rules))]
+fn is_given(nodes: &[Node], i: usize) -> bool
+    ensures { result ≡ spec.is_stated (plan_at (plans_of nodes.now) i) }
+{
+    match nodes.get(i) {
+        Some(node) => !is_omitted(&node.term),
+        None => false,
+    }
+}
+
+#[tactic(auto, using(crate::proofs::Settled::push_rules))]
+fn push(nodes: &mut Vec<Node>, place: Place, term: Term) -> Result<(), AllocError>
+    ensures { OnOk result (plans_of nodes.new.items ≡ join (plans_of nodes.old.items) (spec.one_plan place (plan_of term))) }
+{
+    nodes.push(Node { id: 0, place, term })?;
+    Ok(())
+}
+
+// The first alone.
+#[tactic(auto, using(crate::proofs::Settled::first_is))]
+fn keep_first(nodes: &mut Vec<Node>)
+    ensures { plans_of nodes.new.items ≡ first_alone (plans_of nodes.old.items) }
+{
+    nodes.truncate(1);
+}
+
+fn flags_of(nodes: &[Node]) -> u64
+    ensures { result ≡ spec.method_flags (plans_of nodes.now) }
+{
+    number_at(nodes, 1) % 8 + 8 * (number_at(nodes, 2) % 2) + 16 * (number_at(nodes, 3) % 16)
+}
+
+#[tactic(auto, using(crate::proofs::Terms::term_rules))]
+fn method(nodes: &mut Vec<Node>, place: Place) -> Result<(), AllocError>
+    ensures { OnOk result (plans_of nodes.new.items ≡ spec.method_settled place (plans_of nodes.old.items)) }
+{
+    let flags = flags_of(nodes);
+    keep_first(nodes);
+    Ok(push(nodes, place, Term::Integer(flags))?)
+}
+
+#[tactic(auto, using(crate::proofs::Terms::term_rules))]
+fn mutex(nodes: &mut Vec<Node>, place: Place) -> Result<(), AllocError>
+    ensures { OnOk result (plans_of nodes.new.items ≡ spec.mutex_settled place (plans_of nodes.old.items)) }
+{
+    let level = number_at(nodes, 1) % 16;
+    keep_first(nodes);
+    Ok(push(nodes, place, Term::Integer(level))?)
+}
+
+#[tactic(auto, using(crate::proofs::Settled::external_rules))]
+fn external(nodes: &mut Vec<Node>, place: Place) -> Result<(), AllocError>
+    ensures { OnOk result (plans_of nodes.new.items ≡ spec.external_settled place (plans_of nodes.old.items)) }
+{
+    let kind = number_at(nodes, 1);
+    let states = is_given(nodes, 3);
+    let count = number_at(nodes, 3);
+    keep_first(nodes);
+    push(nodes, place, Term::Integer(kind))?;
+    if states {
+        Ok(push(nodes, place, Term::Integer(count))?)
+    } else {
+        Ok(())
+    }
+}
+
+#[tactic(auto, using(crate::proofs::Settled::zero_rules))]
+fn zero(alloc: Global) -> Term
+    ensures { plan_of result ≡ spec.zero_plan }
+{
+    Term::Form {
+        op: Op::Literal(Literal::Zero),
+        args: Vec::new(alloc),
+        body: Vec::new(alloc),
+    }
+}
+
+#[tactic(auto, using(crate::proofs::Settled::single_rules))]
+fn only(alloc: Global, nodes: &mut Vec<Node>, place: Place, term: Term) -> Result<(), AllocError>
+    ensures { OnOk result (plans_of nodes.new.items ≡ spec.one_plan place (plan_of term)) }
+{
+    nodes.truncate(0);
+    Ok(push(nodes, place, term)?)
+}
+
+#[tactic(auto, using(crate::proofs::Settled::return_rules))]
+fn returned(alloc: Global, nodes: &mut Vec<Node>, place: Place) -> Result<(), AllocError>
+    ensures { OnOk result (plans_of nodes.new.items ≡ spec.return_settled place (plans_of nodes.old.items)) }
+{
+    if is_given(nodes, 0) {
+        Ok(())
+    } else {
+        Ok(only(alloc, nodes, place, zero(alloc))?)
+    }
+}
+
+/// The arguments of a form, from those that are written.
+pub fn settle(
+    alloc: Global,
+    op: Op,
+    place: Place,
+    nodes: &mut Vec<Node>,
+) -> Result<(), AllocError>
+    ensures { OnOk result (plans_of nodes.new.items ≡ spec.settled op place (plans_of nodes.old.items)) }
+{
+    match op {
+        Op::Declaration(Declaration::Method) => Ok(method(nodes, place)?),
+        Op::Declaration(Declaration::Mutex) => Ok(mutex(nodes, place)?),
+        Op::Declaration(Declaration::External) => Ok(external(nodes, place)?),
+        Op::Control(Control::Return) => Ok(returned(alloc, nodes, place)?),
+        _ => Ok(()),
+    }
+}

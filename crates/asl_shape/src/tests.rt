@@ -1,0 +1,143 @@
+use crate::shape;
+use asl_lexer::token::{Token, TokenKind, Tokens};
+use asl_parser::parse;
+use iasl_messages::message::Stage;
+use iasl_messages::place::Place;
+use iasl_ports::list::Text;
+use std::alloc::{AllocError, Global};
+use std::test::Fail;
+
+fn decimal(bytes: &[u8]) -> u64 {
+    let mut number: u64 = 0;
+    for byte in bytes {
+        number = number.wrapping_mul(10).wrapping_add(byte.wrapping_sub(b'0') as u64);
+    }
+    number
+}
+
+/// The tokens of a text that has a blank between each two; a token's column is its number.
+fn tokens(alloc: Global, text: &str) -> Result<Tokens, AllocError> {
+    let mut tokens = Tokens::new(alloc);
+    for (column, word) in text.split(' ').enumerate() {
+        let bytes = word.as_bytes();
+        let kind = match bytes.first() {
+            None => continue,
+            Some(b'0'..=b'9') => TokenKind::Number,
+            Some(b'A'..=b'Z' | b'_') => TokenKind::Word,
+            Some(b'\\') => TokenKind::Path,
+            Some(b'"') => TokenKind::Text,
+            Some(_) => TokenKind::Symbol,
+        };
+        let bytes = match bytes {
+            [b'"', rest @ ..] => rest,
+            _ => bytes,
+        };
+        tokens.push(Token {
+            kind,
+            place: Place {
+                file: 0,
+                line: 1,
+                column: u32::try_from(column).unwrap_or(0),
+            },
+            number: decimal(bytes),
+            text: Text::from_bytes(alloc, bytes)?,
+        })?;
+    }
+    Ok(tokens)
+}
+
+/// The errors of a source: each with its column, in order.
+fn errors(alloc: Global, text: &str) -> Result<String, AllocError> {
+    let Ok(unit) = parse(alloc, &tokens(alloc, text)?) else {
+        return String::from_str(alloc, "no tree");
+    };
+    match shape(alloc, &unit) {
+        Ok(_) => String::from_str(alloc, "none"),
+        Err(Stage::Memory) => Err(AllocError),
+        Err(Stage::Refused(messages)) => {
+            let mut out = String::new(alloc);
+            for message in messages.as_slice() {
+                let number = message.number;
+                let column = message.place.column;
+                out.push_str(format!(in alloc; "{number}@{column} ")?.as_str())?;
+            }
+            Ok(out)
+        }
+    }
+}
+
+#[test]
+fn tells_each_error_at_its_place(rt: HostRuntime) -> Result<(), Fail> {
+    let alloc = rt.alloc();
+    for (text, want) in [
+        // No definition block, or something beside it.
+        ("", "6028@1 "),
+        ("NAME ( A , 1 ) B", "6028@0 "),
+        (
+            "DEFINITIONBLOCK ( \"a , \"DSDT , 2 , \"O , \"T , 1 ) { } NAME ( A , 1 )",
+            "6028@16 ",
+        ),
+        // Its own arguments, all of them.
+        ("DEFINITIONBLOCK ( \"a , \"DSDT , 2 , \"O , \"T ) { }", "6021@0 "),
+        ("DEFINITIONBLOCK ( \"a , \"DSDT , 2 , \"O , \"T , 1 )", "6023@0 "),
+        (
+            "DEFINITIONBLOCK ( A , \"OEMX , 1 , \"OEMOEMO , \"T , B ) { NAME ( C ) }",
+            "6022@2 6024@6 6024@8 6022@12 6021@15 ",
+        ),
+        (
+            "DEFINITIONBLOCK ( \" , \"XSDT , 256 , \"OEMOEM , \"TABLETAB , ONES ) { }",
+            "6024@4 6024@6 6024@12 ",
+        ),
+    ] {
+        assert_eq!(rt; errors(alloc, text)?.as_str(), want);
+    }
+    for (text, want) in [
+        // Unknown operators, also those of later, and nothing inside of them.
+        ("FOO12 ( BARBAR )", "6020@15 "),
+        ("SWITCH ( 1 ) { NAME ( ) }", "6020@15 "),
+        ("LOAD ( A )", "6020@15 "),
+        ("FOO { }", "6020@15 "),
+        ("NAME ( \\\\A , 1 )", "6020@17 "),
+        ("NAME ( A , 1 + 2 )", "6020@20 "),
+        // The first of 6020, 6025, 6021 and 6023 alone.
+        ("RETURN ( 1 , 2 )", "6025@15 "),
+        ("METHOD ( M ) { METHOD ( N , 1 , 2 , 3 , 4 , 5 , 6 ) }", "6025@20 "),
+        ("METHOD ( M ) { RETURN ( ADD ( ARG0 ) ) }", "6021@22 "),
+        ("METHOD ( M , 8 )", "6023@15 "),
+        ("NAME ( A , 1 ) { }", "6023@15 "),
+        ("NAME ( A , 1 , 2 )", "6021@15 "),
+        ("METHOD ( M ) { ADD ( 1 , , LOCAL0 ) }", "6021@20 "),
+        ("A ( 1 , , 2 )", "6021@15 "),
+        // Literals and words of the language are no terms, and an Else stands behind an If.
+        ("1 \"a SERIALIZED", "6025@15 6025@16 6025@17 "),
+        (
+            "METHOD ( M ) { ELSE { } IF ( 1 ) { } ; ELSE { } ELSE { } }",
+            "6025@20 6025@33 ",
+        ),
+        // What the arguments are, one error for each.
+        ("NAME ( 1 , METHOD ( M ) { } )", "6022@17 6022@19 "),
+        ("METHOD ( M , ARG0 , 1 , 16 ) { }", "6022@19 6022@21 6024@23 "),
+        (
+            "METHOD ( M , 8 , SERIALIZED , DIVIDE ( 1 , 0 ) ) { }",
+            "6024@19 6024@23 ",
+        ),
+        (
+            "METHOD ( M ) { ADD ( 1 , 2 , 3 ) INCREMENT ( \"a ) }",
+            "6022@26 6022@30 ",
+        ),
+        // The error inside a constant stands alone.
+        ("METHOD ( M , ADD ( 1 ) ) { }", "6021@19 "),
+        ("NAME ( ABCDE , 1 )", "6020@17 "),
+        ("EXTERNAL ( A , INTOBJ , { INTOBJ , B } , 1 )", "6022@21 6022@27 "),
+        // No error: what may be left out, and where a constant may be an operator.
+        (
+            "METHOD ( M , ADD ( 1 , 2 ) , , ) { RETURN ( ) ADD ( ARG0 , 1 ) }",
+            "none",
+        ),
+    ] {
+        let head = "DEFINITIONBLOCK ( \"a , \"DSDT , 2 , \"O , \"T , 1 ) {";
+        let source = format!(in alloc; "{head} {text} }}")?;
+        assert_eq!(rt; errors(alloc, source.as_str())?.as_str(), want);
+    }
+    Ok(())
+}

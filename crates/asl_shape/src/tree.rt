@@ -1,0 +1,380 @@
+//! From the tree of the syntax to the program tree.
+ghost use Rattle.std.specs.Prelude.{◌≡◌, ◌++◌, ◌==◌, ◌&&◌, [], slice_get, length, nat_eq, OnOk, IfOk, IfErr, true, false};
+ghost use Rattle.asl_shape.specs.Shapes as spec;
+ghost use Rattle.asl_shape.specs.AtRaw as at;
+ghost use Rattle.asl_shape.specs.Operators as table;
+ghost use Rattle.asl_shape.specs.Paths;
+ghost use Rattle.asl_shape.specs.Plans.{plan_of, plans_of, join};
+
+use crate::item::{Reading, inside_of, is_given, item_fault, meaning_of, reading_of};
+use crate::leaf::{known_term, listed, number, path, path_of, place_in, text};
+use crate::lists::{behind_if, byte_slot, is_listed, is_separator, within};
+use crate::operator::{Body, Parameter, Slot};
+use crate::parameters::{body_of, parameters_of};
+use crate::settle::settle;
+use crate::work::{NOWHERE, Work, evaluate, refuse, tell};
+use asl_parser::{Raw, Raws};
+use asl_tree::term::{Node, Op, Term};
+use iasl_messages::message::{Messages, Stage};
+use iasl_messages::place::Place;
+use iasl_ports::list::Text;
+use std::alloc::{AllocError, Global};
+
+// A part of a source where it is read so.
+#[cycle(shape)]
+#[tactic(auto, using(crate::proofs::Shapes::size_rules))]
+fn shape(
+    alloc: Global,
+    work: &mut Work,
+    slot: Slot,
+    inside: bool,
+    raw: &Raw,
+) -> Result<Term, AllocError>
+    ensures faults { OnOk result (work.new.faults.items ≡ work.old.faults.items ++ (at.shape_at slot inside raw.now).faults) }
+    ensures made { IfOk result (λ term. plan_of term ≡ (at.shape_at slot inside raw.now).made) }
+{
+    let before = work.faults.len();
+    let term = bare(alloc, work, slot, inside, raw)?;
+    if work.faults.len() == before {
+        Ok(evaluate(alloc, work, slot, place_in(NOWHERE, raw), term)?)
+    } else {
+        Ok(term)
+    }
+}
+
+#[cycle(shape)]
+#[tactic(auto, using(crate::proofs::Shapes::size_rules, crate::proofs::Shapes::bare_rules))]
+fn bare(
+    alloc: Global,
+    work: &mut Work,
+    slot: Slot,
+    inside: bool,
+    raw: &Raw,
+) -> Result<Term, AllocError>
+    ensures faults { OnOk result (work.new.faults.items ≡ work.old.faults.items ++ (at.bare_at slot inside raw.now).faults) }
+    ensures made { IfOk result (λ term. plan_of term ≡ (at.bare_at slot inside raw.now).made) }
+{
+    match raw {
+        Raw::Number { place, value } => Ok(number(alloc, work, slot, *place, *value)?),
+        Raw::Text { place, text: bytes } => Ok(text(alloc, work, slot, *place, bytes)?),
+        Raw::List { place, items } => Ok(listed(alloc, work, slot, *place, items.as_slice())?),
+        Raw::Apply { place, .. } => Ok(refuse(alloc, work, 6020, *place)?),
+        Raw::Item {
+            place,
+            word,
+            args,
+            body,
+        } => Ok(item(alloc, work, slot, inside, *place, word, args, body)?),
+        Raw::Comma => Ok(Term::Omitted),
+        Raw::Semicolon => Ok(Term::Omitted),
+        Raw::Empty => Ok(Term::Omitted),
+    }
+}
+
+// A node at its place, or at this one where it has none.
+#[cycle(shape)]
+#[tactic(auto, using(crate::proofs::Shapes::size_rules, crate::proofs::Shapes::push_rules))]
+fn add(
+    alloc: Global,
+    work: &mut Work,
+    nodes: &mut Vec<Node>,
+    slot: Slot,
+    inside: bool,
+    place: Place,
+    raw: &Raw,
+) -> Result<(), AllocError>
+    ensures faults { OnOk result (work.new.faults.items ≡ work.old.faults.items ++ (at.shape_at slot inside raw.now).faults) }
+    ensures made { OnOk result (plans_of nodes.new.items ≡ join (plans_of nodes.old.items) (at.one_at place raw.now (at.shape_at slot inside raw.now).made)) }
+{
+    let term = shape(alloc, work, slot, inside, raw)?;
+    nodes.push(Node {
+        id: 0,
+        place: place_in(place, raw),
+        term,
+    })?;
+    Ok(())
+}
+
+// A member of a list, unless it only separates others.
+#[cycle(shape)]
+#[tactic(auto, using(crate::proofs::Shapes::one_member_rules))]
+fn add_member(
+    alloc: Global,
+    work: &mut Work,
+    nodes: &mut Vec<Node>,
+    slot: Slot,
+    inside: bool,
+    raw: &Raw,
+) -> Result<(), AllocError>
+    ensures faults { OnOk result (work.new.faults.items ≡ work.old.faults.items ++ (at.member_at slot inside raw.now).faults) }
+    ensures made { OnOk result (plans_of nodes.new.items ≡ join (plans_of nodes.old.items) (at.member_at slot inside raw.now).made) }
+{
+    if is_separator(raw) {
+        return Ok(());
+    }
+    Ok(add(alloc, work, nodes, slot, inside, NOWHERE, raw)?)
+}
+
+// The arguments of a call.
+#[cycle(shape)]
+#[tactic(auto, using(crate::proofs::Shapes::size_rules, crate::proofs::Shapes::operand_all))]
+fn operands(
+    alloc: Global,
+    work: &mut Work,
+    nodes: &mut Vec<Node>,
+    slot: Slot,
+    inside: bool,
+    args: &[Raw],
+) -> Result<(), AllocError>
+    ensures faults { OnOk result (work.new.faults.items ≡ work.old.faults.items ++ (at.operands_at slot inside args.now).faults) }
+    ensures made { OnOk result (plans_of nodes.new.items ≡ join (plans_of nodes.old.items) (at.operands_at slot inside args.now).made) }
+{
+    let mut next = slot;
+    for raw in args {
+        add(alloc, work, nodes, next, inside, NOWHERE, raw)?;
+        next = Slot::Expression;
+    }
+    Ok(())
+}
+
+// An item.
+#[cycle(shape)]
+#[tactic(auto, unfolding(crate::specs::AtRaw::item_at), using(crate::proofs::Shapes::size_rules))]
+fn item(
+    alloc: Global,
+    work: &mut Work,
+    slot: Slot,
+    inside: bool,
+    place: Place,
+    word: &Text,
+    args: &Option<Raws>,
+    body: &Option<Raws>,
+) -> Result<Term, AllocError>
+    ensures faults { OnOk result (work.new.faults.items ≡ work.old.faults.items ++ (at.item_at slot inside place word.now args.now body.now).faults) }
+    ensures made { IfOk result (λ term. plan_of term ≡ (at.item_at slot inside place word.now args.now body.now).made) }
+{
+    let meaning = meaning_of(word.as_bytes(), is_given(body));
+    if let Some(fault) = item_fault(slot, inside, meaning, inside_of(args), is_given(body)) {
+        return Ok(refuse(alloc, work, fault, place)?);
+    }
+    Ok(read(alloc, work, slot, reading_of(slot, meaning, is_given(args)), inside, place, word, args, body)?)
+}
+
+// An item as it is read.
+#[cycle(shape)]
+#[tactic(auto, using(crate::proofs::Shapes::size_rules, crate::proofs::Shapes::read_rules))]
+fn read(
+    alloc: Global,
+    work: &mut Work,
+    slot: Slot,
+    reading: Reading,
+    inside: bool,
+    place: Place,
+    word: &Text,
+    args: &Option<Raws>,
+    body: &Option<Raws>,
+) -> Result<Term, AllocError>
+    ensures faults { OnOk result (work.new.faults.items ≡ work.old.faults.items ++ (at.read_at slot place word.now reading inside args.now body.now).faults) }
+    ensures made { IfOk result (λ term. plan_of term ≡ (at.read_at slot place word.now reading inside args.now body.now).made) }
+{
+    match reading {
+        Reading::Wrong => Ok(refuse(alloc, work, 6022, place)?),
+        Reading::Path => Ok(path(alloc, work, place, word.as_bytes())?),
+        Reading::Call => Ok(call(alloc, work, inside, place, word, args)?),
+        Reading::Known(known) => Ok(known_term(slot, known)),
+        Reading::Form(op) => Ok(form(alloc, work, op, inside, place, args, body)?),
+    }
+}
+
+// A name with its arguments.
+#[cycle(shape)]
+#[tactic(auto, using(crate::proofs::Shapes::size_rules, crate::proofs::Shapes::call_rules))]
+fn call(
+    alloc: Global,
+    work: &mut Work,
+    inside: bool,
+    place: Place,
+    word: &Text,
+    args: &Option<Raws>,
+) -> Result<Term, AllocError>
+    ensures faults { OnOk result (work.new.faults.items ≡ work.old.faults.items ++ (spec.call_shape place (Paths.path_of word.now) (at.call_at inside args.now)).faults) }
+    ensures made { IfOk result (λ term. plan_of term ≡ (spec.call_shape place (Paths.path_of word.now) (at.call_at inside args.now)).made) }
+{
+    let Some(path) = path_of(alloc, word.as_bytes())? else {
+        return Ok(refuse(alloc, work, 6024, place)?);
+    };
+    let mut nodes = Vec::new(alloc);
+    operands(alloc, work, &mut nodes, Slot::Expression, inside, inside_of(args))?;
+    Ok(Term::Call { path, args: nodes })
+}
+
+// An operator with its arguments and its braces.
+#[cycle(shape)]
+#[tactic(auto, using(crate::proofs::Shapes::size_rules, crate::proofs::Shapes::form_rules))]
+fn form(
+    alloc: Global,
+    work: &mut Work,
+    op: Op,
+    inside: bool,
+    place: Place,
+    args: &Option<Raws>,
+    body: &Option<Raws>,
+) -> Result<Term, AllocError>
+    ensures faults { OnOk result (work.new.faults.items ≡ work.old.faults.items ++ (at.form_at op place inside args.now body.now).faults) }
+    ensures made { IfOk result (λ term. plan_of term ≡ (at.form_at op place inside args.now body.now).made) }
+{
+    let mut nodes = Vec::new(alloc);
+    arguments(alloc, work, &mut nodes, parameters_of(op), inside, place, inside_of(args))?;
+    settle(alloc, op, place, &mut nodes)?;
+    let mut terms = Vec::new(alloc);
+    contents(alloc, work, &mut terms, body_of(op), within(op, inside), place, body)?;
+    Ok(Term::Form {
+        op,
+        args: nodes,
+        body: terms,
+    })
+}
+
+// An argument that is left out.
+#[tactic(auto, using(crate::proofs::Shapes::push_rules))]
+fn leave_out(nodes: &mut Vec<Node>, place: Place) -> Result<(), AllocError>
+    ensures { OnOk result (plans_of nodes.new.items ≡ join (plans_of nodes.old.items) (at.left_at place)) }
+{
+    nodes.push(Node {
+        id: 0,
+        place,
+        term: Term::Omitted,
+    })?;
+    Ok(())
+}
+
+// The argument of this number, by its letter.
+#[cycle(shape)]
+#[tactic(auto, using(crate::proofs::Shapes::size_rules, crate::proofs::Shapes::one_argument_rules))]
+fn add_argument(
+    alloc: Global,
+    work: &mut Work,
+    nodes: &mut Vec<Node>,
+    parameter: Parameter,
+    inside: bool,
+    place: Place,
+    args: &[Raw],
+    i: usize,
+) -> Result<(), AllocError>
+    ensures faults { OnOk result (work.new.faults.items ≡ work.old.faults.items ++ (at.argument_at parameter place inside (slice_get args.now i)).faults) }
+    ensures made { OnOk result (plans_of nodes.new.items ≡ join (plans_of nodes.old.items) (at.argument_at parameter place inside (slice_get args.now i)).made) }
+{
+    match args.get(i) {
+        Some(raw) => Ok(add(alloc, work, nodes, parameter.slot, inside, place, raw)?),
+        None => Ok(leave_out(nodes, place)?),
+    }
+}
+
+// The arguments of an operator, each by its letter.
+#[cycle(shape)]
+#[tactic(auto, using(crate::proofs::Shapes::size_rules, crate::proofs::Shapes::argument_all))]
+pub fn arguments(
+    alloc: Global,
+    work: &mut Work,
+    nodes: &mut Vec<Node>,
+    parameters: &[Parameter],
+    inside: bool,
+    place: Place,
+    args: &[Raw],
+) -> Result<(), AllocError>
+    ensures faults { OnOk result (work.new.faults.items ≡ work.old.faults.items ++ (at.arguments_in_at parameters.now place inside args.now).faults) }
+    ensures made { OnOk result (plans_of nodes.new.items ≡ join (plans_of nodes.old.items) (at.arguments_in_at parameters.now place inside args.now).made) }
+{
+    for i in 0..parameters.len() {
+        add_argument(alloc, work, nodes, parameters[i], inside, place, args, i)?;
+    }
+    Ok(())
+}
+
+// What stands in braces.
+#[cycle(shape)]
+#[tactic(auto, using(crate::proofs::Shapes::size_rules, crate::proofs::Shapes::content_rules))]
+fn contents(
+    alloc: Global,
+    work: &mut Work,
+    nodes: &mut Vec<Node>,
+    body: Body,
+    inside: bool,
+    place: Place,
+    raws: &Option<Raws>,
+) -> Result<(), AllocError>
+    ensures faults { OnOk result (work.new.faults.items ≡ work.old.faults.items ++ (at.contents_at body inside place raws.now).faults) }
+    ensures made { OnOk result (plans_of nodes.new.items ≡ join (plans_of nodes.old.items) (at.contents_at body inside place raws.now).made) }
+{
+    let Some(raws) = raws else {
+        return Ok(());
+    };
+    let raws = raws.as_slice();
+    match body {
+        Body::No => Ok(()),
+        Body::Terms => Ok(terms(alloc, work, nodes, inside, raws)?),
+        Body::Bytes => Ok(elements(alloc, work, nodes, byte_slot(raws), inside, place, raws)?),
+        Body::Elements => Ok(elements(alloc, work, nodes, Slot::Element, inside, place, raws)?),
+    }
+}
+
+// Elements with commas between them.
+#[cycle(shape)]
+#[tactic(auto, using(crate::proofs::Shapes::size_rules, crate::proofs::Shapes::content_rules))]
+fn elements(
+    alloc: Global,
+    work: &mut Work,
+    nodes: &mut Vec<Node>,
+    slot: Slot,
+    inside: bool,
+    place: Place,
+    raws: &[Raw],
+) -> Result<(), AllocError>
+    ensures faults { OnOk result (work.new.faults.items ≡ work.old.faults.items ++ (spec.list_shape place (at.is_listed_at true raws.now) (at.members_at slot inside raws.now)).faults) }
+    ensures made { OnOk result (plans_of nodes.new.items ≡ join (plans_of nodes.old.items) (spec.list_shape place (at.is_listed_at true raws.now) (at.members_at slot inside raws.now)).made) }
+{
+    if !is_listed(raws) {
+        return Ok(tell(alloc, work, 6022, place)?);
+    }
+    Ok(members(alloc, work, nodes, slot, inside, raws)?)
+}
+
+#[cycle(shape)]
+#[tactic(auto, using(crate::proofs::Shapes::size_rules, crate::proofs::Shapes::member_steps))]
+fn members(
+    alloc: Global,
+    work: &mut Work,
+    nodes: &mut Vec<Node>,
+    slot: Slot,
+    inside: bool,
+    raws: &[Raw],
+) -> Result<(), AllocError>
+    ensures faults { OnOk result (work.new.faults.items ≡ work.old.faults.items ++ (at.members_at slot inside raws.now).faults) }
+    ensures made { OnOk result (plans_of nodes.new.items ≡ join (plans_of nodes.old.items) (at.members_at slot inside raws.now).made) }
+{
+    for raw in raws {
+        add_member(alloc, work, nodes, slot, inside, raw)?;
+    }
+    Ok(())
+}
+
+#[cycle(shape)]
+#[tactic(auto, using(crate::proofs::Shapes::size_rules, crate::proofs::Shapes::term_steps))]
+pub fn terms(
+    alloc: Global,
+    work: &mut Work,
+    nodes: &mut Vec<Node>,
+    inside: bool,
+    raws: &[Raw],
+) -> Result<(), AllocError>
+    ensures faults { OnOk result (work.new.faults.items ≡ work.old.faults.items ++ (at.terms_at inside false raws.now).faults) }
+    ensures made { OnOk result (plans_of nodes.new.items ≡ join (plans_of nodes.old.items) (at.terms_at inside false raws.now).made) }
+{
+    let mut behind = false;
+    for raw in raws {
+        add_member(alloc, work, nodes, Slot::Term { behind_if: behind }, inside, raw)?;
+        behind = behind_if(behind, raw);
+    }
+    Ok(())
+}
+

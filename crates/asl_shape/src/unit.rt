@@ -1,0 +1,254 @@
+//! A source as a program.
+ghost use Rattle.std.specs.Prelude.{◌≡◌, ◌++◌, ◌∷◌, [], length, IfOk, IfErr, OnOk};
+ghost use Rattle.asl_shape.specs.Forms as spec;
+ghost use Rattle.asl_shape.specs.AtRaw as at;
+ghost use Rattle.asl_shape.specs.Operators as table;
+ghost use Rattle.asl_shape.specs.Plans.{plan_of, plans_of, plan_at, text_of, join};
+
+use crate::item::{inside_of, is_given, parts, takes};
+use crate::leaf::place_in;
+use crate::parameters::block_parameters;
+use crate::settle::number_at;
+use crate::tree::{arguments, terms};
+use crate::work::Work;
+use asl_parser::{Raw, RawUnit, Raws};
+use asl_tree::program::{Block, Blocks, Program};
+use asl_tree::term::{Node, Term};
+use iasl_messages::message::{Message, Messages, Stage};
+use iasl_messages::place::Place;
+use iasl_ports::list::Text;
+use std::alloc::{AllocError, Global};
+
+/// The begin of the source.
+const START: Place = Place {
+    file: 0,
+    line: 1,
+    column: 1,
+};
+
+// One error alone.
+fn refusal(alloc: Global, number: u16, place: Place) -> Stage
+    ensures { at.Refuses result (spec.one_error number place) }
+{
+    let mut messages = Messages::new(alloc);
+    let message = Message {
+        number,
+        place,
+        name: Text::new(alloc),
+    };
+    match messages.push(message) {
+        Ok(()) => Stage::Refused(messages),
+        Err(_) => Stage::Memory,
+    }
+}
+
+#[tactic(auto, using(crate::proofs::Units::text_terms))]
+fn text_in(alloc: Global, term: &Term) -> Result<Text, AllocError>
+    ensures { IfOk result (λ text. text ≡ text_of (plan_of term.now)) }
+{
+    match term {
+        Term::Text(text) => Ok(Text::from_bytes(alloc, text.as_bytes())?),
+        Term::Integer(_) => Ok(Text::new(alloc)),
+        Term::Name(_) => Ok(Text::new(alloc)),
+        Term::Form { .. } => Ok(Text::new(alloc)),
+        Term::Fill(_) => Ok(Text::new(alloc)),
+        Term::Word(_) => Ok(Text::new(alloc)),
+        Term::Local(_) => Ok(Text::new(alloc)),
+        Term::Arg(_) => Ok(Text::new(alloc)),
+        Term::Debug => Ok(Text::new(alloc)),
+        Term::Omitted => Ok(Text::new(alloc)),
+        Term::Unit { .. } => Ok(Text::new(alloc)),
+        Term::Skip(_) => Ok(Text::new(alloc)),
+        Term::Offset(_) => Ok(Text::new(alloc)),
+        Term::Call { .. } => Ok(Text::new(alloc)),
+    }
+}
+
+// The text that an argument is, counted from 0.
+#[tactic(auto, using(crate::proofs::Units::text_rules))]
+fn text_at(alloc: Global, nodes: &[Node], i: usize) -> Result<Text, AllocError>
+    ensures { IfOk result (λ text. text ≡ text_of (plan_at (plans_of nodes.now) i)) }
+{
+    match nodes.get(i) {
+        Some(node) => Ok(text_in(alloc, &node.term)?),
+        None => Ok(Text::new(alloc)),
+    }
+}
+
+// The block of these arguments and terms.
+fn block_of(
+    alloc: Global,
+    place: Place,
+    args: &[Node],
+    terms: Vec<Node>,
+) -> Result<Block, AllocError>
+    ensures { IfOk result (spec.IsBlock place (plans_of args.now) (plans_of terms.items)) }
+{
+    Ok(Block {
+        place,
+        file: text_at(alloc, args, 0)?,
+        signature: text_at(alloc, args, 1)?,
+        revision: (number_at(args, 2) % 256) as u8,
+        oem_id: text_at(alloc, args, 3)?,
+        table_id: text_at(alloc, args, 4)?,
+        oem_revision: (number_at(args, 5) % 4_294_967_296) as u32,
+        terms,
+    })
+}
+
+fn block_fault(has_arguments: bool, has_body: bool) -> Option<u16>
+    ensures { result ≡ spec.block_fault has_arguments has_body }
+{
+    if !has_arguments {
+        return Some(6021);
+    }
+    if !has_body {
+        return Some(6023);
+    }
+    None
+}
+
+// The arguments and the terms of a block.
+#[tactic(auto, using(crate::proofs::Units::inside_rules))]
+fn inside(
+    alloc: Global,
+    work: &mut Work,
+    nodes: &mut Vec<Node>,
+    list: &mut Vec<Node>,
+    place: Place,
+    args: &[Raw],
+    body: &[Raw],
+) -> Result<(), AllocError>
+    ensures faults { OnOk result (work.new.faults.items ≡ work.old.faults.items ++ spec.errors_in place args.now body.now) }
+    ensures args { OnOk result (plans_of nodes.new.items ≡ join (plans_of nodes.old.items) (spec.args_in place args.now).made) }
+    ensures terms { OnOk result (plans_of list.new.items ≡ join (plans_of list.old.items) (spec.terms_in body.now).made) }
+{
+    arguments(alloc, work, nodes, block_parameters(), false, place, args)?;
+    Ok(terms(alloc, work, list, false, body)?)
+}
+
+// A block whose arguments and braces are there.
+#[tactic(auto, using(crate::proofs::Units::block_rules))]
+fn shaped(
+    alloc: Global,
+    place: Place,
+    args: &[Raw],
+    body: &[Raw],
+) -> Result<Block, Stage>
+    ensures formed { IfOk result (λ block. (spec.errors_in place args.now body.now ≡ []) × spec.IsBlock place (spec.args_in place args.now).made (spec.terms_in body.now).made block) }
+    ensures refused { IfErr result (λ stage. at.Refuses stage (spec.errors_in place args.now body.now)) }
+{
+    let mut work = Work {
+        faults: Vec::new(alloc),
+    };
+    let mut nodes = Vec::new(alloc);
+    let mut list = Vec::new(alloc);
+    match inside(alloc, &mut work, &mut nodes, &mut list, place, args, body) {
+        Ok(()) => {
+            if !work.faults.is_empty() {
+                return Err(Stage::Refused(Messages::from_vec(work.faults)));
+            }
+            match block_of(alloc, place, &nodes, list) {
+                Ok(block) => Ok(block),
+                Err(_) => Err(Stage::Memory),
+            }
+        }
+        Err(_) => Err(Stage::Memory),
+    }
+}
+
+// A block with its arguments and its braces.
+#[tactic(auto, using(crate::proofs::Units::stated_rules))]
+fn block(
+    alloc: Global,
+    place: Place,
+    args: &Option<Raws>,
+    body: &Option<Raws>,
+) -> Result<Block, Stage>
+    ensures formed { IfOk result (λ block. (spec.block_errors_at place args.now body.now ≡ []) × spec.IsBlock place (spec.args_in place (at.inside_at args.now)).made (spec.terms_in (at.inside_at body.now)).made block) }
+    ensures refused { IfErr result (λ stage. at.Refuses stage (spec.block_errors_at place args.now body.now)) }
+{
+    let has_arguments = takes(block_parameters(), inside_of(args));
+    if let Some(number) = block_fault(has_arguments, is_given(body)) {
+        return Err(refusal(alloc, number, place));
+    }
+    shaped(alloc, place, inside_of(args), inside_of(body))
+}
+
+fn is_block_word(word: &Text) -> bool
+    ensures { result ≡ spec.is_block_word word.now }
+{
+    word.as_bytes() == b"DEFINITIONBLOCK".as_slice()
+}
+
+// An item, and what stands behind it.
+#[tactic(auto, using(crate::proofs::Units::item_rules))]
+fn item(
+    alloc: Global,
+    place: Place,
+    word: &Text,
+    args: &Option<Raws>,
+    body: &Option<Raws>,
+    rest: &[Raw],
+) -> Result<Block, Stage>
+    ensures formed { IfOk result (λ block. (spec.item_errors_at place word.now args.now body.now rest.now ≡ []) × spec.IsItemBlock place args.now body.now rest.now block) }
+    ensures refused { IfErr result (λ stage. at.Refuses stage (spec.item_errors_at place word.now args.now body.now rest.now)) }
+{
+    if !is_block_word(word) {
+        return Err(refusal(alloc, 6028, place));
+    }
+    match parts(rest) {
+        Some((next, _)) => Err(refusal(alloc, 6028, place_in(START, next))),
+        None => block(alloc, place, args, body),
+    }
+}
+
+#[tactic(auto, using(crate::proofs::Units::first_rules))]
+fn first_block(alloc: Global, first: &Raw, rest: &[Raw]) -> Result<Block, Stage>
+    ensures formed { IfOk result (λ block. (spec.errors_at (first.now ∷ rest.now) ≡ []) × spec.IsBlockOf (first.now ∷ rest.now) block) }
+    ensures refused { IfErr result (λ stage. at.Refuses stage (spec.errors_at (first.now ∷ rest.now))) }
+{
+    match first {
+        Raw::Item {
+            place,
+            word,
+            args,
+            body,
+        } => item(alloc, *place, word, args, body, rest),
+        Raw::Number { place, .. } => Err(refusal(alloc, 6028, *place)),
+        Raw::Text { place, .. } => Err(refusal(alloc, 6028, *place)),
+        Raw::Apply { place, .. } => Err(refusal(alloc, 6028, *place)),
+        Raw::List { place, .. } => Err(refusal(alloc, 6028, *place)),
+        Raw::Comma => Err(refusal(alloc, 6028, START)),
+        Raw::Semicolon => Err(refusal(alloc, 6028, START)),
+        Raw::Empty => Err(refusal(alloc, 6028, START)),
+    }
+}
+
+#[tactic(auto, using(crate::proofs::Units::source_rules))]
+fn source_block(alloc: Global, raws: &[Raw]) -> Result<Block, Stage>
+    ensures formed { IfOk result (λ block. (spec.errors_at raws.now ≡ []) × spec.IsBlockOf raws.now block) }
+    ensures refused { IfErr result (λ stage. at.Refuses stage (spec.errors_at raws.now)) }
+{
+    match parts(raws) {
+        Some((first, rest)) => first_block(alloc, first, rest),
+        None => Err(refusal(alloc, 6028, START)),
+    }
+}
+
+/// The program that a source is: one definition block (ACPI Specification 6.4, 19.6.29). The tree has no errors
+/// then, and the program is the tree of its terms, each at its place and numbered in preorder. Otherwise it is
+/// refused with exactly its errors, 6020 to 6028, in the order of the source: for each item the first of 6020,
+/// 6025, 6021 and 6023, for any other argument the first of 6022 and 6024, and nothing inside of either. A want of
+/// memory is `Stage::Memory`; so is a program of 2^32 nodes.
+pub fn shape(alloc: Global, raw: &RawUnit) -> Result<Program, Stage>
+    ensures formed { IfOk result (spec.Forms raw.now.items) }
+    ensures refused { IfErr result (λ stage. at.Refuses stage (spec.errors_at raw.now.items)) }
+{
+    let block = source_block(alloc, raw.items.as_slice())?;
+    let mut blocks = Blocks::new(alloc);
+    match blocks.push(block) {
+        Ok(()) => Ok(Program { blocks }),
+        Err(_) => Err(Stage::Memory),
+    }
+}

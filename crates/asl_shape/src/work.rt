@@ -1,0 +1,172 @@
+//! The errors that are found on the way.
+ghost use Rattle.std.specs.Prelude.{◌≡◌, ◌++◌, OnOk, IfOk};
+ghost use Rattle.asl_shape.specs.Shapes as spec;
+ghost use Rattle.asl_shape.specs.Plans.{plan_of, constant_of};
+ghost use Rattle.asl_shape.specs.Plans.{is_omitted as is_left_out};
+
+use crate::operator::Slot;
+use acpi_values::width::Width;
+use asl_tree::constant::{NoConstant, constant};
+use asl_tree::term::{Op, Special, Term};
+use iasl_messages::message::Message;
+use iasl_messages::place::Place;
+use iasl_ports::list::Text;
+use std::alloc::{AllocError, Global};
+
+/// The errors so far.
+#[derive(Drop)]
+pub struct Work {
+    pub faults: Vec<Message>,
+}
+
+/// The place of what has none.
+pub const NOWHERE: Place = Place {
+    file: 0,
+    line: 0,
+    column: 0,
+};
+
+/// An error without a name.
+pub fn tell(alloc: Global, work: &mut Work, number: u16, place: Place) -> Result<(), AllocError>
+    ensures { OnOk result (work.new.faults.items ≡ work.old.faults.items ++ (spec.refused number place).faults) }
+{
+    work.faults.push(Message {
+        number,
+        place,
+        name: Text::new(alloc),
+    })?;
+    Ok(())
+}
+
+/// An error without a name, in place of a term.
+#[tactic(auto, using(crate::proofs::Terms::term_rules))]
+pub fn refuse(
+    alloc: Global,
+    work: &mut Work,
+    number: u16,
+    place: Place,
+) -> Result<Term, AllocError>
+    ensures faults { OnOk result (work.new.faults.items ≡ work.old.faults.items ++ (spec.refused number place).faults) }
+    ensures made { IfOk result (λ term. plan_of term ≡ (spec.refused number place).made) }
+{
+    tell(alloc, work, number, place)?;
+    Ok(Term::Omitted)
+}
+
+// What a constant of this range stands as.
+#[tactic(auto, using(crate::proofs::Terms::term_rules, crate::proofs::Terms::nothing_more))]
+fn valued(
+    alloc: Global,
+    work: &mut Work,
+    least: u64,
+    most: u64,
+    place: Place,
+    constant: Result<u64, NoConstant>,
+) -> Result<Term, AllocError>
+    ensures faults { OnOk result (work.new.faults.items ≡ work.old.faults.items ++ (spec.valued least most place constant).faults) }
+    ensures made { IfOk result (λ term. plan_of term ≡ (spec.valued least most place constant).made) }
+{
+    match constant {
+        Ok(value) => {
+            if least <= value && value <= most {
+                Ok(Term::Integer(value))
+            } else {
+                Ok(refuse(alloc, work, 6024, place)?)
+            }
+        }
+        Err(NoConstant::Fault) => Ok(refuse(alloc, work, 6024, place)?),
+        Err(NoConstant::Form) => Ok(refuse(alloc, work, 6022, place)?),
+    }
+}
+
+#[tactic(auto, using(crate::proofs::Terms::member_rules))]
+fn is_member(term: &Term) -> bool
+    ensures { result ≡ spec.is_member (plan_of term.now) }
+{
+    match term {
+        Term::Text(_) => true,
+        Term::Name(_) => true,
+        Term::Form { op, .. } => match op {
+            Op::Literal(_) => true,
+            Op::Special(Special::Buffer) => true,
+            Op::Special(Special::Package) => true,
+            Op::Special(Special::CondRefOf) => false,
+            Op::Declaration(_) => false,
+            Op::Control(_) => false,
+            Op::Plain(_) => false,
+        },
+        Term::Integer(_) => false,
+        Term::Fill(_) => false,
+        Term::Word(_) => false,
+        Term::Local(_) => false,
+        Term::Arg(_) => false,
+        Term::Debug => false,
+        Term::Omitted => false,
+        Term::Unit { .. } => false,
+        Term::Skip(_) => false,
+        Term::Offset(_) => false,
+        Term::Call { .. } => false,
+    }
+}
+
+/// Whether an argument is left out.
+#[tactic(auto, using(crate::proofs::Terms::omitted_rules))]
+pub fn is_omitted(term: &Term) -> bool
+    ensures { result ≡ is_left_out (plan_of term.now) }
+{
+    match term {
+        Term::Omitted => true,
+        Term::Text(_) => false,
+        Term::Name(_) => false,
+        Term::Form { .. } => false,
+        Term::Integer(_) => false,
+        Term::Fill(_) => false,
+        Term::Word(_) => false,
+        Term::Local(_) => false,
+        Term::Arg(_) => false,
+        Term::Debug => false,
+        Term::Unit { .. } => false,
+        Term::Skip(_) => false,
+        Term::Offset(_) => false,
+        Term::Call { .. } => false,
+    }
+}
+
+/// The value of a constant argument, at 64 bits.
+#[tactic(auto, using(crate::proofs::Constants::constant_is))]
+pub fn value_of(term: &Term) -> Result<u64, NoConstant>
+    ensures { result ≡ constant_of (plan_of term.now) }
+{
+    constant(term, Width::W64)
+}
+
+/// An expression where a constant may be asked for: its value, if it is one.
+#[tactic(auto, using(crate::proofs::Terms::nothing_more))]
+pub fn evaluate(
+    alloc: Global,
+    work: &mut Work,
+    slot: Slot,
+    place: Place,
+    term: Term,
+) -> Result<Term, AllocError>
+    ensures faults { OnOk result (work.new.faults.items ≡ work.old.faults.items ++ (spec.evaluated slot place (plan_of term)).faults) }
+    ensures made { IfOk result (λ made. plan_of made ≡ (spec.evaluated slot place (plan_of term)).made) }
+{
+    match slot {
+        Slot::Constant { least, most } => {
+            if is_omitted(&term) {
+                Ok(term)
+            } else {
+                Ok(valued(alloc, work, least, most, place, value_of(&term))?)
+            }
+        }
+        Slot::Element => {
+            if is_member(&term) {
+                Ok(term)
+            } else {
+                Ok(valued(alloc, work, 0, u64::MAX, place, value_of(&term))?)
+            }
+        }
+        _ => Ok(term),
+    }
+}
