@@ -10,3 +10,5 @@ pub mod Types
 pub mod Settled
 pub mod Shapes
 pub mod Units
+pub mod Places
+pub mod Homes

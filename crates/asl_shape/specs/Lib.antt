@@ -5,3 +5,4 @@ pub mod Paths
 pub mod Shapes
 pub mod AtRaw
 pub mod Forms
+pub mod Places

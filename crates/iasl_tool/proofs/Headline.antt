@@ -46,7 +46,7 @@ answer_is : (words : List (List ℕ)) (told : List Named) (request : Request) (s
 answer_is words told request source h =
     let asked = request.asked in
     let file = request.file in
-    let table : of_lines h.lines ≡ Table source.signature (source_table source) = ap of_tokens h.tokens_are ∙ ap (of_outcome h.tokens) h.tokens_spell ∙ ap of_form h.source_is ∙ fits_table source h.table_within in
+    let table : of_lines h.lines ≡ Table source.signature (source_table source) = ap of_tokens h.tokens_are ∙ ap (of_outcome h.tokens) h.tokens_spell ∙ ap (of_form h.items) h.source_is ∙ fits_table source h.table_within in
     ap (answer_to_asked told) h.words_are
     ∙ ap (answer_to_file asked told) h.file_is
     ∙ ap (answer_to_preprocessed asked file) h.lines_are
@@ -122,7 +122,7 @@ module _ (words : List (List ℕ)) (told : List Named) where
   by_table k tokens items source true et eo es ec h = by_name k tokens items source (is_fetched k.files (table_of k.request)) et eo es ec refl h
   by_table k tokens items source false et eo es ec h = absurd (omega (arith, h))
 
-  by_source : (k : Known words told) (tokens : List Token) (items : List Raw) (o : Option Source) → tokens_of k.lines ≡ Ok tokens → outcome tokens ≡ read items → source_of items ≡ o → status_with words told k (of_form o) ≡ 0 → FoundSource words told
+  by_source : (k : Known words told) (tokens : List Token) (items : List Raw) (o : Option Source) → tokens_of k.lines ≡ Ok tokens → outcome tokens ≡ read items → source_of items ≡ o → status_with words told k (of_form items o) ≡ 0 → FoundSource words told
   by_source k tokens items None et eo es h = absurd (omega (arith, h))
   by_source k tokens items (Some source) et eo es h = by_table k tokens items source (nat_le (length (source_table source)) most_table_bytes) et eo es refl h
 

@@ -29,7 +29,10 @@ use Rattle.aml_writer.specs.Written.{most_table_bytes}
 use Rattle.iasl_tool.specs.Syntax.{at_token}
 use Rattle.asl_parser.specs.Place.{first_place, place_behind, place_at}
 use Rattle.std.specs.Option.{option_map_or}
-use Rattle.iasl_tool.specs.Compiled.{AreWithin, RefusesWithin, of_source, of_form, unknown, too_long, source_table}
+use Rattle.iasl_tool.specs.Compiled.{AreWithin, RefusesWithin, of_source, or_unknown, of_form, unknown, too_long, source_table}
+use Rattle.asl_shape.specs.Forms.{errors_at}
+use Rattle.asl_shape.proofs.Places.{errors_within}
+use Rattle.asl_shape.proofs.Homes.{spelled_within}
 
 module _ (files : ℕ) where
   abbrev TokenHome : Token → Type 0
@@ -158,13 +161,18 @@ module _ (files : ℕ) where
       by_length true = tt
       by_length false = one_home (too_long source.place) h
 
-  of_form_home : (form : Option Source) → 0 < files → SourceHome form → RefusesWithin files (of_form form)
-  of_form_home None main h = one_home unknown main
-  of_form_home (Some source) main h = of_source_home source h
+  or_unknown_home : (messages : List Message) → 0 < files → AreWithin files messages → AreWithin files (or_unknown messages)
+  or_unknown_home [] main h = one_home unknown main
+  or_unknown_home (m ∷ ms) main h = h
+
+  of_form_home : (items : List Raw) (form : Option Source) → 0 < files → AreWithin files (errors_at items) → SourceHome form → RefusesWithin files (of_form items form)
+  of_form_home items None main errors h = or_unknown_home (errors_at items) main errors
+  of_form_home items (Some source) main errors h = of_source_home source h
 
   -- the tree that the tokens spell refuses nothing outside the files
-  pub form_home : (items : List Raw) (tokens : List Token) → Spells items tokens → All (λ t. t.place.file < files) tokens → 0 < files → RefusesWithin files (of_form (source_of items))
-  form_home items tokens spelled h main = of_form_home (source_of items) main (source_home items tokens spelled h)
+  pub form_home : (items : List Raw) (tokens : List Token) → Spells items tokens → All (λ t. t.place.file < files) tokens → 0 < files → RefusesWithin files (of_form items (source_of items))
+  form_home items tokens spelled h main =
+      of_form_home items (source_of items) main (errors_within files main items (spelled_within files items tokens spelled h)) (source_home items tokens spelled h)
 
   -- ---- tokens that are no source
 

@@ -3,6 +3,7 @@ pub mod ItemLists
 pub mod Trees
 pub mod ItemNames
 pub mod Ready
+pub mod Refusals
 pub mod Written
 pub mod Outcomes
 pub mod Homes

@@ -23,7 +23,7 @@ length-marks n (t ∷ ts) = ap suc (length-marks (suc n) ts)
 left : (k : ℕ) (tokens : List Token) → length (drop k (marks 0 tokens)) ≡ length tokens - k
 left k tokens = length-drop k (marks 0 tokens) ∙ ap (λ n. n - k) (length-marks 0 tokens)
 
-pub read_is : (tokens : List Token) (items : List Raw) → outcome tokens ≡ read items → of_form (source_of items) ≡ of_outcome tokens (outcome tokens)
+pub read_is : (tokens : List Token) (items : List Raw) → outcome tokens ≡ read items → of_form items (source_of items) ≡ of_outcome tokens (outcome tokens)
 read_is tokens items e = sym (ap (of_outcome tokens) e)
 
 pub stop_is : (tokens : List Token) (k : ℕ) → (k ≤ length tokens) × (outcome tokens ≡ stopped (drop k (marks 0 tokens))) → Refused (not_source tokens k ∷ []) ≡ of_outcome tokens (outcome tokens)

@@ -14,11 +14,13 @@ use Rattle.iasl_tool.specs.declared.source.Source.{Source}
 use Rattle.iasl_tool.specs.declared.compile.Compiled.{Compiled}
 use Rattle.iasl_tool.specs.declared.compile.Compiled.TheVariants.{Table, Refused}
 use Rattle.iasl_tool.specs.Blocks.{source_fields, items_trees}
+use Rattle.asl_parser.specs.declared.raw.Raw.{Raw}
+use Rattle.asl_shape.specs.Forms.{errors_at}
 use Rattle.iasl_tool.specs.Sources.{source_of}
 use Rattle.iasl_tool.specs.Syntax.{not_source, too_deep}
 use Rattle.asl_parser.specs.Parse.{Outcome, outcome, read, stopped, sunk, tall}
 
--- a source that is not of the form that is read so far: 6020 at the first character
+-- a source that has no errors and is not of the form that is written so far: 6020 at the first character
 abbrev pub unknown : Message
 unknown = record { number = 6020; place = record { file = 0; line = 1; column = 1 }; name = [] }
 
@@ -30,18 +32,26 @@ too_long place = record { number = 6080; place = place; name = [] }
 abbrev pub source_table : Source → List ℕ
 source_table source = table_bytes (source_fields source) (encoded_all W64 true (items_trees source.items))
 
+-- what is told of a source that is not written: its errors, or, where it has none, that its form is not known
+abbrev pub or_unknown : List Message → List Message
+or_unknown [] = unknown ∷ []
+or_unknown (m ∷ ms) = m ∷ ms
+
+abbrev pub form_errors : List Raw → List Message
+form_errors items = or_unknown (errors_at items)
+
 -- what a source comes to, whose form is known
 abbrev pub of_source : Source → Compiled
 of_source source =
     if nat_le (length (source_table source)) most_table_bytes then Table source.signature (source_table source) else Refused (too_long source.place ∷ [])
 
-abbrev pub of_form : Option Source → Compiled
-of_form None = Refused (unknown ∷ [])
-of_form (Some source) = of_source source
+abbrev pub of_form : List Raw → Option Source → Compiled
+of_form items None = Refused (form_errors items)
+of_form items (Some source) = of_source source
 
 -- tokens that are a source, or the place where they stop being one or nest too deep
 abbrev pub of_outcome : List Token → Outcome → Compiled
-of_outcome tokens (read items) = of_form (source_of items)
+of_outcome tokens (read items) = of_form items (source_of items)
 of_outcome tokens (stopped rest) = Refused (not_source tokens (length tokens - length rest) ∷ [])
 of_outcome tokens (sunk rest) = Refused (too_deep tokens (length tokens - suc (length rest)) ∷ [])
 of_outcome tokens (tall number) = Refused (too_deep tokens number ∷ [])

@@ -9,7 +9,7 @@ ghost use Rattle.asl_parser.specs.Parse.{outcome};
 ghost use Rattle.iasl_tool.specs.Syntax.{at_token};
 ghost use Rattle.iasl_messages.specs.declared.message.Stage.TheVariants as stages;
 ghost use Rattle.iasl_tool.specs.declared.compile.Compiled.TheVariants.{Refused};
-ghost use Rattle.iasl_tool.specs.Compiled.{of_lines, of_source, of_form, of_outcome, of_tokens, unknown as unknown_form, RefusesWithin};
+ghost use Rattle.iasl_tool.specs.Compiled.{of_lines, of_source, of_form, form_errors, of_outcome, of_tokens, unknown as unknown_form, RefusesWithin};
 
 use crate::block::{block_of, core_of};
 use crate::source::{Source, source_of};
@@ -17,7 +17,8 @@ use aml_writer::stop::WriteStop;
 use aml_writer::write::write;
 use asl_lexer::token::Tokens;
 use asl_lexer::tokens;
-use asl_parser::{Raw, Syntax, parse, place_at};
+use asl_parser::{RawUnit, Syntax, parse, place_at};
+use asl_shape::shape;
 use iasl_messages::message::{Message, Messages, Stage};
 use iasl_messages::number::{NESTING_TOO_DEEP, SYNTAX, UNKNOWN_OPERATOR};
 use iasl_messages::place::{LineList, Lines, Piece, Place};
@@ -95,12 +96,24 @@ fn write_source(alloc: Global, source: Source) -> Result<Compiled, AllocError>
     }
 }
 
-fn compile_form(alloc: Global, items: &[Raw]) -> Result<Compiled, AllocError>
-    ensures { IfOk result (λ compiled. compiled ≡ of_form (found_source items.now)) }
+// The refusal of a source that is not written: with all its errors, or as one whose form is not known.
+#[tactic(auto, using(crate::proofs::Refusals::no_errors, crate::proofs::Refusals::some_errors))]
+fn refuse_form(alloc: Global, unit: &RawUnit) -> Result<Compiled, AllocError>
+    ensures { IfOk result (λ compiled. compiled ≡ Refused (form_errors unit.now.items)) }
 {
-    match source_of(alloc, items)? {
+    match shape(alloc, unit) {
+        Ok(_) => Ok(Compiled::Refused(unknown(alloc)?)),
+        Err(Stage::Refused(errors)) => Ok(Compiled::Refused(errors)),
+        Err(Stage::Memory) => Err(AllocError),
+    }
+}
+
+fn compile_form(alloc: Global, unit: &RawUnit) -> Result<Compiled, AllocError>
+    ensures { IfOk result (λ compiled. compiled ≡ of_form unit.now.items (found_source unit.now.items)) }
+{
+    match source_of(alloc, unit.items.as_slice())? {
         Some(source) => write_source(alloc, source),
-        None => Ok(Compiled::Refused(unknown(alloc)?)),
+        None => refuse_form(alloc, unit),
     }
 }
 
@@ -132,7 +145,7 @@ fn compile_tokens(alloc: Global, tokens: &Tokens) -> Result<Compiled, AllocError
     ensures within { (files : ℕ) → 0 < files → All (λ token. token.place.file < files) tokens.now → IfOk result (RefusesWithin files) }
 {
     match parse(alloc, tokens) {
-        Ok(unit) => compile_form(alloc, unit.items.as_slice()),
+        Ok(unit) => compile_form(alloc, &unit),
         Err(Syntax::Stop { token }) => refuse_at(alloc, tokens, SYNTAX, token),
         Err(Syntax::TooDeep { token }) => refuse_at(alloc, tokens, NESTING_TOO_DEEP, token),
         Err(Syntax::Memory) => Err(AllocError),

@@ -1,0 +1,216 @@
+-- Each error of a source stands in a file in which a part of it stands.
+use Rattle.std.proofs.Common.{◌≡◌, ℕ, ◌<◌, Bool, true, false, List, [], ◌∷◌, ◌++◌, Option, Some, None, Result, Ok, Err, arith}
+use Rattle.std.specs.Prelude.{if◌then◌else◌, not, nat_le, ◌&&◌}
+use Rattle.std.specs.List.{All}
+use Rattle.std.proofs.lemmas.List.Elements.{All-cons}
+use Rattle.iasl_messages.specs.declared.place.Place.{Place}
+use Rattle.iasl_messages.specs.declared.message.Message.{Message}
+use Rattle.asl_parser.specs.declared.raw.Raw.{Raw}
+use Rattle.asl_tree.specs.declared.constant.NoConstant.{NoConstant}
+use Rattle.asl_tree.specs.declared.path.Path.{Path}
+use Rattle.asl_tree.specs.declared.term.Op.{Op}
+use Rattle.asl_shape.specs.declared.operator.Parameter.{Parameter}
+use Rattle.asl_shape.specs.declared.operator.Slot.{Slot}
+use Rattle.asl_shape.specs.declared.operator.Slot.TheVariants as slot
+use Rattle.asl_shape.specs.declared.operator.Body.{Body}
+use Rattle.asl_shape.specs.declared.operator.Body.TheVariants as braces
+use Rattle.asl_shape.specs.declared.operator.StringForm.{StringForm}
+use Rattle.asl_shape.specs.declared.operator.StringForm.TheVariants as form
+use Rattle.asl_shape.specs.declared.item.Reading.{Reading}
+use Rattle.asl_shape.specs.declared.item.Reading.TheVariants as read
+use Rattle.asl_shape.specs.Written as piece
+use Rattle.asl_shape.specs.Written.{Written, Writtens, Group, item, apply, listed, comma, semicolon, empty, none, more, absent, given, writtens}
+use Rattle.asl_shape.specs.Plans.{Plan, Plans, an_integer, is_omitted, constant_of}
+use Rattle.asl_shape.specs.Paths.{path_of}
+use Rattle.asl_shape.specs.Operators.{parameters_of, body_of, block_parameters}
+use Rattle.acpi_values.specs.Integers.{wrapped}
+use Rattle.acpi_values.specs.declared.width.Width.TheVariants.{W64}
+use Rattle.asl_shape.specs.Shapes.{Shaped, fine, fault_at, refused, nowhere, valued, evaluated, after, checked, is_member, is_given, takes, count, has_arguments, item_fault, meaning_of, reading_of, are_all_types, is_all_text, text_plan, number_shape, takes_expression, has_form, string_shape, text_shape, path_shape, call_shape, types_shape, listed_shape, read_shape, item_shape, form_shape, within, place_of, joined, left_out, is_separator, is_listed, byte_slot, list_shape, skipped, behind_if, bare, operands, call_args, arguments, arguments_in, contents, members, terms, inside_of}
+use Rattle.asl_shape.specs.Forms.{start, is_block_word, block_fault, errors_inside, block_errors, no_block, errors_before, first_errors, errors_of, errors_at}
+use Rattle.asl_shape.specs.Places.{IsIn, IsWithin, AreWithin, IsGroupWithin, AreTold}
+
+module _ (files : ℕ) where
+  one : (n : ℕ) (place : Place) → IsIn files place → AreTold files (fault_at n place ∷ [])
+  one n place h = (h, tt)
+
+  both : (xs ys : List Message) → AreTold files xs → AreTold files ys → AreTold files (xs ++ ys)
+  both [] ys h k = k
+  both (x ∷ xs) ys h k = (h.0, both xs ys h.1 k)
+
+  -- one choice or the other
+  either : {A : Type 0} (c : Bool) (x y : Shaped A) → AreTold files x.faults → AreTold files y.faults → AreTold files (if c then x else y).faults
+  either true x y h k = h
+  either false x y h k = k
+
+  string_told : (f : StringForm) (place : Place) (bytes : List ℕ) → IsIn files place → AreTold files (string_shape f place bytes).faults
+  string_told f place bytes h = either (has_form f bytes && is_all_text bytes) (fine (text_plan bytes)) (refused 6024 place) tt (one 6024 place h)
+
+  number_told : (s : Slot) (place : Place) (n : ℕ) → IsIn files place → AreTold files (number_shape s place n).faults
+  number_told (slot.Term behind) place n h = one 6025 place h
+  number_told s place n h = either (takes_expression s) (fine (an_integer (wrapped W64 n))) (refused 6022 place) tt (one 6022 place h)
+
+  text_told : (s : Slot) (place : Place) (bytes : List ℕ) → IsIn files place → AreTold files (text_shape s place bytes).faults
+  text_told slot.Expression place bytes h = string_told form.Any place bytes h
+  text_told slot.Element place bytes h = string_told form.Any place bytes h
+  text_told (slot.String f) place bytes h = string_told f place bytes h
+  text_told (slot.Term behind) place bytes h = one 6025 place h
+  text_told _ place bytes h = one 6022 place h
+
+  listed_told : (s : Slot) (place : Place) (ws : Writtens) → IsIn files place → AreTold files (listed_shape s place ws).faults
+  listed_told (slot.Types most) place ws h = either (are_all_types ws) (if nat_le (count ws) most then fine (an_integer (count ws)) else refused 6024 place) (refused 6022 place) (either (nat_le (count ws) most) (fine (an_integer (count ws))) (refused 6024 place) tt (one 6024 place h)) (one 6022 place h)
+  listed_told _ place ws h = one 6022 place h
+
+  valued_told : (least most : ℕ) (place : Place) (r : Result ℕ NoConstant) → IsIn files place → AreTold files (valued least most place r).faults
+  valued_told least most place (Ok n) h = either (nat_le least n && nat_le n most) (fine (an_integer n)) (refused 6024 place) tt (one 6024 place h)
+  valued_told least most place (Err NoConstant.Fault) h = one 6024 place h
+  valued_told least most place (Err NoConstant.Form) h = one 6022 place h
+
+  evaluated_told : (s : Slot) (place : Place) (p : Plan) → IsIn files place → AreTold files (evaluated s place p).faults
+  evaluated_told (slot.Constant least most) place p h = either (is_omitted p) (fine p) (valued least most place (constant_of p)) tt (valued_told least most place (constant_of p) h)
+  evaluated_told slot.Element place p h = either (is_member p) (fine p) (valued 0 18446744073709551615 place (constant_of p)) tt (valued_told 0 18446744073709551615 place (constant_of p) h)
+  evaluated_told _ place p h = tt
+
+  after_told : (faults : List Message) (old new : Shaped Plan) → AreTold files old.faults → AreTold files new.faults → AreTold files (after faults old new).faults
+  after_told [] old new h k = k
+  after_told (m ∷ ms) old new h k = h
+
+  checked_told : (s : Slot) (place : Place) (shape : Shaped Plan) → IsIn files place → AreTold files shape.faults → AreTold files (checked s place shape).faults
+  checked_told s place shape h k = after_told shape.faults shape (evaluated s place shape.made) k (evaluated_told s place shape.made h)
+
+  path_told : (place : Place) (path : Option Path) → IsIn files place → AreTold files (path_shape place path).faults
+  path_told place None h = one 6024 place h
+  path_told place (Some path) h = tt
+
+  call_told : (place : Place) (path : Option Path) (args : Shaped Plans) → IsIn files place → AreTold files args.faults → AreTold files (call_shape place path args).faults
+  call_told place None args h k = one 6024 place h
+  call_told place (Some path) args h k = k
+
+  read_told : (s : Slot) (place : Place) (text : List ℕ) (reading : Reading) (args : Shaped Plans) (form : Op → Shaped Plan) → IsIn files place → AreTold files args.faults → ((o : Op) → AreTold files (form o).faults) → AreTold files (read_shape s place text reading args form).faults
+  read_told s place text read.Wrong args form h k go = one 6022 place h
+  read_told s place text read.Path args form h k go = path_told place (path_of text) h
+  read_told s place text read.Call args form h k go = call_told place (path_of text) args h k
+  read_told s place text (read.Known known) args form h k go = tt
+  read_told s place text (read.Form o) args form h k go = go o
+
+  item_told : (place : Place) (fault : Option ℕ) (shape : Shaped Plan) → IsIn files place → AreTold files shape.faults → AreTold files (item_shape place fault shape).faults
+  item_told place (Some n) shape h k = one n place h
+  item_told place None shape h k = k
+
+  place_in : (place : Place) (w : Written) → IsIn files place → IsWithin files w → IsIn files (place_of place w)
+  place_in place (piece.number p n) h k = k
+  place_in place (piece.text p t) h k = k
+  place_in place (item p w args body) h k = k.0
+  place_in place (apply p o args) h k = k.0
+  place_in place (listed p ws) h k = k.0
+  place_in place comma h k = h
+  place_in place semicolon h k = h
+  place_in place empty h k = h
+
+  skipped_told : (c : Bool) (place : Place) (first : Shaped Plan) (rest : Shaped Plans) → AreTold files first.faults → AreTold files rest.faults → AreTold files (skipped c place first rest).faults
+  skipped_told true place first rest h k = k
+  skipped_told false place first rest h k = both first.faults rest.faults h k
+
+  list_told : (place : Place) (c : Bool) (all : Shaped Plans) → IsIn files place → AreTold files all.faults → AreTold files (list_shape place c all).faults
+  list_told place true all h k = k
+  list_told place false all h k = one 6022 place h
+
+  module _ (main : 0 < files) where
+    mutual
+      bare_told : (s : Slot) (inside : Bool) (w : Written) → IsWithin files w → AreTold files (bare s inside w).faults
+      bare_told s inside (piece.number place n) h = number_told s place n h
+      bare_told s inside (piece.text place bytes) h = text_told s place bytes h
+      bare_told s inside (listed place ws) h = listed_told s place ws h.0
+      bare_told s inside (apply place o ws) h = one 6020 place h.0
+      bare_told s inside (item place w args body) h =
+          let meaning = meaning_of w (is_given body) in
+          let form : Op → Shaped Plan = λ o. form_shape o place (arguments (parameters_of o) place inside args) (contents (body_of o) (within o inside) place body) in
+          item_told place (item_fault s inside meaning (has_arguments meaning (inside_of args)) (is_given body)) (read_shape s place w (reading_of s meaning (is_given args)) (call_args inside args) form) h.0
+          (read_told s place w (reading_of s meaning (is_given args)) (call_args inside args) form h.0 (call_told_in inside args h.1)
+          (λ o. both (arguments (parameters_of o) place inside args).faults (contents (body_of o) (within o inside) place body).faults (arguments_told (parameters_of o) place inside args h.0 h.1) (contents_told (body_of o) (within o inside) place body h.0 h.2)))
+      bare_told s inside comma h = tt
+      bare_told s inside semicolon h = tt
+      bare_told s inside empty h = tt
+
+      operands_told : (s : Slot) (inside : Bool) (ws : Writtens) → AreWithin files ws → AreTold files (operands s inside ws).faults
+      operands_told s inside none h = tt
+      operands_told s inside (more w ws) h =
+          both (checked s (place_of nowhere w) (bare s inside w)).faults (operands slot.Expression inside ws).faults (checked_told s (place_of nowhere w) (bare s inside w) (place_in nowhere w main h.0) (bare_told s inside w h.0)) (operands_told slot.Expression inside ws h.1)
+
+      call_told_in : (inside : Bool) (args : Group) → IsGroupWithin files args → AreTold files (call_args inside args).faults
+      call_told_in inside absent h = tt
+      call_told_in inside (given ws) h = operands_told slot.Expression inside ws h
+
+      arguments_told : (qs : List Parameter) (place : Place) (inside : Bool) (args : Group) → IsIn files place → IsGroupWithin files args → AreTold files (arguments qs place inside args).faults
+      arguments_told qs place inside absent p h = tt
+      arguments_told qs place inside (given ws) p h = arguments_in_told qs place inside ws p h
+
+      arguments_in_told : (qs : List Parameter) (place : Place) (inside : Bool) (ws : Writtens) → IsIn files place → AreWithin files ws → AreTold files (arguments_in qs place inside ws).faults
+      arguments_in_told qs place inside none p h = tt
+      arguments_in_told [] place inside (more w ws) p h = tt
+      arguments_in_told (q ∷ qs) place inside (more w ws) p h =
+          both (checked q.slot (place_of nowhere w) (bare q.slot inside w)).faults (arguments_in qs place inside ws).faults (checked_told q.slot (place_of nowhere w) (bare q.slot inside w) (place_in nowhere w main h.0) (bare_told q.slot inside w h.0)) (arguments_in_told qs place inside ws p h.1)
+
+      contents_told : (b : Body) (inside : Bool) (place : Place) (body : Group) → IsIn files place → IsGroupWithin files body → AreTold files (contents b inside place body).faults
+      contents_told b inside place absent p h = tt
+      contents_told braces.No inside place (given ws) p h = tt
+      contents_told braces.Terms inside place (given ws) p h = terms_told inside false ws h
+      contents_told braces.Bytes inside place (given ws) p h = list_told place (is_listed true ws) (members (byte_slot ws) inside ws) p (members_told (byte_slot ws) inside ws h)
+      contents_told braces.Elements inside place (given ws) p h = list_told place (is_listed true ws) (members slot.Element inside ws) p (members_told slot.Element inside ws h)
+
+      members_told : (s : Slot) (inside : Bool) (ws : Writtens) → AreWithin files ws → AreTold files (members s inside ws).faults
+      members_told s inside none h = tt
+      members_told s inside (more w ws) h =
+          skipped_told (is_separator w) (place_of nowhere w) (checked s (place_of nowhere w) (bare s inside w)) (members s inside ws) (checked_told s (place_of nowhere w) (bare s inside w) (place_in nowhere w main h.0) (bare_told s inside w h.0)) (members_told s inside ws h.1)
+
+      terms_told : (inside behind : Bool) (ws : Writtens) → AreWithin files ws → AreTold files (terms inside behind ws).faults
+      terms_told inside behind none h = tt
+      terms_told inside behind (more w ws) h =
+          skipped_told (is_separator w) (place_of nowhere w) (checked (slot.Term behind) (place_of nowhere w) (bare (slot.Term behind) inside w)) (terms inside (behind_if behind w) ws) (checked_told (slot.Term behind) (place_of nowhere w) (bare (slot.Term behind) inside w) (place_in nowhere w main h.0) (bare_told (slot.Term behind) inside w h.0)) (terms_told inside (behind_if behind w) ws h.1)
+
+    inside_told : (fault : Option ℕ) (place : Place) (inside : List Message) → IsIn files place → AreTold files inside → AreTold files (errors_inside fault place inside)
+    inside_told (Some n) place inside h k = one n place h
+    inside_told None place inside h k = k
+
+    if_told : (c : Bool) (xs ys : List Message) → AreTold files xs → AreTold files ys → AreTold files (if c then xs else ys)
+    if_told true xs ys h k = h
+    if_told false xs ys h k = k
+
+    terms_in_told : (body : Group) → IsGroupWithin files body → AreTold files (terms false false (inside_of body)).faults
+    terms_in_told absent h = tt
+    terms_in_told (given ws) h = terms_told false false ws h
+
+    before_told : (errors : List Message) (ws : Writtens) → AreTold files errors → AreWithin files ws → AreTold files (errors_before errors ws)
+    before_told errors none h k = h
+    before_told errors (more w ws) h k = one 6028 (place_of start w) (place_in start w main k.0)
+
+    first_told : (w : Written) (ws : Writtens) → IsWithin files w → AreWithin files ws → AreTold files (first_errors w ws)
+    first_told (item place word args body) ws h k =
+        let args_faults = (arguments block_parameters place false args).faults in
+        let terms_faults = (terms false false (inside_of body)).faults in
+        let fault = block_fault (takes block_parameters (inside_of args)) (is_given body) in
+        if_told (is_block_word word) (errors_before (block_errors place args body) ws) (no_block place)
+        (before_told (block_errors place args body) ws (inside_told fault place (args_faults ++ terms_faults) h.0 (both args_faults terms_faults (arguments_told block_parameters place false args h.0 h.1) (terms_in_told body h.2))) k)
+        (one 6028 place h.0)
+    first_told (piece.number p n) ws h k = one 6028 p h
+    first_told (piece.text p t) ws h k = one 6028 p h
+    first_told (apply p o args) ws h k = one 6028 p h.0
+    first_told (listed p is) ws h k = one 6028 p h.0
+    first_told comma ws h k = one 6028 start main
+    first_told semicolon ws h k = one 6028 start main
+    first_told empty ws h k = one 6028 start main
+
+    all_told : (ws : Writtens) → AreWithin files ws → AreTold files (errors_of ws)
+    all_told none h = one 6028 start main
+    all_told (more w ws) h = first_told w ws h.0 h.1
+
+    pub errors_told : (raws : List Raw) → AreWithin files (writtens raws) → AreTold files (errors_at raws)
+    unfolding errors_at
+    errors_told raws h = all_told (writtens raws) h
+
+as_all : (files : ℕ) (ms : List Message) → AreTold files ms → All (λ m. m.place.file < files) ms
+as_all files [] h = λ k d lt. absurd (omega (arith, lt))
+as_all files (m ∷ ms) h = All-cons (λ m. m.place.file < files) m ms h.0 (as_all files ms h.1)
+
+-- the errors of a source whose parts stand in some files stand in these
+pub errors_within : (files : ℕ) → 0 < files → (raws : List Raw) → AreWithin files (writtens raws) → All (λ m. m.place.file < files) (errors_at raws)
+errors_within files main raws h = as_all files (errors_at raws) (errors_told files main raws h)
