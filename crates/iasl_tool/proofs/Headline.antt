@@ -44,7 +44,7 @@ answer_is : (words : List (List ℕ)) (told : List Named) (request : Request) (s
 answer_is words told request source h =
     let asked = request.asked in
     let file = request.file in
-    let table : of_lines h.lines ≡ Table source.signature (source_table source) = ap (of_tokens h.lines) h.tokens_are ∙ ap (of_outcome h.lines h.tokens) h.tokens_spell ∙ ap of_form h.source_is ∙ fits_table source h.table_within in
+    let table : of_lines h.lines ≡ Table source.signature (source_table source) = ap (of_tokens) h.tokens_are ∙ ap (of_outcome h.tokens) h.tokens_spell ∙ ap of_form h.source_is ∙ fits_table source h.table_within in
     ap (answer_to_asked told) h.words_are
     ∙ ap (answer_to_file asked told) h.file_is
     ∙ ap (answer_to_preprocessed asked file) h.lines_are
@@ -122,13 +122,13 @@ module _ (words : List (List ℕ)) (told : List Named) where
   by_source k tokens items None et eo es h = absurd (omega (arith, h))
   by_source k tokens items (Some source) et eo es h = by_table k tokens items source (nat_le (length (source_table source)) most_table_bytes) et eo es refl h
 
-  by_outcome : (k : Known words told) (tokens : List Token) (o : Outcome) → tokens_of k.lines ≡ Ok tokens → outcome tokens ≡ o → status_with words told k (of_outcome k.lines tokens o) ≡ 0 → FoundSource words told
+  by_outcome : (k : Known words told) (tokens : List Token) (o : Outcome) → tokens_of k.lines ≡ Ok tokens → outcome tokens ≡ o → status_with words told k (of_outcome tokens o) ≡ 0 → FoundSource words told
   by_outcome k tokens (read items) et eo h = by_source k tokens items (source_of items) et eo refl h
   by_outcome k tokens (stopped rest) et eo h = absurd (omega (arith, h))
   by_outcome k tokens (sunk rest) et eo h = absurd (omega (arith, h))
   by_outcome k tokens (tall number) et eo h = absurd (omega (arith, h))
 
-  by_tokens : (k : Known words told) (r : Result (List Token) Fault) → tokens_of k.lines ≡ r → status_with words told k (of_tokens k.lines r) ≡ 0 → FoundSource words told
+  by_tokens : (k : Known words told) (r : Result (List Token) Fault) → tokens_of k.lines ≡ r → status_with words told k (of_tokens r) ≡ 0 → FoundSource words told
   by_tokens k (Err fault) et h = absurd (omega (arith, h))
   by_tokens k (Ok tokens) et h = by_outcome k tokens (outcome tokens) et refl h
 

@@ -3,7 +3,6 @@ pub mod ItemLists
 pub mod Trees
 pub mod Ready
 pub mod Written
-pub mod Quotes
 pub mod Outcomes
 pub mod Homes
 pub mod Sorting

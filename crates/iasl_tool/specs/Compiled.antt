@@ -39,20 +39,20 @@ of_form None = Refused (unknown ∷ [])
 of_form (Some source) = of_source source
 
 -- tokens that are a source, or the place where they stop being one or nest too deep
-abbrev pub of_outcome : List Line → List Token → Outcome → Compiled
-of_outcome lines tokens (read items) = of_form (source_of items)
-of_outcome lines tokens (stopped rest) = Refused (not_source lines tokens (length tokens - length rest) ∷ [])
-of_outcome lines tokens (sunk rest) = Refused (too_deep lines tokens (length tokens - suc (length rest)) ∷ [])
-of_outcome lines tokens (tall number) = Refused (too_deep lines tokens number ∷ [])
+abbrev pub of_outcome : List Token → Outcome → Compiled
+of_outcome tokens (read items) = of_form (source_of items)
+of_outcome tokens (stopped rest) = Refused (not_source tokens (length tokens - length rest) ∷ [])
+of_outcome tokens (sunk rest) = Refused (too_deep tokens (length tokens - suc (length rest)) ∷ [])
+of_outcome tokens (tall number) = Refused (too_deep tokens number ∷ [])
 
 -- the first fault of the tokens, or what they come to
-abbrev pub of_tokens : List Line → Result (List Token) Fault → Compiled
-of_tokens lines (Err fault) = Refused (message_of fault ∷ [])
-of_tokens lines (Ok tokens) = of_outcome lines tokens (outcome tokens)
+abbrev pub of_tokens : Result (List Token) Fault → Compiled
+of_tokens (Err fault) = Refused (message_of fault ∷ [])
+of_tokens (Ok tokens) = of_outcome tokens (outcome tokens)
 
 -- what lines come to
 abbrev pub of_lines : List Line → Compiled
-of_lines lines = of_tokens lines (tokens_of lines)
+of_lines lines = of_tokens (tokens_of lines)
 
 -- each message stands in one of so many files
 abbrev pub AreWithin : ℕ → List Message → Type 0

@@ -1,5 +1,5 @@
 //! A source to its table, or its errors.
-ghost use Rattle.std.specs.Prelude.{◌≡◌, ◌≤◌, ◌<◌, ◌^◌, ◌++◌, ◌∷◌, [], length, take, All, Some, IfOk, IfErr};
+ghost use Rattle.std.specs.Prelude.{◌≡◌, ℕ, ◌≤◌, ◌<◌, ◌^◌, ◌++◌, ◌∷◌, [], length, take, All, Some, IfOk, IfErr};
 ghost use Rattle.asl_tree.specs.View.{trees_of};
 ghost use Rattle.aml_writer.specs.Pieces.{joined_pieces};
 ghost use Rattle.iasl_tool.specs.Blocks.{IsBlockOf};
@@ -13,25 +13,16 @@ ghost use Rattle.iasl_tool.specs.Compiled.{of_lines, of_source, of_form, of_outc
 
 use crate::block::{block_of, core_of};
 use crate::source::{Source, source_of};
-use crate::syntax::token_place;
 use aml_writer::stop::WriteStop;
 use aml_writer::write::write;
 use asl_lexer::token::Tokens;
 use asl_lexer::tokens;
-use asl_parser::{Raw, Syntax, parse};
+use asl_parser::{Raw, Syntax, parse, place_at};
 use iasl_messages::message::{Message, Messages, Stage};
+use iasl_messages::number::{NESTING_TOO_DEEP, SYNTAX, UNKNOWN_OPERATOR};
 use iasl_messages::place::{LineList, Lines, Piece, Place};
 use iasl_ports::list::{Text, Texts};
 use std::alloc::{AllocError, Global};
-
-/// The number of the message that a form is not known.
-const FORM_IS_UNKNOWN: u16 = 6020;
-
-/// The number of the message that tokens are no source.
-const NOT_SOURCE: u16 = 6015;
-
-/// The number of the message that a source nests too deep.
-const TOO_DEEP: u16 = 6016;
 
 /// The most tokens that are numbered.
 const MOST_TOKENS: usize = 4_294_967_295;
@@ -60,7 +51,7 @@ fn unknown(alloc: Global) -> Result<Messages, AllocError>
     one_message(
         alloc,
         Message {
-            number: FORM_IS_UNKNOWN,
+            number: UNKNOWN_OPERATOR,
             place: Place {
                 file: 0,
                 line: 1,
@@ -116,14 +107,13 @@ fn compile_form(alloc: Global, items: &[Raw]) -> Result<Compiled, AllocError>
 // The refusal with this message at the token of that number.
 fn refuse_at(
     alloc: Global,
-    lines: &Lines,
     tokens: &Tokens,
     number: u16,
     token: u32,
 ) -> Result<Compiled, AllocError>
-    ensures { IfOk result (λ compiled. compiled ≡ Refused (at_token number lines.now.list tokens.now token ∷ [])) }
+    ensures { IfOk result (λ compiled. compiled ≡ Refused (at_token number tokens.now token ∷ [])) }
 {
-    let place = token_place(lines.list.as_slice(), tokens.as_slice(), token);
+    let place = place_at(tokens.as_slice(), token);
     let name = Text::new(alloc);
     Ok(Compiled::Refused(one_message(
         alloc,
@@ -135,18 +125,16 @@ fn refuse_at(
     )?))
 }
 
-#[tactic(auto, using(crate::proofs::Outcomes::read_is, crate::proofs::Outcomes::stop_is, crate::proofs::Outcomes::deep_is, crate::proofs::Homes::at_token_home))]
-fn compile_tokens(alloc: Global, lines: &Lines, tokens: &Tokens) -> Result<Compiled, AllocError>
-    requires count { length tokens.now < 2 ^ 32 }
-    requires main { 0 < length lines.now.files }
-    requires files { All (λ token. token.place.file < length lines.now.files) tokens.now }
-    ensures value { IfOk result (λ compiled. compiled ≡ of_outcome lines.now.list tokens.now (outcome tokens.now)) }
-    ensures within { IfOk result (RefusesWithin (length lines.now.files)) }
+#[tactic(auto, using(crate::proofs::Outcomes::read_is, crate::proofs::Outcomes::stop_is, crate::proofs::Outcomes::deep_is))]
+fn compile_tokens(alloc: Global, tokens: &Tokens) -> Result<Compiled, AllocError>
+    requires { length tokens.now < 2 ^ 32 }
+    ensures value { IfOk result (λ compiled. compiled ≡ of_outcome tokens.now (outcome tokens.now)) }
+    ensures within { (files : ℕ) → 0 < files → All (λ token. token.place.file < files) tokens.now → IfOk result (RefusesWithin files) }
 {
     match parse(alloc, tokens) {
         Ok(unit) => compile_form(alloc, unit.items.as_slice()),
-        Err(Syntax::Stop { token }) => refuse_at(alloc, lines, tokens, NOT_SOURCE, token),
-        Err(Syntax::TooDeep { token }) => refuse_at(alloc, lines, tokens, TOO_DEEP, token),
+        Err(Syntax::Stop { token }) => refuse_at(alloc, tokens, SYNTAX, token),
+        Err(Syntax::TooDeep { token }) => refuse_at(alloc, tokens, NESTING_TOO_DEEP, token),
         Err(Syntax::Memory) => Err(AllocError),
     }
 }
@@ -173,7 +161,7 @@ pub(crate) fn compile(alloc: Global, lines: &Lines) -> Result<Compiled, AllocErr
     match tokens(alloc, lines) {
         // (no more tokens have room)
         Ok(tokens) if tokens.len() > MOST_TOKENS => Err(AllocError),
-        Ok(tokens) => compile_tokens(alloc, lines, &tokens),
+        Ok(tokens) => compile_tokens(alloc, &tokens),
         Err(stage) => Ok(Compiled::Refused(refusal(stage)?)),
     }
 }

@@ -9,6 +9,5 @@ pub mod items;
 pub mod run;
 mod segments;
 pub mod source;
-mod syntax;
 #[cfg(test)]
 mod tests;

@@ -1,9 +1,14 @@
-use Rattle.std.proofs.Common.{length}
-use Rattle.iasl_tool.proofs.Homes.{tokens_within, refused_within}
+use Rattle.std.proofs.Common.{◌≡◌, length, subst, Err}
+use Rattle.asl_lexer.specs.Within.{IsWithin}
+use Rattle.iasl_messages.specs.declared.message.Stage.{Stage}
 use Rattle.iasl_tool.proofs.compile.compile.Goals as goal
 
-pub compile_tokens-requires-clause-files : goal.compile_tokens-requires-clause-files
-compile_tokens-requires-clause-files c = tokens_within (length c.args.lines.now.files) c.args.lines.now.list c.in-Ok.tokens c.requires.files c.in-Ok.ensures.exact
+pub returns-in-Ok-2-clause-within : goal.returns-in-Ok-2-clause-within
+returns-in-Ok-2-clause-within c =
+    let files = length c.args.lines.now.files in
+    c.compile_tokens.ensures.within files c.requires.main (c.in-Ok.ensures.within files c.requires.files)
 
 pub returns-in_ok-refusal-in-Err-clause-within : goal.returns-in_ok-refusal-in-Err-clause-within
-returns-in_ok-refusal-in-Err-clause-within c = refused_within (length c.args.lines.now.files) c.args.lines.now.list c.in-Err.stage c.in_ok-refusal-in-Err.field-0 c.requires.files c.in-Err.ensures.exact c.in_ok-refusal-in-Err.ensures
+returns-in_ok-refusal-in-Err-clause-within c =
+    let files = length c.args.lines.now.files in
+    subst (λ (stage : Stage). IsWithin files (Err stage)) c.in_ok-refusal-in-Err.ensures (c.in-Err.ensures.within files c.requires.files)
