@@ -235,18 +235,34 @@ const SPANS: [(&[u8], &[(u32, u32)]); 4] = [
     ),
 ];
 
+fn spans_of(alloc: Global, lines: &Lines) -> Result<Vec<(u32, u32)>, AllocError> {
+    let mut spans = Vec::new(alloc);
+    if !lines
+        .list
+        .as_slice()
+        .iter()
+        .all(|line| line.text.as_bytes().len() < 1000)
+    {
+        return Ok(spans);
+    }
+    match tokens(alloc, lines) {
+        Ok(tokens) => {
+            for token in tokens.as_slice() {
+                spans.push((token.place.column, token.end))?;
+            }
+        }
+        Err(_) => {}
+    }
+    Ok(spans)
+}
+
 #[test]
 fn tokens_keep_where_they_end(rt: HostRuntime) -> Result<(), AllocError> {
     let alloc = rt.alloc();
     for (source, spans) in SPANS {
         let mut lines = no_lines(alloc);
         add_line(alloc, &mut lines, 0, 1, source)?;
-        let mut found = Vec::new(alloc);
-        if let Ok(tokens) = tokens(alloc, &lines) {
-            for token in tokens.as_slice() {
-                found.push((token.place.column, token.end))?;
-            }
-        }
+        let found = spans_of(alloc, &lines)?;
         assert!(rt; found.as_slice() == spans, "{source:?}");
     }
     Ok(())
