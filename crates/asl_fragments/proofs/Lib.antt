@@ -1,3 +1,3 @@
 pub mod FragmentLaws
-mod Joined
+pub mod Joined
 mod Worked

@@ -1,6 +1,6 @@
 -- A run of bytes that a line is read over at once comes to what its bytes come to one after another.
-use Rattle.std.proofs.Common.{◌≡◌, ℕ, suc, ◌+◌, ◌*◌, ◌-◌, ◌^◌, ◌<◌, ◌≤◌, min, Bool, true, false, cond, List, [], ◌∷◌, ◌++◌, Ok, length, map, take, drop, get_or, refl, sym, ap, subst, ◌∙◌, append_assoc, arith, length-append}
-use Rattle.std.specs.Prelude.{◌&&◌, ◌||◌, ◌==◌, not, fold}
+use Rattle.std.proofs.Common.{◌≡◌, ℕ, suc, ◌+◌, ◌*◌, ◌-◌, ◌^◌, ◌<◌, ◌≤◌, min, Bool, true, false, cond, List, [], ◌∷◌, ◌++◌, Ok, length, map, take, drop, get_or, refl, sym, ap, subst, ◌∙◌, append_assoc, arith}
+use Rattle.std.specs.Prelude.{◌&&◌, ◌||◌, ◌==◌, not}
 use Rattle.std.specs.List.{prefix_len, take_while}
 use Rattle.std.specs.Char.{digit_value, is_digit, to_ascii_uppercase}
 use Rattle.std.proofs.lemmas.List.{append-nil, take-append-drop, take_more}
@@ -11,14 +11,14 @@ use Rattle.iasl_messages.specs.declared.place.Place.{Place}
 use Rattle.asl_lexer.specs.declared.class.Class.{Class}
 use Rattle.asl_lexer.specs.declared.class.Class.TheVariants as c
 use Rattle.asl_lexer.specs.declared.class.Radix.{Radix}
-use Rattle.asl_lexer.specs.declared.class.Radix.TheVariants.{Octal, Decimal, Hexadecimal}
+use Rattle.asl_lexer.specs.declared.class.Radix.TheVariants.{Decimal, Hexadecimal}
 use Rattle.asl_lexer.specs.declared.token.Token.{Token}
 use Rattle.asl_lexer.specs.declared.mode.Mode.{Mode}
 use Rattle.asl_lexer.specs.declared.mode.Mode.TheVariants as m
 use Rattle.asl_lexer.specs.Class.{class_of, base_of, takes_equals, doubles}
 use Rattle.asl_lexer.specs.Scan.{Mark, end_at, column_after, with_name, with_number, with_string, with_symbol, begin, step, scan, is_plain, more, plain_by, text_by, zero_by, prefix_by}
 use Rattle.asl_lexer.specs.Marks.{mark_at, marks_from}
-use Rattle.asl_lexer.specs.Cut.{Stops, digit_in, behind_number, begins_name, in_name_class, begins_name_class, behind_number_class, begins_sign_class, are_two}
+use Rattle.asl_lexer.specs.Cut.{in_name_class, begins_name_class, begins_sign_class, are_two}
 use Rattle.asl_lexer.specs.Runs.{is_blank, in_word, begins_word, in_string, adjoins_number, in_comment, in_block, in_block_class, is_alone, is_dot, is_dot_class, number_of, Passes}
 use Rattle.asl_lexer.proofs.Steps.{scan_goes}
 use Rattle.asl_lexer.proofs.Bits.{both, Stops-all, more_grows, x_no_digit}

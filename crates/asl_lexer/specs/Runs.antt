@@ -1,6 +1,6 @@
 -- Runs of bytes of a line that are read at once.
 use Rattle.std.specs.Prelude.{◌≡◌, ℕ, ◌+◌, ◌*◌, Bool, true, false, ◌&&◌, not, List, ◌++◌, drop, fold}
-use Rattle.std.specs.Char.{digit_value, is_digit}
+use Rattle.std.specs.Char.{digit_value}
 use Rattle.iasl_messages.specs.declared.place.Place.{Place}
 use Rattle.asl_lexer.specs.declared.class.Class.{Class}
 use Rattle.asl_lexer.specs.declared.class.Class.TheVariants as c

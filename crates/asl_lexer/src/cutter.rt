@@ -83,7 +83,12 @@ fn finish(alloc: Global, mut tokens: Tokens, mode: Mode) -> Result<Tokens, Stop>
         }
         Mode::Zero { from } => add_number(alloc, &mut tokens, from, 0, end_at(from))?,
         Mode::Prefix { x, .. } => return Err(refuse(BAD_CHARACTER, x)),
-        Mode::Number { from, value, end, .. } => add_number(alloc, &mut tokens, from, value, end)?,
+        Mode::Number {
+            from,
+            value,
+            end,
+            ..
+        } => add_number(alloc, &mut tokens, from, value, end)?,
         Mode::Text { from, .. }
         | Mode::Escape { from, .. }
         | Mode::Coded { from, .. }

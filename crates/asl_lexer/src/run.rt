@@ -95,10 +95,7 @@ fn digit_width(bytes: &[u8], base: u64) -> usize
 fn adjoins_number(byte: u8) -> bool
     ensures { result ≡ spec.adjoins_number byte }
 {
-    matches!(
-        class_of(byte),
-        Class::Letter | Class::Zero | Class::Digit
-    )
+    matches!(class_of(byte), Class::Letter | Class::Zero | Class::Digit)
 }
 
 fn is_alone(byte: u8) -> bool
@@ -125,12 +122,7 @@ fn value_in(digits: &[u8], base: u64) -> Option<u64>
 }
 
 // A word behind which a byte of the line stands that goes on with it no more. Answers how many bytes were read.
-fn word(
-    alloc: Global,
-    tokens: &mut Tokens,
-    at: Place,
-    bytes: &[u8],
-) -> Result<usize, AllocError>
+fn word(alloc: Global, tokens: &mut Tokens, at: Place, bytes: &[u8]) -> Result<usize, AllocError>
     requires some { 0 < length bytes.now }
     requires begins { spec.begins_word (slice_index bytes.now 0) ≡ true }
     ensures within { IfOk result (λ width. width ≤ length bytes.now) }
@@ -145,12 +137,7 @@ fn word(
 }
 
 // A string without an escape.
-fn string(
-    alloc: Global,
-    tokens: &mut Tokens,
-    at: Place,
-    bytes: &[u8],
-) -> Result<usize, AllocError>
+fn string(alloc: Global, tokens: &mut Tokens, at: Place, bytes: &[u8]) -> Result<usize, AllocError>
     requires some { 0 < length bytes.now }
     requires opens { class_by (slice_index bytes.now 0) ≡ classes.Quote }
     ensures within { IfOk result (λ width. width ≤ length bytes.now) }
@@ -167,12 +154,7 @@ fn string(
 }
 
 // A decimal number behind which neither a letter nor a digit stands.
-fn decimal(
-    alloc: Global,
-    tokens: &mut Tokens,
-    at: Place,
-    bytes: &[u8],
-) -> Result<usize, AllocError>
+fn decimal(alloc: Global, tokens: &mut Tokens, at: Place, bytes: &[u8]) -> Result<usize, AllocError>
     requires some { 0 < length bytes.now }
     requires begins { class_by (slice_index bytes.now 0) ≡ classes.Digit }
     ensures within { IfOk result (λ width. width ≤ length bytes.now) }
@@ -217,12 +199,7 @@ fn hexadecimal(
 }
 
 // A character that is a symbol whatever stands behind it.
-fn symbol(
-    alloc: Global,
-    tokens: &mut Tokens,
-    at: Place,
-    bytes: &[u8],
-) -> Result<usize, AllocError>
+fn symbol(alloc: Global, tokens: &mut Tokens, at: Place, bytes: &[u8]) -> Result<usize, AllocError>
     requires some { 0 < length bytes.now }
     requires begins { class_by (slice_index bytes.now 0) ≡ classes.Sign }
     ensures within { IfOk result (λ width. width ≤ length bytes.now) }
@@ -237,12 +214,7 @@ fn symbol(
 }
 
 // Where no token is open: blanks, or a plain token.
-fn between(
-    alloc: Global,
-    tokens: &mut Tokens,
-    at: Place,
-    bytes: &[u8],
-) -> Result<usize, AllocError>
+fn between(alloc: Global, tokens: &mut Tokens, at: Place, bytes: &[u8]) -> Result<usize, AllocError>
     requires { 0 < length bytes.now }
     ensures within { IfOk result (λ width. width ≤ length bytes.now) }
     ensures passes { IfOk result (λ width. Passes at bytes.now width modes.Between tokens.old modes.Between tokens.new) }

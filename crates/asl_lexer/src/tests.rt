@@ -224,6 +224,50 @@ fn bad_sources_give_their_first_fault(rt: HostRuntime) -> Result<(), AllocError>
     Ok(())
 }
 
+// Where each token of a line begins and ends: the columns of its first character and behind its last.
+const SPANS: [(&[u8], &[(u32, u32)]); 4] = [
+    (b"A 12345,0x1F ", &[(1, 2), (3, 8), (8, 9), (9, 13)]),
+    (b"\"\" \"a\\x41\\\"\"0", &[(1, 3), (4, 13), (13, 14)]),
+    (b" ^^Ab.cD>>=~7", &[(2, 9), (9, 12), (12, 13), (13, 14)]),
+    (
+        b"^ 017;longer_than_inline",
+        &[(1, 2), (3, 6), (6, 7), (7, 25)],
+    ),
+];
+
+fn spans_of(alloc: Global, lines: &Lines) -> Result<Vec<(u32, u32)>, AllocError> {
+    let mut spans = Vec::new(alloc);
+    if !lines
+        .list
+        .as_slice()
+        .iter()
+        .all(|line| line.text.as_bytes().len() < 1000)
+    {
+        return Ok(spans);
+    }
+    match tokens(alloc, lines) {
+        Ok(tokens) => {
+            for token in tokens.as_slice() {
+                spans.push((token.place.column, token.end))?;
+            }
+        }
+        Err(_) => {}
+    }
+    Ok(spans)
+}
+
+#[test]
+fn tokens_keep_where_they_end(rt: HostRuntime) -> Result<(), AllocError> {
+    let alloc = rt.alloc();
+    for (source, spans) in SPANS {
+        let mut lines = no_lines(alloc);
+        add_line(alloc, &mut lines, 0, 1, source)?;
+        let found = spans_of(alloc, &lines)?;
+        assert!(rt; found.as_slice() == spans, "{source:?}");
+    }
+    Ok(())
+}
+
 #[test]
 fn tokens_stand_in_their_file_and_line(rt: HostRuntime) -> Result<(), AllocError> {
     let alloc = rt.alloc();

@@ -1,3 +1,4 @@
 mod TableLaws
 mod Values
 mod Worked
+pub mod Undefined

@@ -154,12 +154,18 @@ fn add_text<'a>(
     Ok(())
 }
 
-/// A text with its defined names replaced, where it begins inside a block comment or does not. Outside strings
-/// and comments each defined identifier is replaced by its text, in which identifiers are replaced by the same
-/// rule, except names that are being replaced, to a nesting of 32; a name met deeper stays. The answer has at
-/// most `limit` bytes, and never many more are made. The time is that of the input and the answer, times 32 at
-/// most; but a text of long names that are replaced by short ones is read each time that it is met.
-pub fn replace(
+// The text as it is, where it has room.
+fn whole(alloc: Global, text: &[u8], limit: usize) -> Result<Vec<u8>, ReplaceStop>
+    ensures { Gives result limit text.now }
+{
+    if text.len() > limit {
+        return Err(ReplaceStop::TooLong);
+    }
+    Ok(text.to_vec(alloc)?)
+}
+
+// A text with its names replaced.
+fn replace_names(
     alloc: Global,
     macros: &Macros,
     within: Within,
@@ -182,4 +188,25 @@ pub fn replace(
         in_comment,
     )?;
     Ok(out)
+}
+
+/// A text with its defined names replaced, where it begins inside a block comment or does not. Outside strings
+/// and comments each defined identifier is replaced by its text, in which identifiers are replaced by the same
+/// rule, except names that are being replaced, to a nesting of 32; a name met deeper stays. The answer has at
+/// most `limit` bytes, and never many more are made. The time is that of the input and the answer, times 32 at
+/// most; but a text of long names that are replaced by short ones is read each time that it is met.
+pub fn replace(
+    alloc: Global,
+    macros: &Macros,
+    within: Within,
+    text: &[u8],
+    in_comment: bool,
+    limit: usize,
+) -> Result<Vec<u8>, ReplaceStop>
+    ensures { (history : History) → Tells macros.now history → Gives result limit (spec.replaced within history in_comment text.now) }
+{
+    if macros.is_empty() {
+        return whole(alloc, text, limit);
+    }
+    replace_names(alloc, macros, within, text, in_comment, limit)
 }

@@ -9,3 +9,4 @@ pub mod Rowing
 pub mod Starts
 pub mod Mains
 mod Worked
+pub mod Plain

@@ -1,7 +1,8 @@
 -- What becomes of a line that is no directive.
-use Rattle.std.specs.Prelude.{ℕ, ◌+◌, ◌||◌, Bool, false, true, cond, nat_le, List, [], ◌∷◌, ◌++◌, Some, None, Ok}
+use Rattle.std.specs.Prelude.{ℕ, ◌+◌, ◌==◌, ◌||◌, Bool, false, true, cond, nat_le, List, [], ◌∷◌, ◌++◌, Some, None, Ok}
 use Rattle.std.specs.declared.option.Option.{Option}
 use Rattle.std.specs.Option.{option_map}
+use Rattle.std.specs.Char.{to_ascii_lowercase}
 use Rattle.iasl_ports.specs.Fetched.{most_bytes}
 use Rattle.iasl_messages.specs.declared.place.Place.{Place}
 use Rattle.iasl_messages.specs.declared.place.Line.{Line}
@@ -9,7 +10,7 @@ use Rattle.asl_fragments.specs.Fragments.{ends_in_comment, without_comments}
 use Rattle.asl_macros.specs.History.{History}
 use Rattle.asl_macros.specs.Replacement.{replaced}
 use Rattle.asl_macros.specs.declared.spot.Within.TheVariants.{InLine}
-use Rattle.asl_directives.specs.Words.{blanks_before}
+use Rattle.asl_directives.specs.Words.{blanks_before, past_blanks}
 use Rattle.asl_directives.specs.Forms.{Asked, file_name_of, include_line}
 use Rattle.asl_directives.specs.Branches.{is_read}
 use Rattle.asl_preprocess.specs.State.{State, Pass, Outcome, at, stopped, total_size, with_lines}
@@ -38,6 +39,18 @@ text_left enabled history in_comment text = cond enabled (replaced InLine histor
 -- leaves one open is none.
 abbrev pub asked_by_line : Bool → List ℕ → Option (List ℕ)
 asked_by_line in_comment text = cond (in_comment || ends_in_comment in_comment text) None (include_line (without_comments false text))
+
+-- a byte that may begin the word `Include`, or a comment before it
+abbrev pub begins_include : ℕ → Bool
+begins_include b = b == 47 || to_ascii_lowercase b == 105
+
+abbrev pub may_begin_include : List ℕ → Bool
+may_begin_include [] = false
+may_begin_include (b ∷ bs) = begins_include b
+
+-- whether the first byte behind blanks is one
+abbrev pub may_include : List ℕ → Bool
+may_include text = may_begin_include (past_blanks text)
 
 -- the place of the word `Include`
 abbrev pub word_place : ℕ → ℕ → List ℕ → Place

@@ -1,10 +1,10 @@
 //! What becomes of a line that is no directive.
-ghost use Rattle.std.specs.Prelude.{◌≡◌, ◌∷◌, [], ℕ, List, IfOk, false};
+ghost use Rattle.std.specs.Prelude.{◌≡◌, ◌∷◌, [], ℕ, List, IfOk, None, false, true};
 ghost use Rattle.std.specs.Option.{option_map};
 ghost use Rattle.asl_preprocess.specs.State.{State};
 ghost use Rattle.asl_preprocess.specs.Lines as spec;
 ghost use Rattle.asl_fragments.specs.Fragments.{without_comments as without_comments_of};
-ghost use Rattle.asl_directives.specs.Forms.{file_name_of};
+ghost use Rattle.asl_directives.specs.Forms.{file_name_of, include_line as include_line_of};
 ghost use Rattle.asl_preprocess.specs.Told.{Shows, Does, IncludesName};
 
 use crate::directives::{WRONG_FORM, Wanted, column_behind};
@@ -12,7 +12,7 @@ use crate::halt::{Halt, refusal};
 use crate::work::Work;
 use asl_directives::branches::Branches;
 use asl_directives::forms::{file_name, include_line};
-use asl_directives::words::blanks_before;
+use asl_directives::words::{blanks_before, past_blanks};
 use asl_fragments::{ends_in_comment, without_comments};
 use iasl_messages::place::Place;
 use iasl_ports::list::Text;
@@ -30,6 +30,27 @@ fn wanted(alloc: Global, place: Place, name: &[u8]) -> Result<Wanted, Halt>
         }),
         None => Err(refusal(alloc, WRONG_FORM, place, b"")),
     }
+}
+
+// Whether the first byte behind blanks may begin `Include`, or a comment before it.
+fn may_include(text: &[u8]) -> bool
+    ensures { result ≡ spec.may_include text.now }
+{
+    match past_blanks(text) {
+        [first, ..] => *first == b'/' || first.to_ascii_lowercase() == b'i',
+        [] => false,
+    }
+}
+
+// Whether a line may be an `Include ("f")` of its own.
+fn may_ask(in_comment: bool, text: &[u8]) -> bool
+    ensures no { result ≡ false → spec.asked_by_line in_comment text.now ≡ None }
+    ensures yes { result ≡ true → spec.asked_by_line in_comment text.now ≡ include_line_of (without_comments_of false text.now) }
+{
+    if !may_include(text) {
+        return false;
+    }
+    !in_comment && !ends_in_comment(text, in_comment)
 }
 
 // What a line that stands outside block comments asks for, comments aside, and the column of its word.
@@ -62,7 +83,7 @@ pub(crate) fn line(
     if !branches.is_read() {
         return Ok(None);
     }
-    if !in_comment && !ends_in_comment(text, in_comment) {
+    if may_ask(in_comment, text) {
         if let Some((column, name)) = asked(alloc, text)? {
             let place = Place { file, line, column };
             return Ok(Some(wanted(alloc, place, name.as_bytes())?));

@@ -413,7 +413,26 @@ const INCLUDES_TERMS: &[u8] = b"DefinitionBlock (\"\", \"SSDT\", 2, \"OEMX00\", 
 }
 ";
 
+// A file that is included twice, with its one line replaced otherwise: the end is missed behind the second of them.
+const INCLUDES_TWICE: &[u8] =
+    b"DefinitionBlock (\"\", \"SSDT\", 2, \"OEMX00\", \"TABLE001\", 1) { Name (X,
+#define A 1
+#include \"f.h\"
+,
+#undef A
+#define A 12345
+#include \"f.h\"
+";
+
 const CASES: &[Case] = &[
+    Case {
+        words: &["t.asl"],
+        files: &[("t.asl", INCLUDES_TWICE), ("f.h", b"A\n")],
+        status: 1,
+        names: &[],
+        bodies: &[],
+        told: b"f.h:1:6: error 6015: syntax\n1 errors, 0 warnings, 0 remarks\n",
+    },
     // A definition of the words.
     Case {
         words: &["-D", "A=7", "t.asl"],

@@ -1,4 +1,4 @@
-use Rattle.std.proofs.Common.{◌≡◌, ℕ, ◌+◌, ◌-◌, ◌++◌, List, drop, length}
+use Rattle.std.proofs.Common.{◌≡◌, ◌+◌, ◌-◌, ◌++◌, List, drop, length}
 use Rattle.asl_lexer.specs.Scan.{Mark, scan}
 use Rattle.asl_lexer.specs.Marks.{marks_from, line_marks}
 use Rattle.asl_lexer.proofs.cutter.scan_line.Given as goal

@@ -1,4 +1,4 @@
-use Rattle.std.proofs.Common.{◌≡◌, sym, ◌∙◌, subst}
+use Rattle.std.proofs.Common.{sym, ◌∙◌, subst}
 use Rattle.std.proofs.lemmas.List.Folds.{length-prefix_len}
 use Rattle.asl_lexer.specs.declared.mode.Mode.TheVariants as m
 use Rattle.asl_lexer.specs.Runs.{is_blank, Passes}

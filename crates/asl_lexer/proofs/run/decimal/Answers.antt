@@ -1,8 +1,8 @@
-use Rattle.std.proofs.Common.{◌≡◌, ◌+◌, ◌<◌, length, take, drop, sym, ap, ◌∙◌, subst, arith}
+use Rattle.std.proofs.Common.{sym, ap, ◌∙◌, subst, arith}
 use Rattle.std.specs.Char.{is_digit}
 use Rattle.std.proofs.lemmas.List.Folds.{length-prefix_len}
 use Rattle.asl_lexer.specs.declared.mode.Mode.TheVariants as m
-use Rattle.asl_lexer.specs.Scan.{with_number, column_after}
+use Rattle.asl_lexer.specs.Scan.{with_number}
 use Rattle.asl_lexer.specs.Runs.{number_of, Passes}
 use Rattle.asl_lexer.proofs.Runs.{passes_decimal}
 use Rattle.asl_lexer.proofs.run.decimal.Goals as goal

@@ -1,9 +1,9 @@
-use Rattle.std.proofs.Common.{◌≡◌, ◌+◌, ◌<◌, length, take, drop, get_or, eq-eqb, sym, ap, ◌∙◌, subst, arith}
+use Rattle.std.proofs.Common.{◌≡◌, ◌+◌, length, take, drop, get_or, eq-eqb, sym, ap, ◌∙◌, subst, arith}
 use Rattle.std.specs.Char.{is_digit}
 use Rattle.std.specs.List.{take_while}
 use Rattle.std.proofs.lemmas.List.Folds.{length-prefix_len}
 use Rattle.asl_lexer.specs.declared.mode.Mode.TheVariants as m
-use Rattle.asl_lexer.specs.Scan.{with_number, column_after}
+use Rattle.asl_lexer.specs.Scan.{with_number}
 use Rattle.asl_lexer.specs.Runs.{number_of, adjoins_number, Passes}
 use Rattle.asl_lexer.proofs.Runs.{passes_hexadecimal}
 use Rattle.asl_lexer.proofs.run.hexadecimal.Goals as goal

@@ -1,4 +1,4 @@
-use Rattle.std.proofs.Common.{◌≡◌, ◌∷◌, [], sym, ap, ◌∙◌, subst, get_or}
+use Rattle.std.proofs.Common.{sym, ap, ◌∙◌, subst}
 use Rattle.asl_lexer.specs.declared.mode.Mode.TheVariants as m
 use Rattle.asl_lexer.specs.Cut.{begins_sign_class}
 use Rattle.asl_lexer.specs.Runs.{Passes}

@@ -1,4 +1,4 @@
-use Rattle.std.proofs.Common.{◌≡◌, ◌+◌, ap, ◌∙◌}
+use Rattle.std.proofs.Common.{◌+◌, ap, ◌∙◌}
 use Rattle.asl_lexer.proofs.Runs.{number_of-more}
 use Rattle.asl_lexer.proofs.run.value_in.Goals as goal
 
