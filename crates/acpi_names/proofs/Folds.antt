@@ -1,0 +1,158 @@
+-- One term more.
+use Rattle.std.proofs.Common.{◌≡◌, ℕ, zero, suc, ◌+◌, ◌<◌, ◌≤◌, Bool, true, false, List, [], ◌∷◌, length, get_or, take, Vec, Global, Option, Some, None, refl, sym, ap, ◌∙◌, arith}
+use Rattle.std.specs.Prelude.{◌||◌, is_some, if◌then◌else◌}
+use Rattle.std.proofs.lemmas.List.{take_all}
+use Rattle.acpi_values.specs.Paths.{AbsolutePath, is_same_path}
+use Rattle.acpi_state.proofs.Lookups.{is_same_path-true}
+use Rattle.acpi_state.specs.Objects.{lookup}
+use Rattle.asl_tree.specs.declared.term.Op.{Op}
+use Rattle.asl_tree.specs.declared.term.Node.{Node}
+use Rattle.asl_tree.specs.declared.term.Term.{Term}
+use Rattle.asl_tree.specs.declared.term.Term as D
+use Rattle.asl_tree.specs.Tree.{At, Trees}
+use Rattle.asl_tree.specs.View.{tree_of, trees_of}
+use Rattle.asl_meaning.specs.Declarations.{As, AliasOf, scope_path, Declared, Declarations, ExternalType, is_named, in_root, with_declared, with_external, declare, declare_all}
+use Rattle.acpi_names.specs.Paths.{is_named_in}
+use Rattle.acpi_names.specs.Parts.{Agrees, Marks, MarksSome, Keeps, Leads, part_of, declare_part, opened, object_of, name_at, is_form}
+use Rattle.acpi_names.specs.declared.part.What.{What}
+use Rattle.acpi_names.specs.declared.part.Part.{Part}
+use Rattle.acpi_names.specs.declared.part.Part.TheVariants as P
+use Rattle.asl_tree.specs.declared.path.Path.{Path as Name}
+use Rattle.asl_tree.specs.Names.{place_of}
+use Rattle.acpi_state.specs.Outcomes.{choose}
+use Rattle.acpi_names.proofs.Parts.{declared_form}
+use Rattle.acpi_names.proofs.Trees.{form_tree}
+
+abbrev at_of : Node → At
+at_of node = record { id = node.id; place = node.place }
+
+declare_one : (nodes : List Node) (scope : AbsolutePath) (d : Declarations) → declare_all (trees_of (take 0 nodes)) scope d ≡ d
+unfolding trees_of
+declare_one [] scope d = refl
+declare_one (n ∷ nodes) scope d = refl
+
+declare_suc : (nodes : List Node) (i : ℕ) (node : Node) (scope : AbsolutePath) (d : Declarations) → i < length nodes → declare_all (trees_of (take (suc i) nodes)) scope d ≡ declare (tree_of (at_of (get_or nodes i node)) (get_or nodes i node).term) scope (declare_all (trees_of (take i nodes)) scope d)
+unfolding trees_of
+declare_suc [] i node scope d lt = absurd (omega (arith, lt))
+declare_suc (n ∷ nodes) zero node scope d lt = declare_one nodes scope (declare (tree_of (at_of n) n.term) scope d)
+declare_suc (n ∷ nodes) (suc i) node scope d lt = declare_suc nodes i node scope (declare (tree_of (at_of n) n.term) scope d) (omega (arith, lt))
+
+pub declare_next : (nodes : List Node) (i : ℕ) (node : Node) (scope : AbsolutePath) (d : Declarations) → i < length nodes → declare_all (trees_of (take (i + 1) nodes)) scope d ≡ declare (tree_of (at_of (get_or nodes i node)) (get_or nodes i node).term) scope (declare_all (trees_of (take i nodes)) scope d)
+declare_next nodes i node scope d lt = let e : i + 1 ≡ suc i = omega arith in ap (λ n. declare_all (trees_of (take n nodes)) scope d) e ∙ declare_suc nodes i node scope d lt
+
+pub quiet : (t : Term) → is_form t ≡ false → (at : At) (scope : AbsolutePath) (d : Declarations) → declare (tree_of at t) scope d ≡ d
+unfolding tree_of
+quiet (D.Form' op shape args shape' body) e at scope d = absurd (grind arith)
+quiet _ e at scope d = refl
+
+pub declare_none : (scope : AbsolutePath) (d : Declarations) → declare_all (trees_of []) scope d ≡ d
+unfolding trees_of
+declare_none scope d = refl
+
+pub declare_whole : (nodes : List Node) (i : ℕ) (scope : AbsolutePath) (d : Declarations) → length nodes ≤ i → declare_all (trees_of (take i nodes)) scope d ≡ declare_all (trees_of nodes) scope d
+declare_whole nodes i scope d le = ap (λ ns. declare_all (trees_of ns) scope d) (take_all i nodes le)
+
+pub declare_form : (at : At) (t : Term) (op : Op) (args body : Vec Node Global) (xs bs : List Node) (scope : AbsolutePath) (d : Declarations) → t ≡ D.Form op args body → xs ≡ args.items → bs ≡ body.items → declare (tree_of at t) scope d ≡ declare_part (part_of op (trees_of xs) (trees_of bs)) (trees_of xs) (trees_of bs) scope d
+declare_form at t op args body xs bs scope d e ea eb =
+    ap (λ t. declare (tree_of at t) scope d) e ∙ ap (λ t. declare t scope d) (form_tree at op args body)
+    ∙ declared_form at op (trees_of args.items) (trees_of body.items) scope d
+    ∙ ap (λ ns. declare_part (part_of op (trees_of ns) (trees_of body.items)) (trees_of ns) (trees_of body.items) scope d) (sym ea)
+    ∙ ap (λ ns. declare_part (part_of op (trees_of xs) (trees_of ns)) (trees_of xs) (trees_of ns) scope d) (sym eb)
+
+pub turned : (a b : AbsolutePath) → is_same_path a b ≡ is_same_path b a
+turned a b = by_both (is_same_path a b) (is_same_path b a) refl refl
+  where
+    by_both : (c e : Bool) → is_same_path a b ≡ c → is_same_path b a ≡ e → is_same_path a b ≡ is_same_path b a
+    by_both true e h k = h ∙ sym (ap (λ p. is_same_path p a) (sym (is_same_path-true a b h)) ∙ ap (is_same_path a) refl ∙ ap (λ p. is_same_path a p) (is_same_path-true a b h) ∙ h)
+    by_both false true h k = absurd (let x = sym h ∙ ap (λ p. is_same_path p b) (sym (is_same_path-true b a k)) ∙ ap (λ p. is_same_path b p) (is_same_path-true b a k) ∙ k in grind arith)
+    by_both false false h k = h ∙ sym k
+
+first_some : {A : Type 0} (c : Bool) (a : A) (o : Option A) (others : Bool) → (is_some (if c then Some a else o) || others) ≡ (c || (is_some o || others))
+first_some true a o others = refl
+first_some false a o others = refl
+
+-- a path that is declared is named
+pub leads_declared : (paths more : List AbsolutePath) (named flags : List Bool) (new : AbsolutePath) (what : Declared) → Marks paths named more flags new → Leads paths named more flags (with_declared new what)
+leads_declared paths more named flags new what marks d agrees path =
+    marks path ∙ ap (λ b. is_same_path path new || b) (agrees path) ∙ ap (λ b. b || is_named d path) (turned path new)
+    ∙ sym (first_some (is_same_path new path) what (lookup d.declared path) (is_some (lookup d.external path) || in_root path))
+
+middle : {A : Type 0} (c : Bool) (a : A) (o : Option A) (before after : Bool) → (before || (is_some (if c then Some a else o) || after)) ≡ (c || (before || (is_some o || after)))
+middle true a o true after = refl
+middle true a o false after = refl
+middle false a o before after = refl
+
+-- so is one of another table; one of the root was named before
+pub leads_external : (paths more : List AbsolutePath) (named flags : List Bool) (new : AbsolutePath) (type : ExternalType) → Marks paths named more flags new → Leads paths named more flags (with_external (in_root new) new type)
+leads_external paths more named flags new type marks d agrees path = by_root (in_root new) refl
+  where
+    last : (a b : Bool) → (a || (b || true)) ≡ true
+    last true b = refl
+    last false true = refl
+    last false false = refl
+
+    rooted : (c : Bool) → is_same_path path new ≡ c → in_root new ≡ true → (c || is_named d path) ≡ is_named d path
+    rooted false e r = refl
+    rooted true e r =
+        sym (ap (λ b. is_some (lookup d.declared path) || (is_some (lookup d.external path) || b)) (ap in_root (is_same_path-true path new e) ∙ r)
+        ∙ last (is_some (lookup d.declared path)) (is_some (lookup d.external path)))
+
+    by_root : (c : Bool) → in_root new ≡ c → is_named_in more flags path ≡ is_named (with_external c new type d) path
+    by_root true r = marks path ∙ ap (λ b. is_same_path path new || b) (agrees path) ∙ rooted (is_same_path path new) refl r
+    by_root false r =
+        marks path ∙ ap (λ b. is_same_path path new || b) (agrees path) ∙ ap (λ b. b || is_named d path) (turned path new)
+        ∙ sym (middle (is_same_path new path) type (lookup d.external path) (is_some (lookup d.declared path)) (in_root path))
+
+pub leads_none : (paths : List AbsolutePath) (named : List Bool) (nodes : List Node) (scope : AbsolutePath) → Leads paths named paths named (declare_all (trees_of (take 0 nodes)) scope)
+leads_none paths named [] scope d agrees path = agrees path ∙ sym (ap (λ d. is_named d path) (declare_none scope d))
+leads_none paths named (node ∷ nodes) scope d agrees path = agrees path ∙ sym (ap (λ d. is_named d path) (declare_none scope d))
+
+pub leads_next : (paths mid more : List AbsolutePath) (f g h : List Bool) (nodes : List Node) (i : ℕ) (node : Node) (scope inner : AbsolutePath) → i < length nodes → node ≡ get_or nodes i node → inner ≡ scope → Leads paths f mid g (declare_all (trees_of (take i nodes)) scope) → ((at : At) → Leads mid g more h (declare (tree_of at node.term) inner)) → Leads paths f more h (declare_all (trees_of (take (i + 1) nodes)) scope)
+leads_next paths mid more f g h nodes i node scope inner lt e same before step d agrees path =
+    let taken = declare_all (trees_of (take i nodes)) scope d in
+    step (at_of node) taken (before d agrees) path
+    ∙ ap (λ s. is_named (declare (tree_of (at_of node) node.term) s taken) path) same
+    ∙ ap (λ (n : Node). is_named (declare (tree_of (at_of n) n.term) scope taken) path) e
+    ∙ sym (ap (λ d. is_named d path) (declare_next nodes i node scope d lt))
+
+pub leads_whole : (paths more : List AbsolutePath) (f g : List Bool) (nodes : List Node) (i : ℕ) (scope : AbsolutePath) → length nodes ≤ i → Leads paths f more g (declare_all (trees_of (take i nodes)) scope) → Leads paths f more g (declare_all (trees_of nodes) scope)
+leads_whole paths more f g nodes i scope le before d agrees path = before d agrees path ∙ ap (λ d. is_named d path) (declare_whole nodes i scope d le)
+
+pub leads_open : (paths mid more : List AbsolutePath) (f g h : List Bool) (part : Part) (n : ℕ) (what : What) (args body : Trees) (scope inner : AbsolutePath) (name : Name) → part ≡ P.Declares n what true → name_at n args ≡ Some name → Marks paths f mid g (place_of name scope) → inner ≡ place_of name scope → Leads mid g more h (declare_all body inner) → Leads paths f more h (declare_part part args body scope)
+leads_open paths mid more f g h part n what args body scope inner name e there marks same inside d agrees path =
+    let next = with_declared (place_of name scope) (As (object_of what)) d in
+    inside next (leads_declared paths mid f g (place_of name scope) (As (object_of what)) marks d agrees) path
+    ∙ ap (λ s. is_named (declare_all body s next) path) same
+    ∙ sym (ap (λ p. is_named (declare_part p args body scope d) path) e
+    ∙ ap (λ o. is_named (choose o d (λ name. opened true body (place_of name scope) (with_declared (place_of name scope) (As (object_of what)) d))) path) there)
+
+pub leads_closed : (paths more : List AbsolutePath) (f g : List Bool) (part : Part) (n : ℕ) (what : What) (args body : Trees) (scope : AbsolutePath) (name : Name) → part ≡ P.Declares n what false → name_at n args ≡ Some name → Marks paths f more g (place_of name scope) → Leads paths f more g (declare_part part args body scope)
+leads_closed paths more f g part n what args body scope name e there marks d agrees path =
+    leads_declared paths more f g (place_of name scope) (As (object_of what)) marks d agrees path
+    ∙ sym (ap (λ p. is_named (declare_part p args body scope d) path) e
+    ∙ ap (λ o. is_named (choose o d (λ name. opened false body (place_of name scope) (with_declared (place_of name scope) (As (object_of what)) d))) path) there)
+
+pub leads_alias : (paths more : List AbsolutePath) (f g : List Bool) (part : Part) (args body : Trees) (scope : AbsolutePath) (source : Name) → part ≡ P.Alias → name_at 0 args ≡ Some source → MarksSome paths f more g (name_at 1 args) scope → Leads paths f more g (declare_part part args body scope)
+leads_alias paths more f g part args body scope source e there marks d agrees path =
+    by_name (name_at 1 args) marks
+    ∙ sym (ap (λ p. is_named (declare_part p args body scope d) path) e
+    ∙ ap (λ o. is_named (choose o d (λ source. choose (name_at 1 args) d (λ name. with_declared (place_of name scope) (AliasOf source scope) d))) path) there)
+  where
+    by_name : (o : Option Name) → MarksSome paths f more g o scope → is_named_in more g path ≡ is_named (choose o d (λ name. with_declared (place_of name scope) (AliasOf source scope) d)) path
+    by_name None marks = marks path ∙ agrees path
+    by_name (Some name) marks = leads_declared paths more f g (place_of name scope) (AliasOf source scope) marks d agrees path
+
+pub leads_outside : (paths more : List AbsolutePath) (f g : List Bool) (part : Part) (type : ℕ) (parameters : Option ℕ) (args body : Trees) (scope : AbsolutePath) → part ≡ P.External type parameters → MarksSome paths f more g (name_at 0 args) scope → Leads paths f more g (declare_part part args body scope)
+leads_outside paths more f g part type parameters args body scope e marks d agrees path =
+    by_name (name_at 0 args) marks ∙ sym (ap (λ p. is_named (declare_part p args body scope d) path) e)
+  where
+    by_name : (o : Option Name) → MarksSome paths f more g o scope → is_named_in more g path ≡ is_named (choose o d (λ name. with_external (in_root (place_of name scope)) (place_of name scope) (record { type = type; parameters = parameters }) d)) path
+    by_name None marks = marks path ∙ agrees path
+    by_name (Some name) marks = leads_external paths more f g (place_of name scope) (record { type = type; parameters = parameters }) marks d agrees path
+
+pub leads_scope : (paths mid more : List AbsolutePath) (f g h : List Bool) (part : Part) (args body : Trees) (scope inner : AbsolutePath) (name : Name) → part ≡ P.Scope → name_at 0 args ≡ Some name → Keeps paths f mid g → ((d : Declarations) → Agrees paths f d → inner ≡ scope_path d name scope) → Leads mid g more h (declare_all body inner) → Leads paths f more h (declare_part part args body scope)
+leads_scope paths mid more f g h part args body scope inner name e there keeps same inside d agrees path =
+    inside d (λ p. keeps p ∙ agrees p) path
+    ∙ ap (λ s. is_named (declare_all body s d) path) (same d agrees)
+    ∙ sym (ap (λ p. is_named (declare_part p args body scope d) path) e
+    ∙ ap (λ o. is_named (choose o d (λ name. declare_all body (scope_path d name scope) d)) path) there)
