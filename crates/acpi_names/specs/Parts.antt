@@ -121,6 +121,7 @@ part_of (Op.Declaration Declaration.BankField) args body = if is_there (name_at 
 part_of (Op.Control Control.If) args body = fitting (are 1 args) P.Within
 part_of (Op.Control Control.Else) args body = fitting (are 0 args) P.Within
 part_of (Op.Control Control.While) args body = fitting (are 1 args) P.Within
+part_of (Op.Control Control.Return) args body = fitting (are 1 args && are 0 body) P.Returns
 part_of _ args body = P.Nothing
 
 -- the terms of a body, where it is opened
@@ -138,6 +139,7 @@ declare_part P.Alias args body scope d =
 declare_part (P.External type parameters) args body scope d =
     choose (name_at 0 args) d (λ name. with_external (in_root (place_of name scope)) (place_of name scope) (record { type = type; parameters = parameters }) d)
 declare_part P.Scope args body scope d = choose (name_at 0 args) d (λ name. declare_all body (scope_path d name scope) d)
+declare_part P.Returns args body scope d = d
 declare_part P.Within args body scope d = declare_all body scope d
 declare_part P.Items args body scope d = choose (items_in body) d (λ items. declare_items items scope d)
 
@@ -166,6 +168,7 @@ Leads paths named more flags next = (d : Declarations) → Agrees paths named d 
 unfoldable mutual
   pub term_size : Term → ℕ
   term_size (D.Form' op shape args shape' body) = suc (row_size args + row_size body)
+  term_size (D.Call' path shape args) = suc (row_size args)
   term_size _ = 0
 
   pub row_size : {m : _} → D.Row_of-Node m → ℕ

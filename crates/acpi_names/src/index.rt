@@ -211,6 +211,7 @@ fn fold_form(
             None => Ok(()),
         },
         Part::Within => fold(index, body, scope),
+        Part::Returns => Ok(()),
         // The units of fields are not built yet.
         Part::Items => Err(AllocError),
     }

@@ -1,0 +1,89 @@
+//! The names that a block mentions.
+ghost use Rattle.std.specs.Prelude.{◌≡◌, Some, None};
+ghost use Rattle.std.specs.Option.{option_map};
+ghost use Rattle.acpi_names.specs.Shown.{spot_as, named_as, named_at};
+ghost use Rattle.asl_tree.specs.View.{trees_of};
+
+use crate::part::What;
+use asl_tree::path::Path;
+use asl_tree::term::{Node, Term};
+use iasl_messages::place::Place;
+
+/// Which node of the program is meant, and its place.
+#[derive(Clone, Copy, PartialEq, Eq, Debug)]
+pub struct Spot {
+    pub id: u32,
+    pub place: Place,
+}
+
+/// A name with its node.
+#[derive(Clone, Copy)]
+pub struct Named<'a> {
+    pub at: Spot,
+    pub name: &'a Path,
+}
+
+/// How a path is declared: as an object, or as an alias of what a name denotes in the scope with a number.
+#[derive(Clone, Copy)]
+pub enum Declared<'a> {
+    As(What),
+    Alias { source: &'a Path, scope: usize },
+}
+
+/// A mention of a name. `scope` is the number of the path of the scope in which it stands. `asked` says whether it
+/// stands where its kind is asked for, so that it may not be a method with arguments.
+#[derive(Clone, Copy)]
+pub enum Mention<'a> {
+    Used {
+        asked: bool,
+        at: Spot,
+        name: &'a Path,
+        scope: usize,
+    },
+    /// A name that may lead nowhere.
+    Sought {
+        at: Spot,
+        name: &'a Path,
+        scope: usize,
+    },
+    /// A name with arguments behind it.
+    Called {
+        asked: bool,
+        at: Spot,
+        name: &'a Path,
+        args: usize,
+        scope: usize,
+    },
+    Declares {
+        at: Spot,
+        name: &'a Path,
+        what: Declared<'a>,
+        scope: usize,
+    },
+    /// The name of an External.
+    Outside {
+        here: Spot,
+        at: Spot,
+        name: &'a Path,
+        object: u64,
+        parameters: Option<u64>,
+        scope: usize,
+    },
+    /// The name of a Scope; its terms have the path with the number `inner`.
+    Opens {
+        here: Spot,
+        at: Spot,
+        name: &'a Path,
+        scope: usize,
+        inner: usize,
+    },
+}
+
+pub(crate) fn spot_of(node: &Node) -> Spot
+    ensures { result ≡ record { id = node.now.id; place = node.now.place } }
+{
+    Spot {
+        id: node.id,
+        place: node.place,
+    }
+}
