@@ -23,7 +23,7 @@ use Rattle.acpi_state.specs.Outcomes.{choose}
 use Rattle.acpi_names.proofs.Parts.{declared_form}
 use Rattle.acpi_names.proofs.Trees.{form_tree}
 
-abbrev at_of : Node → At
+abbrev pub at_of : Node → At
 at_of node = record { id = node.id; place = node.place }
 
 declare_one : (nodes : List Node) (scope : AbsolutePath) (d : Declarations) → declare_all (trees_of (take 0 nodes)) scope d ≡ d
@@ -40,24 +40,12 @@ declare_suc (n ∷ nodes) (suc i) node scope d lt = declare_suc nodes i node sco
 pub declare_next : (nodes : List Node) (i : ℕ) (node : Node) (scope : AbsolutePath) (d : Declarations) → i < length nodes → declare_all (trees_of (take (i + 1) nodes)) scope d ≡ declare (tree_of (at_of (get_or nodes i node)) (get_or nodes i node).term) scope (declare_all (trees_of (take i nodes)) scope d)
 declare_next nodes i node scope d lt = let e : i + 1 ≡ suc i = omega arith in ap (λ n. declare_all (trees_of (take n nodes)) scope d) e ∙ declare_suc nodes i node scope d lt
 
-pub quiet : (t : Term) → is_form t ≡ false → (at : At) (scope : AbsolutePath) (d : Declarations) → declare (tree_of at t) scope d ≡ d
-unfolding tree_of
-quiet (D.Form' op shape args shape' body) e at scope d = absurd (grind arith)
-quiet _ e at scope d = refl
-
 pub declare_none : (scope : AbsolutePath) (d : Declarations) → declare_all (trees_of []) scope d ≡ d
 unfolding trees_of
 declare_none scope d = refl
 
 pub declare_whole : (nodes : List Node) (i : ℕ) (scope : AbsolutePath) (d : Declarations) → length nodes ≤ i → declare_all (trees_of (take i nodes)) scope d ≡ declare_all (trees_of nodes) scope d
 declare_whole nodes i scope d le = ap (λ ns. declare_all (trees_of ns) scope d) (take_all i nodes le)
-
-pub declare_form : (at : At) (t : Term) (op : Op) (args body : Vec Node Global) (xs bs : List Node) (scope : AbsolutePath) (d : Declarations) → t ≡ D.Form op args body → xs ≡ args.items → bs ≡ body.items → declare (tree_of at t) scope d ≡ declare_part (part_of op (trees_of xs) (trees_of bs)) (trees_of xs) (trees_of bs) scope d
-declare_form at t op args body xs bs scope d e ea eb =
-    ap (λ t. declare (tree_of at t) scope d) e ∙ ap (λ t. declare t scope d) (form_tree at op args body)
-    ∙ declared_form at op (trees_of args.items) (trees_of body.items) scope d
-    ∙ ap (λ ns. declare_part (part_of op (trees_of ns) (trees_of body.items)) (trees_of ns) (trees_of body.items) scope d) (sym ea)
-    ∙ ap (λ ns. declare_part (part_of op (trees_of xs) (trees_of ns)) (trees_of xs) (trees_of ns) scope d) (sym eb)
 
 pub turned : (a b : AbsolutePath) → is_same_path a b ≡ is_same_path b a
 turned a b = by_both (is_same_path a b) (is_same_path b a) refl refl
@@ -107,52 +95,13 @@ pub leads_none : (paths : List AbsolutePath) (named : List Bool) (nodes : List N
 leads_none paths named [] scope d agrees path = agrees path ∙ sym (ap (λ d. is_named d path) (declare_none scope d))
 leads_none paths named (node ∷ nodes) scope d agrees path = agrees path ∙ sym (ap (λ d. is_named d path) (declare_none scope d))
 
-pub leads_next : (paths mid more : List AbsolutePath) (f g h : List Bool) (nodes : List Node) (i : ℕ) (node : Node) (scope inner : AbsolutePath) → i < length nodes → node ≡ get_or nodes i node → inner ≡ scope → Leads paths f mid g (declare_all (trees_of (take i nodes)) scope) → ((at : At) → Leads mid g more h (declare (tree_of at node.term) inner)) → Leads paths f more h (declare_all (trees_of (take (i + 1) nodes)) scope)
+pub leads_next : (paths mid more : List AbsolutePath) (f g h : List Bool) (nodes : List Node) (i : ℕ) (node : Node) (scope inner : AbsolutePath) → i < length nodes → node ≡ get_or nodes i node → inner ≡ scope → Leads paths f mid g (declare_all (trees_of (take i nodes)) scope) → Leads mid g more h (declare (tree_of (at_of node) node.term) inner) → Leads paths f more h (declare_all (trees_of (take (i + 1) nodes)) scope)
 leads_next paths mid more f g h nodes i node scope inner lt e same before step d agrees path =
     let taken = declare_all (trees_of (take i nodes)) scope d in
-    step (at_of node) taken (before d agrees) path
+    step taken (before d agrees) path
     ∙ ap (λ s. is_named (declare (tree_of (at_of node) node.term) s taken) path) same
     ∙ ap (λ (n : Node). is_named (declare (tree_of (at_of n) n.term) scope taken) path) e
     ∙ sym (ap (λ d. is_named d path) (declare_next nodes i node scope d lt))
 
 pub leads_whole : (paths more : List AbsolutePath) (f g : List Bool) (nodes : List Node) (i : ℕ) (scope : AbsolutePath) → length nodes ≤ i → Leads paths f more g (declare_all (trees_of (take i nodes)) scope) → Leads paths f more g (declare_all (trees_of nodes) scope)
 leads_whole paths more f g nodes i scope le before d agrees path = before d agrees path ∙ ap (λ d. is_named d path) (declare_whole nodes i scope d le)
-
-pub leads_open : (paths mid more : List AbsolutePath) (f g h : List Bool) (part : Part) (n : ℕ) (what : What) (args body : Trees) (scope inner : AbsolutePath) (name : Name) → part ≡ P.Declares n what true → name_at n args ≡ Some name → Marks paths f mid g (place_of name scope) → inner ≡ place_of name scope → Leads mid g more h (declare_all body inner) → Leads paths f more h (declare_part part args body scope)
-leads_open paths mid more f g h part n what args body scope inner name e there marks same inside d agrees path =
-    let next = with_declared (place_of name scope) (As (object_of what)) d in
-    inside next (leads_declared paths mid f g (place_of name scope) (As (object_of what)) marks d agrees) path
-    ∙ ap (λ s. is_named (declare_all body s next) path) same
-    ∙ sym (ap (λ p. is_named (declare_part p args body scope d) path) e
-    ∙ ap (λ o. is_named (choose o d (λ name. opened true body (place_of name scope) (with_declared (place_of name scope) (As (object_of what)) d))) path) there)
-
-pub leads_closed : (paths more : List AbsolutePath) (f g : List Bool) (part : Part) (n : ℕ) (what : What) (args body : Trees) (scope : AbsolutePath) (name : Name) → part ≡ P.Declares n what false → name_at n args ≡ Some name → Marks paths f more g (place_of name scope) → Leads paths f more g (declare_part part args body scope)
-leads_closed paths more f g part n what args body scope name e there marks d agrees path =
-    leads_declared paths more f g (place_of name scope) (As (object_of what)) marks d agrees path
-    ∙ sym (ap (λ p. is_named (declare_part p args body scope d) path) e
-    ∙ ap (λ o. is_named (choose o d (λ name. opened false body (place_of name scope) (with_declared (place_of name scope) (As (object_of what)) d))) path) there)
-
-pub leads_alias : (paths more : List AbsolutePath) (f g : List Bool) (part : Part) (args body : Trees) (scope : AbsolutePath) (source : Name) → part ≡ P.Alias → name_at 0 args ≡ Some source → MarksSome paths f more g (name_at 1 args) scope → Leads paths f more g (declare_part part args body scope)
-leads_alias paths more f g part args body scope source e there marks d agrees path =
-    by_name (name_at 1 args) marks
-    ∙ sym (ap (λ p. is_named (declare_part p args body scope d) path) e
-    ∙ ap (λ o. is_named (choose o d (λ source. choose (name_at 1 args) d (λ name. with_declared (place_of name scope) (AliasOf source scope) d))) path) there)
-  where
-    by_name : (o : Option Name) → MarksSome paths f more g o scope → is_named_in more g path ≡ is_named (choose o d (λ name. with_declared (place_of name scope) (AliasOf source scope) d)) path
-    by_name None marks = marks path ∙ agrees path
-    by_name (Some name) marks = leads_declared paths more f g (place_of name scope) (AliasOf source scope) marks d agrees path
-
-pub leads_outside : (paths more : List AbsolutePath) (f g : List Bool) (part : Part) (type : ℕ) (parameters : Option ℕ) (args body : Trees) (scope : AbsolutePath) → part ≡ P.External type parameters → MarksSome paths f more g (name_at 0 args) scope → Leads paths f more g (declare_part part args body scope)
-leads_outside paths more f g part type parameters args body scope e marks d agrees path =
-    by_name (name_at 0 args) marks ∙ sym (ap (λ p. is_named (declare_part p args body scope d) path) e)
-  where
-    by_name : (o : Option Name) → MarksSome paths f more g o scope → is_named_in more g path ≡ is_named (choose o d (λ name. with_external (in_root (place_of name scope)) (place_of name scope) (record { type = type; parameters = parameters }) d)) path
-    by_name None marks = marks path ∙ agrees path
-    by_name (Some name) marks = leads_external paths more f g (place_of name scope) (record { type = type; parameters = parameters }) marks d agrees path
-
-pub leads_scope : (paths mid more : List AbsolutePath) (f g h : List Bool) (part : Part) (args body : Trees) (scope inner : AbsolutePath) (name : Name) → part ≡ P.Scope → name_at 0 args ≡ Some name → Keeps paths f mid g → ((d : Declarations) → Agrees paths f d → inner ≡ scope_path d name scope) → Leads mid g more h (declare_all body inner) → Leads paths f more h (declare_part part args body scope)
-leads_scope paths mid more f g h part args body scope inner name e there keeps same inside d agrees path =
-    inside d (λ p. keeps p ∙ agrees p) path
-    ∙ ap (λ s. is_named (declare_all body s d) path) (same d agrees)
-    ∙ sym (ap (λ p. is_named (declare_part p args body scope d) path) e
-    ∙ ap (λ o. is_named (choose o d (λ name. declare_all body (scope_path d name scope) d)) path) there)

@@ -1,17 +1,26 @@
 //! The names of a block, as its terms declare them.
 ghost use Rattle.std.specs.Prelude.{◌≡◌, ◌<◌, ◌∷◌, [], length, get_or, IfOk, OnOk, IfSome};
 ghost use Rattle.asl_tree.specs.Names.{below, place_of, denoted};
-ghost use Rattle.asl_tree.specs.Tree.{At};
-ghost use Rattle.asl_tree.specs.View.{tree_of, trees_of};
+ghost use Rattle.asl_tree.specs.Tree.{Trees};
+ghost use Rattle.asl_tree.specs.View.{trees_of};
+ghost use Rattle.asl_tree.specs.declared.term.Op.{Op};
+ghost use Rattle.acpi_names.specs.declared.mention.Spot.{Spot};
+ghost use Rattle.acpi_names.specs.declared.part.Part.TheVariants as P;
+ghost use Rattle.acpi_names.specs.Mentions.{term_mentions, block_mentions};
+ghost use Rattle.acpi_names.specs.Shown.{all_shown};
+ghost use Rattle.acpi_names.specs.Walked.{node_tree};
+ghost use Rattle.acpi_names.specs.Folding.{TellsIn, LeadsBy, TellsBy};
 ghost use Rattle.asl_meaning.specs.Declarations.{Declarations, declare, declare_all, scope_path, nothing_declared, declarations, is_named};
 ghost use Rattle.acpi_names.specs.Paths.{Extends, path_with};
-ghost use Rattle.acpi_names.specs.Parts.{Agrees, Marks, Keeps, Leads, MarksSome, is_form as form_is, name_at, part_of, declare_part};
+ghost use Rattle.acpi_names.specs.Parts.{Agrees, Marks, Keeps, Leads, part_of};
 
-use crate::part::{Part, name as name_in, part_for};
+use crate::mention::{Declared, Mention, Spot, first_nodes, later_nodes, name_at, spot_of};
+use crate::part::{Part, Shape, What, part_for, shape_of};
 use crate::paths::Paths;
 use crate::place::{denotes, intern, prefixed};
+use crate::walk::{form, value, values};
 use asl_tree::path::{NameSeg, Path};
-use asl_tree::term::{Node, Op, Term};
+use asl_tree::term::{Node, Op};
 use std::alloc::{AllocError, Global};
 
 /// All paths that a block speaks of, and of each number whether its path is named.
@@ -116,132 +125,267 @@ pub fn start(alloc: Global) -> Result<Index, AllocError>
     Ok(index)
 }
 
-/// The names that terms in a scope declare, in their order.
+/// The names that terms in a scope declare and mention, in their order.
 #[cycle(fold)]
-pub fn fold(index: &mut Index, nodes: &[Node], scope: usize) -> Result<(), AllocError>
-    requires scope_in { scope < length index.old.paths }
-    requires all { length index.old.named.items ≡ length index.old.paths }
-    ensures size { OnOk result (length index.new.named.items ≡ length index.new.paths) }
-    ensures others { OnOk result (Extends index.old.paths index.new.paths) }
-    ensures names { OnOk result (Leads index.old.paths index.old.named.items index.new.paths index.new.named.items (declare_all (trees_of nodes.now) (get_or index.old.paths scope []))) }
-{
-    for node in nodes {
-        fold_term(index, &node.term, scope)?;
-    }
-    Ok(())
-}
-
-fn is_form(term: &Term) -> bool
-    ensures { result ≡ form_is term.now }
-{
-    matches!(term, Term::Form { .. })
-}
-
-#[cycle(fold)]
-fn fold_term(index: &mut Index, term: &Term, scope: usize) -> Result<(), AllocError>
-    requires scope_in { scope < length index.old.paths }
-    requires all { length index.old.named.items ≡ length index.old.paths }
-    ensures size { OnOk result (length index.new.named.items ≡ length index.new.paths) }
-    ensures others { OnOk result (Extends index.old.paths index.new.paths) }
-    ensures names { OnOk result ((at : At) → Leads index.old.paths index.old.named.items index.new.paths index.new.named.items (declare (tree_of at term.now) (get_or index.old.paths scope []))) }
-{
-    if !is_form(term) {
-        return Ok(());
-    }
-    match term {
-        Term::Form { op, args, body } => {
-            fold_form(index, *op, args, body, scope)?;
-            Ok(())
-        }
-        // It is a form.
-        _ => Err(AllocError),
-    }
-}
-
-#[cycle(fold)]
-fn fold_form(
+pub fn fold<'a>(
     index: &mut Index,
-    op: Op,
-    args: &[Node],
-    body: &[Node],
+    out: &mut Vec<Mention<'a>>,
+    nodes: &'a [Node],
     scope: usize,
 ) -> Result<(), AllocError>
     requires scope_in { scope < length index.old.paths }
     requires all { length index.old.named.items ≡ length index.old.paths }
     ensures size { OnOk result (length index.new.named.items ≡ length index.new.paths) }
     ensures others { OnOk result (Extends index.old.paths index.new.paths) }
-    ensures names { OnOk result (Leads index.old.paths index.old.named.items index.new.paths index.new.named.items (declare_part (part_of op (trees_of args.now) (trees_of body.now)) (trees_of args.now) (trees_of body.now) (get_or index.old.paths scope []))) }
+    ensures names { OnOk result (Leads index.old.paths index.old.named.items index.new.paths index.new.named.items (declare_all (trees_of nodes.now) (get_or index.old.paths scope []))) }
+    ensures told { OnOk result (TellsIn index.old.paths index.old.named.items index.new.paths out.old.items out.new.items (block_mentions (trees_of nodes.now) (get_or index.old.paths scope []))) }
 {
-    match part_for(op, args, body) {
-        Part::Nothing => Ok(()),
-        Part::Declares {
-            name,
-            what: _,
-            opens,
-        } => match name_in(args, name) {
-            Some(path) => {
-                let inner = declared(index, path, scope)?;
-                if opens {
-                    fold(index, body, inner)?;
-                }
-                Ok(())
-            }
-            None => Ok(()),
-        },
-        Part::Alias => match name_in(args, 0) {
-            Some(_) => {
-                one(index, args, 1, scope)?;
-                Ok(())
-            }
-            None => Ok(()),
-        },
-        Part::External {
-            object: _,
-            parameters: _,
-        } => {
-            one(index, args, 0, scope)?;
+    for node in nodes {
+        fold_term(index, out, node, scope)?;
+    }
+    Ok(())
+}
+
+#[cycle(fold)]
+fn fold_term<'a>(
+    index: &mut Index,
+    out: &mut Vec<Mention<'a>>,
+    node: &'a Node,
+    scope: usize,
+) -> Result<(), AllocError>
+    requires scope_in { scope < length index.old.paths }
+    requires all { length index.old.named.items ≡ length index.old.paths }
+    ensures size { OnOk result (length index.new.named.items ≡ length index.new.paths) }
+    ensures others { OnOk result (Extends index.old.paths index.new.paths) }
+    ensures names { OnOk result (Leads index.old.paths index.old.named.items index.new.paths index.new.named.items (declare (node_tree node.now) (get_or index.old.paths scope []))) }
+    ensures told { OnOk result (TellsIn index.old.paths index.old.named.items index.new.paths out.old.items out.new.items (term_mentions (node_tree node.now) (get_or index.old.paths scope []))) }
+{
+    match shape_of(&node.term) {
+        Shape::Form(op, args, body) => {
+            fold_form(index, out, spot_of(node), op, args, body, scope)?;
             Ok(())
         }
-        Part::Scope => match name_in(args, 0) {
-            Some(path) => {
-                let inner = opened_scope(index, path, scope)?;
-                fold(index, body, inner)?;
-                Ok(())
-            }
-            None => Ok(()),
-        },
-        Part::Within => fold(index, body, scope),
-        Part::Returns => Ok(()),
+        _ => {
+            value(out, node, scope, true)?;
+            Ok(())
+        }
+    }
+}
+
+#[cycle(fold)]
+fn fold_form<'a>(
+    index: &mut Index,
+    out: &mut Vec<Mention<'a>>,
+    here: Spot,
+    op: Op,
+    args: &'a [Node],
+    body: &'a [Node],
+    scope: usize,
+) -> Result<(), AllocError>
+    requires scope_in { scope < length index.old.paths }
+    requires all { length index.old.named.items ≡ length index.old.paths }
+    ensures size { OnOk result (length index.new.named.items ≡ length index.new.paths) }
+    ensures others { OnOk result (Extends index.old.paths index.new.paths) }
+    ensures names { OnOk result (LeadsBy index.old.paths index.old.named.items index.new.paths index.new.named.items (part_of op (trees_of args.now) (trees_of body.now)) (trees_of args.now) (trees_of body.now) (get_or index.old.paths scope [])) }
+    ensures told { OnOk result (TellsBy index.old.paths index.old.named.items index.new.paths out.old.items out.new.items (part_of op (trees_of args.now) (trees_of body.now)) here op (trees_of args.now) (trees_of body.now) (get_or index.old.paths scope [])) }
+{
+    match part_for(op, args, body) {
+        Part::Nothing => {
+            form(out, op, args, body, scope, true)?;
+            Ok(())
+        }
+        Part::Declares { name, what, opens } => {
+            fold_declared(index, out, name, what, opens, args, body, scope)?;
+            Ok(())
+        }
+        Part::Alias => {
+            fold_alias(index, out, args, scope)?;
+            Ok(())
+        }
+        Part::External { object, parameters } => {
+            fold_external(index, out, here, object, parameters, args, scope)?;
+            Ok(())
+        }
+        Part::Scope => {
+            fold_scope(index, out, here, args, body, scope)?;
+            Ok(())
+        }
+        Part::Within => {
+            values(out, args, scope, true)?;
+            fold(index, out, body, scope)?;
+            Ok(())
+        }
+        Part::Returns => {
+            values(out, args, scope, true)?;
+            Ok(())
+        }
         // The units of fields are not built yet.
         Part::Items => Err(AllocError),
     }
 }
 
-// The path of an argument that is a declared name.
-fn one(index: &mut Index, args: &[Node], place: usize, scope: usize) -> Result<(), AllocError>
+// A term that declares a name, perhaps with terms in its scope.
+#[cycle(fold)]
+fn fold_declared<'a>(
+    index: &mut Index,
+    out: &mut Vec<Mention<'a>>,
+    place: usize,
+    what: What,
+    opens: bool,
+    args: &'a [Node],
+    body: &'a [Node],
+    scope: usize,
+) -> Result<(), AllocError>
     requires scope_in { scope < length index.old.paths }
     requires all { length index.old.named.items ≡ length index.old.paths }
     ensures size { OnOk result (length index.new.named.items ≡ length index.new.paths) }
     ensures others { OnOk result (Extends index.old.paths index.new.paths) }
-    ensures names { OnOk result (MarksSome index.old.paths index.old.named.items index.new.paths index.new.named.items (name_at place (trees_of args.now)) (get_or index.old.paths scope [])) }
+    ensures names { OnOk result (LeadsBy index.old.paths index.old.named.items index.new.paths index.new.named.items (P.Declares place what opens) (trees_of args.now) (trees_of body.now) (get_or index.old.paths scope [])) }
+    ensures told { OnOk result ((here : Spot) (op : Op) → TellsBy index.old.paths index.old.named.items index.new.paths out.old.items out.new.items (P.Declares place what opens) here op (trees_of args.now) (trees_of body.now) (get_or index.old.paths scope [])) }
 {
-    match name_in(args, place) {
-        Some(path) => {
-            let number = declared(index, path, scope)?;
+    match name_at(args, place) {
+        Some(found) => {
+            values(out, first_nodes(args, place), scope, true)?;
+            out.push(Mention::Declares {
+                at: found.at,
+                name: found.name,
+                what: Declared::As(what),
+                scope,
+            })?;
+            values(out, later_nodes(args, place), scope, true)?;
+            let inner = declared(index, found.name, scope)?;
+            if opens {
+                fold(index, out, body, inner)?;
+            }
             Ok(())
         }
         None => Ok(()),
     }
 }
 
-/// The names that the terms of a block declare, and those of the root.
-pub fn names_of(alloc: Global, nodes: &[Node]) -> Result<Index, AllocError>
-    ensures size { IfOk result (λ i. length i.named.items ≡ length i.paths) }
-    ensures names { IfOk result (λ i. Agrees i.paths i.named.items (declarations (trees_of nodes.now))) }
+fn fold_alias<'a>(
+    index: &mut Index,
+    out: &mut Vec<Mention<'a>>,
+    args: &'a [Node],
+    scope: usize,
+) -> Result<(), AllocError>
+    requires scope_in { scope < length index.old.paths }
+    requires all { length index.old.named.items ≡ length index.old.paths }
+    ensures size { OnOk result (length index.new.named.items ≡ length index.new.paths) }
+    ensures others { OnOk result (Extends index.old.paths index.new.paths) }
+    ensures names { OnOk result ((body : Trees) → LeadsBy index.old.paths index.old.named.items index.new.paths index.new.named.items P.Alias (trees_of args.now) body (get_or index.old.paths scope [])) }
+    ensures told { OnOk result ((here : Spot) (op : Op) (body : Trees) → TellsBy index.old.paths index.old.named.items index.new.paths out.old.items out.new.items P.Alias here op (trees_of args.now) body (get_or index.old.paths scope [])) }
+{
+    match name_at(args, 0) {
+        Some(source) => match name_at(args, 1) {
+            Some(alias) => {
+                out.push(Mention::Used {
+                    asked: false,
+                    at: source.at,
+                    name: source.name,
+                    scope,
+                })?;
+                out.push(Mention::Declares {
+                    at: alias.at,
+                    name: alias.name,
+                    what: Declared::Alias {
+                        source: source.name,
+                        scope,
+                    },
+                    scope,
+                })?;
+                declared(index, alias.name, scope)?;
+                Ok(())
+            }
+            None => Ok(()),
+        },
+        None => Ok(()),
+    }
+}
+
+fn fold_external<'a>(
+    index: &mut Index,
+    out: &mut Vec<Mention<'a>>,
+    here: Spot,
+    object: u64,
+    parameters: Option<u64>,
+    args: &'a [Node],
+    scope: usize,
+) -> Result<(), AllocError>
+    requires scope_in { scope < length index.old.paths }
+    requires all { length index.old.named.items ≡ length index.old.paths }
+    ensures size { OnOk result (length index.new.named.items ≡ length index.new.paths) }
+    ensures others { OnOk result (Extends index.old.paths index.new.paths) }
+    ensures names { OnOk result ((body : Trees) → LeadsBy index.old.paths index.old.named.items index.new.paths index.new.named.items (P.External object parameters) (trees_of args.now) body (get_or index.old.paths scope [])) }
+    ensures told { OnOk result ((op : Op) (body : Trees) → TellsBy index.old.paths index.old.named.items index.new.paths out.old.items out.new.items (P.External object parameters) here op (trees_of args.now) body (get_or index.old.paths scope [])) }
+{
+    match name_at(args, 0) {
+        Some(found) => {
+            out.push(Mention::Outside {
+                here,
+                at: found.at,
+                name: found.name,
+                object,
+                parameters,
+                scope,
+            })?;
+            declared(index, found.name, scope)?;
+            Ok(())
+        }
+        None => Ok(()),
+    }
+}
+
+#[cycle(fold)]
+fn fold_scope<'a>(
+    index: &mut Index,
+    out: &mut Vec<Mention<'a>>,
+    here: Spot,
+    args: &'a [Node],
+    body: &'a [Node],
+    scope: usize,
+) -> Result<(), AllocError>
+    requires scope_in { scope < length index.old.paths }
+    requires all { length index.old.named.items ≡ length index.old.paths }
+    ensures size { OnOk result (length index.new.named.items ≡ length index.new.paths) }
+    ensures others { OnOk result (Extends index.old.paths index.new.paths) }
+    ensures names { OnOk result (LeadsBy index.old.paths index.old.named.items index.new.paths index.new.named.items P.Scope (trees_of args.now) (trees_of body.now) (get_or index.old.paths scope [])) }
+    ensures told { OnOk result ((op : Op) → TellsBy index.old.paths index.old.named.items index.new.paths out.old.items out.new.items P.Scope here op (trees_of args.now) (trees_of body.now) (get_or index.old.paths scope [])) }
+{
+    match name_at(args, 0) {
+        Some(found) => {
+            let inner = opened_scope(index, found.name, scope)?;
+            out.push(Mention::Opens {
+                here,
+                at: found.at,
+                name: found.name,
+                scope,
+                inner,
+            })?;
+            fold(index, out, body, inner)?;
+            Ok(())
+        }
+        None => Ok(()),
+    }
+}
+
+/// The names of a block: all its paths, and its mentions.
+#[derive(Drop)]
+pub struct Found<'a> {
+    pub index: Index,
+    pub mentions: Vec<Mention<'a>>,
+}
+
+/// The names that the terms of a block declare, those of the root, and all mentions.
+pub fn names_of(alloc: Global, nodes: &[Node]) -> Result<Found<'_>, AllocError>
+    ensures size { IfOk result (λ f. length f.index.named.items ≡ length f.index.paths) }
+    ensures names { IfOk result (λ f. Agrees f.index.paths f.index.named.items (declarations (trees_of nodes.now))) }
+    ensures told { IfOk result (λ f. all_shown f.index.paths f.mentions.items ≡ block_mentions (trees_of nodes.now) [] nothing_declared) }
 {
     let mut index = start(alloc)?;
-    fold(&mut index, nodes, 0)?;
-    Ok(index)
+    let mut mentions = Vec::new(alloc);
+    fold(&mut index, &mut mentions, nodes, 0)?;
+    Ok(Found { index, mentions })
 }
 
 /// What a used name denotes in a scope.

@@ -1,12 +1,13 @@
 //! The names that a block mentions.
-ghost use Rattle.std.specs.Prelude.{◌≡◌, Some, None};
+ghost use Rattle.std.specs.Prelude.{◌≡◌, suc};
 ghost use Rattle.std.specs.Option.{option_map};
-ghost use Rattle.acpi_names.specs.Shown.{spot_as, named_as, named_at};
+ghost use Rattle.acpi_names.specs.Shown.{named_as, named_at};
+ghost use Rattle.acpi_names.specs.Walked.{first_trees, later_trees};
 ghost use Rattle.asl_tree.specs.View.{trees_of};
 
-use crate::part::What;
+use crate::part::{Shape, What, node_at, shape_of};
 use asl_tree::path::Path;
-use asl_tree::term::{Node, Term};
+use asl_tree::term::Node;
 use iasl_messages::place::Place;
 
 /// Which node of the program is meant, and its place.
@@ -85,5 +86,43 @@ pub(crate) fn spot_of(node: &Node) -> Spot
     Spot {
         id: node.id,
         place: node.place,
+    }
+}
+
+/// The name that an argument is, with its node.
+pub(crate) fn name_at(nodes: &[Node], place: usize) -> Option<Named<'_>>
+    ensures { option_map named_as result ≡ named_at place (trees_of nodes.now) }
+{
+    match node_at(nodes, place) {
+        Some(node) => match shape_of(&node.term) {
+            Shape::Name(name) => Some(Named {
+                at: spot_of(node),
+                name,
+            }),
+            _ => None,
+        },
+        None => None,
+    }
+}
+
+/// The arguments before a place.
+pub(crate) fn first_nodes(nodes: &[Node], place: usize) -> &[Node]
+    ensures { trees_of result.now ≡ first_trees place (trees_of nodes.now) }
+{
+    if place < nodes.len() {
+        &nodes[..place]
+    } else {
+        nodes
+    }
+}
+
+/// The arguments behind a place.
+pub(crate) fn later_nodes(nodes: &[Node], place: usize) -> &[Node]
+    ensures { trees_of result.now ≡ later_trees (suc place) (trees_of nodes.now) }
+{
+    if place < nodes.len() {
+        &nodes[place + 1..]
+    } else {
+        &[]
     }
 }
