@@ -10,7 +10,7 @@ use Rattle.asl_tree.specs.declared.term.Term.{Term}
 use Rattle.asl_tree.specs.declared.term.Term as D
 use Rattle.asl_tree.specs.Names.{place_of}
 use Rattle.asl_tree.specs.Tree.{At, Tree, Trees}
-use Rattle.asl_tree.specs.View.{form, tree_of, row_trees, trees_of}
+use Rattle.asl_tree.specs.View.{form, tree_of, trees_of}
 use Rattle.asl_meaning.specs.Declarations.{As, AliasOf, Declarations, with_declared, with_external, in_root, scope_path, declare, declare_all}
 use Rattle.acpi_names.specs.declared.mention.Mention.{Mention}
 use Rattle.acpi_names.specs.declared.mention.Spot.{Spot}
@@ -23,13 +23,13 @@ use Rattle.acpi_names.specs.Mentions as M
 use Rattle.acpi_names.specs.Mentions.{mentions, mentions_all, term_mentions, block_mentions}
 use Rattle.acpi_names.specs.Paths.{Extends}
 use Rattle.acpi_names.specs.Parts.{Agrees, Leads, Marks, Keeps, part_of, declare_part, object_of, opened, name_at}
-use Rattle.acpi_names.specs.Shown.{spot_as, shown, all_shown, Tells, named_at}
+use Rattle.acpi_names.specs.Shown.{spot_as, all_shown, Tells, named_at}
 use Rattle.acpi_names.specs.Walked.{TermShape, OfForm, term_shape, shape_as, node_tree, part_mentions, first_trees, later_trees, opened_mentions}
 use Rattle.acpi_names.specs.Folding.{TellsIn, LeadsBy, TellsBy}
 use Rattle.asl_meaning.specs.Declarations.{is_named}
 use Rattle.acpi_names.proofs.Naming.{name_some, name_missing}
 use Rattle.acpi_names.proofs.Closed.{extends_then}
-use Rattle.acpi_names.proofs.Folds.{declare_next, declare_none, declare_whole, at_of, leads_declared, leads_external}
+use Rattle.acpi_names.proofs.Folds.{leads_declared, leads_external}
 use Rattle.acpi_names.proofs.Mentions.{right_nil}
 use Rattle.acpi_names.proofs.Telling.{tells_as, tells_then}
 use Rattle.acpi_names.proofs.Walked.{term_form}

@@ -1,27 +1,16 @@
 -- One term more.
-use Rattle.std.proofs.Common.{◌≡◌, ℕ, zero, suc, ◌+◌, ◌<◌, ◌≤◌, Bool, true, false, List, [], ◌∷◌, length, get_or, take, Vec, Global, Option, Some, None, refl, sym, ap, ◌∙◌, arith}
+use Rattle.std.proofs.Common.{◌≡◌, ℕ, zero, suc, ◌+◌, ◌<◌, ◌≤◌, Bool, true, false, List, [], ◌∷◌, length, get_or, take, Option, Some, refl, sym, ap, ◌∙◌, arith}
 use Rattle.std.specs.Prelude.{◌||◌, is_some, if◌then◌else◌}
 use Rattle.std.proofs.lemmas.List.{take_all}
 use Rattle.acpi_values.specs.Paths.{AbsolutePath, is_same_path}
 use Rattle.acpi_state.proofs.Lookups.{is_same_path-true}
 use Rattle.acpi_state.specs.Objects.{lookup}
-use Rattle.asl_tree.specs.declared.term.Op.{Op}
 use Rattle.asl_tree.specs.declared.term.Node.{Node}
-use Rattle.asl_tree.specs.declared.term.Term.{Term}
-use Rattle.asl_tree.specs.declared.term.Term as D
-use Rattle.asl_tree.specs.Tree.{At, Trees}
+use Rattle.asl_tree.specs.Tree.{At}
 use Rattle.asl_tree.specs.View.{tree_of, trees_of}
-use Rattle.asl_meaning.specs.Declarations.{As, AliasOf, scope_path, Declared, Declarations, ExternalType, is_named, in_root, with_declared, with_external, declare, declare_all}
+use Rattle.asl_meaning.specs.Declarations.{Declared, Declarations, ExternalType, is_named, in_root, with_declared, with_external, declare, declare_all}
 use Rattle.acpi_names.specs.Paths.{is_named_in}
-use Rattle.acpi_names.specs.Parts.{Agrees, Marks, MarksSome, Keeps, Leads, part_of, declare_part, opened, object_of, name_at, is_form}
-use Rattle.acpi_names.specs.declared.part.What.{What}
-use Rattle.acpi_names.specs.declared.part.Part.{Part}
-use Rattle.acpi_names.specs.declared.part.Part.TheVariants as P
-use Rattle.asl_tree.specs.declared.path.Path.{Path as Name}
-use Rattle.asl_tree.specs.Names.{place_of}
-use Rattle.acpi_state.specs.Outcomes.{choose}
-use Rattle.acpi_names.proofs.Parts.{declared_form}
-use Rattle.acpi_names.proofs.Trees.{form_tree}
+use Rattle.acpi_names.specs.Parts.{Marks, Leads}
 
 abbrev pub at_of : Node → At
 at_of node = record { id = node.id; place = node.place }

@@ -2,18 +2,18 @@
 use Rattle.std.proofs.Common.{◌≡◌, ℕ, Bool, true, false, List, [], ◌∷◌, ◌++◌, Option, refl, sym, ap, ◌∙◌, append_assoc, arith}
 use Rattle.std.specs.Prelude.{◌&&◌, not}
 use Rattle.acpi_values.specs.Paths.{AbsolutePath}
-use Rattle.acpi_values.specs.Operators.{Letter, Row, row_of}
+use Rattle.acpi_values.specs.Operators.{Letter, row_of}
 use Rattle.acpi_state.specs.Objects.{MethodObject, ContainerObject, DataObject, RegionObject}
 use Rattle.acpi_state.specs.FieldActs.{region_letters, field_letters}
 use Rattle.asl_tree.specs.FieldItems.{FieldItem, UnitItem, SkipItem, OffsetItem}
 use Rattle.asl_tree.specs.Names.{place_of, denoted}
-use Rattle.asl_tree.specs.Tree.{At, Tree, Use, Call, Apply, Buffer, Package, VarPackage, CondRefOf, Return, Name, Alias, External, Method, Mutex, Event, Container', Scope, Trees, no_trees, tree, count, OperationRegion, Field, IndexField, BankField, CreateField, UnitName, If, Else, While}
-use Rattle.asl_meaning.specs.Declarations.{as_unit, as_buffer_field, As, AliasOf, Declarations, nothing_declared, declarations, is_named, with_declared, scope_path, declare, declare_all, calls, calls_all}
+use Rattle.asl_tree.specs.Tree.{Tree, Use, Call, Apply, Buffer, Package, VarPackage, CondRefOf, Return, Name, Alias, External, Method, Mutex, Event, Container', Scope, Trees, no_trees, tree, count, OperationRegion, Field, IndexField, BankField, CreateField, UnitName, If, Else, While}
+use Rattle.asl_meaning.specs.Declarations.{as_unit, as_buffer_field, As, Declarations, with_declared, scope_path, declare, calls, calls_all}
 use Rattle.asl_meaning.specs.Meaning.{spot_form}
-use Rattle.acpi_names.specs.Errors.{NameError, Whole, whole_of, names, names_all, items_errors, cond_errors, use_errors, call_errors, declared_errors, scope_errors, name_errors, external_errors, unit_path}
+use Rattle.acpi_names.specs.Errors.{NameError, Whole, names, names_all, items_errors, cond_errors, use_errors, call_errors, declared_errors, scope_errors, unit_path}
 use Rattle.acpi_names.specs.Terms.{is_value, are_values, is_term, are_terms, has_no_targets}
 use Rattle.acpi_names.specs.Mentions.{Mention, Declares, is_spot, is_use, asks, cond_place, mentions, mentions_all, operand_mentions, target_mentions, element_mentions, item_mentions, term_mentions, block_mentions, after, after_all, call_in, calls_in, mention_errors, all_errors}
-use Rattle.acpi_names.proofs.Mentions.{right_nil, first_true, second_true, after_append, quiet, quiet_all, quiet_operands, quiet_targets, quiet_elements, cond_quiet, after_term, after_block}
+use Rattle.acpi_names.proofs.Mentions.{right_nil, first_true, second_true, quiet, quiet_operands, cond_quiet, after_term}
 
 -- an expression declares nothing
 undeclared : (t : Tree) → is_value t ≡ true → (scope : AbsolutePath) (d : Declarations) → declare t scope d ≡ d

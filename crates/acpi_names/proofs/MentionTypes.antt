@@ -1,5 +1,5 @@
 -- The class of kinds and counts of a block without errors of names is that of its mentions.
-use Rattle.std.proofs.Common.{◌≡◌, ℕ, Bool, true, false, List, [], ◌∷◌, ◌++◌, Option, Some, None, refl, sym, ap, ◌∙◌, append_assoc, arith}
+use Rattle.std.proofs.Common.{◌≡◌, Bool, true, false, List, [], ◌∷◌, ◌++◌, Option, Some, None, refl, sym, ap, ◌∙◌, append_assoc, arith}
 use Rattle.std.specs.Prelude.{◌&&◌, not, is_some}
 use Rattle.acpi_values.specs.Paths.{AbsolutePath, is_same_path}
 use Rattle.acpi_values.specs.declared.operator.Plain.{Plain}
@@ -14,9 +14,9 @@ use Rattle.asl_tree.specs.FieldItems.{FieldItem, UnitItem, SkipItem, OffsetItem}
 use Rattle.asl_tree.specs.Names.{place_of, denoted}
 use Rattle.asl_tree.specs.declared.path.Path.{Path}
 use Rattle.asl_tree.specs.Tree.{At, Tree, Use, Call, Apply, Buffer, Package, VarPackage, CondRefOf, Return, Name, Alias, External, Method, Mutex, Event, Container', Scope, Trees, no_trees, tree, count, OperationRegion, Field, IndexField, BankField, CreateField, UnitName, If, Else, While}
-use Rattle.asl_meaning.specs.Declarations.{As, Declarations, nothing_declared, is_named, with_declared, scope_path, declare}
+use Rattle.asl_meaning.specs.Declarations.{As, Declarations, is_named, with_declared, scope_path, declare}
 use Rattle.asl_meaning.specs.Meaning.{spot_form}
-use Rattle.acpi_names.specs.Errors.{NameError, Missing, NoContainer, WrongCount, unless, Whole, is_container, final, takes, names, names_all, use_errors, scope_errors, step_errors, declared_errors, items_errors, name_end, types, types_all, letter_types, element_types, spot_types, first_types, operand_types, spot_types_all, element_types_all}
+use Rattle.acpi_names.specs.Errors.{NameError, Missing, NoContainer, WrongCount, unless, Whole, is_container, final, takes, names, names_all, use_errors, scope_errors, step_errors, declared_errors, name_end, types, types_all, letter_types, element_types, spot_types, operand_types, spot_types_all, element_types_all}
 use Rattle.acpi_names.specs.Terms.{is_value, are_values, is_term, are_terms, has_no_targets}
 use Rattle.acpi_names.specs.Mentions.{Mention, Declares, is_spot, is_use, asks, cond_place, mentions, mentions_all, operand_mentions, target_mentions, element_mentions, item_mentions, term_mentions, block_mentions, mention_types, all_types}
 use Rattle.acpi_names.proofs.Mentions.{right_nil, first_true, second_true}

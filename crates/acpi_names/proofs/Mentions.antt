@@ -1,20 +1,14 @@
 -- What a block declares, its calls, and the errors of its names are those of its mentions.
-use Rattle.std.proofs.Common.{◌≡◌, ℕ, Bool, true, false, List, [], ◌∷◌, ◌++◌, Option, Some, None, refl, sym, ap, ◌∙◌, append_assoc, arith}
-use Rattle.std.specs.Prelude.{◌&&◌, not, if◌then◌else◌}
-use Rattle.acpi_values.specs.Paths.{AbsolutePath, is_same_path}
-use Rattle.acpi_values.specs.declared.operator.Plain.{Plain}
-use Rattle.acpi_values.specs.Operators.{Letter, Valued, Kept, Placed, Used, Row, row_of}
-use Rattle.acpi_values.specs.Operators as L
-use Rattle.acpi_state.specs.Objects.{MethodObject, ContainerObject}
+use Rattle.std.proofs.Common.{◌≡◌, Bool, true, false, List, [], ◌∷◌, ◌++◌, refl, ap, ◌∙◌, arith}
+use Rattle.std.specs.Prelude.{◌&&◌, not}
+use Rattle.acpi_values.specs.Paths.{AbsolutePath}
+use Rattle.acpi_values.specs.Operators.{Letter, row_of}
 use Rattle.acpi_state.specs.FieldActs.{region_letters, field_letters}
 use Rattle.asl_tree.specs.FieldItems.{FieldItem, UnitItem, SkipItem, OffsetItem}
-use Rattle.asl_tree.specs.Names.{place_of, denoted}
-use Rattle.asl_tree.specs.Tree.{At, Tree, Use, Call, Apply, Buffer, Package, VarPackage, CondRefOf, Return, Name, Alias, External, Method, Mutex, Event, Container', Scope, Trees, no_trees, tree, count, OperationRegion, Field, IndexField, BankField, CreateField, UnitName, If, Else, While}
-use Rattle.asl_meaning.specs.Declarations.{Declared, As, AliasOf, Declarations, nothing_declared, declarations, is_named, with_declared, scope_path, declare, declare_all, declare_items, declare_item, calls, calls_all}
-use Rattle.asl_meaning.specs.Meaning.{SpotForm, OfResult, OfInside, NoSpot, spot_form}
-use Rattle.acpi_names.specs.Errors.{NameError, Whole, whole_of, names, names_all, item_errors, items_errors, cond_errors, step_errors, use_errors, call_errors, declared_errors, name_errors}
-use Rattle.acpi_names.specs.Terms.{is_value, are_values, is_term, are_terms, has_no_targets}
-use Rattle.acpi_names.specs.Mentions.{Mention, Used', Sought, Called, Declares, Outside, Opens, is_place_form, is_spot, is_use, asks, cond_place, mentions, mentions_all, operand_mentions, target_mentions, element_mentions, item_mentions, term_mentions, block_mentions, after, after_all, call_in, calls_in, mention_errors, all_errors}
+use Rattle.asl_tree.specs.Names.{place_of}
+use Rattle.asl_tree.specs.Tree.{Tree, Use, Call, Apply, Buffer, Package, VarPackage, CondRefOf, Return, Name, Alias, External, Method, Mutex, Event, Container', Scope, Trees, no_trees, tree, OperationRegion, Field, IndexField, BankField, CreateField, UnitName, If, Else, While}
+use Rattle.asl_meaning.specs.Declarations.{Declarations, scope_path, declare, declare_all, declare_items}
+use Rattle.acpi_names.specs.Mentions.{Mention, Declares, is_spot, is_use, asks, cond_place, mentions, mentions_all, operand_mentions, target_mentions, element_mentions, item_mentions, term_mentions, block_mentions, after, after_all}
 
 pub right_nil : {A : Type 0} (xs : List A) → xs ++ [] ≡ xs
 right_nil [] = refl

@@ -3,7 +3,7 @@ use Rattle.acpi_names.specs.declared.part.Shape.{Shape}
 use Rattle.acpi_names.specs.declared.part.Shape.TheVariants as S
 use Rattle.acpi_names.specs.Walked.{shape_as}
 use Rattle.std.proofs.Common.{Bor, ◌≡◌, ℕ, zero, suc, ◌+◌, ◌<◌, ◌≤◌, List, [], ◌∷◌, ◌++◌, length, get_or, drop, refl, sym, ap, ◌∙◌, append_assoc, arith}
-use Rattle.std.specs.Prelude.{map, Bool, slice_get, ◌&&◌}
+use Rattle.std.specs.Prelude.{Bool, slice_get, ◌&&◌}
 use Rattle.acpi_values.specs.Paths.{AbsolutePath}
 use Rattle.asl_tree.specs.declared.term.Node.{Node}
 use Rattle.asl_tree.specs.Tree.{Tree, Trees, no_trees, tree}
@@ -11,7 +11,6 @@ use Rattle.asl_tree.specs.View.{trees_of}
 use Rattle.acpi_names.specs.Mentions as M
 use Rattle.acpi_names.specs.declared.mention.Mention.{Mention}
 use Rattle.acpi_names.specs.Shown.{shown, all_shown, Tells}
-use Rattle.asl_tree.specs.View.{tree_of}
 use Rattle.asl_tree.specs.declared.path.Path.{Path as Name}
 use Rattle.asl_tree.specs.Tree.{At, Use, count}
 use Rattle.acpi_names.specs.declared.mention.Spot.{Spot}

@@ -15,15 +15,12 @@ use Rattle.asl_tree.specs.declared.term.Declaration.TheVariants as Declaration
 use Rattle.asl_tree.specs.declared.term.Control.TheVariants as Control
 use Rattle.asl_tree.specs.declared.term.Special.TheVariants as Special
 use Rattle.asl_tree.specs.View.{form, operands_as, targets_of, plain_of, apply_of, buffer, body_bytes, packaged, counted, items_in}
-use Rattle.asl_tree.specs.Tree.{At, Tree, Integer, Constant, Omitted, Use, Apply, Buffer, Package, VarPackage, Misshapen, Trees, no_trees, tree, count, Field, IndexField, BankField, UnitName}
+use Rattle.asl_tree.specs.Tree.{At, Tree, Integer, Omitted, Use, Package, VarPackage, Misshapen, Trees, no_trees, tree, count, Field, IndexField, BankField, UnitName}
 use Rattle.asl_meaning.specs.Declarations.{As, Declarations}
 use Rattle.asl_meaning.specs.Meaning.{spot_form}
 use Rattle.acpi_names.specs.Mentions.{Mention, Declares, is_place_form, is_spot, asks, mentions, operand_mentions, target_mentions, element_mentions, term_mentions, block_mentions}
 use Rattle.acpi_names.specs.Parts.{part_of}
 use Rattle.acpi_names.specs.Walked.{value_form_of, letter_mentions, argument_mentions, value_mentions, part_mentions}
-use Rattle.acpi_names.specs.declared.part.ValueForm.{ValueForm}
-use Rattle.acpi_names.specs.declared.part.ValueForm.TheVariants as V
-use Rattle.asl_tree.specs.declared.term.Node.{Node}
 use Rattle.asl_tree.specs.declared.term.Term as D
 use Rattle.std.proofs.Common.{arith}
 use Rattle.asl_tree.specs.View.{tree_of, row_trees}

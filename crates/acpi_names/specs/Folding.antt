@@ -1,5 +1,5 @@
 -- What a walk over terms does to the names of a block.
-use Rattle.std.specs.Prelude.{◌≡◌, ◌++◌, ℕ, Bool, List}
+use Rattle.std.specs.Prelude.{◌≡◌, ◌++◌, Bool, List}
 use Rattle.acpi_values.specs.Paths.{AbsolutePath}
 use Rattle.asl_tree.specs.declared.term.Op.{Op}
 use Rattle.asl_tree.specs.Tree.{Trees}

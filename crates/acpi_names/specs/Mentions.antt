@@ -1,17 +1,16 @@
 -- The names that a block mentions, in the order of its terms, each with the scope in which it stands. A block's
 -- declarations, the errors of its names and the class of kinds and counts can be read off this list alone.
-use Rattle.std.specs.Prelude.{ℕ, suc, Bool, true, false, not, nat_eq, ◌&&◌, if◌then◌else◌, List, [], ◌∷◌, ◌++◌, length, Option, Some, None, is_some}
-use Rattle.acpi_values.specs.declared.operator.Plain.{Plain}
+use Rattle.std.specs.Prelude.{ℕ, Bool, true, false, not, ◌&&◌, List, [], ◌∷◌, ◌++◌, Option}
 use Rattle.acpi_values.specs.Paths.{AbsolutePath, is_same_path}
 use Rattle.acpi_values.specs.Operators.{Letter, Valued, Kept, Placed, Used, Row, row_of}
 use Rattle.acpi_values.specs.Operators as L
-use Rattle.acpi_state.specs.Objects.{Object, MethodObject, ContainerObject, DataObject, MutexObject, EventObject, RegionObject}
+use Rattle.acpi_state.specs.Objects.{MethodObject, ContainerObject, DataObject, MutexObject, EventObject, RegionObject}
 use Rattle.acpi_state.specs.Outcomes.{choose}
 use Rattle.asl_tree.specs.declared.path.Path.{Path}
 use Rattle.asl_tree.specs.FieldItems.{FieldItem, UnitItem, SkipItem, OffsetItem}
 use Rattle.asl_tree.specs.Names.{place_of, denoted}
 use Rattle.asl_tree.specs.Tree.{At, Tree, Use, Call, Apply, Buffer, Package, VarPackage, CondRefOf, Return, Name, Alias, External, Method, Mutex, Event, Container', Scope, Trees, no_trees, tree, count, OperationRegion, Field, IndexField, BankField, CreateField, UnitName, If, Else, While}
-use Rattle.asl_meaning.specs.Declarations.{Declared, As, AliasOf, ExternalType, Declarations, in_root, is_named, with_declared, with_external, scope_path, declare, declare_all, as_unit, as_buffer_field}
+use Rattle.asl_meaning.specs.Declarations.{Declared, As, AliasOf, ExternalType, Declarations, in_root, is_named, with_declared, with_external, scope_path, declare, as_unit, as_buffer_field}
 use Rattle.asl_meaning.specs.Meaning.{SpotForm, OfResult, OfInside, NoSpot, spot_form}
 use Rattle.acpi_state.specs.FieldActs.{region_letters, field_letters}
 use Rattle.acpi_names.specs.Errors.{NameError, Missing, NoContainer, WrongCount, unless, Whole, final, is_container, takes_none, takes, unit_path, step_errors, use_errors, call_errors, declared_errors, external_errors, name_end}

@@ -1,7 +1,6 @@
 -- What the mentions in code stand for, where paths have numbers.
-use Rattle.std.specs.Prelude.{◌≡◌, ◌++◌, ℕ, zero, suc, List, [], ◌∷◌, get_or, map, Option, Some, None}
+use Rattle.std.specs.Prelude.{◌≡◌, ◌++◌, ℕ, zero, suc, List, [], get_or, map, Option, Some, None}
 use Rattle.acpi_values.specs.Paths.{AbsolutePath}
-use Rattle.acpi_state.specs.Outcomes.{choose}
 use Rattle.asl_tree.specs.declared.path.Path.{Path}
 use Rattle.asl_tree.specs.Tree.{At, Tree, Use, Trees, no_trees, tree}
 use Rattle.asl_meaning.specs.Declarations.{As, AliasOf}
@@ -11,9 +10,7 @@ use Rattle.acpi_names.specs.Mentions as M
 use Rattle.acpi_names.specs.declared.mention.Spot.{Spot}
 use Rattle.acpi_names.specs.declared.mention.Named.{Named}
 use Rattle.acpi_names.specs.declared.mention.Declared.{Declared}
-use Rattle.acpi_names.specs.declared.mention.Declared.TheVariants as Declared
 use Rattle.acpi_names.specs.declared.mention.Mention.{Mention}
-use Rattle.acpi_names.specs.declared.mention.Mention.TheVariants as Mention
 
 abbrev pub spot_as : Spot → At
 spot_as spot = record { id = spot.id; place = spot.place }

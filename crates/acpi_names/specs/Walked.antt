@@ -1,6 +1,5 @@
 -- The mentions of a form, by what it is for names.
-use Rattle.std.specs.Prelude.{ℕ, zero, suc, Bool, true, false, not, ◌&&◌, ◌+◌, List, [], ◌∷◌, ◌++◌, Option, Some, None, if◌then◌else◌}
-use Rattle.acpi_values.specs.declared.operator.Plain.{Plain}
+use Rattle.std.specs.Prelude.{ℕ, zero, suc, Bool, true, false, ◌&&◌, ◌+◌, List, [], ◌∷◌, ◌++◌, Option, Some, None}
 use Rattle.acpi_values.specs.Paths.{AbsolutePath}
 use Rattle.acpi_values.specs.Operators.{Letter, Row, row_of}
 use Rattle.acpi_values.specs.Operators as L
@@ -24,7 +23,7 @@ use Rattle.acpi_names.specs.declared.part.Part.{Part}
 use Rattle.acpi_names.specs.declared.part.Part.TheVariants as P
 use Rattle.acpi_names.specs.declared.part.ValueForm.{ValueForm}
 use Rattle.acpi_names.specs.declared.part.ValueForm.TheVariants as V
-use Rattle.acpi_names.specs.Mentions.{Mention, Used', Called, is_place_form, Sought, Declares, Outside, Opens, is_spot, asks, cond_place, mentions, mentions_all, target_mentions, element_mentions, term_mentions, block_mentions}
+use Rattle.acpi_names.specs.Mentions.{Mention, Used', Called, is_place_form, Declares, Outside, Opens, is_spot, asks, cond_place, mentions, mentions_all, element_mentions, term_mentions, block_mentions}
 use Rattle.acpi_names.specs.Parts.{are, object_of, nodes_size}
 use Rattle.acpi_names.specs.Shown.{named_at}
 

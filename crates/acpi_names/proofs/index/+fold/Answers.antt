@@ -1,18 +1,17 @@
-use Rattle.std.proofs.Common.{[], ◌∷◌, ◌++◌, true, false, suc, get_or, arith, refl, sym, ap, ◌∙◌, ◌≡◌}
-use Rattle.acpi_values.specs.Paths.{AbsolutePath}
+use Rattle.std.proofs.Common.{[], true, false, suc, get_or, arith, refl, sym, ap, ◌∙◌, ◌≡◌}
 use Rattle.asl_tree.specs.View.{trees_of}
 use Rattle.asl_meaning.specs.Declarations.{As}
 use Rattle.acpi_names.specs.Mentions as M
 use Rattle.acpi_names.specs.Mentions.{mentions, mentions_all, block_mentions, term_mentions}
-use Rattle.acpi_names.specs.Parts.{object_of, part_of, declare_part}
+use Rattle.acpi_names.specs.Parts.{object_of, part_of}
 use Rattle.acpi_names.specs.Shown.{named_as, spot_as}
-use Rattle.acpi_names.specs.Walked.{term_shape, first_trees, later_trees, node_tree, part_mentions, value_mentions, value_form_of}
+use Rattle.acpi_names.specs.Walked.{term_shape, first_trees, later_trees, node_tree, part_mentions}
 use Rattle.acpi_names.specs.declared.part.Part.TheVariants as P
 use Rattle.acpi_names.proofs.Closed.{extends_then}
 use Rattle.acpi_names.proofs.Trees.{node_smaller}
 use Rattle.acpi_names.proofs.Folds.{leads_none, leads_next, leads_whole, at_of}
-use Rattle.acpi_names.proofs.Telling.{tells_one, tells_then}
-use Rattle.acpi_names.proofs.FoldTelling.{told_none, told_next, told_whole, told_value, told_later, told_as, told_no_more, leads_as, leads_here, led_by, told_by, shape_declares, shape_mentions_form, not_formed, plain_declares, plain_mentions, is_form_shape, around, declared_leads, opened_leads, declared_tells, opened_tells, undeclared_part, untold_part, scope_leads, scope_tells, scope_undeclared, scope_untold, within_tells}
+use Rattle.acpi_names.proofs.Telling.{tells_one}
+use Rattle.acpi_names.proofs.FoldTelling.{told_none, told_next, told_whole, told_value, told_as, told_no_more, leads_as, leads_here, led_by, told_by, shape_declares, shape_mentions_form, not_formed, plain_declares, plain_mentions, is_form_shape, around, declared_leads, opened_leads, declared_tells, opened_tells, undeclared_part, untold_part, scope_leads, scope_tells, scope_undeclared, scope_untold}
 use Rattle.acpi_names.proofs.index.+fold.Goals as goal
 
 pub fold-fold_term-requires : goal.fold-fold_term-requires

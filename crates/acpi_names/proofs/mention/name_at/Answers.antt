@@ -1,5 +1,5 @@
-use Rattle.std.proofs.Common.{sym, ap, ◌∙◌, arith}
-use Rattle.acpi_names.specs.Walked.{OfName, shape_as}
+use Rattle.std.proofs.Common.{sym}
+use Rattle.acpi_names.specs.Walked.{shape_as}
 use Rattle.acpi_names.proofs.Naming.{named_by, unnamed_by, named_none}
 use Rattle.acpi_names.proofs.Telling.{not_named}
 use Rattle.acpi_names.proofs.mention.name_at.Goals as goal

@@ -1,6 +1,5 @@
 use Rattle.std.proofs.Common.{sym, ap, ◌∙◌, arith}
 use Rattle.asl_tree.specs.View.{trees_of}
-use Rattle.acpi_names.specs.Parts.{term_size, nodes_size}
 use Rattle.acpi_names.specs.Walked.{term_shape, OfForm, OfCall}
 use Rattle.acpi_names.proofs.Trees.{form_rows, call_rows, form_smaller, call_smaller}
 use Rattle.acpi_names.proofs.part.shape_of.Goals as goal

@@ -1,8 +1,8 @@
-use Rattle.std.proofs.Common.{[], ◌∷◌, ◌++◌, ◌+◌, get_or, drop, refl, sym, ap, ◌∙◌, arith}
+use Rattle.std.proofs.Common.{[], ◌++◌, ◌+◌, get_or, drop, refl, sym, ap, ◌∙◌, arith}
 use Rattle.asl_tree.specs.View.{trees_of}
 use Rattle.asl_operators.specs.Letters.{letters_as}
 use Rattle.acpi_names.specs.Mentions.{mentions, mentions_all, element_mentions}
-use Rattle.acpi_names.specs.Walked.{value_form_of, value_mentions, optional_mentions, argument_mentions, cond_mention, node_tree, OfName, OfCall, OfForm, Another, shape_mentions}
+use Rattle.acpi_names.specs.Walked.{value_mentions, optional_mentions, argument_mentions, node_tree, OfName, OfCall, OfForm, Another}
 use Rattle.acpi_names.proofs.Trees.{node_smaller}
 use Rattle.acpi_names.proofs.Telling.{cond_two, cond_few, cond_many, cond_name, cond_other, not_named, argument_next, tells_none, tells_one, tells_then, tells_as, tells_shape, tells_call, remains_next, remains_none}
 use Rattle.acpi_names.proofs.walk.+walk.Goals as goal

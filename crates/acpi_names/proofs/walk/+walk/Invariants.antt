@@ -1,4 +1,4 @@
-use Rattle.std.proofs.Common.{◌+◌, ◌*◌, [], get_or, drop, length, ◌≤◌}
+use Rattle.std.proofs.Common.{◌+◌, ◌*◌, [], get_or, drop}
 use Rattle.asl_tree.specs.View.{trees_of}
 use Rattle.asl_operators.specs.Letters.{letters_as}
 use Rattle.acpi_names.specs.Mentions.{mentions_all, element_mentions}
