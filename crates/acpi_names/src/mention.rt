@@ -1,0 +1,128 @@
+//! The names that a block mentions.
+ghost use Rattle.std.specs.Prelude.{◌≡◌, suc};
+ghost use Rattle.std.specs.Option.{option_map};
+ghost use Rattle.acpi_names.specs.Shown.{named_as, named_at};
+ghost use Rattle.acpi_names.specs.Walked.{first_trees, later_trees};
+ghost use Rattle.asl_tree.specs.View.{trees_of};
+
+use crate::part::{Shape, What, node_at, shape_of};
+use asl_tree::path::Path;
+use asl_tree::term::Node;
+use iasl_messages::place::Place;
+
+/// Which node of the program is meant, and its place.
+#[derive(Clone, Copy, PartialEq, Eq, Debug)]
+pub struct Spot {
+    pub id: u32,
+    pub place: Place,
+}
+
+/// A name with its node.
+#[derive(Clone, Copy)]
+pub struct Named<'a> {
+    pub at: Spot,
+    pub name: &'a Path,
+}
+
+/// How a path is declared: as an object, or as an alias of what a name denotes in the scope with a number.
+#[derive(Clone, Copy)]
+pub enum Declared<'a> {
+    As(What),
+    Alias { source: &'a Path, scope: usize },
+}
+
+/// A mention of a name. `scope` is the number of the path of the scope in which it stands. `asked` says whether it
+/// stands where its kind is asked for, so that it may not be a method with arguments.
+#[derive(Clone, Copy)]
+pub enum Mention<'a> {
+    Used {
+        asked: bool,
+        at: Spot,
+        name: &'a Path,
+        scope: usize,
+    },
+    /// A name that may lead nowhere.
+    Sought {
+        at: Spot,
+        name: &'a Path,
+        scope: usize,
+    },
+    /// A name with arguments behind it.
+    Called {
+        asked: bool,
+        at: Spot,
+        name: &'a Path,
+        args: usize,
+        scope: usize,
+    },
+    Declares {
+        at: Spot,
+        name: &'a Path,
+        what: Declared<'a>,
+        scope: usize,
+    },
+    /// The name of an External.
+    Outside {
+        here: Spot,
+        at: Spot,
+        name: &'a Path,
+        object: u64,
+        parameters: Option<u64>,
+        scope: usize,
+    },
+    /// The name of a Scope; its terms have the path with the number `inner`.
+    Opens {
+        here: Spot,
+        at: Spot,
+        name: &'a Path,
+        scope: usize,
+        inner: usize,
+    },
+}
+
+pub(crate) fn spot_of(node: &Node) -> Spot
+    ensures { result ≡ record { id = node.now.id; place = node.now.place } }
+{
+    Spot {
+        id: node.id,
+        place: node.place,
+    }
+}
+
+/// The name that an argument is, with its node.
+pub(crate) fn name_at(nodes: &[Node], place: usize) -> Option<Named<'_>>
+    ensures { option_map named_as result ≡ named_at place (trees_of nodes.now) }
+{
+    match node_at(nodes, place) {
+        Some(node) => match shape_of(&node.term) {
+            Shape::Name(name) => Some(Named {
+                at: spot_of(node),
+                name,
+            }),
+            _ => None,
+        },
+        None => None,
+    }
+}
+
+/// The arguments before a place.
+pub(crate) fn first_nodes(nodes: &[Node], place: usize) -> &[Node]
+    ensures { trees_of result.now ≡ first_trees place (trees_of nodes.now) }
+{
+    if place < nodes.len() {
+        &nodes[..place]
+    } else {
+        nodes
+    }
+}
+
+/// The arguments behind a place.
+pub(crate) fn later_nodes(nodes: &[Node], place: usize) -> &[Node]
+    ensures { trees_of result.now ≡ later_trees (suc place) (trees_of nodes.now) }
+{
+    if place < nodes.len() {
+        &nodes[place + 1..]
+    } else {
+        &[]
+    }
+}

@@ -1,0 +1,233 @@
+use crate::index::{Found, denoted_by, names_of};
+use crate::mention::Mention;
+use acpi_values::operator::{DataOp, Plain};
+use asl_tree::path::{NameSeg, Path, Segs};
+use asl_tree::term::{Control, Declaration, Node, Op, Special, Term};
+use iasl_messages::place::Place;
+use std::alloc::{AllocError, Global};
+use std::test::Fail;
+
+const PLACE: Place = Place {
+    file: 0,
+    line: 1,
+    column: 1,
+};
+
+fn add(nodes: &mut Vec<Node>, term: Term) -> Result<(), AllocError> {
+    nodes.push(Node {
+        id: 0,
+        place: PLACE,
+        term,
+    })?;
+    Ok(())
+}
+
+fn name(alloc: Global, segment: NameSeg) -> Result<Term, AllocError> {
+    let mut segs = Segs::new(alloc);
+    segs.push(segment)?;
+    Ok(Term::Name(Path {
+        root: false,
+        up: 0,
+        segs,
+    }))
+}
+
+// A form with a name before its other arguments.
+fn named_form(
+    alloc: Global,
+    op: Declaration,
+    segment: NameSeg,
+    mut others: Vec<Node>,
+    body: Vec<Node>,
+) -> Result<Term, AllocError> {
+    let mut args = Vec::new(alloc);
+    add(&mut args, name(alloc, segment)?)?;
+    args.append(&mut others)?;
+    Ok(Term::Form {
+        op: Op::Declaration(op),
+        args,
+        body,
+    })
+}
+
+// N and three of 36 characters
+fn segment(number: u32) -> NameSeg {
+    let digits = b"0123456789ABCDEFGHIJKLMNOPQRSTUVWXYZ";
+    let at = |n: u32| digits[(n % 36) as usize];
+    [b'N', at(number / 1296), at(number / 36), at(number)]
+}
+
+// A Device with this many Names, each of which has itself as its value.
+fn device(alloc: Global, number: u32, count: u32) -> Result<Term, AllocError> {
+    let mut body = Vec::new(alloc);
+    for inner in 0..count {
+        let mut value = Vec::new(alloc);
+        add(&mut value, name(alloc, segment(inner))?)?;
+        let term = named_form(
+            alloc,
+            Declaration::Name,
+            segment(inner),
+            value,
+            Vec::new(alloc),
+        )?;
+        add(&mut body, term)?;
+    }
+    named_form(
+        alloc,
+        Declaration::Device,
+        segment(number),
+        Vec::new(alloc),
+        body,
+    )
+}
+
+// How many uses denote a name of their own scope.
+fn own_uses(found: &Found) -> usize {
+    let mut count: usize = 0;
+    for mention in &found.mentions {
+        match mention {
+            Mention::Used { name, scope, .. } => {
+                if is_own(found, name, *scope) {
+                    count = count.wrapping_add(1);
+                }
+            }
+            _ => {}
+        }
+    }
+    count
+}
+
+fn is_own(found: &Found, name: &Path, scope: usize) -> bool {
+    let paths = &found.index.paths;
+    if scope >= paths.len() || found.index.named.len() != paths.len() {
+        return false;
+    }
+    let Some(number) = denoted_by(&found.index, name, scope) else {
+        return false;
+    };
+    match paths.step(number) {
+        Some(below) => {
+            let last = below.1;
+            below.0 == scope && is_alone(name, last)
+        }
+        None => false,
+    }
+}
+
+fn is_alone(name: &Path, segment: NameSeg) -> bool {
+    match name.segs.get(0) {
+        Some(first) => *first == segment,
+        None => false,
+    }
+}
+
+// Each of the 746,496 uses is found in its own scope at once.
+#[test]
+fn many_names_are_found(rt: HostRuntime) -> Result<(), Fail> {
+    let alloc = rt.alloc();
+    let mut nodes = Vec::new(alloc);
+    for number in 0..16_u32 {
+        add(&mut nodes, device(alloc, number, 46_656)?)?;
+    }
+    let found = names_of(alloc, &nodes)?;
+    assert_eq!(rt; own_uses(&found), 746_496);
+    Ok(())
+}
+
+// One letter a mention; a small one where its kind is not asked for.
+fn letters(alloc: Global, found: &Found) -> Result<Vec<u8>, AllocError> {
+    let mut out = Vec::new(alloc);
+    for mention in &found.mentions {
+        let letter = match mention {
+            Mention::Used { asked: true, .. } => b'U',
+            Mention::Used { .. } => b'u',
+            Mention::Sought { .. } => b'S',
+            Mention::Called { asked: true, .. } => b'C',
+            Mention::Called { .. } => b'c',
+            Mention::Declares { .. } => b'D',
+            Mention::Outside { .. } => b'E',
+            Mention::Opens { .. } => b'O',
+        };
+        out.push(letter)?;
+    }
+    Ok(out)
+}
+
+fn operator(alloc: Global, op: Op, segments: &[NameSeg]) -> Result<Term, AllocError> {
+    let mut args = Vec::new(alloc);
+    for segment in segments {
+        add(&mut args, name(alloc, *segment)?)?;
+    }
+    Ok(Term::Form {
+        op,
+        args,
+        body: Vec::new(alloc),
+    })
+}
+
+// External (E), Device (D) { Name (X, E) }, Alias (X, Z),
+// Scope (D) { Method (M) { Store (X, Y), RefOf (X), CondRefOf (Q, Local0), Return (X) } }
+#[test]
+fn mentions_stand_in_order(rt: HostRuntime) -> Result<(), Fail> {
+    let alloc = rt.alloc();
+    let mut nodes = Vec::new(alloc);
+    let mut kind = Vec::new(alloc);
+    add(&mut kind, Term::Integer(0))?;
+    add(
+        &mut nodes,
+        named_form(
+            alloc,
+            Declaration::External,
+            *b"E___",
+            kind,
+            Vec::new(alloc),
+        )?,
+    )?;
+    add(&mut nodes, device(alloc, 0, 1)?)?;
+    add(
+        &mut nodes,
+        operator(
+            alloc,
+            Op::Declaration(Declaration::Alias),
+            &[*b"X___", *b"Z___"],
+        )?,
+    )?;
+    let mut body = Vec::new(alloc);
+    add(
+        &mut body,
+        operator(
+            alloc,
+            Op::Plain(Plain::Data(DataOp::Store)),
+            &[*b"X___", *b"Y___"],
+        )?,
+    )?;
+    add(
+        &mut body,
+        operator(alloc, Op::Plain(Plain::Data(DataOp::RefOf)), &[*b"X___"])?,
+    )?;
+    add(
+        &mut body,
+        operator(
+            alloc,
+            Op::Special(Special::CondRefOf),
+            &[*b"Q___", *b"X___"],
+        )?,
+    )?;
+    add(
+        &mut body,
+        operator(alloc, Op::Control(Control::Return), &[*b"X___"])?,
+    )?;
+    let mut flags = Vec::new(alloc);
+    add(&mut flags, Term::Integer(0))?;
+    let method = named_form(alloc, Declaration::Method, *b"M___", flags, body)?;
+    let mut inner = Vec::new(alloc);
+    add(&mut inner, method)?;
+    add(
+        &mut nodes,
+        named_form(alloc, Declaration::Scope, *b"D___", Vec::new(alloc), inner)?,
+    )?;
+    let found = names_of(alloc, &nodes)?;
+    let seen = letters(alloc, &found)?;
+    assert_eq!(rt; seen.as_slice(), b"EDDUuDODUuuSuU".as_slice());
+    Ok(())
+}
