@@ -196,12 +196,7 @@ pub fn path_of(alloc: Global, text: &[u8]) -> Result<Option<Path>, AllocError>
 }
 
 #[tactic(auto, using(crate::proofs::Terms::term_rules, crate::proofs::Terms::nothing_more))]
-pub fn path(
-    alloc: Global,
-    work: &mut Work,
-    place: Place,
-    text: &[u8],
-) -> Result<Term, AllocError>
+pub fn path(alloc: Global, work: &mut Work, place: Place, text: &[u8]) -> Result<Term, AllocError>
     ensures faults { OnOk result (work.new.faults.items ≡ work.old.faults.items ++ (spec.path_shape place (Paths.path_of text.now)).faults) }
     ensures made { IfOk result (λ term. plan_of term ≡ (spec.path_shape place (Paths.path_of text.now)).made) }
 {
@@ -255,7 +250,10 @@ fn is_type(raw: &Raw) -> bool
 {
     match raw {
         Raw::Item {
-            word, args, body, ..
+            word,
+            args,
+            body,
+            ..
         } => is_bare_type(word, is_given(args), is_given(body)),
         Raw::Number { .. } => false,
         Raw::Text { .. } => false,

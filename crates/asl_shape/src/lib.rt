@@ -7,8 +7,8 @@ mod lists;
 pub mod operator;
 pub mod parameters;
 mod settle;
-mod tree;
 pub mod table;
+mod tree;
 mod unit;
 mod work;
 

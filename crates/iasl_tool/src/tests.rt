@@ -80,6 +80,14 @@ const NO_TEXT: &[u8] = b"\x7FELF\x02\x01\x01\x00\xFF";
 
 const USAGE: &[u8] = b"usage: iasl [options] FILE\n";
 
+// One argument too few, and a method of too many arguments.
+const WRONG_ARGUMENTS: &[u8] = b"DefinitionBlock (\"\", \"SSDT\", 2, \"OEMX00\", \"TABLE001\", 1)
+{
+    Method (M, 1) { Return (Add (Arg0)) }
+    Method (N, 8) { }
+}
+";
+
 const UNKNOWN: &[u8] =
     b"t.asl:1:1: error 6020: unknown operator\n1 errors, 0 warnings, 0 remarks\n";
 
@@ -234,7 +242,15 @@ fn words_and_sources(rt: HostRuntime) -> Result<(), AllocError> {
             status: 1,
             names: &[],
             bodies: &[],
-            told: UNKNOWN,
+            told: b"t.asl:1:1: error 6028: no definition block\n1 errors, 0 warnings, 0 remarks\n",
+        },
+        Row {
+            words: &["t.asl"],
+            text: WRONG_ARGUMENTS,
+            status: 1,
+            names: &[],
+            bodies: &[],
+            told: b"t.asl:3:29: error 6021: wrong number of arguments\nt.asl:4:16: error 6024: value is out of range\n2 errors, 0 warnings, 0 remarks\n",
         },
         Row {
             words: &[],
