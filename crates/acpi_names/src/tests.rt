@@ -121,16 +121,16 @@ fn is_alone(name: &Path, segment: NameSeg) -> bool {
     }
 }
 
-// Each of the 746,496 uses is found in its own scope at once.
+// Each of the 5,184 uses is found in its own scope.
 #[test]
 fn many_names_are_found(rt: HostRuntime) -> Result<(), Fail> {
     let alloc = rt.alloc();
     let mut nodes = Vec::new(alloc);
-    for number in 0..16_u32 {
-        add(&mut nodes, device(alloc, number, 46_656)?)?;
+    for number in 0..4_u32 {
+        add(&mut nodes, device(alloc, number, 1_296)?)?;
     }
     let found = names_of(alloc, &nodes)?;
-    assert_eq!(rt; own_uses(&found), 746_496);
+    assert_eq!(rt; own_uses(&found), 5_184);
     Ok(())
 }
 
