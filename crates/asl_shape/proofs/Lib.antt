@@ -1,6 +1,7 @@
 pub mod Tables
 pub mod Plans
 pub mod Constants
+pub mod PathLaws
 pub mod Views
 pub mod ItemLaws
 pub mod Terms

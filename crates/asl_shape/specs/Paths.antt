@@ -1,6 +1,6 @@
 -- Paths as they are written (ACPI Specification 6.4, 19.2.2).
-use Rattle.std.specs.Prelude.{ℕ, ◌==◌, nat_le, Bool, false, ◌&&◌, ◌||◌, if◌then◌else◌, List, [], ◌∷◌, length, Option, Some, None}
-use Rattle.std.specs.List.{list_any}
+use Rattle.std.specs.Prelude.{ℕ, zero, suc, ◌==◌, nat_le, nat_lt, not, Bool, true, false, ◌&&◌, ◌||◌, if◌then◌else◌, List, [], ◌∷◌, drop, Option, Some, None}
+use Rattle.std.specs.List.{list_any, position_or_len}
 use Rattle.acpi_state.specs.Outcomes.{choose}
 use Rattle.acpi_values.specs.Paths.{NameSeg}
 use Rattle.asl_tree.specs.declared.path.Path.{Path}
@@ -30,28 +30,52 @@ segment_of (a ∷ b ∷ c ∷ []) = segment_with a b c 95
 segment_of (a ∷ b ∷ c ∷ d ∷ []) = segment_with a b c d
 segment_of _ = None
 
--- the characters of a first segment, and what stands behind its dot, where there is one
+-- the words between the dots
 abbrev pub with_first : ℕ → List (List ℕ) → List (List ℕ)
 with_first b [] = (b ∷ []) ∷ []
 with_first b (word ∷ words) = (b ∷ word) ∷ words
 
--- the words between the dots
+abbrev pub is_dot : ℕ → Bool
+is_dot b = b == 46
+
 abbrev pub words_of : List ℕ → List (List ℕ)
 words_of [] = [] ∷ []
-words_of (b ∷ bytes) = if b == 46 then [] ∷ words_of bytes else with_first b (words_of bytes)
+words_of (b ∷ bytes) = if is_dot b then [] ∷ words_of bytes else with_first b (words_of bytes)
 
-abbrev pub segments_of : List (List ℕ) → Option (List NameSeg)
-segments_of [] = Some []
-segments_of (word ∷ words) = choose (segment_of word) None (λ segment. choose (segments_of words) None (λ segments. Some (segment ∷ segments)))
+abbrev pub behind_segment : NameSeg → Option (List NameSeg) → Option (List NameSeg)
+behind_segment segment others = choose others None (λ segments. Some (segment ∷ segments))
 
--- the segments behind a prefix: none, or words with dots between them, at most 255
-abbrev pub segments_in : List ℕ → Option (List NameSeg)
-segments_in [] = Some []
-segments_in (b ∷ bytes) = choose (segments_of (words_of (b ∷ bytes))) None (λ segments. if nat_le (length segments) 255 then Some segments else None)
+abbrev pub one_segment : List ℕ → Option (List NameSeg)
+one_segment text = choose (segment_of text) None (λ segment. Some (segment ∷ []))
 
-abbrev pub path_with : Bool → ℕ → List ℕ → Option Path
-path_with root up bytes = choose (segments_in bytes) None (λ segments. Some (record { root = root; up = up; segs = segments }))
+-- the segments of words, where there are at most so many
+abbrev pub segments_of : List (List ℕ) → ℕ → Option (List NameSeg)
+segments_of [] n = Some []
+segments_of (word ∷ words) zero = None
+segments_of (word ∷ words) (suc n) = choose (segment_of word) None (λ segment. behind_segment segment (segments_of words n))
 
--- so far: one segment
+unfoldable pub segments_in : ℕ → List ℕ → Option (List NameSeg)
+segments_in most text = segments_of (words_of text) most
+
+-- what stands behind a prefix: nothing, or at most 255 segments
+abbrev pub rest_segments : List ℕ → Option (List NameSeg)
+rest_segments [] = Some []
+rest_segments (b ∷ bytes) = segments_in 255 (b ∷ bytes)
+
+abbrev pub path_with : Bool → ℕ → Option (List NameSeg) → Option Path
+path_with root up segments = choose segments None (λ segments. Some (record { root = root; up = up; segs = segments }))
+
+abbrev pub is_no_caret : ℕ → Bool
+is_no_caret b = not (b == 94)
+
+-- so many `^`, and what stands behind them
+abbrev pub carets : List ℕ → ℕ
+carets text = position_or_len is_no_caret text
+
+abbrev pub relative_path : List ℕ → Option Path
+relative_path text = if nat_lt (carets text) 4294967296 then path_with false (carets text) (rest_segments (drop (carets text) text)) else None
+
+-- a path: from the root, from so many scopes up, or from where it stands
 abbrev pub path_of : List ℕ → Option Path
-path_of text = choose (segment_of text) None (λ segment. Some (record { root = false; up = 0; segs = segment ∷ [] }))
+path_of [] = None
+path_of (b ∷ bytes) = if b == 92 then path_with true 0 (rest_segments bytes) else relative_path (b ∷ bytes)

@@ -61,9 +61,9 @@ abbrev pub is_given : Group → Bool
 is_given absent = false
 is_given (given ws) = true
 
--- a word of at most four characters without a body is a name; no path of several segments or with a prefix is built
+-- a word of at most four characters without a body is a name
 abbrev pub name_or_unknown : List ℕ → Bool → Meaning
-name_or_unknown text has_body = if is_path text then is.Unknown else (if nat_le (length text) 4 && not has_body then is.Name else is.Unknown)
+name_or_unknown text has_body = if is_path text then is.Path else (if nat_le (length text) 4 && not has_body then is.Name else is.Unknown)
 
 abbrev pub known_as : Known → Meaning
 known_as known.LeftOut = is.Unknown

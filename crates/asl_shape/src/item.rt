@@ -62,7 +62,7 @@ fn name_or_unknown(text: &[u8], has_body: bool) -> Meaning
     ensures { result ≡ spec.name_or_unknown text.now has_body }
 {
     if is_path(text) {
-        return Meaning::Unknown;
+        return Meaning::Path;
     }
     if text.len() <= 4 && !has_body {
         Meaning::Name

@@ -6,12 +6,12 @@ ghost use Rattle.asl_shape.specs.AtRaw as at;
 ghost use Rattle.asl_shape.specs.Plans.{plan_of};
 
 use crate::item::{Meaning, is_given, meaning_of, takes_expression, takes_known};
+use crate::paths::path_of;
 use crate::operator::{Known, Slot, StringForm, WordKind};
 use crate::work::{Work, refuse};
 use acpi_values::integer::wrap;
 use acpi_values::width::Width;
 use asl_parser::Raw;
-use asl_tree::path::{NameSeg, Path, Segs};
 use asl_tree::term::Term;
 use iasl_messages::place::Place;
 use iasl_ports::list::Text;
@@ -142,57 +142,6 @@ pub fn text(
         Slot::Term { .. } => Ok(refuse(alloc, work, 6025, place)?),
         _ => Ok(refuse(alloc, work, 6022, place)?),
     }
-}
-
-fn is_lead(byte: u8) -> bool
-    ensures { result ≡ Paths.is_lead byte }
-{
-    (65 <= byte && byte <= 90) || byte == b'_'
-}
-
-fn is_name_byte(byte: u8) -> bool
-    ensures { result ≡ Paths.is_name_byte byte }
-{
-    is_lead(byte) || (48 <= byte && byte <= 57)
-}
-
-fn segment_with(a: u8, b: u8, c: u8, d: u8) -> Option<NameSeg>
-    ensures { result ≡ Paths.segment_with a b c d }
-{
-    if is_lead(a) && (is_name_byte(b) && (is_name_byte(c) && is_name_byte(d))) {
-        Some([a, b, c, d])
-    } else {
-        None
-    }
-}
-
-// A segment of at most four characters, filled with `_`.
-fn segment_of(text: &[u8]) -> Option<NameSeg>
-    ensures { result ≡ Paths.segment_of text.now }
-{
-    match text {
-        [a] => segment_with(*a, b'_', b'_', b'_'),
-        [a, b] => segment_with(*a, *b, b'_', b'_'),
-        [a, b, c] => segment_with(*a, *b, *c, b'_'),
-        [a, b, c, d] => segment_with(*a, *b, *c, *d),
-        _ => None,
-    }
-}
-
-/// The path of a word.
-pub fn path_of(alloc: Global, text: &[u8]) -> Result<Option<Path>, AllocError>
-    ensures { IfOk result (λ path. path ≡ Paths.path_of text.now) }
-{
-    let Some(segment) = segment_of(text) else {
-        return Ok(None);
-    };
-    let mut segs = Segs::new(alloc);
-    segs.push(segment)?;
-    Ok(Some(Path {
-        root: false,
-        up: 0,
-        segs,
-    }))
 }
 
 #[tactic(auto, using(crate::proofs::Terms::term_rules, crate::proofs::Terms::nothing_more))]

@@ -6,6 +6,7 @@ mod leaf;
 mod lists;
 pub mod operator;
 pub mod parameters;
+mod paths;
 mod settle;
 pub mod table;
 mod tree;

@@ -106,7 +106,11 @@ fn tells_each_error_at_its_place(rt: HostRuntime) -> Result<(), Fail> {
         ("SWITCH ( 1 ) { NAME ( ) }", "6020@15 "),
         ("LOAD ( A )", "6020@15 "),
         ("FOO { }", "6020@15 "),
-        ("NAME ( \\A , 1 )", "6020@17 "),
+        // Paths: a long segment, and one in a method.
+        ("NAME ( \\A.BCDEF , 1 )", "6024@17 "),
+        ("METHOD ( M ) { NAME ( \\A , 1 ) }", "6025@22 "),
+        ("\\A.B { }", "6023@15 "),
+        ("SCOPE ( \\ ) { NAME ( \\A.B.CDEF , 1 ) }", "none"),
         ("NAME ( A , 1 + 2 )", "6020@20 "),
         // The first of 6020, 6025, 6021 and 6023 alone.
         ("RETURN ( 1 , 2 )", "6025@15 "),

@@ -7,9 +7,10 @@ ghost use Rattle.asl_shape.specs.Paths;
 ghost use Rattle.asl_shape.specs.Plans.{plan_of, plans_of, join};
 
 use crate::item::{Reading, inside_of, is_given, item_fault, meaning_of, reading_of};
-use crate::leaf::{known_term, listed, number, path, path_of, place_in, text};
+use crate::leaf::{known_term, listed, number, path, place_in, text};
 use crate::lists::{behind_if, byte_slot, is_listed, is_separator, within};
 use crate::operator::{Body, Parameter, Slot};
+use crate::paths::path_of;
 use crate::parameters::{body_of, parameters_of};
 use crate::settle::settle;
 use crate::work::{NOWHERE, Work, evaluate, refuse, tell};
