@@ -6,8 +6,8 @@ ghost use Rattle.asl_shape.specs.AtRaw as at;
 ghost use Rattle.asl_shape.specs.Plans.{plan_of};
 
 use crate::item::{Meaning, is_given, meaning_of, takes_expression, takes_known};
-use crate::paths::path_of;
 use crate::operator::{Known, Slot, StringForm, WordKind};
+use crate::paths::path_of;
 use crate::work::{Work, refuse};
 use acpi_values::integer::wrap;
 use acpi_values::width::Width;

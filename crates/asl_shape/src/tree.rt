@@ -10,8 +10,8 @@ use crate::item::{Reading, inside_of, is_given, item_fault, meaning_of, reading_
 use crate::leaf::{known_term, listed, number, path, place_in, text};
 use crate::lists::{behind_if, byte_slot, is_listed, is_separator, within};
 use crate::operator::{Body, Parameter, Slot};
-use crate::paths::path_of;
 use crate::parameters::{body_of, parameters_of};
+use crate::paths::path_of;
 use crate::settle::settle;
 use crate::work::{NOWHERE, Work, evaluate, refuse, tell};
 use asl_parser::{Raw, Raws};

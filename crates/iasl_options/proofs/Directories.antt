@@ -80,7 +80,7 @@ front_text file front rest e u =
     let whole : IsUtf8 ((front ++ 47 ∷ []) ++ rest) = subst IsUtf8 split u in
     let below : length front < length ((front ++ 47 ∷ []) ++ rest) = omega (arith, length-append (front ++ 47 ∷ []) rest, length-append front (47 ∷ [])) in
     let ascii : get_or ((front ++ 47 ∷ []) ++ rest) (length front) 0 < 128 =
-        subst (λ xs. get_or xs (length front) 0 < 128) (sym (append_assoc front (47 ∷ []) rest)) (subst (λ n. n < 128) (sym (get_or_at front 47 rest 0 (length front) refl)) (omega arith)) in
+    subst (λ xs. get_or xs (length front) 0 < 128) (sym (append_assoc front (47 ∷ []) rest)) (subst (λ n. n < 128) (sym (get_or_at front 47 rest 0 (length front) refl)) (omega arith)) in
     subst IsUtf8 (take_at (front ++ 47 ∷ []) rest (length front + 1) (length-append front (47 ∷ [])))
     (IsUtf8-take ((front ++ 47 ∷ []) ++ rest) (length front + 1) whole (IsCharBoundary-after_ascii ((front ++ 47 ∷ []) ++ rest) (length front) whole below ascii))
 
