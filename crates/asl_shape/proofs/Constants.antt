@@ -19,6 +19,7 @@ argument_is _ r = refl
 
 mutual
   unfolding plan_of
+
   pub constant_is : (t : Term) → constant_term W64 t ≡ constant_of (plan_of t)
   constant_is (D.Form' op shape args shape' body) =
       ap (λ args. constant_form op W64 args (row_length body)) (arguments_are _ args) ∙ ap (constant_form op W64 (arguments_as (row_plans args))) (length_is _ body)

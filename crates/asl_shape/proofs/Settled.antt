@@ -45,6 +45,7 @@ pub stated_none : (nodes : List Node) (i : ℕ) → length nodes ≤ i → is_st
 stated_none nodes i le = ap is_stated (at_none nodes i le)
 
 pub ruleset at_rules = (number_some, number_none)
+
 pub ruleset given_rules = (stated_some, stated_none)
 
 pub push_is : (nodes : List Node) (node : Node) → plans_of (nodes ++ node ∷ []) ≡ join (plans_of nodes) (one_plan node.place (plan_of node.term))
@@ -79,4 +80,5 @@ unfolding plans_of
 join_first ps = refl
 
 pub ruleset single_rules = (join_first, no_nodes)
+
 pub ruleset return_rules = (term_rules)

@@ -115,7 +115,6 @@ from_none ps = refl
 pub nothing_behind : (ps : Plans) → join ps no_plans ≡ ps
 nothing_behind ps = join_end ps
 
-
 pub call_is : (inside : Bool) (args : Option (List Raw)) → call_at inside args ≡ operands_at slot.Expression inside (inside_at args)
 unfolding call_at operands_at writtens
 call_is inside None = refl
@@ -182,11 +181,17 @@ unfolding terms_at writtens
 term_end inside run raws i le = ap (λ rs. Shapes.terms inside run (writtens rs)) (drop_all i raws le)
 
 pub ruleset operand_rules = (operand_step, operand_end, append_assoc, join_assoc, nothing_more, nothing_behind)
+
 pub ruleset member_steps = (member_step, member_end, append_assoc, join_assoc, nothing_more, nothing_behind)
+
 pub ruleset term_steps = (term_step, term_end, append_assoc, join_assoc, nothing_more, nothing_behind)
+
 pub ruleset argument_rules = (append_assoc, join_assoc, nothing_more, nothing_behind)
+
 pub ruleset call_rules = (plan_call, from_none, call_is)
+
 pub ruleset form_rules = (plan_form, from_none, form_is, append_assoc)
+
 pub ruleset push_rules = (push_plan, omitted_term)
 
 -- ---- what stands in braces
@@ -254,7 +259,9 @@ operand_made s inside raws i d old new w lt e f =
     ∙ ap (λ x. join old x.made) (sym (operand_step s inside raws i d lt)) ∙ e
 
 pub ruleset operand_all = (operand_faults, operand_made, operand_end, nothing_more, nothing_behind, size_within)
+
 pub ruleset size_rules = (size_item, size_apply, size_inside, size_some, size_within)
+
 pub ruleset content_rules = (append_assoc, nothing_more, nothing_behind, contents_none, contents_no, contents_terms, contents_bytes, contents_elements, size_some)
 
 -- ---- steps of the other lists
@@ -381,9 +388,10 @@ later_argument : (qs : List Parameter) (place : Place) (inside : Bool) (raws : L
     → ((argument_at (get_or qs i d) place inside (slice_get raws i)).faults ++ (arguments_in_at (drop (i + 1) qs) place inside (drop (i + 1) raws)).faults ≡ (arguments_in_at (drop i qs) place inside (drop i raws)).faults)
     × (join (argument_at (get_or qs i d) place inside (slice_get raws i)).made (arguments_in_at (drop (i + 1) qs) place inside (drop (i + 1) raws)).made ≡ (arguments_in_at (drop i qs) place inside (drop i raws)).made)
 later_argument qs place inside raws i d lt =
-    let step = next_argument (get_or qs i d) (drop (suc i) qs) place inside raws i in
-    (ap (λ k. (argument_at (get_or qs i d) place inside (slice_get raws i)).faults ++ (arguments_in_at (drop k qs) place inside (drop k raws)).faults) (add-one i) ∙ step.0 ∙ ap (λ xs. (arguments_in_at xs place inside (drop i raws)).faults) (sym (drop-cons qs i d lt)),
-     ap (λ k. join (argument_at (get_or qs i d) place inside (slice_get raws i)).made (arguments_in_at (drop k qs) place inside (drop k raws)).made) (add-one i) ∙ step.1 ∙ ap (λ xs. (arguments_in_at xs place inside (drop i raws)).made) (sym (drop-cons qs i d lt)))
+    let step = next_argument (get_or qs i d) (drop (suc i) qs) place inside raws i in (
+      ap (λ k. (argument_at (get_or qs i d) place inside (slice_get raws i)).faults ++ (arguments_in_at (drop k qs) place inside (drop k raws)).faults) (add-one i) ∙ step.0 ∙ ap (λ xs. (arguments_in_at xs place inside (drop i raws)).faults) (sym (drop-cons qs i d lt)),
+      ap (λ k. join (argument_at (get_or qs i d) place inside (slice_get raws i)).made (arguments_in_at (drop k qs) place inside (drop k raws)).made) (add-one i) ∙ step.1 ∙ ap (λ xs. (arguments_in_at xs place inside (drop i raws)).made) (sym (drop-cons qs i d lt)),
+    )
 
 pub argument_faults : (qs : List Parameter) (place : Place) (inside : Bool) (raws : List Raw) (i : ℕ) (d : Parameter) (old new w : List Message) → i < length qs → old ++ (arguments_in_at (drop i qs) place inside (drop i raws)).faults ≡ w → new ≡ old ++ (argument_at (get_or qs i d) place inside (slice_get raws i)).faults → new ++ (arguments_in_at (drop (i + 1) qs) place inside (drop (i + 1) raws)).faults ≡ w
 argument_faults qs place inside raws i d old new w lt e f =

@@ -132,8 +132,8 @@ pub block_is : (place : Place) (word : List ℕ) (args body : Option (List Raw))
 unfolding IsItemBlock IsBlockOf writtens terms_at arguments_at
 block_is place word args body [] block h =
     subst (λ w. IsBlock (block_place (more w none)) (args_of (more w none)) (terms_of (more w none)) block) (sym (written_item place word args body))
-        (subst (λ x. IsBlock place x.made (terms false false (inside_of (written_in body))).made block) (sym (arguments_are block_parameters place false args))
-            (subst (λ ws. IsBlock place (args_in place (inside_at args)).made (terms false false ws).made block) (sym (inside_written body)) h))
+    (subst (λ x. IsBlock place x.made (terms false false (inside_of (written_in body))).made block) (sym (arguments_are block_parameters place false args))
+    (subst (λ ws. IsBlock place (args_in place (inside_at args)).made (terms false false ws).made block) (sym (inside_written body)) h))
 block_is place word args body (r ∷ rs) block h = absurd h
 
 pub first_formed : (first : Raw) (place : Place) (word : List ℕ) (args body : Option (List Raw)) (rest : List Raw) (result : Result Block Stage) → first ≡ raw.Item place word args body

@@ -100,7 +100,7 @@ byte_slot_at raws = byte_slot (writtens raws)
 unfoldable pub item_at : Slot → Bool → Place → List ℕ → Option (List Raw) → Option (List Raw) → Shaped Plan
 item_at s inside place w args body =
     item_shape place (item_fault s inside (meaning_of w (is_some body)) (has_arguments_at (meaning_of w (is_some body)) (inside_at args)) (is_some body))
-        (read_at s place w (reading_of s (meaning_of w (is_some body)) (is_some args)) inside args body)
+    (read_at s place w (reading_of s (meaning_of w (is_some body)) (is_some args)) inside args body)
 
 unfoldable pub is_text_at : Raw → Bool
 is_text_at raw = is_text (written raw)

@@ -507,8 +507,8 @@ abbrev mutual
   bare s inside (apply place o ws) = refused 6020 place
   bare s inside (item place w args body) =
       item_shape place (item_fault s inside (meaning_of w (is_given body)) (has_arguments (meaning_of w (is_given body)) (inside_of args)) (is_given body))
-          (read_shape s place w (reading_of s (meaning_of w (is_given body)) (is_given args)) (call_args inside args)
-          (λ o. form_shape o place (arguments (parameters_of o) place inside args) (contents (body_of o) (within o inside) place body)))
+      (read_shape s place w (reading_of s (meaning_of w (is_given body)) (is_given args)) (call_args inside args)
+      (λ o. form_shape o place (arguments (parameters_of o) place inside args) (contents (body_of o) (within o inside) place body)))
   bare s inside _ = fine omitted
 
   -- the arguments of a call

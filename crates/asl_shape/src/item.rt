@@ -163,7 +163,13 @@ fn may_end(parameters: &[Parameter]) -> bool
 {
     match parts(parameters) {
         None => true,
-        Some((first, rest)) => { if first.omittable { may_end(rest) } else { false } }
+        Some((first, rest)) => {
+            if first.omittable {
+                may_end(rest)
+            } else {
+                false
+            }
+        }
     }
 }
 
@@ -202,7 +208,11 @@ fn none_empty(args: &[Raw]) -> bool
 fn is_call(args: &[Raw]) -> bool
     ensures { result ≡ at.is_call_at args.now }
 {
-    if args.len() <= 7 { none_empty(args) } else { false }
+    if args.len() <= 7 {
+        none_empty(args)
+    } else {
+        false
+    }
 }
 
 #[tactic(auto, using(crate::proofs::ItemLaws::has_rules))]

@@ -6,8 +6,8 @@ ghost use Rattle.asl_shape.specs.AtRaw as at;
 ghost use Rattle.asl_shape.specs.Plans.{plan_of};
 
 use crate::item::{Meaning, is_given, meaning_of, takes_expression, takes_known};
-use crate::paths::path_of;
 use crate::operator::{Known, Slot, StringForm, WordKind};
+use crate::paths::path_of;
 use crate::work::{Work, refuse};
 use acpi_values::integer::wrap;
 use acpi_values::width::Width;
@@ -145,12 +145,7 @@ pub fn text(
 }
 
 #[tactic(auto, using(crate::proofs::Terms::term_rules, crate::proofs::Terms::nothing_more))]
-pub fn path(
-    alloc: Global,
-    work: &mut Work,
-    place: Place,
-    text: &[u8],
-) -> Result<Term, AllocError>
+pub fn path(alloc: Global, work: &mut Work, place: Place, text: &[u8]) -> Result<Term, AllocError>
     ensures faults { OnOk result (work.new.faults.items ≡ work.old.faults.items ++ (spec.path_shape place (Paths.path_of text.now)).faults) }
     ensures made { IfOk result (λ term. plan_of term ≡ (spec.path_shape place (Paths.path_of text.now)).made) }
 {
@@ -204,7 +199,10 @@ fn is_type(raw: &Raw) -> bool
 {
     match raw {
         Raw::Item {
-            word, args, body, ..
+            word,
+            args,
+            body,
+            ..
         } => is_bare_type(word, is_given(args), is_given(body)),
         Raw::Number { .. } => false,
         Raw::Text { .. } => false,

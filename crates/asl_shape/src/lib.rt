@@ -8,8 +8,8 @@ pub mod operator;
 pub mod parameters;
 mod paths;
 mod settle;
-mod tree;
 pub mod table;
+mod tree;
 mod unit;
 mod work;
 

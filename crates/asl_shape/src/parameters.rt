@@ -36,13 +36,21 @@ macro_rules! constant {
 }
 
 const EXPRESSION: Parameter = asked!(Slot::Expression);
+
 const PLACE: Parameter = asked!(Slot::Place);
+
 const TARGET: Parameter = optional!(Slot::Place);
+
 const DECLARED: Parameter = asked!(Slot::Declared);
+
 const USED: Parameter = asked!(Slot::Used);
+
 const BYTE: Parameter = asked!(constant!(0, 0xFF));
+
 const WORD: Parameter = asked!(constant!(0, 0xFFFF));
+
 const DOUBLE_WORD: Parameter = asked!(constant!(0, 0xFFFF_FFFF));
+
 const TEST: Parameter = asked!(Slot::Word(WordKind::Match));
 
 #[tactic(auto, unfolding(crate::specs::Operators::parameters_of))]
@@ -94,10 +102,9 @@ fn of_data(op: DataOp) -> &'static [Parameter]
         DataOp::Concatenate | DataOp::ConcatenateResTemplate | DataOp::Index => {
             &[EXPRESSION, EXPRESSION, TARGET]
         }
-        DataOp::ToBuffer
-        | DataOp::ToDecimalString
-        | DataOp::ToHexString
-        | DataOp::ToInteger => &[EXPRESSION, TARGET],
+        DataOp::ToBuffer | DataOp::ToDecimalString | DataOp::ToHexString | DataOp::ToInteger => &[
+            EXPRESSION, TARGET,
+        ],
         DataOp::ToString => &[EXPRESSION, optional!(Slot::Expression), TARGET],
         DataOp::Mid => &[EXPRESSION, EXPRESSION, EXPRESSION, TARGET],
         DataOp::DerefOf => &[EXPRESSION],

@@ -138,12 +138,7 @@ fn returned(alloc: Global, nodes: &mut Vec<Node>, place: Place) -> Result<(), Al
 }
 
 /// The arguments of a form, from those that are written.
-pub fn settle(
-    alloc: Global,
-    op: Op,
-    place: Place,
-    nodes: &mut Vec<Node>,
-) -> Result<(), AllocError>
+pub fn settle(alloc: Global, op: Op, place: Place, nodes: &mut Vec<Node>) -> Result<(), AllocError>
     ensures { OnOk result (plans_of nodes.new.items ≡ spec.settled op place (plans_of nodes.old.items)) }
 {
     match op {

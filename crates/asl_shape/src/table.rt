@@ -28,63 +28,234 @@ macro_rules! word {
 
 /// The operators under their words.
 pub const OPERATORS: &[Operator] = &[
-    row!(b"ADD                     ", Op::Plain(Plain::Number(IntOp::Add))),
-    row!(b"SUBTRACT                ", Op::Plain(Plain::Number(IntOp::Subtract))),
-    row!(b"MULTIPLY                ", Op::Plain(Plain::Number(IntOp::Multiply))),
-    row!(b"SHIFTLEFT               ", Op::Plain(Plain::Number(IntOp::ShiftLeft))),
-    row!(b"SHIFTRIGHT              ", Op::Plain(Plain::Number(IntOp::ShiftRight))),
-    row!(b"AND                     ", Op::Plain(Plain::Number(IntOp::And))),
-    row!(b"NAND                    ", Op::Plain(Plain::Number(IntOp::Nand))),
-    row!(b"OR                      ", Op::Plain(Plain::Number(IntOp::Or))),
-    row!(b"NOR                     ", Op::Plain(Plain::Number(IntOp::Nor))),
-    row!(b"XOR                     ", Op::Plain(Plain::Number(IntOp::Xor))),
-    row!(b"MOD                     ", Op::Plain(Plain::Number(IntOp::Mod))),
-    row!(b"DIVIDE                  ", Op::Plain(Plain::Number(IntOp::Divide))),
-    row!(b"NOT                     ", Op::Plain(Plain::Number(IntOp::Not))),
-    row!(b"FINDSETLEFTBIT          ", Op::Plain(Plain::Number(IntOp::FindSetLeftBit))),
-    row!(b"FINDSETRIGHTBIT         ", Op::Plain(Plain::Number(IntOp::FindSetRightBit))),
-    row!(b"FROMBCD                 ", Op::Plain(Plain::Number(IntOp::FromBcd))),
-    row!(b"TOBCD                   ", Op::Plain(Plain::Number(IntOp::ToBcd))),
-    row!(b"LAND                    ", Op::Plain(Plain::Number(IntOp::LAnd))),
-    row!(b"LOR                     ", Op::Plain(Plain::Number(IntOp::LOr))),
-    row!(b"LNOT                    ", Op::Plain(Plain::Number(IntOp::LNot))),
-    row!(b"LEQUAL                  ", Op::Plain(Plain::Number(IntOp::LEqual))),
-    row!(b"LGREATER                ", Op::Plain(Plain::Number(IntOp::LGreater))),
-    row!(b"LLESS                   ", Op::Plain(Plain::Number(IntOp::LLess))),
-    row!(b"LNOTEQUAL               ", Op::Plain(Plain::Number(IntOp::LNotEqual))),
-    row!(b"LLESSEQUAL              ", Op::Plain(Plain::Number(IntOp::LLessEqual))),
-    row!(b"LGREATEREQUAL           ", Op::Plain(Plain::Number(IntOp::LGreaterEqual))),
-    row!(b"INCREMENT               ", Op::Plain(Plain::Data(DataOp::Increment))),
-    row!(b"DECREMENT               ", Op::Plain(Plain::Data(DataOp::Decrement))),
-    row!(b"STORE                   ", Op::Plain(Plain::Data(DataOp::Store))),
-    row!(b"COPYOBJECT              ", Op::Plain(Plain::Data(DataOp::CopyObject))),
-    row!(b"CONCATENATE             ", Op::Plain(Plain::Data(DataOp::Concatenate))),
-    row!(b"CONCATENATERESTEMPLATE  ", Op::Plain(Plain::Data(DataOp::ConcatenateResTemplate))),
-    row!(b"TOBUFFER                ", Op::Plain(Plain::Data(DataOp::ToBuffer))),
-    row!(b"TODECIMALSTRING         ", Op::Plain(Plain::Data(DataOp::ToDecimalString))),
-    row!(b"TOHEXSTRING             ", Op::Plain(Plain::Data(DataOp::ToHexString))),
-    row!(b"TOINTEGER               ", Op::Plain(Plain::Data(DataOp::ToInteger))),
-    row!(b"TOSTRING                ", Op::Plain(Plain::Data(DataOp::ToString))),
-    row!(b"MID                     ", Op::Plain(Plain::Data(DataOp::Mid))),
-    row!(b"INDEX                   ", Op::Plain(Plain::Data(DataOp::Index))),
-    row!(b"DEREFOF                 ", Op::Plain(Plain::Data(DataOp::DerefOf))),
-    row!(b"REFOF                   ", Op::Plain(Plain::Data(DataOp::RefOf))),
-    row!(b"SIZEOF                  ", Op::Plain(Plain::Data(DataOp::SizeOf))),
-    row!(b"OBJECTTYPE              ", Op::Plain(Plain::Data(DataOp::ObjectType))),
-    row!(b"MATCH                   ", Op::Plain(Plain::Data(DataOp::Match))),
-    row!(b"ACQUIRE                 ", Op::Plain(Plain::Event(EventOp::Acquire))),
-    row!(b"WAIT                    ", Op::Plain(Plain::Event(EventOp::Wait))),
-    row!(b"TIMER                   ", Op::Plain(Plain::Event(EventOp::Timer))),
-    row!(b"REVISION                ", Op::Plain(Plain::Event(EventOp::Revision))),
-    row!(b"RELEASE                 ", Op::Plain(Plain::Event(EventOp::Release))),
-    row!(b"SIGNAL                  ", Op::Plain(Plain::Event(EventOp::Signal))),
-    row!(b"RESET                   ", Op::Plain(Plain::Event(EventOp::Reset))),
-    row!(b"NOTIFY                  ", Op::Plain(Plain::Event(EventOp::Notify))),
-    row!(b"SLEEP                   ", Op::Plain(Plain::Event(EventOp::Sleep))),
-    row!(b"STALL                   ", Op::Plain(Plain::Event(EventOp::Stall))),
-    row!(b"FATAL                   ", Op::Plain(Plain::Event(EventOp::Fatal))),
-    row!(b"NOOP                    ", Op::Plain(Plain::Event(EventOp::Noop))),
-    row!(b"BREAKPOINT              ", Op::Plain(Plain::Event(EventOp::BreakPoint))),
+    row!(
+        b"ADD                     ",
+        Op::Plain(Plain::Number(IntOp::Add))
+    ),
+    row!(
+        b"SUBTRACT                ",
+        Op::Plain(Plain::Number(IntOp::Subtract))
+    ),
+    row!(
+        b"MULTIPLY                ",
+        Op::Plain(Plain::Number(IntOp::Multiply))
+    ),
+    row!(
+        b"SHIFTLEFT               ",
+        Op::Plain(Plain::Number(IntOp::ShiftLeft))
+    ),
+    row!(
+        b"SHIFTRIGHT              ",
+        Op::Plain(Plain::Number(IntOp::ShiftRight))
+    ),
+    row!(
+        b"AND                     ",
+        Op::Plain(Plain::Number(IntOp::And))
+    ),
+    row!(
+        b"NAND                    ",
+        Op::Plain(Plain::Number(IntOp::Nand))
+    ),
+    row!(
+        b"OR                      ",
+        Op::Plain(Plain::Number(IntOp::Or))
+    ),
+    row!(
+        b"NOR                     ",
+        Op::Plain(Plain::Number(IntOp::Nor))
+    ),
+    row!(
+        b"XOR                     ",
+        Op::Plain(Plain::Number(IntOp::Xor))
+    ),
+    row!(
+        b"MOD                     ",
+        Op::Plain(Plain::Number(IntOp::Mod))
+    ),
+    row!(
+        b"DIVIDE                  ",
+        Op::Plain(Plain::Number(IntOp::Divide))
+    ),
+    row!(
+        b"NOT                     ",
+        Op::Plain(Plain::Number(IntOp::Not))
+    ),
+    row!(
+        b"FINDSETLEFTBIT          ",
+        Op::Plain(Plain::Number(IntOp::FindSetLeftBit))
+    ),
+    row!(
+        b"FINDSETRIGHTBIT         ",
+        Op::Plain(Plain::Number(IntOp::FindSetRightBit))
+    ),
+    row!(
+        b"FROMBCD                 ",
+        Op::Plain(Plain::Number(IntOp::FromBcd))
+    ),
+    row!(
+        b"TOBCD                   ",
+        Op::Plain(Plain::Number(IntOp::ToBcd))
+    ),
+    row!(
+        b"LAND                    ",
+        Op::Plain(Plain::Number(IntOp::LAnd))
+    ),
+    row!(
+        b"LOR                     ",
+        Op::Plain(Plain::Number(IntOp::LOr))
+    ),
+    row!(
+        b"LNOT                    ",
+        Op::Plain(Plain::Number(IntOp::LNot))
+    ),
+    row!(
+        b"LEQUAL                  ",
+        Op::Plain(Plain::Number(IntOp::LEqual))
+    ),
+    row!(
+        b"LGREATER                ",
+        Op::Plain(Plain::Number(IntOp::LGreater))
+    ),
+    row!(
+        b"LLESS                   ",
+        Op::Plain(Plain::Number(IntOp::LLess))
+    ),
+    row!(
+        b"LNOTEQUAL               ",
+        Op::Plain(Plain::Number(IntOp::LNotEqual))
+    ),
+    row!(
+        b"LLESSEQUAL              ",
+        Op::Plain(Plain::Number(IntOp::LLessEqual))
+    ),
+    row!(
+        b"LGREATEREQUAL           ",
+        Op::Plain(Plain::Number(IntOp::LGreaterEqual))
+    ),
+    row!(
+        b"INCREMENT               ",
+        Op::Plain(Plain::Data(DataOp::Increment))
+    ),
+    row!(
+        b"DECREMENT               ",
+        Op::Plain(Plain::Data(DataOp::Decrement))
+    ),
+    row!(
+        b"STORE                   ",
+        Op::Plain(Plain::Data(DataOp::Store))
+    ),
+    row!(
+        b"COPYOBJECT              ",
+        Op::Plain(Plain::Data(DataOp::CopyObject))
+    ),
+    row!(
+        b"CONCATENATE             ",
+        Op::Plain(Plain::Data(DataOp::Concatenate))
+    ),
+    row!(
+        b"CONCATENATERESTEMPLATE  ",
+        Op::Plain(Plain::Data(DataOp::ConcatenateResTemplate))
+    ),
+    row!(
+        b"TOBUFFER                ",
+        Op::Plain(Plain::Data(DataOp::ToBuffer))
+    ),
+    row!(
+        b"TODECIMALSTRING         ",
+        Op::Plain(Plain::Data(DataOp::ToDecimalString))
+    ),
+    row!(
+        b"TOHEXSTRING             ",
+        Op::Plain(Plain::Data(DataOp::ToHexString))
+    ),
+    row!(
+        b"TOINTEGER               ",
+        Op::Plain(Plain::Data(DataOp::ToInteger))
+    ),
+    row!(
+        b"TOSTRING                ",
+        Op::Plain(Plain::Data(DataOp::ToString))
+    ),
+    row!(
+        b"MID                     ",
+        Op::Plain(Plain::Data(DataOp::Mid))
+    ),
+    row!(
+        b"INDEX                   ",
+        Op::Plain(Plain::Data(DataOp::Index))
+    ),
+    row!(
+        b"DEREFOF                 ",
+        Op::Plain(Plain::Data(DataOp::DerefOf))
+    ),
+    row!(
+        b"REFOF                   ",
+        Op::Plain(Plain::Data(DataOp::RefOf))
+    ),
+    row!(
+        b"SIZEOF                  ",
+        Op::Plain(Plain::Data(DataOp::SizeOf))
+    ),
+    row!(
+        b"OBJECTTYPE              ",
+        Op::Plain(Plain::Data(DataOp::ObjectType))
+    ),
+    row!(
+        b"MATCH                   ",
+        Op::Plain(Plain::Data(DataOp::Match))
+    ),
+    row!(
+        b"ACQUIRE                 ",
+        Op::Plain(Plain::Event(EventOp::Acquire))
+    ),
+    row!(
+        b"WAIT                    ",
+        Op::Plain(Plain::Event(EventOp::Wait))
+    ),
+    row!(
+        b"TIMER                   ",
+        Op::Plain(Plain::Event(EventOp::Timer))
+    ),
+    row!(
+        b"REVISION                ",
+        Op::Plain(Plain::Event(EventOp::Revision))
+    ),
+    row!(
+        b"RELEASE                 ",
+        Op::Plain(Plain::Event(EventOp::Release))
+    ),
+    row!(
+        b"SIGNAL                  ",
+        Op::Plain(Plain::Event(EventOp::Signal))
+    ),
+    row!(
+        b"RESET                   ",
+        Op::Plain(Plain::Event(EventOp::Reset))
+    ),
+    row!(
+        b"NOTIFY                  ",
+        Op::Plain(Plain::Event(EventOp::Notify))
+    ),
+    row!(
+        b"SLEEP                   ",
+        Op::Plain(Plain::Event(EventOp::Sleep))
+    ),
+    row!(
+        b"STALL                   ",
+        Op::Plain(Plain::Event(EventOp::Stall))
+    ),
+    row!(
+        b"FATAL                   ",
+        Op::Plain(Plain::Event(EventOp::Fatal))
+    ),
+    row!(
+        b"NOOP                    ",
+        Op::Plain(Plain::Event(EventOp::Noop))
+    ),
+    row!(
+        b"BREAKPOINT              ",
+        Op::Plain(Plain::Event(EventOp::BreakPoint))
+    ),
     row!(b"ZERO                    ", Op::Literal(Literal::Zero)),
     row!(b"ONE                     ", Op::Literal(Literal::One)),
     row!(b"ONES                    ", Op::Literal(Literal::Ones)),
@@ -97,50 +268,239 @@ pub const OPERATORS: &[Operator] = &[
     row!(b"WHILE                   ", Op::Control(Control::While)),
     row!(b"BREAK                   ", Op::Control(Control::Break)),
     row!(b"CONTINUE                ", Op::Control(Control::Continue)),
-    row!(b"NAME                    ", Op::Declaration(Declaration::Name)),
-    row!(b"ALIAS                   ", Op::Declaration(Declaration::Alias)),
-    row!(b"EXTERNAL                ", Op::Declaration(Declaration::External)),
-    row!(b"METHOD                  ", Op::Declaration(Declaration::Method)),
-    row!(b"MUTEX                   ", Op::Declaration(Declaration::Mutex)),
-    row!(b"EVENT                   ", Op::Declaration(Declaration::Event)),
-    row!(b"DEVICE                  ", Op::Declaration(Declaration::Device)),
-    row!(b"THERMALZONE             ", Op::Declaration(Declaration::ThermalZone)),
-    row!(b"POWERRESOURCE           ", Op::Declaration(Declaration::PowerResource)),
-    row!(b"PROCESSOR               ", Op::Declaration(Declaration::Processor)),
-    row!(b"SCOPE                   ", Op::Declaration(Declaration::Scope)),
-    row!(b"CREATEFIELD             ", Op::Declaration(Declaration::CreateField)),
-    row!(b"CREATEBITFIELD          ", Op::Declaration(Declaration::CreateBitField)),
-    row!(b"CREATEBYTEFIELD         ", Op::Declaration(Declaration::CreateByteField)),
-    row!(b"CREATEWORDFIELD         ", Op::Declaration(Declaration::CreateWordField)),
-    row!(b"CREATEDWORDFIELD        ", Op::Declaration(Declaration::CreateDWordField)),
-    row!(b"CREATEQWORDFIELD        ", Op::Declaration(Declaration::CreateQWordField)),
+    row!(
+        b"NAME                    ",
+        Op::Declaration(Declaration::Name)
+    ),
+    row!(
+        b"ALIAS                   ",
+        Op::Declaration(Declaration::Alias)
+    ),
+    row!(
+        b"EXTERNAL                ",
+        Op::Declaration(Declaration::External)
+    ),
+    row!(
+        b"METHOD                  ",
+        Op::Declaration(Declaration::Method)
+    ),
+    row!(
+        b"MUTEX                   ",
+        Op::Declaration(Declaration::Mutex)
+    ),
+    row!(
+        b"EVENT                   ",
+        Op::Declaration(Declaration::Event)
+    ),
+    row!(
+        b"DEVICE                  ",
+        Op::Declaration(Declaration::Device)
+    ),
+    row!(
+        b"THERMALZONE             ",
+        Op::Declaration(Declaration::ThermalZone)
+    ),
+    row!(
+        b"POWERRESOURCE           ",
+        Op::Declaration(Declaration::PowerResource)
+    ),
+    row!(
+        b"PROCESSOR               ",
+        Op::Declaration(Declaration::Processor)
+    ),
+    row!(
+        b"SCOPE                   ",
+        Op::Declaration(Declaration::Scope)
+    ),
+    row!(
+        b"CREATEFIELD             ",
+        Op::Declaration(Declaration::CreateField)
+    ),
+    row!(
+        b"CREATEBITFIELD          ",
+        Op::Declaration(Declaration::CreateBitField)
+    ),
+    row!(
+        b"CREATEBYTEFIELD         ",
+        Op::Declaration(Declaration::CreateByteField)
+    ),
+    row!(
+        b"CREATEWORDFIELD         ",
+        Op::Declaration(Declaration::CreateWordField)
+    ),
+    row!(
+        b"CREATEDWORDFIELD        ",
+        Op::Declaration(Declaration::CreateDWordField)
+    ),
+    row!(
+        b"CREATEQWORDFIELD        ",
+        Op::Declaration(Declaration::CreateQWordField)
+    ),
 ];
 
 /// The words that stand for a number, a Local, an Arg or Debug, and those that no program has.
 pub const WORDS: &[Named] = &[
-    word!(b"NOTSERIALIZED           ", Known::Word { kind: WordKind::Serialize, number: 0 }),
-    word!(b"SERIALIZED              ", Known::Word { kind: WordKind::Serialize, number: 1 }),
-    word!(b"UNKNOWNOBJ              ", Known::Word { kind: WordKind::ObjectType, number: 0 }),
-    word!(b"INTOBJ                  ", Known::Word { kind: WordKind::ObjectType, number: 1 }),
-    word!(b"STROBJ                  ", Known::Word { kind: WordKind::ObjectType, number: 2 }),
-    word!(b"BUFFOBJ                 ", Known::Word { kind: WordKind::ObjectType, number: 3 }),
-    word!(b"PKGOBJ                  ", Known::Word { kind: WordKind::ObjectType, number: 4 }),
-    word!(b"FIELDUNITOBJ            ", Known::Word { kind: WordKind::ObjectType, number: 5 }),
-    word!(b"DEVICEOBJ               ", Known::Word { kind: WordKind::ObjectType, number: 6 }),
-    word!(b"EVENTOBJ                ", Known::Word { kind: WordKind::ObjectType, number: 7 }),
-    word!(b"METHODOBJ               ", Known::Word { kind: WordKind::ObjectType, number: 8 }),
-    word!(b"MUTEXOBJ                ", Known::Word { kind: WordKind::ObjectType, number: 9 }),
-    word!(b"OPREGIONOBJ             ", Known::Word { kind: WordKind::ObjectType, number: 10 }),
-    word!(b"POWERRESOBJ             ", Known::Word { kind: WordKind::ObjectType, number: 11 }),
-    word!(b"PROCESSOROBJ            ", Known::Word { kind: WordKind::ObjectType, number: 12 }),
-    word!(b"THERMALZONEOBJ          ", Known::Word { kind: WordKind::ObjectType, number: 13 }),
-    word!(b"BUFFFIELDOBJ            ", Known::Word { kind: WordKind::ObjectType, number: 14 }),
-    word!(b"MTR                     ", Known::Word { kind: WordKind::Match, number: 0 }),
-    word!(b"MEQ                     ", Known::Word { kind: WordKind::Match, number: 1 }),
-    word!(b"MLE                     ", Known::Word { kind: WordKind::Match, number: 2 }),
-    word!(b"MLT                     ", Known::Word { kind: WordKind::Match, number: 3 }),
-    word!(b"MGE                     ", Known::Word { kind: WordKind::Match, number: 4 }),
-    word!(b"MGT                     ", Known::Word { kind: WordKind::Match, number: 5 }),
+    word!(
+        b"NOTSERIALIZED           ",
+        Known::Word {
+            kind: WordKind::Serialize,
+            number: 0
+        }
+    ),
+    word!(
+        b"SERIALIZED              ",
+        Known::Word {
+            kind: WordKind::Serialize,
+            number: 1
+        }
+    ),
+    word!(
+        b"UNKNOWNOBJ              ",
+        Known::Word {
+            kind: WordKind::ObjectType,
+            number: 0
+        }
+    ),
+    word!(
+        b"INTOBJ                  ",
+        Known::Word {
+            kind: WordKind::ObjectType,
+            number: 1
+        }
+    ),
+    word!(
+        b"STROBJ                  ",
+        Known::Word {
+            kind: WordKind::ObjectType,
+            number: 2
+        }
+    ),
+    word!(
+        b"BUFFOBJ                 ",
+        Known::Word {
+            kind: WordKind::ObjectType,
+            number: 3
+        }
+    ),
+    word!(
+        b"PKGOBJ                  ",
+        Known::Word {
+            kind: WordKind::ObjectType,
+            number: 4
+        }
+    ),
+    word!(
+        b"FIELDUNITOBJ            ",
+        Known::Word {
+            kind: WordKind::ObjectType,
+            number: 5
+        }
+    ),
+    word!(
+        b"DEVICEOBJ               ",
+        Known::Word {
+            kind: WordKind::ObjectType,
+            number: 6
+        }
+    ),
+    word!(
+        b"EVENTOBJ                ",
+        Known::Word {
+            kind: WordKind::ObjectType,
+            number: 7
+        }
+    ),
+    word!(
+        b"METHODOBJ               ",
+        Known::Word {
+            kind: WordKind::ObjectType,
+            number: 8
+        }
+    ),
+    word!(
+        b"MUTEXOBJ                ",
+        Known::Word {
+            kind: WordKind::ObjectType,
+            number: 9
+        }
+    ),
+    word!(
+        b"OPREGIONOBJ             ",
+        Known::Word {
+            kind: WordKind::ObjectType,
+            number: 10
+        }
+    ),
+    word!(
+        b"POWERRESOBJ             ",
+        Known::Word {
+            kind: WordKind::ObjectType,
+            number: 11
+        }
+    ),
+    word!(
+        b"PROCESSOROBJ            ",
+        Known::Word {
+            kind: WordKind::ObjectType,
+            number: 12
+        }
+    ),
+    word!(
+        b"THERMALZONEOBJ          ",
+        Known::Word {
+            kind: WordKind::ObjectType,
+            number: 13
+        }
+    ),
+    word!(
+        b"BUFFFIELDOBJ            ",
+        Known::Word {
+            kind: WordKind::ObjectType,
+            number: 14
+        }
+    ),
+    word!(
+        b"MTR                     ",
+        Known::Word {
+            kind: WordKind::Match,
+            number: 0
+        }
+    ),
+    word!(
+        b"MEQ                     ",
+        Known::Word {
+            kind: WordKind::Match,
+            number: 1
+        }
+    ),
+    word!(
+        b"MLE                     ",
+        Known::Word {
+            kind: WordKind::Match,
+            number: 2
+        }
+    ),
+    word!(
+        b"MLT                     ",
+        Known::Word {
+            kind: WordKind::Match,
+            number: 3
+        }
+    ),
+    word!(
+        b"MGE                     ",
+        Known::Word {
+            kind: WordKind::Match,
+            number: 4
+        }
+    ),
+    word!(
+        b"MGT                     ",
+        Known::Word {
+            kind: WordKind::Match,
+            number: 5
+        }
+    ),
     word!(b"LOCAL0                  ", Known::Local(0)),
     word!(b"LOCAL1                  ", Known::Local(1)),
     word!(b"LOCAL2                  ", Known::Local(2)),

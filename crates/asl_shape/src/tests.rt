@@ -10,7 +10,9 @@ use std::test::Fail;
 fn decimal(bytes: &[u8]) -> u64 {
     let mut number: u64 = 0;
     for byte in bytes {
-        number = number.wrapping_mul(10).wrapping_add(byte.wrapping_sub(b'0') as u64);
+        number = number
+            .wrapping_mul(10)
+            .wrapping_add(byte.wrapping_sub(b'0') as u64);
     }
     number
 }
@@ -78,8 +80,14 @@ fn tells_each_error_at_its_place(rt: HostRuntime) -> Result<(), Fail> {
             "6028@16 ",
         ),
         // Its own arguments, all of them.
-        ("DEFINITIONBLOCK ( \"a , \"DSDT , 2 , \"O , \"T ) { }", "6021@0 "),
-        ("DEFINITIONBLOCK ( \"a , \"DSDT , 2 , \"O , \"T , 1 )", "6023@0 "),
+        (
+            "DEFINITIONBLOCK ( \"a , \"DSDT , 2 , \"O , \"T ) { }",
+            "6021@0 ",
+        ),
+        (
+            "DEFINITIONBLOCK ( \"a , \"DSDT , 2 , \"O , \"T , 1 )",
+            "6023@0 ",
+        ),
         (
             "DEFINITIONBLOCK ( A , \"OEMX , 1 , \"OEMOEMO , \"T , B ) { NAME ( C ) }",
             "6022@2 6024@6 6024@8 6022@12 6021@15 ",
@@ -105,7 +113,10 @@ fn tells_each_error_at_its_place(rt: HostRuntime) -> Result<(), Fail> {
         ("NAME ( A , 1 + 2 )", "6020@20 "),
         // The first of 6020, 6025, 6021 and 6023 alone.
         ("RETURN ( 1 , 2 )", "6025@15 "),
-        ("METHOD ( M ) { METHOD ( N , 1 , 2 , 3 , 4 , 5 , 6 ) }", "6025@20 "),
+        (
+            "METHOD ( M ) { METHOD ( N , 1 , 2 , 3 , 4 , 5 , 6 ) }",
+            "6025@20 ",
+        ),
         ("METHOD ( M ) { RETURN ( ADD ( ARG0 ) ) }", "6021@22 "),
         ("METHOD ( M , 8 )", "6023@15 "),
         ("NAME ( A , 1 ) { }", "6023@15 "),
@@ -120,7 +131,10 @@ fn tells_each_error_at_its_place(rt: HostRuntime) -> Result<(), Fail> {
         ),
         // What the arguments are, one error for each.
         ("NAME ( 1 , METHOD ( M ) { } )", "6022@17 6022@19 "),
-        ("METHOD ( M , ARG0 , 1 , 16 ) { }", "6022@19 6022@21 6024@23 "),
+        (
+            "METHOD ( M , ARG0 , 1 , 16 ) { }",
+            "6022@19 6022@21 6024@23 ",
+        ),
         (
             "METHOD ( M , 8 , SERIALIZED , DIVIDE ( 1 , 0 ) ) { }",
             "6024@19 6024@23 ",
@@ -132,7 +146,10 @@ fn tells_each_error_at_its_place(rt: HostRuntime) -> Result<(), Fail> {
         // The error inside a constant stands alone.
         ("METHOD ( M , ADD ( 1 ) ) { }", "6021@19 "),
         ("NAME ( ABCDE , 1 )", "6020@17 "),
-        ("EXTERNAL ( A , INTOBJ , { INTOBJ , B } , 1 )", "6022@21 6022@27 "),
+        (
+            "EXTERNAL ( A , INTOBJ , { INTOBJ , B } , 1 )",
+            "6022@21 6022@27 ",
+        ),
         // No error: what may be left out, and where a constant may be an operator.
         (
             "METHOD ( M , ADD ( 1 , 2 ) , , ) { RETURN ( ) ADD ( ARG0 , 1 ) }",

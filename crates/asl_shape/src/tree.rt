@@ -10,8 +10,8 @@ use crate::item::{Reading, inside_of, is_given, item_fault, meaning_of, reading_
 use crate::leaf::{known_term, listed, number, path, place_in, text};
 use crate::lists::{behind_if, byte_slot, is_listed, is_separator, within};
 use crate::operator::{Body, Parameter, Slot};
-use crate::paths::path_of;
 use crate::parameters::{body_of, parameters_of};
+use crate::paths::path_of;
 use crate::settle::settle;
 use crate::work::{NOWHERE, Work, evaluate, refuse, tell};
 use asl_parser::{Raw, Raws};
@@ -158,7 +158,17 @@ fn item(
     if let Some(fault) = item_fault(slot, inside, meaning, inside_of(args), is_given(body)) {
         return Ok(refuse(alloc, work, fault, place)?);
     }
-    Ok(read(alloc, work, slot, reading_of(slot, meaning, is_given(args)), inside, place, word, args, body)?)
+    Ok(read(
+        alloc,
+        work,
+        slot,
+        reading_of(slot, meaning, is_given(args)),
+        inside,
+        place,
+        word,
+        args,
+        body,
+    )?)
 }
 
 // An item as it is read.
@@ -205,7 +215,14 @@ fn call(
         return Ok(refuse(alloc, work, 6024, place)?);
     };
     let mut nodes = Vec::new(alloc);
-    operands(alloc, work, &mut nodes, Slot::Expression, inside, inside_of(args))?;
+    operands(
+        alloc,
+        work,
+        &mut nodes,
+        Slot::Expression,
+        inside,
+        inside_of(args),
+    )?;
     Ok(Term::Call { path, args: nodes })
 }
 
@@ -225,10 +242,26 @@ fn form(
     ensures made { IfOk result (λ term. plan_of term ≡ (at.form_at op place inside args.now body.now).made) }
 {
     let mut nodes = Vec::new(alloc);
-    arguments(alloc, work, &mut nodes, parameters_of(op), inside, place, inside_of(args))?;
+    arguments(
+        alloc,
+        work,
+        &mut nodes,
+        parameters_of(op),
+        inside,
+        place,
+        inside_of(args),
+    )?;
     settle(alloc, op, place, &mut nodes)?;
     let mut terms = Vec::new(alloc);
-    contents(alloc, work, &mut terms, body_of(op), within(op, inside), place, body)?;
+    contents(
+        alloc,
+        work,
+        &mut terms,
+        body_of(op),
+        within(op, inside),
+        place,
+        body,
+    )?;
     Ok(Term::Form {
         op,
         args: nodes,
@@ -373,9 +406,15 @@ pub fn terms(
 {
     let mut behind = false;
     for raw in raws {
-        add_member(alloc, work, nodes, Slot::Term { behind_if: behind }, inside, raw)?;
+        add_member(
+            alloc,
+            work,
+            nodes,
+            Slot::Term { behind_if: behind },
+            inside,
+            raw,
+        )?;
         behind = behind_if(behind, raw);
     }
     Ok(())
 }
-

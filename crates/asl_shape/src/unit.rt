@@ -129,12 +129,7 @@ fn inside(
 
 // A block whose arguments and braces are there.
 #[tactic(auto, using(crate::proofs::Units::block_rules))]
-fn shaped(
-    alloc: Global,
-    place: Place,
-    args: &[Raw],
-    body: &[Raw],
-) -> Result<Block, Stage>
+fn shaped(alloc: Global, place: Place, args: &[Raw], body: &[Raw]) -> Result<Block, Stage>
     ensures formed { IfOk result (λ block. (spec.errors_in place args.now body.now ≡ []) × spec.IsBlock place (spec.args_in place args.now).made (spec.terms_in body.now).made block) }
     ensures refused { IfErr result (λ stage. at.Refuses stage (spec.errors_in place args.now body.now)) }
 {

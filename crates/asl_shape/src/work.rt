@@ -40,12 +40,7 @@ pub fn tell(alloc: Global, work: &mut Work, number: u16, place: Place) -> Result
 
 /// An error without a name, in place of a term.
 #[tactic(auto, using(crate::proofs::Terms::term_rules))]
-pub fn refuse(
-    alloc: Global,
-    work: &mut Work,
-    number: u16,
-    place: Place,
-) -> Result<Term, AllocError>
+pub fn refuse(alloc: Global, work: &mut Work, number: u16, place: Place) -> Result<Term, AllocError>
     ensures faults { OnOk result (work.new.faults.items ≡ work.old.faults.items ++ (spec.refused number place).faults) }
     ensures made { IfOk result (λ term. plan_of term ≡ (spec.refused number place).made) }
 {

@@ -16,29 +16,32 @@ bare-returns-in_ok-item-in-Item-clause-made t c =
 
 pub operands-loop-raw-preserved : goal.operands-loop-raw-preserved
 operands-loop-raw-preserved t c = record {
-    faults = operand_faults c.loop-raw.next c.args.inside c.args.args.now c.loop-raw.raw-index c.raw-item.result c.loop-raw.work.faults.items c.add.new.work.faults.items _ c.loop-raw-test.true c.loop-raw.invariant.faults
-        (c.in_ok-add.ensures.faults ∙ ap (λ r. c.loop-raw.work.faults.items ++ (shape_at c.loop-raw.next c.args.inside r).faults) c.raw-item.is);
-    made = operand_made c.loop-raw.next c.args.inside c.args.args.now c.loop-raw.raw-index c.raw-item.result (plans_of c.loop-raw.nodes.items) (plans_of c.add.new.nodes.items) _ c.loop-raw-test.true c.loop-raw.invariant.made
-        (c.in_ok-add.ensures.made ∙ ap (λ r. join (plans_of c.loop-raw.nodes.items) (one_at nowhere r (shape_at c.loop-raw.next c.args.inside r).made)) c.raw-item.is) }
+  faults = operand_faults c.loop-raw.next c.args.inside c.args.args.now c.loop-raw.raw-index c.raw-item.result c.loop-raw.work.faults.items c.add.new.work.faults.items _ c.loop-raw-test.true c.loop-raw.invariant.faults
+      (c.in_ok-add.ensures.faults ∙ ap (λ r. c.loop-raw.work.faults.items ++ (shape_at c.loop-raw.next c.args.inside r).faults) c.raw-item.is);
+  made = operand_made c.loop-raw.next c.args.inside c.args.args.now c.loop-raw.raw-index c.raw-item.result (plans_of c.loop-raw.nodes.items) (plans_of c.add.new.nodes.items) _ c.loop-raw-test.true c.loop-raw.invariant.made
+      (c.in_ok-add.ensures.made ∙ ap (λ r. join (plans_of c.loop-raw.nodes.items) (one_at nowhere r (shape_at c.loop-raw.next c.args.inside r).made)) c.raw-item.is);
+}
 
 pub members-loop-raw-preserved : goal.members-loop-raw-preserved
 members-loop-raw-preserved t c = record {
-    faults = list_faults c.args.slot c.args.inside c.args.raws.now c.loop-raw.raw-index c.raw-item.result c.loop-raw.work.faults.items c.add_member.new.work.faults.items _ c.loop-raw-test.true c.loop-raw.invariant.faults
-        (c.in_ok-add_member.ensures.faults ∙ ap (λ r. c.loop-raw.work.faults.items ++ (member_at c.args.slot c.args.inside r).faults) c.raw-item.is);
-    made = list_made c.args.slot c.args.inside c.args.raws.now c.loop-raw.raw-index c.raw-item.result (plans_of c.loop-raw.nodes.items) (plans_of c.add_member.new.nodes.items) _ c.loop-raw-test.true c.loop-raw.invariant.made
-        (c.in_ok-add_member.ensures.made ∙ ap (λ r. join (plans_of c.loop-raw.nodes.items) (member_at c.args.slot c.args.inside r).made) c.raw-item.is) }
+  faults = list_faults c.args.slot c.args.inside c.args.raws.now c.loop-raw.raw-index c.raw-item.result c.loop-raw.work.faults.items c.add_member.new.work.faults.items _ c.loop-raw-test.true c.loop-raw.invariant.faults
+      (c.in_ok-add_member.ensures.faults ∙ ap (λ r. c.loop-raw.work.faults.items ++ (member_at c.args.slot c.args.inside r).faults) c.raw-item.is);
+  made = list_made c.args.slot c.args.inside c.args.raws.now c.loop-raw.raw-index c.raw-item.result (plans_of c.loop-raw.nodes.items) (plans_of c.add_member.new.nodes.items) _ c.loop-raw-test.true c.loop-raw.invariant.made
+      (c.in_ok-add_member.ensures.made ∙ ap (λ r. join (plans_of c.loop-raw.nodes.items) (member_at c.args.slot c.args.inside r).made) c.raw-item.is);
+}
 
 pub terms-loop-raw-preserved : goal.terms-loop-raw-preserved
 terms-loop-raw-preserved t c =
     let r = c.raw-item.result in
     let run : c.behind_if-behind.result ≡ behind_if_at c.loop-raw.behind (get_or c.args.raws.now c.loop-raw.raw-index r) = c.behind_if-behind.ensures ∙ ap (behind_if_at c.loop-raw.behind) c.raw-item.is in
     record {
-        faults = ap (λ n. c.add_member.new.work.faults.items ++ (terms_at c.args.inside n (drop (c.loop-raw.raw-index + 1) c.args.raws.now)).faults) run
-            ∙ run_faults c.args.inside c.loop-raw.behind c.args.raws.now c.loop-raw.raw-index r c.loop-raw.work.faults.items c.add_member.new.work.faults.items _ c.loop-raw-test.true c.loop-raw.invariant.faults
-                (c.in_ok-add_member.ensures.faults ∙ ap (λ r. c.loop-raw.work.faults.items ++ (member_at (slot.Term c.loop-raw.behind) c.args.inside r).faults) c.raw-item.is);
-        made = ap (λ n. join (plans_of c.add_member.new.nodes.items) (terms_at c.args.inside n (drop (c.loop-raw.raw-index + 1) c.args.raws.now)).made) run
-            ∙ run_made c.args.inside c.loop-raw.behind c.args.raws.now c.loop-raw.raw-index r (plans_of c.loop-raw.nodes.items) (plans_of c.add_member.new.nodes.items) _ c.loop-raw-test.true c.loop-raw.invariant.made
-                (c.in_ok-add_member.ensures.made ∙ ap (λ r. join (plans_of c.loop-raw.nodes.items) (member_at (slot.Term c.loop-raw.behind) c.args.inside r).made) c.raw-item.is) }
+      faults = ap (λ n. c.add_member.new.work.faults.items ++ (terms_at c.args.inside n (drop (c.loop-raw.raw-index + 1) c.args.raws.now)).faults) run
+          ∙ run_faults c.args.inside c.loop-raw.behind c.args.raws.now c.loop-raw.raw-index r c.loop-raw.work.faults.items c.add_member.new.work.faults.items _ c.loop-raw-test.true c.loop-raw.invariant.faults
+          (c.in_ok-add_member.ensures.faults ∙ ap (λ r. c.loop-raw.work.faults.items ++ (member_at (slot.Term c.loop-raw.behind) c.args.inside r).faults) c.raw-item.is);
+      made = ap (λ n. join (plans_of c.add_member.new.nodes.items) (terms_at c.args.inside n (drop (c.loop-raw.raw-index + 1) c.args.raws.now)).made) run
+          ∙ run_made c.args.inside c.loop-raw.behind c.args.raws.now c.loop-raw.raw-index r (plans_of c.loop-raw.nodes.items) (plans_of c.add_member.new.nodes.items) _ c.loop-raw-test.true c.loop-raw.invariant.made
+          (c.in_ok-add_member.ensures.made ∙ ap (λ r. join (plans_of c.loop-raw.nodes.items) (member_at (slot.Term c.loop-raw.behind) c.args.inside r).made) c.raw-item.is);
+    }
 
 pub bare-item-requires : goal.bare-item-requires
 bare-item-requires t c = (grind (arith, c.decreases, item_smaller c.args.raw.now c.in-Item.place c.in-Item.word c.in-Item.args c.in-Item.body c.in-Item.is), tt)
@@ -61,5 +64,6 @@ add_argument-returns-in_ok-leave_out-in-None-clause-made t c =
 
 pub arguments-loop-i-preserved : goal.arguments-loop-i-preserved
 arguments-loop-i-preserved t c = record {
-    faults = argument_faults c.args.parameters.now c.args.place c.args.inside c.args.args.now c.loop-i.i _ c.loop-i.work.faults.items c.add_argument.new.work.faults.items _ c.loop-i-test.true c.loop-i.invariant.faults c.in_ok-add_argument.ensures.faults;
-    made = argument_made c.args.parameters.now c.args.place c.args.inside c.args.args.now c.loop-i.i _ (plans_of c.loop-i.nodes.items) (plans_of c.add_argument.new.nodes.items) _ c.loop-i-test.true c.loop-i.invariant.made c.in_ok-add_argument.ensures.made }
+  faults = argument_faults c.args.parameters.now c.args.place c.args.inside c.args.args.now c.loop-i.i _ c.loop-i.work.faults.items c.add_argument.new.work.faults.items _ c.loop-i-test.true c.loop-i.invariant.faults c.in_ok-add_argument.ensures.faults;
+  made = argument_made c.args.parameters.now c.args.place c.args.inside c.args.args.now c.loop-i.i _ (plans_of c.loop-i.nodes.items) (plans_of c.add_argument.new.nodes.items) _ c.loop-i-test.true c.loop-i.invariant.made c.in_ok-add_argument.ensures.made;
+}

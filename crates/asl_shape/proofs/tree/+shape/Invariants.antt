@@ -45,23 +45,27 @@ decreases-item l = 16 * (size_in_at l.args.now + size_in_at l.body.now) + 10
 
 abbrev pub invariant-operands-loop-raw : goal.invariant-operands-loop-raw
 invariant-operands-loop-raw l = record {
-    faults : l.work.faults.items ++ (operands_at l.next l.inside (drop l.raw-index l.args)).faults ≡ l.fn.work.faults.items ++ (operands_at l.fn.slot l.inside l.args).faults;
-    made : join (plans_of l.nodes.items) (operands_at l.next l.inside (drop l.raw-index l.args)).made ≡ join (plans_of l.fn.nodes.items) (operands_at l.fn.slot l.inside l.args).made }
+  faults : l.work.faults.items ++ (operands_at l.next l.inside (drop l.raw-index l.args)).faults ≡ l.fn.work.faults.items ++ (operands_at l.fn.slot l.inside l.args).faults;
+  made : join (plans_of l.nodes.items) (operands_at l.next l.inside (drop l.raw-index l.args)).made ≡ join (plans_of l.fn.nodes.items) (operands_at l.fn.slot l.inside l.args).made;
+}
 
 abbrev pub invariant-members-loop-raw : goal.invariant-members-loop-raw
 invariant-members-loop-raw l = record {
-    faults : l.work.faults.items ++ (members_at l.slot l.inside (drop l.raw-index l.raws)).faults ≡ l.fn.work.faults.items ++ (members_at l.slot l.inside l.raws).faults;
-    made : join (plans_of l.nodes.items) (members_at l.slot l.inside (drop l.raw-index l.raws)).made ≡ join (plans_of l.fn.nodes.items) (members_at l.slot l.inside l.raws).made }
+  faults : l.work.faults.items ++ (members_at l.slot l.inside (drop l.raw-index l.raws)).faults ≡ l.fn.work.faults.items ++ (members_at l.slot l.inside l.raws).faults;
+  made : join (plans_of l.nodes.items) (members_at l.slot l.inside (drop l.raw-index l.raws)).made ≡ join (plans_of l.fn.nodes.items) (members_at l.slot l.inside l.raws).made;
+}
 
 abbrev pub invariant-terms-loop-raw : goal.invariant-terms-loop-raw
 invariant-terms-loop-raw l = record {
-    faults : l.work.faults.items ++ (terms_at l.inside l.behind (drop l.raw-index l.raws)).faults ≡ l.fn.work.faults.items ++ (terms_at l.inside false l.raws).faults;
-    made : join (plans_of l.nodes.items) (terms_at l.inside l.behind (drop l.raw-index l.raws)).made ≡ join (plans_of l.fn.nodes.items) (terms_at l.inside false l.raws).made }
+  faults : l.work.faults.items ++ (terms_at l.inside l.behind (drop l.raw-index l.raws)).faults ≡ l.fn.work.faults.items ++ (terms_at l.inside false l.raws).faults;
+  made : join (plans_of l.nodes.items) (terms_at l.inside l.behind (drop l.raw-index l.raws)).made ≡ join (plans_of l.fn.nodes.items) (terms_at l.inside false l.raws).made;
+}
 
 abbrev pub invariant-arguments-loop-i : goal.invariant-arguments-loop-i
 invariant-arguments-loop-i l = record {
-    faults : l.work.faults.items ++ (arguments_in_at (drop l.i l.parameters) l.place l.inside (drop l.i l.args)).faults ≡ l.fn.work.faults.items ++ (arguments_in_at l.fn.parameters l.place l.inside l.fn.args).faults;
-    made : join (plans_of l.nodes.items) (arguments_in_at (drop l.i l.parameters) l.place l.inside (drop l.i l.args)).made ≡ join (plans_of l.fn.nodes.items) (arguments_in_at l.fn.parameters l.place l.inside l.fn.args).made }
+  faults : l.work.faults.items ++ (arguments_in_at (drop l.i l.parameters) l.place l.inside (drop l.i l.args)).faults ≡ l.fn.work.faults.items ++ (arguments_in_at l.fn.parameters l.place l.inside l.fn.args).faults;
+  made : join (plans_of l.nodes.items) (arguments_in_at (drop l.i l.parameters) l.place l.inside (drop l.i l.args)).made ≡ join (plans_of l.fn.nodes.items) (arguments_in_at l.fn.parameters l.place l.inside l.fn.args).made;
+}
 
 abbrev pub decreases-add_argument : goal.decreases-add_argument
 decreases-add_argument l = 16 * sizes_at l.args.now + 4
