@@ -30,6 +30,7 @@ fn tokens(alloc: Global, text: &str) -> Result<Tokens, AllocError> {
                 line: 1,
                 column: u32::try_from(column).unwrap_or(0),
             },
+            end: 0,
             number,
             text: Text::from_bytes(alloc, bytes)?,
         })?;

@@ -51,7 +51,11 @@ fn tokens(alloc: Global, text: &str) -> Result<Tokens, AllocError> {
 
 /// The errors of a source: each with its column, in order.
 fn errors(alloc: Global, text: &str) -> Result<String, AllocError> {
-    let Ok(unit) = parse(alloc, &tokens(alloc, text)?) else {
+    let tokens = tokens(alloc, text)?;
+    if tokens.len() > 1000 {
+        return String::from_str(alloc, "too long");
+    }
+    let Ok(unit) = parse(alloc, &tokens) else {
         return String::from_str(alloc, "no tree");
     };
     match shape(alloc, &unit) {
