@@ -232,10 +232,10 @@ fn source_block(alloc: Global, raws: &[Raw]) -> Result<Block, Stage>
 }
 
 /// The program that a source is: one definition block (ACPI Specification 6.4, 19.6.29). The tree has no errors
-/// then, and the program is the tree of its terms, each at its place and numbered in preorder. Otherwise it is
-/// refused with exactly its errors, 6020 to 6028, in the order of the source: for each item the first of 6020,
-/// 6025, 6021 and 6023, for any other argument the first of 6022 and 6024, and nothing inside of either. A want of
-/// memory is `Stage::Memory`; so is a program of 2^32 nodes.
+/// then, and the program is the tree of its terms, each at its place; the numbers of its nodes are not told apart
+/// yet. Otherwise it is refused with exactly its errors, 6020 to 6028, in the order of the source: for each item the
+/// first of 6020, 6025, 6021 and 6023, for any other argument the first of 6022 and 6024, and nothing inside of
+/// either. A want of memory is `Stage::Memory`.
 pub fn shape(alloc: Global, raw: &RawUnit) -> Result<Program, Stage>
     ensures formed { IfOk result (spec.Forms raw.now.items) }
     ensures refused { IfErr result (λ stage. at.Refuses stage (spec.errors_at raw.now.items)) }
