@@ -1,0 +1,76 @@
+-- The terms of a source without errors are shaped.
+use Rattle.std.proofs.Common.{◌≡◌, ℕ, Bool, true, false, List, [], ◌∷◌, ◌++◌, Option, Some, None, refl, ap, ◌∙◌, subst}
+use Rattle.std.specs.Prelude.{if◌then◌else◌}
+use Rattle.iasl_messages.specs.declared.place.Place.{Place}
+use Rattle.acpi_values.specs.declared.width.Width.TheVariants.{W64}
+use Rattle.asl_tree.specs.declared.program.Block.{Block}
+use Rattle.asl_tree.specs.declared.term.Node.{Node}
+use Rattle.asl_tree.specs.declared.term.Term as D
+use Rattle.asl_tree.specs.Tree.{Trees, tree}
+use Rattle.asl_tree.specs.View.{tree_of, row_trees, trees_of}
+use Rattle.named_sessions.specs.Shaped.{AreShaped}
+use Rattle.named_sessions.specs.Blocks.{terms_of}
+use Rattle.asl_parser.specs.declared.raw.Raw.{Raw}
+use Rattle.asl_shape.specs.Written.{Writtens, Group, item, none, more, writtens}
+use Rattle.asl_shape.specs.Plans.{Plans, plan, plan_of, row_plans, plans_of}
+use Rattle.asl_shape.specs.Operators.{block_parameters}
+use Rattle.asl_shape.specs.Shapes.{takes, inside_of, is_given}
+use Rattle.asl_shape.specs.Forms.{errors_of, errors_at, errors_inside, block_errors, block_fault, block_args, block_terms, is_block_word, no_block, IsBlock, IsBlockOf, args_of, block_place}
+use Rattle.asl_shape.specs.Forms as forms
+use Rattle.program_shapes.proofs.Plans.{PlansAs}
+use Rattle.program_shapes.proofs.Parts.{none_in}
+use Rattle.program_shapes.proofs.Shapes.{AreMembers, in_braces}
+use mathlib.Core.Former.{Count}
+
+-- ---- nodes as a row
+
+abbrev row_of : List Node → (n : Count) × D.Row_of-Node n
+row_of [] = (_, D.end_of-Node)
+row_of (node ∷ nodes) = (_, D.more_of-Node node.id node.place node.term (row_of nodes).1)
+
+plans_same : (nodes : List Node) → row_plans (row_of nodes).1 ≡ plans_of nodes
+unfolding row_plans plans_of
+plans_same [] = refl
+plans_same (node ∷ nodes) = ap (plan node.place (plan_of node.term)) (plans_same nodes)
+
+trees_same : (nodes : List Node) → row_trees (row_of nodes).1 ≡ trees_of nodes
+unfolding row_trees trees_of
+trees_same [] = refl
+trees_same (node ∷ nodes) = ap (tree (tree_of (record { id = node.id; place = node.place }) node.term)) (trees_same nodes)
+
+-- what holds of the trees of plans holds of nodes with these plans
+pub nodes_as : (P : Trees → Type 0) (ps : Plans) (nodes : List Node) → PlansAs P ps → plans_of nodes ≡ ps → P (trees_of nodes)
+nodes_as P ps nodes h e = subst P (trees_same nodes) (h (row_of nodes).0 (row_of nodes).1 (plans_same nodes ∙ e))
+
+-- ---- the block
+
+-- what the parser keeps in the braces of the block
+abbrev pub IsKeptSource : Writtens → Type 0
+IsKeptSource (more (item place word args body) none) = AreMembers body
+IsKeptSource _ = Unit {0}
+
+no_inside : (place : Place) (args body : Group) → block_errors place args body ≡ [] → (block_terms body).faults ≡ []
+no_inside place args body e = by (block_fault (takes block_parameters (inside_of args)) (is_given body)) e
+  where
+    by : (o : Option ℕ) → errors_inside o place ((block_args place args).faults ++ (block_terms body).faults) ≡ [] → (block_terms body).faults ≡ []
+    by (Some number) e = absurd cc
+    by None e = (none_in (block_args place args).faults (block_terms body).faults e).1
+
+terms_as : (ws : Writtens) → errors_of ws ≡ [] → IsKeptSource ws → PlansAs (AreShaped W64) (forms.terms_of ws)
+terms_as none e k = absurd cc
+terms_as (more (item place word args body) none) e k = by (is_block_word word) e
+  where
+    by : (b : Bool) → (if b then block_errors place args body else no_block place) ≡ [] → PlansAs (AreShaped W64) (block_terms body).made
+    by true e = in_braces body k (no_inside place args body e)
+    by false e = absurd cc
+terms_as (more (item place word args body) (more w ws)) e k = by (is_block_word word) e
+  where
+    by : (b : Bool) → (if b then forms.errors_before (block_errors place args body) (more w ws) else no_block place) ≡ [] → PlansAs (AreShaped W64) (forms.terms_of (more (item place word args body) (more w ws)))
+    by true e = absurd cc
+    by false e = absurd cc
+terms_as (more _ ws) e k = absurd cc
+
+-- a source without errors: the terms of its block are shaped
+pub source_is_shaped : (raws : List Raw) (block : Block) → errors_at raws ≡ [] → IsBlockOf raws block → IsKeptSource (writtens raws) → AreShaped W64 (terms_of block)
+unfolding errors_at IsBlockOf
+source_is_shaped raws block e h k = nodes_as (AreShaped W64) (forms.terms_of (writtens raws)) block.terms.items (terms_as (writtens raws) e k) h.terms

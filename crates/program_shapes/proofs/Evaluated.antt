@@ -1,0 +1,124 @@
+-- An argument that has to be a constant stands as one.
+use Rattle.std.proofs.Common.{◌≡◌, ℕ, ◌≤◌, Bool, true, false, List, [], ◌∷◌, Ok, Err, refl, sym}
+use Rattle.std.specs.Prelude.{nat_le, ◌&&◌, if◌then◌else◌, Result}
+use Rattle.std.proofs.lemmas.Bool.{leb-true}
+use Rattle.iasl_messages.specs.declared.place.Place.{Place}
+use Rattle.asl_tree.specs.declared.constant.NoConstant.{NoConstant}
+use Rattle.asl_tree.specs.declared.term.Op.{Op}
+use Rattle.asl_tree.specs.declared.term.Literal.{Literal}
+use Rattle.asl_tree.specs.declared.term.Special.TheVariants as Special
+use Rattle.asl_tree.specs.declared.term.Term.{Term}
+use Rattle.asl_tree.specs.declared.term.Term as D
+use Rattle.asl_tree.specs.Tree.{At, Tree, Integer, Omitted, Use, Package, VarPackage, Trees, no_trees, tree, count}
+use Rattle.asl_tree.specs.View.{form, tree_of, row_trees, counted}
+use Rattle.aml_sessions.specs.Ready.{is_expression, is_constant}
+use Rattle.asl_shape.specs.declared.operator.Slot.{Slot}
+use Rattle.asl_shape.specs.declared.operator.Slot.TheVariants as slot
+use Rattle.asl_shape.specs.Plans.{Plan, an_integer, a_text, omitted, a_name, a_form, Plans, plan_of, is_omitted, constant_of}
+use Rattle.asl_shape.specs.Shapes.{Shaped, fine, refused, nowhere, valued, is_member, evaluated, after, checked}
+use Rattle.program_shapes.proofs.Fits.{Fits, IsAtMost}
+use Rattle.program_shapes.proofs.Plans.{PlanAs, integer_as, text_as, name_as, form_as}
+
+-- how a part is read before it is evaluated
+abbrev pub loose : Slot → Slot
+loose (slot.Constant least most) = slot.Expression
+loose slot.Element = slot.Expression
+loose s = s
+
+here : At
+here = record { id = 0; place = nowhere }
+
+valued_fit : (P : Tree → Type 0) (least most : ℕ) (place : Place) (r : Result ℕ NoConstant) → ((n : ℕ) → n ≤ most → P (Integer n)) → (valued least most place r).faults ≡ [] → PlanAs P (valued least most place r).made
+valued_fit P least most place (Err NoConstant.Fault) h e = absurd cc
+valued_fit P least most place (Err NoConstant.Form) h e = absurd cc
+valued_fit P least most place (Ok n) h e = by (nat_le least n) (nat_le n most) refl e
+  where
+    by : (a b : Bool) → nat_le n most ≡ b → (if a && b then fine (an_integer n) else refused 6024 place).faults ≡ [] → PlanAs P (if a && b then fine (an_integer n) else refused 6024 place).made
+    by true true k e = integer_as P n (h n (leb-true n most k))
+    by true false k e = absurd cc
+    by false b k e = absurd cc
+
+is_left_out : (p : Plan) → is_omitted p ≡ true → p ≡ omitted
+is_left_out omitted e = refl
+is_left_out _ e = absurd cc
+
+-- what is left out is no expression
+never : (p : Plan) → is_omitted p ≡ true → PlanAs (Fits slot.Expression) p → ⊥
+unfolding plan_of tree_of
+never p e h = none (h here D.Omitted (sym (is_left_out p e))).0
+  where
+    none : false ≡ true → ⊥
+    none e = absurd cc
+
+constant_fit : (least most : ℕ) (place : Place) (p : Plan) → PlanAs (Fits slot.Expression) p → (evaluated (slot.Constant least most) place p).faults ≡ [] → PlanAs (IsAtMost most) (evaluated (slot.Constant least most) place p).made
+constant_fit least most place p h e = by (is_omitted p) refl e
+  where
+    by : (b : Bool) → is_omitted p ≡ b → (if b then fine p else valued least most place (constant_of p)).faults ≡ [] → PlanAs (IsAtMost most) (if b then fine p else valued least most place (constant_of p)).made
+    by true o e = absurd (never p o h)
+    by false o e = valued_fit (IsAtMost most) least most place (constant_of p) (λ n le. le) e
+
+-- ---- members of a Package
+
+element_of : (t : Tree) → is_constant t ≡ true → Fits slot.Expression t → Fits slot.Element t
+element_of (Use at name) e h = absurd cc
+element_of _ e h = (e, h.1)
+
+abbrev ConstantIfValue : Tree → Type 0
+ConstantIfValue t = is_expression t ≡ true → is_constant t ≡ true
+
+literal_constant : (at : At) (l : Literal) (ts bs : Trees) → ConstantIfValue (form at (Op.Literal l) ts bs)
+literal_constant at l no_trees no_trees = λ e. refl
+literal_constant at l no_trees (tree t ts) = λ e. absurd cc
+literal_constant at l (tree t ts) bs = λ e. absurd cc
+
+buffer_constant : (at : At) (ts bs : Trees) → ConstantIfValue (form at (Op.Special Special.Buffer) ts bs)
+buffer_constant at no_trees bs = λ e. absurd cc
+buffer_constant at (tree Omitted no_trees) bs = λ e. refl
+buffer_constant at (tree _ no_trees) bs = λ e. refl
+buffer_constant at (tree t (tree u us)) bs = λ e. absurd cc
+
+counted_constant : (n : ℕ) (bs : Trees) → is_constant (counted n bs) ≡ true
+counted_constant n bs = by (nat_le n 255)
+  where
+    by : (b : Bool) → is_constant (if b then Package n bs else VarPackage (Integer n) bs) ≡ true
+    by true = refl
+    by false = refl
+
+package_constant : (at : At) (ts bs : Trees) → ConstantIfValue (form at (Op.Special Special.Package) ts bs)
+package_constant at no_trees bs = λ e. absurd cc
+package_constant at (tree Omitted no_trees) bs = λ e. counted_constant (count bs) bs
+package_constant at (tree (Integer n) no_trees) bs = λ e. counted_constant n bs
+package_constant at (tree _ no_trees) bs = λ e. refl
+package_constant at (tree t (tree u us)) bs = λ e. absurd cc
+
+form_member : (op : Op) (ps bs : Plans) → ((at : At) (ts us : Trees) → ConstantIfValue (form at op ts us)) → PlanAs (Fits slot.Expression) (a_form op ps bs) → PlanAs (Fits slot.Element) (a_form op ps bs)
+form_member op ps bs k h = λ at t e. element_of (tree_of at t) (form_as ConstantIfValue op ps bs (λ at m n row body e f. k at (row_trees row) (row_trees body)) at t e (h at t e).0) (h at t e)
+
+member_fit : (p : Plan) → is_member p ≡ true → PlanAs (Fits slot.Expression) p → PlanAs (Fits slot.Element) p
+unfolding plan_of tree_of
+member_fit (a_text bytes) e h = text_as (Fits slot.Element) bytes (refl, (h here (D.Text bytes) refl).1)
+member_fit (a_name path) e h = name_as (Fits slot.Element) path (λ at. (h at (D.Name path) refl).1)
+member_fit (a_form (Op.Literal l) ps bs) e h = form_member (Op.Literal l) ps bs (λ at ts us. literal_constant at l ts us) h
+member_fit (a_form (Op.Special Special.Buffer) ps bs) e h = form_member (Op.Special Special.Buffer) ps bs buffer_constant h
+member_fit (a_form (Op.Special Special.Package) ps bs) e h = form_member (Op.Special Special.Package) ps bs package_constant h
+member_fit _ e h = absurd cc
+
+element_fit : (place : Place) (p : Plan) → PlanAs (Fits slot.Expression) p → (evaluated slot.Element place p).faults ≡ [] → PlanAs (Fits slot.Element) (evaluated slot.Element place p).made
+element_fit place p h e = by (is_member p) refl e
+  where
+    by : (b : Bool) → is_member p ≡ b → (if b then fine p else valued 0 18446744073709551615 place (constant_of p)).faults ≡ []
+        → PlanAs (Fits slot.Element) (if b then fine p else valued 0 18446744073709551615 place (constant_of p)).made
+    by true m e = member_fit p m h
+    by false m e = valued_fit (Fits slot.Element) 0 18446744073709551615 place (constant_of p) (λ n le. (refl, le)) e
+
+pub evaluated_fit : (s : Slot) (place : Place) (p : Plan) → PlanAs (Fits (loose s)) p → (evaluated s place p).faults ≡ [] → PlanAs (Fits s) (evaluated s place p).made
+evaluated_fit (slot.Constant least most) place p h e = constant_fit least most place p h e
+evaluated_fit slot.Element place p h e = element_fit place p h e
+evaluated_fit _ place p h e = h
+
+pub checked_fit : (s : Slot) (place : Place) (shape : Shaped Plan) → (shape.faults ≡ [] → PlanAs (Fits (loose s)) shape.made) → (checked s place shape).faults ≡ [] → PlanAs (Fits s) (checked s place shape).made
+checked_fit s place shape h e = by shape.faults refl e
+  where
+    by : (fs : List _) → shape.faults ≡ fs → (after fs shape (evaluated s place shape.made)).faults ≡ [] → PlanAs (Fits s) (after fs shape (evaluated s place shape.made)).made
+    by [] f e = evaluated_fit s place shape.made (h f) e
+    by (m ∷ ms) f e = absurd cc

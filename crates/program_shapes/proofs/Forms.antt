@@ -1,0 +1,184 @@
+-- A form whose settled arguments and body fit is shaped.
+use Rattle.std.proofs.Common.{◌≡◌, inl, inr, ℕ, ◌≤◌, Bool, true, false, [], ◌∷◌, length, refl, sym, subst, arith}
+use Rattle.std.specs.Prelude.{nat_le, if◌then◌else◌}
+use Rattle.std.proofs.lemmas.Bool.{leb-true}
+use Rattle.acpi_values.specs.declared.width.Width.TheVariants.{W64}
+use Rattle.acpi_values.specs.Widths.{ones_of}
+use Rattle.asl_tree.specs.declared.term.Op.{Op}
+use Rattle.asl_tree.specs.declared.term.Declaration.{Declaration}
+use Rattle.asl_tree.specs.declared.term.Control.{Control}
+use Rattle.asl_tree.specs.declared.term.Special.{Special}
+use Rattle.asl_tree.specs.Tree.{At, Tree, Integer, Omitted, Use, Package, VarPackage, CondRefOf, Trees, no_trees, tree, count}
+use Rattle.asl_tree.specs.View.{form, buffer, body_bytes, packaged, counted}
+use Rattle.named_sessions.specs.Shaped.{IsShaped, AreShaped, AreShapedElements}
+use Rattle.asl_shape.specs.declared.operator.Parameter.{Parameter}
+use Rattle.asl_shape.specs.declared.operator.Slot.TheVariants as slot
+use Rattle.asl_shape.specs.Operators.{asked, optional, expression, place, target, used, declared, constant}
+use Rattle.program_shapes.proofs.Fits.{Fits, Takes, TreesFit}
+
+-- ---- arguments of a known number
+
+pub data One (q : Parameter) : Trees → Type 0 where
+  one : (t : Tree) (h : Takes q.omittable q.slot t) → One q (tree t no_trees)
+
+pub one_of : (q : Parameter) (ts : Trees) → TreesFit (q ∷ []) ts → One q ts
+one_of q no_trees h = absurd h
+one_of q (tree t no_trees) h = one t h.0
+one_of q (tree t (tree u us)) h = absurd h.1
+
+pub data Two (q r : Parameter) : Trees → Type 0 where
+  two : (t u : Tree) (h : Takes q.omittable q.slot t) (i : Takes r.omittable r.slot u) → Two q r (tree t (tree u no_trees))
+
+pub two_of : (q r : Parameter) (ts : Trees) → TreesFit (q ∷ r ∷ []) ts → Two q r ts
+two_of q r no_trees h = absurd h
+two_of q r (tree t ts) h = behind (one_of r ts h.1)
+  where
+    behind : {ts : Trees} → One r ts → Two q r (tree t ts)
+    behind (one u i) = two t u h.0 i
+
+pub none_of : (ts : Trees) → TreesFit [] ts → ts ≡ no_trees
+none_of no_trees h = refl
+none_of (tree t ts) h = absurd h
+
+pub data Three (q r s : Parameter) : Trees → Type 0 where
+  three : (t u v : Tree) (h : Takes q.omittable q.slot t) (i : Takes r.omittable r.slot u) (j : Takes s.omittable s.slot v) → Three q r s (tree t (tree u (tree v no_trees)))
+
+pub three_of : (q r s : Parameter) (ts : Trees) → TreesFit (q ∷ r ∷ s ∷ []) ts → Three q r s ts
+three_of q r s no_trees h = absurd h
+three_of q r s (tree t ts) h = behind (two_of r s ts h.1)
+  where
+    behind : {ts : Trees} → Two r s ts → Three q r s (tree t ts)
+    behind (two u v i j) = three t u v h.0 i j
+
+pub data Four (q r s z : Parameter) : Trees → Type 0 where
+  four : (t u v w : Tree) (h : Takes q.omittable q.slot t) (i : Takes r.omittable r.slot u) (j : Takes s.omittable s.slot v) (k : Takes z.omittable z.slot w)
+      → Four q r s z (tree t (tree u (tree v (tree w no_trees))))
+
+pub four_of : (q r s z : Parameter) (ts : Trees) → TreesFit (q ∷ r ∷ s ∷ z ∷ []) ts → Four q r s z ts
+four_of q r s z no_trees h = absurd h
+four_of q r s z (tree t ts) h = behind (three_of r s z ts h.1)
+  where
+    behind : {ts : Trees} → Three r s z ts → Four q r s z (tree t ts)
+    behind (three u v w i j k) = four t u v w h.0 i j k
+
+-- ---- forms without a body
+
+at_most : ℕ → ℕ → Parameter
+at_most least most = asked (constant least most)
+
+pub condition_made : (here : At) (ts : Trees) → Two place target ts → IsShaped W64 (form here (Op.Special Special.CondRefOf) ts no_trees)
+condition_made here _ (two t u h (inl i)) = (h, i)
+condition_made here _ (two t u h (inr e)) = subst (λ u. IsShaped W64 (CondRefOf t u)) (sym e) (h, tt)
+
+pub return_made : (here : At) (ts : Trees) → One expression ts → IsShaped W64 (form here (Op.Control Control.Return) ts no_trees)
+return_made here _ (one t h) = h
+
+pub name_made : (here : At) (ts : Trees) → Two declared expression ts → IsShaped W64 (form here (Op.Declaration Declaration.Name) ts no_trees)
+name_made here _ (two (Use at name) value h i) = (h, i.0, i.1)
+name_made here _ (two _ value h i) = absurd h
+
+pub alias_made : (here : At) (ts : Trees) → Two used declared ts → IsShaped W64 (form here (Op.Declaration Declaration.Alias) ts no_trees)
+alias_made here _ (two (Use from source) (Use at name) h i) = (h, i)
+alias_made here _ (two (Use from source) _ h i) = absurd i
+alias_made here _ (two _ u h i) = absurd h
+
+pub event_made : (here : At) (ts : Trees) → One declared ts → IsShaped W64 (form here (Op.Declaration Declaration.Event) ts no_trees)
+event_made here _ (one (Use at name) h) = h
+event_made here _ (one _ h) = absurd h
+
+pub mutex_made : (here : At) (ts : Trees) → Two declared (asked (constant 0 255)) ts → IsShaped W64 (form here (Op.Declaration Declaration.Mutex) ts no_trees)
+mutex_made here _ (two (Use at name) (Integer n) h i) = (h, omega (arith, i))
+mutex_made here _ (two (Use at name) _ h i) = absurd i
+mutex_made here _ (two _ u h i) = absurd h
+
+pub bits_made : (here : At) (ts : Trees) → Four expression expression expression declared ts → IsShaped W64 (form here (Op.Declaration Declaration.CreateField) ts no_trees)
+bits_made here _ (four t u v (Use at name) h i j k) = ((h, (i, (j, tt))), k)
+bits_made here _ (four t u v _ h i j k) = absurd k
+
+pub bit_made : (here : At) (ts : Trees) → Three expression expression declared ts → IsShaped W64 (form here (Op.Declaration Declaration.CreateBitField) ts no_trees)
+bit_made here _ (three t u (Use at name) h i j) = ((h, (i, tt)), j)
+bit_made here _ (three t u _ h i j) = absurd j
+
+pub byte_made : (here : At) (ts : Trees) → Three expression expression declared ts → IsShaped W64 (form here (Op.Declaration Declaration.CreateByteField) ts no_trees)
+byte_made here _ (three t u (Use at name) h i j) = ((h, (i, tt)), j)
+byte_made here _ (three t u _ h i j) = absurd j
+
+pub word_made : (here : At) (ts : Trees) → Three expression expression declared ts → IsShaped W64 (form here (Op.Declaration Declaration.CreateWordField) ts no_trees)
+word_made here _ (three t u (Use at name) h i j) = ((h, (i, tt)), j)
+word_made here _ (three t u _ h i j) = absurd j
+
+pub dword_made : (here : At) (ts : Trees) → Three expression expression declared ts → IsShaped W64 (form here (Op.Declaration Declaration.CreateDWordField) ts no_trees)
+dword_made here _ (three t u (Use at name) h i j) = ((h, (i, tt)), j)
+dword_made here _ (three t u _ h i j) = absurd j
+
+pub qword_made : (here : At) (ts : Trees) → Three expression expression declared ts → IsShaped W64 (form here (Op.Declaration Declaration.CreateQWordField) ts no_trees)
+qword_made here _ (three t u (Use at name) h i j) = ((h, (i, tt)), j)
+qword_made here _ (three t u _ h i j) = absurd j
+
+-- ---- forms with a body
+
+pub if_made : (here : At) (ts body : Trees) → One expression ts → AreShaped W64 body → IsShaped W64 (form here (Op.Control Control.If) ts body)
+if_made here _ body (one t h) b = (h.0, h.1, b)
+
+pub while_made : (here : At) (ts body : Trees) → One expression ts → AreShaped W64 body → IsShaped W64 (form here (Op.Control Control.While) ts body)
+while_made here _ body (one t h) b = (h.0, h.1, b)
+
+pub device_made : (here : At) (ts body : Trees) → One declared ts → AreShaped W64 body → IsShaped W64 (form here (Op.Declaration Declaration.Device) ts body)
+device_made here _ body (one (Use at name) h) b = (h, tt, b)
+device_made here _ body (one _ h) b = absurd h
+
+pub zone_made : (here : At) (ts body : Trees) → One declared ts → AreShaped W64 body → IsShaped W64 (form here (Op.Declaration Declaration.ThermalZone) ts body)
+zone_made here _ body (one (Use at name) h) b = (h, tt, b)
+zone_made here _ body (one _ h) b = absurd h
+
+pub scope_made : (here : At) (ts body : Trees) → One used ts → AreShaped W64 body → IsShaped W64 (form here (Op.Declaration Declaration.Scope) ts body)
+scope_made here _ body (one (Use at name) h) b = (h, b)
+scope_made here _ body (one _ h) b = absurd h
+
+pub method_made : (here : At) (ts body : Trees) → Two declared (asked (constant 0 255)) ts → AreShaped W64 body → IsShaped W64 (form here (Op.Declaration Declaration.Method) ts body)
+method_made here _ body (two (Use at name) (Integer n) h i) b = (h, omega (arith, i), b)
+method_made here _ body (two (Use at name) _ h i) b = absurd i
+method_made here _ body (two _ u h i) b = absurd h
+
+pub power_made : (here : At) (ts body : Trees) → Three declared (asked (constant 0 255)) (asked (constant 0 65535)) ts → AreShaped W64 body
+    → IsShaped W64 (form here (Op.Declaration Declaration.PowerResource) ts body)
+power_made here _ body (three (Use at name) (Integer level) (Integer order) h i j) b = (h, (omega (arith, i), omega (arith, j)), b)
+power_made here _ body (three (Use at name) (Integer level) _ h i j) b = absurd j
+power_made here _ body (three (Use at name) _ v h i j) b = absurd i
+power_made here _ body (three _ u v h i j) b = absurd h
+
+pub processor_made : (here : At) (ts body : Trees) → Four declared (asked (constant 0 255)) (asked (constant 0 4294967295)) (asked (constant 0 255)) ts → AreShaped W64 body
+    → IsShaped W64 (form here (Op.Declaration Declaration.Processor) ts body)
+processor_made here _ body (four (Use at name) (Integer number) (Integer address) (Integer size) h i j k) b = (h, (omega (arith, i), omega (arith, j), omega (arith, k)), b)
+processor_made here _ body (four (Use at name) (Integer number) (Integer address) _ h i j k) b = absurd k
+processor_made here _ body (four (Use at name) (Integer number) _ w h i j k) b = absurd j
+processor_made here _ body (four (Use at name) _ v w h i j k) b = absurd i
+processor_made here _ body (four _ u v w h i j k) b = absurd h
+
+-- ---- data
+
+pub buffer_made : (here : At) (ts body : Trees) → One (optional slot.Expression) ts → length (body_bytes body) ≤ ones_of W64
+    → IsShaped W64 (form here (Op.Special Special.Buffer) ts body)
+buffer_made here _ body (one t (inr e)) b = subst (λ t. IsShaped W64 (buffer t (body_bytes body))) (sym e) (refl, b)
+buffer_made here _ body (one t (inl h)) b = sized t h
+  where
+    sized : (t : Tree) → Fits slot.Expression t → IsShaped W64 (buffer t (body_bytes body))
+    sized Omitted h = absurd cc
+    sized _ h = h
+
+counted_made : (n : ℕ) (elements : Trees) → n ≤ ones_of W64 → AreShapedElements W64 elements → IsShaped W64 (counted n elements)
+counted_made n elements h es = by (nat_le n 255) refl
+  where
+    by : (b : Bool) → nat_le n 255 ≡ b → IsShaped W64 (if b then Package n elements else VarPackage (Integer n) elements)
+    by true e = (omega (arith, leb-true n 255 e), es)
+    by false e = (refl, h, es)
+
+pub package_made : (here : At) (ts body : Trees) → One (optional slot.Expression) ts → AreShapedElements W64 body → count body ≤ ones_of W64
+    → IsShaped W64 (form here (Op.Special Special.Package) ts body)
+package_made here _ body (one t (inr e)) es b = subst (λ t. IsShaped W64 (packaged t body)) (sym e) (counted_made (count body) body b es)
+package_made here _ body (one t (inl h)) es b = sized t h
+  where
+    sized : (t : Tree) → Fits slot.Expression t → IsShaped W64 (packaged t body)
+    sized Omitted h = absurd cc
+    sized (Integer n) h = counted_made n body h.1 es
+    sized _ h = (h.0, h.1, es)

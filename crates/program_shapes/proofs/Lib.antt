@@ -1,0 +1,11 @@
+pub mod Fits
+pub mod Plains
+pub mod Forms
+pub mod Operators
+pub mod Words
+pub mod Plans
+pub mod Settled
+pub mod Evaluated
+pub mod Parts
+pub mod Shapes
+pub mod Blocks

@@ -1,0 +1,88 @@
+-- The arguments of a form as they stand in the tree fit where those that are written fit.
+use Rattle.std.proofs.Common.{◌≡◌, inl, inr, ℕ, ◌+◌, ◌*◌, ◌%◌, ◌<◌, ◌≤◌, Bool, true, false, [], ◌∷◌, refl, sym, subst, arith}
+use Rattle.std.specs.Prelude.{if◌then◌else◌}
+use Rattle.std.proofs.lemmas.Nat.{mod_below}
+use Rattle.iasl_messages.specs.declared.place.Place.{Place}
+use Rattle.asl_tree.specs.declared.term.Op.{Op}
+use Rattle.asl_tree.specs.declared.term.Declaration.TheVariants as Declaration
+use Rattle.asl_tree.specs.declared.term.Control.TheVariants as Control
+use Rattle.asl_tree.specs.declared.term.Literal.TheVariants as Literal
+use Rattle.asl_tree.specs.Tree.{At, Tree, Trees, no_trees}
+use Rattle.asl_tree.specs.View.{form, row_trees}
+use Rattle.asl_shape.specs.declared.operator.Parameter.{Parameter}
+use Rattle.asl_shape.specs.declared.operator.Slot.TheVariants as slot
+use Rattle.asl_shape.specs.Operators.{asked, expression, declared, external, constant, parameters_of}
+use Rattle.asl_shape.specs.Plans.{Plan, an_integer, omitted, a_form, Plans, no_plans, plan, number_of, plan_at}
+use Rattle.asl_shape.specs.Shapes.{settled, method_flags, is_stated, one_plan, zero_plan, stated_parameters}
+use Rattle.program_shapes.proofs.Fits.{Fits, TreesFit, IsAtMost, IsNumber}
+use Rattle.program_shapes.proofs.Forms.{Two, two, two_of, Three, three, three_of}
+use Rattle.program_shapes.proofs.Operators.{SettledFit, ExternalFit}
+use Rattle.program_shapes.proofs.Plans.{PlanAs, PlansAs, PlanTakes, PlansFit, integer_as, form_as, none_as, fits_as}
+
+flags_fit : (a b c : ℕ) → a % 8 + 8 * (b % 2) + 16 * (c % 16) ≤ 255
+flags_fit a b c =
+    let x : a % 8 < 8 = mod_below a 8 (omega arith) in
+    let y : b % 2 < 2 = mod_below b 2 (omega arith) in
+    let z : c % 16 < 16 = mod_below c 16 (omega arith) in
+    omega (arith, x, y, z)
+
+abbrev byte : Parameter
+byte = asked (constant 0 255)
+
+abbrev types : Parameter
+types = asked (slot.Types 7)
+
+external_two : (ts : Trees) → Two external types ts → ExternalFit ts
+external_two _ (two t u h i) = (h, i)
+
+external_three : (ts : Trees) → Three external types types ts → ExternalFit ts
+external_three _ (three t u v h i j) = (h, i, j)
+
+is_there : (p : Plan) → p ≡ omitted → is_stated p ≡ true → ⊥
+is_there omitted e h = absurd cc
+is_there _ e h = absurd cc
+
+-- Zero
+pub literal_as : (P : Tree → Type 0) (op : Op) → ((at : At) → P (form at op no_trees no_trees)) → PlanAs P (a_form op no_plans no_plans)
+literal_as P op h = form_as P op no_plans no_plans (λ at m n row body e f. made at (row_trees row) (row_trees body) (none_as (λ ts. ts ≡ no_trees) refl m row e) (none_as (λ ts. ts ≡ no_trees) refl n body f))
+  where
+    made : (at : At) (ts bs : Trees) → ts ≡ no_trees → bs ≡ no_trees → P (form at op ts bs)
+    made at ts bs e f = subst (λ ts. P (form at op ts bs)) (sym e) (subst (λ bs. P (form at op no_trees bs)) (sym f) (h at))
+
+return_fit : (place at : Place) (p : Plan) → PlanTakes true slot.Expression p → PlansAs (TreesFit (expression ∷ [])) (if is_stated p then plan at p no_plans else one_plan place zero_plan)
+return_fit place at p h = by (is_stated p) refl h
+  where
+    by : (b : Bool) → is_stated p ≡ b → PlanTakes true slot.Expression p → PlansAs (TreesFit (expression ∷ [])) (if b then plan at p no_plans else one_plan place zero_plan)
+    by true e (inl f) = fits_as (expression ∷ []) (plan at p no_plans) (f, tt)
+    by true e (inr o) = absurd (is_there p o e)
+    by false e h = fits_as (expression ∷ []) (plan place zero_plan no_plans) (literal_as (Fits slot.Expression) (Op.Literal Literal.Zero) (λ at. (refl, tt)), tt)
+
+external_fit : (place at : Place) (p q : Plan) (n m : ℕ) → PlanAs (Fits slot.External) p → PlansAs ExternalFit (plan at p (plan place (an_integer n) (stated_parameters place q)))
+external_fit place at p q n m h = by (is_stated q)
+  where
+    by : (b : Bool) → PlansAs ExternalFit (plan at p (plan place (an_integer n) (if b then one_plan place (an_integer (number_of q)) else no_plans)))
+    by true = λ m row e.
+        external_three (row_trees row) (three_of external types types (row_trees row)
+        (fits_as (external ∷ types ∷ types ∷ []) (plan at p (plan place (an_integer n) (plan place (an_integer (number_of q)) no_plans))) (h, (integer_as IsNumber n tt, (integer_as IsNumber (number_of q) tt, tt))) m row e))
+    by false = λ m row e.
+        external_two (row_trees row) (two_of external types (row_trees row)
+        (fits_as (external ∷ types ∷ []) (plan at p (plan place (an_integer n) no_plans)) (h, (integer_as IsNumber n tt, tt)) m row e))
+
+pub settled_fit : (op : Op) (place : Place) (ps : Plans) → PlansFit (parameters_of op) ps → PlansAs (SettledFit op) (settled op place ps)
+unfolding parameters_of
+settled_fit (Op.Declaration Declaration.Method) place no_plans h = absurd h
+settled_fit (Op.Declaration Declaration.Method) place (plan at p rest) h =
+    let flags : ℕ = method_flags (plan at p rest) in
+    let few : flags ≤ 255 = flags_fit (number_of (plan_at (plan at p rest) 1)) (number_of (plan_at (plan at p rest) 2)) (number_of (plan_at (plan at p rest) 3)) in
+    fits_as (declared ∷ byte ∷ []) (plan at p (plan place (an_integer flags) no_plans)) (h.0, (integer_as (IsAtMost 255) flags few, tt))
+settled_fit (Op.Declaration Declaration.Mutex) place no_plans h = absurd h
+settled_fit (Op.Declaration Declaration.Mutex) place (plan at p rest) h =
+    let level : ℕ = number_of (plan_at (plan at p rest) 1) % 16 in
+    let low : level < 16 = mod_below (number_of (plan_at (plan at p rest) 1)) 16 (omega arith) in
+    fits_as (declared ∷ byte ∷ []) (plan at p (plan place (an_integer level) no_plans)) (h.0, (integer_as (IsAtMost 255) level (omega (arith, low)), tt))
+settled_fit (Op.Declaration Declaration.External) place no_plans h = absurd h
+settled_fit (Op.Declaration Declaration.External) place (plan at p rest) h = external_fit place at p (plan_at (plan at p rest) 3) (number_of (plan_at (plan at p rest) 1)) 0 h.0
+settled_fit (Op.Control Control.Return) place no_plans h = absurd h
+settled_fit (Op.Control Control.Return) place (plan at p no_plans) h = return_fit place at p h.0
+settled_fit (Op.Control Control.Return) place (plan at p (plan b q rest)) h = absurd h.1
+settled_fit op place ps h = fits_as (parameters_of op) ps h

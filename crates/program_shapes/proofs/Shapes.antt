@@ -1,0 +1,280 @@
+-- A source without errors has a shape: each part of it fits where it stands.
+use Rattle.std.proofs.Common.{◌≡◌, inl, inr, ℕ, suc, ◌+◌, ◌<◌, ◌≤◌, Bool, true, false, List, [], ◌∷◌, ◌++◌, length, refl, ap, subst, arith}
+use Rattle.std.specs.Prelude.{nat_le, not, ◌||◌}
+use Rattle.std.proofs.lemmas.List.{length-append}
+use Rattle.iasl_messages.specs.declared.place.Place.{Place}
+use Rattle.acpi_values.specs.Widths.{ones_of}
+use Rattle.acpi_values.specs.declared.width.Width.TheVariants.{W64}
+use Rattle.asl_tree.specs.declared.term.Op.{Op}
+use Rattle.asl_tree.specs.Tree.{Tree, Integer, String, Trees, no_trees, tree, count}
+use Rattle.asl_tree.specs.View.{row_trees, body_bytes, listed as bytes_listed}
+use Rattle.named_sessions.specs.Shaped.{IsShaped, AreShaped, AreShapedElements, AreShapedValues}
+use Rattle.asl_shape.specs.declared.operator.Parameter.{Parameter}
+use Rattle.asl_shape.specs.declared.operator.Slot.{Slot}
+use Rattle.asl_shape.specs.declared.operator.Slot.TheVariants as slot
+use Rattle.asl_shape.specs.declared.operator.StringForm.TheVariants as texts
+use Rattle.asl_shape.specs.declared.operator.Body.{Body}
+use Rattle.asl_shape.specs.declared.operator.Body.TheVariants as braces
+use Rattle.asl_shape.specs.declared.item.Meaning.{Meaning}
+use Rattle.asl_shape.specs.declared.item.Meaning.TheVariants as is
+use Rattle.asl_shape.specs.Operators.{parameters_of, body_of}
+use Rattle.asl_shape.specs.Written as piece
+use Rattle.asl_shape.specs.Written.{Written, Writtens, Group, item, apply, listed, comma, semicolon, empty, none, more, absent, given}
+use Rattle.asl_shape.specs.Plans.{Plan, omitted, Plans, no_plans, how_many}
+use Rattle.asl_shape.specs.Shapes.{Shaped, fine, refused, nowhere, meaning_of, is_given, is_empty, is_separator, inside_of, has_arguments, takes, may_end, none_empty, is_call, left_out, evaluated, checked, place_of, joined, skipped, list_shape, is_listed, byte_slot, behind_if, within, form_shape, bare, operands, call_args, arguments, arguments_in, contents, members, terms, reading_of, read_shape, string_shape, fault_at}
+use Rattle.asl_shape.specs.Shapes as shapes
+use Rattle.program_shapes.proofs.Fits.{Fits, IsAtMost, IsNumber}
+use Rattle.program_shapes.proofs.Operators.{BodyFit}
+use Rattle.program_shapes.proofs.Words.{path_ok, meaning_ok, both_true, IsRightMeaning}
+use Rattle.program_shapes.proofs.Plans.{PlanAs, PlansAs, PlanTakes, PlansFit, none_as, more_as, count_as}
+use Rattle.program_shapes.proofs.Evaluated.{loose, checked_fit}
+use Rattle.program_shapes.proofs.Parts.{none_in, number_fit, text_fit, string_fit, listed_fit, form_fit, read_fit, item_fit, has_call}
+
+-- what the parser keeps: no argument is a comma or semicolon, nothing in braces is left out, and there is less of all than 2^64
+abbrev mutual
+  pub IsKept : Written → Type 0
+  IsKept (piece.text place bytes) = length bytes < ones_of W64
+  IsKept (item place word args body) = AreArguments args × AreMembers body
+  IsKept _ = Unit {0}
+
+  pub AreArguments : Group → Type 0
+  AreArguments absent = Unit {0}
+  AreArguments (given ws) = EachArgument ws
+
+  pub EachArgument : Writtens → Type 0
+  EachArgument none = Unit {0}
+  EachArgument (more w ws) = IsKept w × (is_separator w ≡ false) × EachArgument ws
+
+  pub AreMembers : Group → Type 0
+  AreMembers absent = Unit {0}
+  AreMembers (given ws) = EachMember ws × (shapes.count ws ≤ ones_of W64)
+
+  pub EachMember : Writtens → Type 0
+  EachMember none = Unit {0}
+  EachMember (more w ws) = IsKept w × (is_empty w ≡ false) × EachMember ws
+
+not_true : (b : Bool) → not b ≡ true → b ≡ false
+not_true true e = absurd cc
+not_true false e = refl
+
+-- ---- arguments
+
+omit : (b : Bool) (s : Slot) (p : Plan) → p ≡ omitted → b ≡ true → PlanTakes b s p
+omit true s p o e = inr o
+omit false s p o e = absurd cc
+
+take : (b : Bool) (s : Slot) (p : Plan) → PlanAs (Fits s) p → PlanTakes b s p
+take true s p h = inl h
+take false s p h = h
+
+left_fit : (qs : List Parameter) (at : Place) → may_end qs ≡ true → PlansFit qs (left_out at qs)
+left_fit [] at e = tt
+left_fit (q ∷ qs) at e = let p = both_true q.omittable (may_end qs) e in (omit q.omittable q.slot omitted refl p.0, left_fit qs at p.1)
+
+ends : (qs : List Parameter) → takes qs none ≡ true → may_end qs ≡ true
+ends [] e = refl
+ends (q ∷ qs) e = e
+
+left : (s : Slot) (at : Place) → (evaluated s at omitted).faults ≡ [] → (evaluated s at omitted).made ≡ omitted
+left (slot.Constant least most) at e = refl
+left slot.Element at e = absurd cc
+left _ at e = refl
+
+argument_fit : (b : Bool) (s : Slot) (inside : Bool) (w : Written) → (is_empty w ≡ false → (bare s inside w).faults ≡ [] → PlanAs (Fits (loose s)) (bare s inside w).made) → (b || not (is_empty w)) ≡ true
+    → (checked s (place_of nowhere w) (bare s inside w)).faults ≡ [] → PlanTakes b s (checked s (place_of nowhere w) (bare s inside w)).made
+argument_fit true s inside empty h t e = omit true s (evaluated s nowhere omitted).made (left s nowhere e) refl
+argument_fit false s inside empty h t e = absurd cc
+argument_fit b s inside comma h t e = take b s (checked s nowhere (bare s inside comma)).made (checked_fit s nowhere (bare s inside comma) (h refl) e)
+argument_fit b s inside semicolon h t e = take b s (checked s nowhere (bare s inside semicolon)).made (checked_fit s nowhere (bare s inside semicolon) (h refl) e)
+argument_fit b s inside (piece.number p n) h t e = take b s (checked s p (bare s inside (piece.number p n))).made (checked_fit s p (bare s inside (piece.number p n)) (h refl) e)
+argument_fit b s inside (piece.text p n) h t e = take b s (checked s p (bare s inside (piece.text p n))).made (checked_fit s p (bare s inside (piece.text p n)) (h refl) e)
+argument_fit b s inside (item p w args body) h t e = take b s (checked s p (bare s inside (item p w args body))).made (checked_fit s p (bare s inside (item p w args body)) (h refl) e)
+argument_fit b s inside (apply p o ws) h t e = take b s (checked s p (bare s inside (apply p o ws))).made (checked_fit s p (bare s inside (apply p o ws)) (h refl) e)
+argument_fit b s inside (listed p ws) h t e = take b s (checked s p (bare s inside (listed p ws))).made (checked_fit s p (bare s inside (listed p ws)) (h refl) e)
+
+-- ---- what stands in braces
+
+skipped_fit : (P : Trees → Type 0) (Q : Tree → Type 0) (b : Bool) (at : Place) (first : Shaped Plan) (rest : Shaped Plans) → ((t : Tree) (ts : Trees) → Q t → P ts → P (tree t ts))
+    → (b ≡ false → first.faults ≡ [] → PlanAs Q first.made) → (rest.faults ≡ [] → PlansAs P rest.made) → (skipped b at first rest).faults ≡ [] → PlansAs P (skipped b at first rest).made
+skipped_fit P Q true at first rest make h k e = k e
+skipped_fit P Q false at first rest make h k e = let f = none_in first.faults rest.faults e in more_as P P Q at first.made rest.made make (h refl f.0) (k f.1)
+
+list_fit : (P : Trees → Type 0) (b : Bool) (at : Place) (all : Shaped Plans) → (all.faults ≡ [] → PlansAs P all.made) → (list_shape at b all).faults ≡ [] → PlansAs P (list_shape at b all).made
+list_fit P true at all h e = h e
+list_fit P false at all h e = absurd cc
+
+skipped_few : (b : Bool) (at : Place) (first : Shaped Plan) (rest : Shaped Plans) (n : ℕ) → how_many rest.made ≤ n → how_many (skipped b at first rest).made ≤ suc n
+skipped_few true at first rest n h = omega (arith, h)
+skipped_few false at first rest n h = omega (arith, h)
+
+few : (s : Slot) (inside : Bool) (ws : Writtens) → how_many (members s inside ws).made ≤ shapes.count ws
+few s inside none = omega arith
+few s inside (more w ws) = skipped_few (is_separator w) (place_of nowhere w) (checked s (place_of nowhere w) (bare s inside w)) (members s inside ws) (shapes.count ws) (few s inside ws)
+
+abbrev AreNumbers : Trees → Type 0
+AreNumbers no_trees = Unit {0}
+AreNumbers (tree t ts) = IsNumber t × AreNumbers ts
+
+listed_count : (ts : Trees) → AreNumbers ts → length (bytes_listed ts) ≡ count ts
+listed_count no_trees h = refl
+listed_count (tree (Integer n) ts) h = ap suc (listed_count ts h.1)
+listed_count (tree _ ts) h = absurd h.0
+
+bytes_count : (ts : Trees) → AreNumbers ts → length (body_bytes ts) ≡ count ts
+bytes_count no_trees h = refl
+bytes_count (tree (Integer n) no_trees) h = refl
+bytes_count (tree (Integer n) (tree t ts)) h = ap suc (listed_count (tree t ts) h.1)
+bytes_count (tree _ ts) h = absurd h.0
+
+is_number : (most : ℕ) (t : Tree) → IsAtMost most t → IsNumber t
+is_number most (Integer n) h = tt
+is_number most _ h = absurd h
+
+-- bytes that are numbers
+numbers_fit : (inside : Bool) (ws : Writtens) → PlansAs AreNumbers (members (slot.Constant 0 255) inside ws).made → shapes.count ws ≤ ones_of W64
+    → PlansAs (λ ts. length (body_bytes ts) ≤ ones_of W64) (members (slot.Constant 0 255) inside ws).made
+numbers_fit inside ws h lt = λ m row e.
+    let all : count (row_trees row) ≡ how_many (members (slot.Constant 0 255) inside ws).made = count_as (members (slot.Constant 0 255) inside ws).made m row e in
+    let some : how_many (members (slot.Constant 0 255) inside ws).made ≤ shapes.count ws = few (slot.Constant 0 255) inside ws in
+    let same : length (body_bytes (row_trees row)) ≡ count (row_trees row) = bytes_count (row_trees row) (h m row e) in
+    omega (arith, all, some, same, lt)
+
+abbrev IsString' : Tree → Type 0
+IsString' (String bytes) = length bytes < ones_of W64
+IsString' _ = ⊥
+
+string_bytes : (t : Tree) (ts : Trees) → IsString' t → ts ≡ no_trees → length (body_bytes (tree t ts)) ≤ ones_of W64
+string_bytes (String bytes) no_trees h e = longer bytes h
+  where
+    longer : (bytes : List ℕ) → length bytes < ones_of W64 → length (bytes ++ 0 ∷ []) ≤ ones_of W64
+    longer bytes h = let l : length (bytes ++ 0 ∷ []) ≡ length bytes + 1 = length-append bytes (0 ∷ []) in omega (arith, h, l)
+string_bytes (String bytes) (tree t ts) h e = absurd cc
+string_bytes _ ts h e = absurd h
+
+-- bytes that are one string
+one_string : (inside : Bool) (p : Place) (bytes : List ℕ) → length bytes < ones_of W64 → (members (slot.String texts.Any) inside (more (piece.text p bytes) none)).faults ≡ []
+    → PlansAs (λ ts. length (body_bytes ts) ≤ ones_of W64) (members (slot.String texts.Any) inside (more (piece.text p bytes) none)).made
+one_string inside p bytes lt e =
+    more_as (λ ts. length (body_bytes ts) ≤ ones_of W64) (λ ts. ts ≡ no_trees) IsString' p (checked (slot.String texts.Any) p (string_shape texts.Any p bytes)).made no_plans (λ t ts h k. string_bytes t ts h k)
+    (kept (none_in (checked (slot.String texts.Any) p (string_shape texts.Any p bytes)).faults [] e).0) (none_as (λ ts. ts ≡ no_trees) refl)
+  where
+    kept : (checked (slot.String texts.Any) p (string_shape texts.Any p bytes)).faults ≡ [] → PlanAs IsString' (checked (slot.String texts.Any) p (string_shape texts.Any p bytes)).made
+    kept e = by (string_shape texts.Any p bytes) (λ f. string_fit IsString' texts.Any p bytes (λ h. lt) f) e
+      where
+        by : (shape : Shaped Plan) → (shape.faults ≡ [] → PlanAs IsString' shape.made) → (checked (slot.String texts.Any) p shape).faults ≡ [] → PlanAs IsString' (checked (slot.String texts.Any) p shape).made
+        by shape h e = same shape.faults refl e
+          where
+            same : (fs : List _) → shape.faults ≡ fs → (shapes.after fs shape (fine shape.made)).faults ≡ [] → PlanAs IsString' (shapes.after fs shape (fine shape.made)).made
+            same [] f e = h f
+            same (m ∷ ms) f e = absurd cc
+
+bytes_fit : (inside : Bool) (ws : Writtens) → EachMember ws → shapes.count ws ≤ ones_of W64
+    → ((members (slot.Constant 0 255) inside ws).faults ≡ [] → PlansAs AreNumbers (members (slot.Constant 0 255) inside ws).made)
+    → (members (byte_slot ws) inside ws).faults ≡ [] → PlansAs (λ ts. length (body_bytes ts) ≤ ones_of W64) (members (byte_slot ws) inside ws).made
+bytes_fit inside none k lt h e = none_as (λ ts. length (body_bytes ts) ≤ ones_of W64) (omega arith)
+bytes_fit inside (more (piece.text p bytes) none) k lt h e = one_string inside p bytes k.0 e
+bytes_fit inside (more w none) k lt h e = numbers_fit inside (more w none) (h e) lt
+bytes_fit inside (more w (more v vs)) k lt h e = numbers_fit inside (more w (more v vs)) (h e) lt
+
+is_called : (m : Meaning) (ws : Writtens) → has_arguments m ws ≡ true → has_call m ≡ true → none_empty ws ≡ true
+is_called is.Name ws h e = (both_true (nat_le (shapes.count ws) 7) (none_empty ws) h).1
+is_called is.Path ws h e = (both_true (nat_le (shapes.count ws) 7) (none_empty ws) h).1
+is_called _ ws h e = absurd cc
+
+takes_of : (m : Meaning) (op : Op) (ws : Writtens) → m ≡ is.Operator op → has_arguments m ws ≡ true → takes (parameters_of op) ws ≡ true
+takes_of m op ws e h = subst (λ m. has_arguments m ws ≡ true) e h
+
+right_of : (m : Meaning) (op : Op) → m ≡ is.Operator op → IsRightMeaning m → IsRightMeaning (is.Operator op)
+right_of m op e h = subst IsRightMeaning e h
+
+-- ---- the whole
+
+mutual
+  pub bare_fit : (s : Slot) (inside : Bool) (w : Written) → IsKept w → is_separator w ≡ false → is_empty w ≡ false → (bare s inside w).faults ≡ [] → PlanAs (Fits (loose s)) (bare s inside w).made
+  bare_fit s inside (piece.number at n) k sep emp e = number_fit s at n e
+  bare_fit s inside (piece.text at bytes) k sep emp e = text_fit s at bytes e
+  bare_fit s inside (listed at ws) k sep emp e = listed_fit s at ws e
+  bare_fit s inside (apply at o ws) k sep emp e = absurd cc
+  bare_fit s inside (item at w args body) k sep emp e =
+      let m : Meaning = meaning_of w (is_given body) in
+      let form : Op → Shaped Plan = λ o. form_shape o at (arguments (parameters_of o) at inside args) (contents (body_of o) (within o inside) at body) in
+      item_fit (PlanAs (Fits (loose s))) s inside m (has_arguments m (inside_of args)) (is_given body) at (read_shape s at w (reading_of s m (is_given args)) (call_args inside args) form)
+      (λ has f. read_fit s at w m (is_given args) (call_args inside args) form (meaning_ok w (is_given body)) (path_ok w)
+      (λ c g. calls_fit inside args k.0 (is_called m (inside_of args) has c) g)
+      (λ op is g. form_fit op at (arguments (parameters_of op) at inside args) (contents (body_of op) (within op inside) at body) (right_of m op is (meaning_ok w (is_given body)))
+      (λ f. arguments_fit (parameters_of op) at inside args k.0 (takes_of m op (inside_of args) is has) f)
+      (λ f. contents_fit (body_of op) (within op inside) at body k.1 f) g)
+      f)
+      e
+  bare_fit s inside comma k sep emp e = absurd cc
+  bare_fit s inside semicolon k sep emp e = absurd cc
+  bare_fit s inside empty k sep emp e = absurd cc
+
+  calls_fit : (inside : Bool) (args : Group) → AreArguments args → none_empty (inside_of args) ≡ true → (call_args inside args).faults ≡ [] → PlansAs (AreShapedValues W64) (call_args inside args).made
+  calls_fit inside absent k t e = none_as (AreShapedValues W64) tt
+  calls_fit inside (given ws) k t e = values_fit inside ws k t e
+
+  values_fit : (inside : Bool) (ws : Writtens) → EachArgument ws → none_empty ws ≡ true → (operands slot.Expression inside ws).faults ≡ [] → PlansAs (AreShapedValues W64) (operands slot.Expression inside ws).made
+  values_fit inside none k t e = none_as (AreShapedValues W64) tt
+  values_fit inside (more w ws) k t e =
+      let first : Shaped Plan = checked slot.Expression (place_of nowhere w) (bare slot.Expression inside w) in
+      let rest : Shaped Plans = operands slot.Expression inside ws in
+      let f = none_in first.faults rest.faults e in
+      let g = both_true (not (is_empty w)) (none_empty ws) t in
+      more_as (AreShapedValues W64) (AreShapedValues W64) (Fits slot.Expression) (place_of nowhere w) first.made rest.made (λ t ts h i. (h.0, h.1, i))
+      (checked_fit slot.Expression (place_of nowhere w) (bare slot.Expression inside w) (λ h. bare_fit slot.Expression inside w k.0 k.1 (not_true (is_empty w) g.0) h) f.0) (values_fit inside ws k.2 g.1 f.1)
+
+  arguments_fit : (qs : List Parameter) (at : Place) (inside : Bool) (args : Group) → AreArguments args → takes qs (inside_of args) ≡ true → (arguments qs at inside args).faults ≡ [] → PlansFit qs (arguments qs at inside args).made
+  arguments_fit qs at inside absent k t e = left_fit qs at (ends qs t)
+  arguments_fit qs at inside (given ws) k t e = each_fit qs at inside ws k t e
+
+  each_fit : (qs : List Parameter) (at : Place) (inside : Bool) (ws : Writtens) → EachArgument ws → takes qs ws ≡ true → (arguments_in qs at inside ws).faults ≡ [] → PlansFit qs (arguments_in qs at inside ws).made
+  each_fit qs at inside none k t e = left_fit qs at (ends qs t)
+  each_fit [] at inside (more w ws) k t e = absurd cc
+  each_fit (q ∷ qs) at inside (more w ws) k t e =
+      let first : Shaped Plan = checked q.slot (place_of nowhere w) (bare q.slot inside w) in
+      let f = none_in first.faults (arguments_in qs at inside ws).faults e in
+      let g = both_true (q.omittable || not (is_empty w)) (takes qs ws) t in
+      (argument_fit q.omittable q.slot inside w (λ emp h. bare_fit q.slot inside w k.0 k.1 emp h) g.0 f.0, each_fit qs at inside ws k.2 g.1 f.1)
+
+  contents_fit : (b : Body) (inside : Bool) (at : Place) (body : Group) → AreMembers body → (contents b inside at body).faults ≡ [] → PlansAs (BodyFit b) (contents b inside at body).made
+  contents_fit braces.No inside at absent k e = none_as (BodyFit braces.No) refl
+  contents_fit braces.Terms inside at absent k e = none_as (BodyFit braces.Terms) tt
+  contents_fit braces.Bytes inside at absent k e = none_as (BodyFit braces.Bytes) (omega arith)
+  contents_fit braces.Elements inside at absent k e = none_as (BodyFit braces.Elements) (tt, omega arith)
+  contents_fit braces.No inside at (given ws) k e = none_as (BodyFit braces.No) refl
+  contents_fit braces.Terms inside at (given ws) k e = terms_fit inside false ws k.0 e
+  contents_fit braces.Bytes inside at (given ws) k e = list_fit (BodyFit braces.Bytes) (is_listed true ws) at (members (byte_slot ws) inside ws) (λ f. bytes_fit inside ws k.0 k.1 (λ g. octets_fit inside ws k.0 g) f) e
+  contents_fit braces.Elements inside at (given ws) k e =
+      list_fit (BodyFit braces.Elements) (is_listed true ws) at (members slot.Element inside ws)
+      (λ f. λ m row g. (
+        elements_fit inside ws k.0 f m row g,
+        (let all : count (row_trees row) ≡ how_many (members slot.Element inside ws).made = count_as (members slot.Element inside ws).made m row g in
+            let some : how_many (members slot.Element inside ws).made ≤ shapes.count ws = few slot.Element inside ws in
+            let lt : shapes.count ws ≤ ones_of W64 = k.1 in
+            omega (arith, all, some, lt)),
+      )) e
+
+  elements_fit : (inside : Bool) (ws : Writtens) → EachMember ws → (members slot.Element inside ws).faults ≡ [] → PlansAs (AreShapedElements W64) (members slot.Element inside ws).made
+  elements_fit inside none k e = none_as (AreShapedElements W64) tt
+  elements_fit inside (more w ws) k e =
+      skipped_fit (AreShapedElements W64) (Fits slot.Element) (is_separator w) (place_of nowhere w) (checked slot.Element (place_of nowhere w) (bare slot.Element inside w)) (members slot.Element inside ws) (λ t ts h i. (h, i))
+      (λ sep f. checked_fit slot.Element (place_of nowhere w) (bare slot.Element inside w) (λ h. bare_fit slot.Element inside w k.0 sep k.1 h) f) (λ f. elements_fit inside ws k.2 f) e
+
+  octets_fit : (inside : Bool) (ws : Writtens) → EachMember ws → (members (slot.Constant 0 255) inside ws).faults ≡ [] → PlansAs AreNumbers (members (slot.Constant 0 255) inside ws).made
+  octets_fit inside none k e = none_as AreNumbers tt
+  octets_fit inside (more w ws) k e =
+      skipped_fit AreNumbers (IsAtMost 255) (is_separator w) (place_of nowhere w) (checked (slot.Constant 0 255) (place_of nowhere w) (bare (slot.Constant 0 255) inside w)) (members (slot.Constant 0 255) inside ws)
+      (λ t ts h i. (is_number 255 t h, i))
+      (λ sep f. checked_fit (slot.Constant 0 255) (place_of nowhere w) (bare (slot.Constant 0 255) inside w) (λ h. bare_fit (slot.Constant 0 255) inside w k.0 sep k.1 h) f) (λ f. octets_fit inside ws k.2 f) e
+
+  pub terms_fit : (inside behind : Bool) (ws : Writtens) → EachMember ws → (terms inside behind ws).faults ≡ [] → PlansAs (AreShaped W64) (terms inside behind ws).made
+  terms_fit inside behind none k e = none_as (AreShaped W64) tt
+  terms_fit inside behind (more w ws) k e =
+      skipped_fit (AreShaped W64) (IsShaped W64) (is_separator w) (place_of nowhere w) (checked (slot.Term behind) (place_of nowhere w) (bare (slot.Term behind) inside w)) (terms inside (behind_if behind w) ws) (λ t ts h i. (h, i))
+      (λ sep f. checked_fit (slot.Term behind) (place_of nowhere w) (bare (slot.Term behind) inside w) (λ h. bare_fit (slot.Term behind) inside w k.0 sep k.1 h) f) (λ f. terms_fit inside (behind_if behind w) ws k.2 f) e
+
+-- the terms of a block
+pub in_braces : (body : Group) → AreMembers body → (terms false false (inside_of body)).faults ≡ [] → PlansAs (AreShaped W64) (terms false false (inside_of body)).made
+in_braces absent k e = none_as (AreShaped W64) tt
+in_braces (given ws) k e = terms_fit false false ws k.0 e

@@ -1,0 +1,2 @@
+//! Laws alone: the program that a source without errors is has the shape that its bytes' meaning asks for.
+#![tactic(auto)]
