@@ -9,3 +9,4 @@ pub mod Evaluated
 pub mod Parts
 pub mod Shapes
 pub mod Blocks
+pub mod Headers

@@ -23,35 +23,13 @@ use Rattle.asl_shape.specs.Written.{Written, Writtens, Group, item, apply, liste
 use Rattle.asl_shape.specs.Plans.{Plan, omitted, Plans, no_plans, how_many}
 use Rattle.asl_shape.specs.Shapes.{Shaped, fine, refused, nowhere, meaning_of, is_given, is_empty, is_separator, inside_of, has_arguments, takes, may_end, none_empty, is_call, left_out, evaluated, checked, place_of, joined, skipped, list_shape, is_listed, byte_slot, behind_if, within, form_shape, bare, operands, call_args, arguments, arguments_in, contents, members, terms, reading_of, read_shape, string_shape, fault_at}
 use Rattle.asl_shape.specs.Shapes as shapes
+use Rattle.program_shapes.specs.Kept.{IsKept, AreArguments, EachArgument, AreMembers, EachMember}
 use Rattle.program_shapes.proofs.Fits.{Fits, IsAtMost, IsNumber}
 use Rattle.program_shapes.proofs.Operators.{BodyFit}
 use Rattle.program_shapes.proofs.Words.{path_ok, meaning_ok, both_true, IsRightMeaning}
 use Rattle.program_shapes.proofs.Plans.{PlanAs, PlansAs, PlanTakes, PlansFit, none_as, more_as, count_as}
 use Rattle.program_shapes.proofs.Evaluated.{loose, checked_fit}
 use Rattle.program_shapes.proofs.Parts.{none_in, number_fit, text_fit, string_fit, listed_fit, form_fit, read_fit, item_fit, has_call}
-
--- what the parser keeps: no argument is a comma or semicolon, nothing in braces is left out, and there is less of all than 2^64
-abbrev mutual
-  pub IsKept : Written → Type 0
-  IsKept (piece.text place bytes) = length bytes < ones_of W64
-  IsKept (item place word args body) = AreArguments args × AreMembers body
-  IsKept _ = Unit {0}
-
-  pub AreArguments : Group → Type 0
-  AreArguments absent = Unit {0}
-  AreArguments (given ws) = EachArgument ws
-
-  pub EachArgument : Writtens → Type 0
-  EachArgument none = Unit {0}
-  EachArgument (more w ws) = IsKept w × (is_separator w ≡ false) × EachArgument ws
-
-  pub AreMembers : Group → Type 0
-  AreMembers absent = Unit {0}
-  AreMembers (given ws) = EachMember ws × (shapes.count ws ≤ ones_of W64)
-
-  pub EachMember : Writtens → Type 0
-  EachMember none = Unit {0}
-  EachMember (more w ws) = IsKept w × (is_empty w ≡ false) × EachMember ws
 
 not_true : (b : Bool) → not b ≡ true → b ≡ false
 not_true true e = absurd cc

@@ -1,0 +1,135 @@
+-- The texts of a block's header have room in it.
+use Rattle.std.proofs.Common.{◌≡◌, ℕ, ◌≤◌, Bool, true, false, List, [], ◌∷◌, length, refl, ap, ◌∙◌}
+use Rattle.std.specs.Prelude.{codes, not, ◌&&◌, ◌||◌}
+use Rattle.std.specs.Str.{bytes_eq}
+use Rattle.std.proofs.lemmas.Bool.{leb-true}
+use Rattle.std.proofs.lemmas.Slice.Eq.{bytes_eq-Decides}
+use Rattle.iasl_messages.specs.declared.place.Place.{Place}
+use Rattle.asl_tree.specs.declared.term.Op.{Op}
+use Rattle.asl_shape.specs.declared.operator.Parameter.{Parameter}
+use Rattle.asl_shape.specs.declared.operator.Slot.{Slot}
+use Rattle.asl_shape.specs.declared.operator.Slot.TheVariants as slot
+use Rattle.asl_shape.specs.declared.operator.StringForm.{StringForm}
+use Rattle.asl_shape.specs.declared.operator.Known.TheVariants as known
+use Rattle.asl_shape.specs.declared.item.Meaning.{Meaning}
+use Rattle.asl_shape.specs.declared.item.Meaning.TheVariants as is
+use Rattle.asl_shape.specs.Written as piece
+use Rattle.asl_shape.specs.Written.{Written, Writtens, Group, item, apply, listed, comma, semicolon, empty, none, more, absent, given}
+use Rattle.asl_shape.specs.Operators.{parameters_of, body_of, block_parameters}
+use Rattle.asl_shape.specs.Plans.{Plan, a_text, omitted, Plans, no_plans, plan, text_of, plan_at}
+use Rattle.asl_shape.specs.Shapes.{Shaped, fine, nowhere, meaning_of, is_given, is_empty, is_separator, inside_of, has_arguments, takes, may_end, left_out, checked, place_of, bare, call_args, arguments, arguments_in, contents, within, form_shape, reading_of, read_shape, has_form, is_all_text, is_signature, is_oem_signature, after}
+use Rattle.program_shapes.proofs.Words.{both_true}
+use Rattle.program_shapes.proofs.Parts.{none_in, good_of, item_fit}
+use Rattle.program_shapes.specs.Kept.{AreArguments, EachArgument}
+
+-- a text that has to stand has its form
+abbrev pub HasForm : Bool → Slot → Plan → Type 0
+HasForm false (slot.String f) p = has_form f (text_of p) ≡ true
+HasForm _ _ p = Unit {0}
+
+abbrev pub HaveForms : List Parameter → Plans → Type 0
+HaveForms [] no_plans = Unit {0}
+HaveForms (q ∷ qs) (plan place p ps) = HasForm q.omittable q.slot p × HaveForms qs ps
+HaveForms _ _ = ⊥
+
+-- nothing but a string is read where a string is asked for
+no_string : (f : StringForm) (at : Place) (word : List ℕ) (m : Meaning) (called : Bool) (calls : Shaped Plans) (form : Op → Shaped Plan) → (read_shape (slot.String f) at word (reading_of (slot.String f) m called) calls form).faults ≡ [] → ⊥
+no_string f at word (is.Operator op) called calls form e = absurd cc
+no_string f at word (is.Known (known.Word kind n)) called calls form e = absurd cc
+no_string f at word (is.Known known.Debug) called calls form e = absurd cc
+no_string f at word (is.Known known.LeftOut) called calls form e = absurd cc
+no_string f at word (is.Known (known.Local i)) called calls form e = absurd cc
+no_string f at word (is.Known (known.Arg i)) called calls form e = absurd cc
+no_string f at word is.Name true calls form e = absurd cc
+no_string f at word is.Name false calls form e = absurd cc
+no_string f at word is.Path true calls form e = absurd cc
+no_string f at word is.Path false calls form e = absurd cc
+no_string f at word is.Unknown called calls form e = absurd cc
+
+string_form : (f : StringForm) (inside : Bool) (w : Written) → is_separator w ≡ false → is_empty w ≡ false → (bare (slot.String f) inside w).faults ≡ [] → has_form f (text_of (bare (slot.String f) inside w).made) ≡ true
+string_form f inside (piece.text at bytes) sep emp e =
+    good_of (λ p. has_form f (text_of p) ≡ true) (has_form f bytes && is_all_text bytes) 6024 at (fine (a_text bytes)) (λ t g. (both_true (has_form f bytes) (is_all_text bytes) t).0) e
+string_form f inside (item at w args body) sep emp e =
+    let m : Meaning = meaning_of w (is_given body) in
+    let form : Op → Shaped Plan = λ o. form_shape o at (arguments (parameters_of o) at inside args) (contents (body_of o) (within o inside) at body) in
+    item_fit (λ p. has_form f (text_of p) ≡ true) (slot.String f) inside m (has_arguments m (inside_of args)) (is_given body) at (read_shape (slot.String f) at w (reading_of (slot.String f) m (is_given args)) (call_args inside args) form)
+    (λ has g. absurd (no_string f at w m (is_given args) (call_args inside args) form g)) e
+string_form f inside (piece.number at n) sep emp e = absurd cc
+string_form f inside (listed at ws) sep emp e = absurd cc
+string_form f inside (apply at o ws) sep emp e = absurd cc
+string_form f inside comma sep emp e = absurd cc
+string_form f inside semicolon sep emp e = absurd cc
+string_form f inside empty sep emp e = absurd cc
+
+checked_form : (f : StringForm) (at : Place) (shape : Shaped Plan) → (shape.faults ≡ [] → has_form f (text_of shape.made) ≡ true) → (checked (slot.String f) at shape).faults ≡ [] → has_form f (text_of (checked (slot.String f) at shape).made) ≡ true
+checked_form f at shape h e = by shape.faults refl e
+  where
+    by : (fs : List _) → shape.faults ≡ fs → (after fs shape (fine shape.made)).faults ≡ [] → has_form f (text_of (after fs shape (fine shape.made)).made) ≡ true
+    by [] g e = h g
+    by (m ∷ ms) g e = absurd cc
+
+not_left : (b : Bool) → (false || not b) ≡ true → b ≡ false
+not_left true e = absurd cc
+not_left false e = refl
+
+argument_form : (b : Bool) (s : Slot) (inside : Bool) (w : Written) → is_separator w ≡ false → (b || not (is_empty w)) ≡ true → (checked s (place_of nowhere w) (bare s inside w)).faults ≡ []
+    → HasForm b s (checked s (place_of nowhere w) (bare s inside w)).made
+argument_form false (slot.String f) inside w sep t e = checked_form f (place_of nowhere w) (bare (slot.String f) inside w) (λ g. string_form f inside w sep (not_left (is_empty w) t) g) e
+argument_form false _ inside w sep t e = tt
+argument_form true s inside w sep t e = tt
+
+left_form : (b : Bool) (s : Slot) → b ≡ true → HasForm b s omitted
+left_form true s e = tt
+left_form false s e = absurd cc
+
+left_forms : (qs : List Parameter) (at : Place) → may_end qs ≡ true → HaveForms qs (left_out at qs)
+left_forms [] at e = tt
+left_forms (q ∷ qs) at e = let p = both_true q.omittable (may_end qs) e in (left_form q.omittable q.slot p.0, left_forms qs at p.1)
+
+each_form : (qs : List Parameter) (at : Place) (inside : Bool) (ws : Writtens) → EachArgument ws → takes qs ws ≡ true → (arguments_in qs at inside ws).faults ≡ [] → HaveForms qs (arguments_in qs at inside ws).made
+each_form [] at inside none k t e = tt
+each_form (q ∷ qs) at inside none k t e = left_forms (q ∷ qs) at t
+each_form [] at inside (more w ws) k t e = absurd cc
+each_form (q ∷ qs) at inside (more w ws) k t e =
+    let f = none_in (checked q.slot (place_of nowhere w) (bare q.slot inside w)).faults (arguments_in qs at inside ws).faults e in
+    let g = both_true (q.omittable || not (is_empty w)) (takes qs ws) t in
+    (argument_form q.omittable q.slot inside w k.1 g.0 f.0, each_form qs at inside ws k.2 g.1 f.1)
+
+pub arguments_form : (qs : List Parameter) (at : Place) (inside : Bool) (args : Group) → AreArguments args → takes qs (inside_of args) ≡ true → (arguments qs at inside args).faults ≡ [] → HaveForms qs (arguments qs at inside args).made
+arguments_form [] at inside absent k t e = tt
+arguments_form (q ∷ qs) at inside absent k t e = left_forms (q ∷ qs) at t
+arguments_form qs at inside (given ws) k t e = each_form qs at inside ws k t e
+
+-- ---- the forms of texts
+
+four : (text word : List ℕ) → length word ≡ 4 → bytes_eq text word ≡ true → length text ≡ 4
+four text word w e = ap length ((bytes_eq-Decides text word).0 e) ∙ w
+
+oem_length : (text : List ℕ) → is_oem_signature text ≡ true → length text ≡ 4
+oem_length (a ∷ b ∷ c ∷ d ∷ []) e = refl
+oem_length _ e = absurd cc
+
+signature_length : (text : List ℕ) → is_signature text ≡ true → length text ≡ 4
+signature_length text e = by (bytes_eq text (codes "DSDT")) (bytes_eq text (codes "SSDT")) (bytes_eq text (codes "PSDT")) refl refl refl e
+  where
+    by : (a b c : Bool) → bytes_eq text (codes "DSDT") ≡ a → bytes_eq text (codes "SSDT") ≡ b → bytes_eq text (codes "PSDT") ≡ c → (a || (b || (c || is_oem_signature text))) ≡ true → length text ≡ 4
+    by true b c h i j e = four text (codes "DSDT") refl h
+    by false true c h i j e = four text (codes "SSDT") refl i
+    by false false true h i j e = four text (codes "PSDT") refl j
+    by false false false h i j e = oem_length text e
+
+-- a header's texts
+pub record HaveRoom (ps : Plans) : Type 0 where
+  pub signature : length (text_of (plan_at ps 1)) ≡ 4
+  pub oem_id : length (text_of (plan_at ps 3)) ≤ 6
+  pub table_id : length (text_of (plan_at ps 4)) ≤ 8
+
+pub room_of : (ps : Plans) → HaveForms block_parameters ps → HaveRoom ps
+unfolding block_parameters
+room_of (plan a0 p0 (plan a1 p1 (plan a2 p2 (plan a3 p3 (plan a4 p4 ps))))) h =
+    record { signature = signature_length (text_of p1) h.1.0; oem_id = leb-true (length (text_of p3)) 6 h.1.1.1.0; table_id = leb-true (length (text_of p4)) 8 h.1.1.1.1.0 }
+room_of no_plans h = absurd h
+room_of (plan a0 p0 no_plans) h = absurd h.1
+room_of (plan a0 p0 (plan a1 p1 no_plans)) h = absurd h.1.1
+room_of (plan a0 p0 (plan a1 p1 (plan a2 p2 no_plans))) h = absurd h.1.1.1
+room_of (plan a0 p0 (plan a1 p1 (plan a2 p2 (plan a3 p3 no_plans)))) h = absurd h.1.1.1.1

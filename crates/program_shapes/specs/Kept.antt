@@ -1,0 +1,36 @@
+-- What the parser keeps of its tree.
+use Rattle.std.specs.Prelude.{◌≡◌, ◌<◌, ◌≤◌, false, length}
+use Rattle.acpi_values.specs.Widths.{ones_of}
+use Rattle.acpi_values.specs.declared.width.Width.TheVariants.{W64}
+use Rattle.asl_shape.specs.Written as piece
+use Rattle.asl_shape.specs.Written.{Written, Writtens, Group, item, none, more, absent, given}
+use Rattle.asl_shape.specs.Shapes.{is_empty, is_separator}
+use Rattle.asl_shape.specs.Shapes as shapes
+
+-- no argument is a comma or semicolon, nothing in braces is left out, and there is less of all than 2^64
+abbrev mutual
+  pub IsKept : Written → Type 0
+  IsKept (piece.text place bytes) = length bytes < ones_of W64
+  IsKept (item place word args body) = AreArguments args × AreMembers body
+  IsKept _ = Unit {0}
+
+  pub AreArguments : Group → Type 0
+  AreArguments absent = Unit {0}
+  AreArguments (given ws) = EachArgument ws
+
+  pub EachArgument : Writtens → Type 0
+  EachArgument none = Unit {0}
+  EachArgument (more w ws) = IsKept w × (is_separator w ≡ false) × EachArgument ws
+
+  pub AreMembers : Group → Type 0
+  AreMembers absent = Unit {0}
+  AreMembers (given ws) = EachMember ws × (shapes.count ws ≤ ones_of W64)
+
+  pub EachMember : Writtens → Type 0
+  EachMember none = Unit {0}
+  EachMember (more w ws) = IsKept w × (is_empty w ≡ false) × EachMember ws
+
+-- a source of one block
+abbrev pub IsKeptSource : Writtens → Type 0
+IsKeptSource (more (item place word args body) none) = AreArguments args × AreMembers body
+IsKeptSource _ = Unit {0}
