@@ -1,5 +1,6 @@
 """What the comparisons share: compilers, interpreter, and tables without what differs by right."""
 
+import random
 import re
 import subprocess
 
@@ -7,6 +8,10 @@ import subprocess
 WORDS = """add and nand or nor xor mod not land lor lnot mid wait zero one ones noop if else case arg0 arg1 arg2 arg3
 arg4 arg5 arg6 name irq dma io lock pcc ipmi mtr meq mle mlt mge mgt edge load for""".split()
 ROOT = ["_GPE", "_PR_", "_SB_", "_SI_", "_TZ_", "_GL_", "_OSI", "_OS_", "_REV"]
+
+# Letters of names, and Integers at the edges of their widths.
+LETTERS = "ABCDEFGHIJKLMNOPQRSTUVWXYZ"
+EDGES = [0, 1, 2, 0x7F, 0x80, 0xFF, 0x100, 0xFFFF, 0x10000, 0xFFFFFFFF, 0x100000000, 2**63 - 1, 2**64 - 2, 2**64 - 1]
 
 # ACPICA's compiler without its folding and its shorter names, which iasl does not do yet; -f writes the table also where it
 # has errors of its own, such as a Local that is read before it is stored to.
@@ -42,3 +47,22 @@ def evaluated(folder, calls):
         fault = re.search(r"failed with status (AE_\w+)", part)
         answers.append(int(number[1], 16) if number else string[1] if string else fault[1] if fault else None)
     return answers
+
+
+def segment(used):
+    """A new name as it is written, and its NameSeg."""
+    while True:
+        rest = random.choices(LETTERS + "0123456789_", k=random.choice([0, 1, 2, 3, 3, 3]))
+        written = random.choice(LETTERS) + "".join(rest)
+        if random.random() < 0.3:
+            written = written.lower()
+        name_seg = written.upper().ljust(4, "_")
+        if written.lower() not in WORDS and name_seg not in ROOT and name_seg not in used:
+            used.add(name_seg)
+            return written, name_seg
+
+
+def number():
+    """A number and how it is written."""
+    value = random.choice(EDGES) if random.random() < 0.5 else random.getrandbits(random.choice([4, 8, 16, 32, 48, 64]))
+    return value, random.choice([str(value), hex(value), "0" + oct(value)[2:] if value else "0"])

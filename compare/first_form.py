@@ -15,30 +15,7 @@ import sys
 import tempfile
 from pathlib import Path
 
-LETTERS = "ABCDEFGHIJKLMNOPQRSTUVWXYZ"
-WORDS = """add and nand or nor xor mod not land lor lnot mid wait zero one ones noop if else case arg0 arg1 arg2 arg3
-arg4 arg5 arg6 name irq dma io lock pcc ipmi mtr meq mle mlt mge mgt edge load for""".split()
-ROOT = ["_GPE", "_PR_", "_SB_", "_SI_", "_TZ_", "_GL_", "_OSI", "_OS_", "_REV"]
-EDGES = [0, 1, 2, 0x7F, 0x80, 0xFF, 0x100, 0xFFFF, 0x10000, 0xFFFFFFFF, 0x100000000, 2**63 - 1, 2**64 - 2, 2**64 - 1]
-
-
-def segment(used):
-    """A new name as it is written, and its NameSeg."""
-    while True:
-        rest = random.choices(LETTERS + "0123456789_", k=random.choice([0, 1, 2, 3, 3, 3]))
-        written = random.choice(LETTERS) + "".join(rest)
-        if random.random() < 0.3:
-            written = written.lower()
-        name_seg = written.upper().ljust(4, "_")
-        if written.lower() not in WORDS and name_seg not in ROOT and name_seg not in used:
-            used.add(name_seg)
-            return written, name_seg
-
-
-def number():
-    """A number and how it is written."""
-    value = random.choice(EDGES) if random.random() < 0.6 else random.getrandbits(random.choice([4, 8, 16, 32, 48, 64]))
-    return value, random.choice([str(value), hex(value), "0" + oct(value)[2:] if value else "0"])
+from acpica import number, segment
 
 
 def source():

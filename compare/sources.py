@@ -13,11 +13,9 @@ import sys
 import tempfile
 from pathlib import Path
 
-from acpica import ROOT, THEIRS, WORDS, compiled, evaluated, without_creator
+from acpica import EDGES, THEIRS, compiled, evaluated, number, segment, without_creator
 
-LETTERS = "ABCDEFGHIJKLMNOPQRSTUVWXYZ"
 ONES = 2**64 - 1
-EDGES = [0, 1, 2, 0x7F, 0x80, 0xFF, 0x100, 0xFFFF, 0x10000, 0xFFFFFFFF, 0x100000000, 2**63 - 1, 2**64 - 2, ONES]
 # The operators with two operands and a target, with one and a target, with two, and with one.
 TWO_AND_TARGET = "Add Subtract Multiply ShiftLeft ShiftRight And Nand Or Nor Xor Mod".split()
 ONE_AND_TARGET = "Not FindSetLeftBit FindSetRightBit FromBCD ToBCD".split()
@@ -79,25 +77,6 @@ VALUES = {
     "LLessEqual": lambda a, b: truth(a <= b),
     "LGreaterEqual": lambda a, b: truth(a >= b),
 }
-
-
-def segment(used):
-    """A new name as it is written, and its NameSeg."""
-    while True:
-        rest = random.choices(LETTERS + "0123456789_", k=random.choice([0, 1, 2, 3, 3, 3]))
-        written = random.choice(LETTERS) + "".join(rest)
-        if random.random() < 0.3:
-            written = written.lower()
-        name_seg = written.upper().ljust(4, "_")
-        if written.lower() not in WORDS and name_seg not in ROOT and name_seg not in used:
-            used.add(name_seg)
-            return written, name_seg
-
-
-def number():
-    """A number and how it is written."""
-    value = random.choice(EDGES) if random.random() < 0.5 else random.getrandbits(random.choice([4, 8, 16, 32, 48, 64]))
-    return value, random.choice([str(value), hex(value), "0" + oct(value)[2:] if value else "0"])
 
 
 class Method:
