@@ -3,4 +3,5 @@ pub mod Ready
 pub mod Chains
 pub mod Settles
 pub mod Main
+pub mod Terms
 pub mod Blocks
