@@ -8,5 +8,6 @@ pub mod Settled
 pub mod Evaluated
 pub mod Parts
 pub mod Shapes
+pub mod Kept
 pub mod Blocks
 pub mod Headers
