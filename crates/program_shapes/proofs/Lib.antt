@@ -9,5 +9,6 @@ pub mod Evaluated
 pub mod Parts
 pub mod Shapes
 pub mod Kept
+pub mod Lexed
 pub mod Blocks
 pub mod Headers
