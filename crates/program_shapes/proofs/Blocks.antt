@@ -9,8 +9,12 @@ use Rattle.asl_tree.specs.declared.term.Term as D
 use Rattle.asl_tree.specs.Tree.{Trees, tree}
 use Rattle.asl_tree.specs.View.{tree_of, row_trees, trees_of}
 use Rattle.named_sessions.specs.Shaped.{AreShaped}
-use Rattle.named_sessions.specs.Blocks.{IsShapedBlock}
+use Rattle.named_sessions.specs.Blocks.{terms_of, IsShapedBlock}
+use Rattle.named_sessions.proofs.Terms.{shaped_terms}
+use Rattle.acpi_names.specs.Terms.{are_terms}
+use Rattle.asl_lexer.specs.declared.token.Token.{Token}
 use Rattle.asl_parser.specs.declared.raw.Raw.{Raw}
+use Rattle.asl_parser.specs.Grammar.{Spells}
 use Rattle.asl_shape.specs.Written.{Writtens, Group, item, none, more, writtens}
 use Rattle.asl_shape.specs.Plans.{Plans, plan, plan_of, row_plans, plans_of, plan_at, number_of}
 use Rattle.asl_shape.specs.Operators.{block_parameters}
@@ -20,6 +24,7 @@ use Rattle.asl_shape.specs.Forms as forms
 use Rattle.program_shapes.proofs.Plans.{PlansAs}
 use Rattle.program_shapes.proofs.Parts.{none_in}
 use Rattle.program_shapes.specs.Kept.{IsKeptSource}
+use Rattle.program_shapes.proofs.Kept.{HaveShortTexts, is_kept}
 use Rattle.program_shapes.proofs.Shapes.{in_braces}
 use Rattle.program_shapes.proofs.Headers.{HaveRoom, room_of, arguments_form}
 use Rattle.std.proofs.lemmas.Nat.{mod_below}
@@ -103,3 +108,10 @@ source_is_shaped raws block e h k =
       oem_revision = subst (λ n. n < 2 ^ 32) (sym h.oem_revision) (mod_below (number_of (plan_at (args_of (writtens raws)) 5)) 4294967296 (omega arith));
       terms = nodes_as (AreShaped W64) (forms.terms_of (writtens raws)) block.terms.items (terms_as (writtens raws) e k) h.terms;
     }
+
+-- a source without errors that short tokens spell: its block is shaped, and has values where values are due
+pub source_is_right : (raws : List Raw) (block : Block) (tokens : List Token) → errors_at raws ≡ [] → IsBlockOf raws block → Spells raws tokens → length tokens < 2 ^ 32 → HaveShortTexts tokens
+    → IsShapedBlock block × (are_terms (terms_of block) ≡ true)
+source_is_right raws block tokens e h spelled few short =
+    let shaped : IsShapedBlock block = source_is_shaped raws block e h (is_kept raws tokens spelled few short) in
+    (shaped, shaped_terms W64 (terms_of block) shaped.terms)
