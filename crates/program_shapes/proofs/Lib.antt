@@ -10,5 +10,6 @@ pub mod Parts
 pub mod Shapes
 pub mod Kept
 pub mod Lexed
+pub mod Few
 pub mod Blocks
 pub mod Headers
