@@ -9,5 +9,6 @@ pub mod Outcomes
 pub mod Homes
 pub mod Sorting
 pub mod Texts
+pub mod Sizes
 pub mod Headline
 pub mod Results
