@@ -5,3 +5,4 @@ pub mod Settles
 pub mod Main
 pub mod Terms
 pub mod Blocks
+pub mod Places
