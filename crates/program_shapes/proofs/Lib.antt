@@ -11,5 +11,6 @@ pub mod Shapes
 pub mod Kept
 pub mod Lexed
 pub mod Few
+pub mod Places
 pub mod Blocks
 pub mod Headers

@@ -1,0 +1,224 @@
+-- The plans that a source makes stand in the files in which its parts stand.
+use Rattle.std.proofs.Common.{ℕ, ◌<◌, Bool, true, false, List, [], ◌∷◌, Option, Some, None, Result, Ok, Err, sym, subst, arith}
+use Rattle.std.specs.Prelude.{if◌then◌else◌, nat_le, ◌&&◌, ◌%◌}
+use Rattle.iasl_messages.specs.declared.place.Place.{Place}
+use Rattle.iasl_messages.specs.declared.message.Message.{Message}
+use Rattle.acpi_values.specs.Integers.{wrapped}
+use Rattle.acpi_values.specs.declared.width.Width.TheVariants.{W64}
+use Rattle.asl_tree.specs.declared.constant.NoConstant.{NoConstant}
+use Rattle.asl_tree.specs.declared.path.Path.{Path}
+use Rattle.asl_tree.specs.declared.program.Block.{Block}
+use Rattle.asl_tree.specs.declared.term.Op.{Op}
+use Rattle.asl_tree.specs.declared.term.Declaration.{Declaration}
+use Rattle.asl_tree.specs.declared.term.Control.{Control}
+use Rattle.asl_parser.specs.declared.raw.Raw.{Raw}
+use Rattle.asl_shape.specs.declared.operator.Parameter.{Parameter}
+use Rattle.asl_shape.specs.declared.operator.Slot.{Slot}
+use Rattle.asl_shape.specs.declared.operator.Slot.TheVariants as slot
+use Rattle.asl_shape.specs.declared.operator.Body.{Body}
+use Rattle.asl_shape.specs.declared.operator.Body.TheVariants as braces
+use Rattle.asl_shape.specs.declared.operator.StringForm.{StringForm}
+use Rattle.asl_shape.specs.declared.operator.StringForm.TheVariants as texts
+use Rattle.asl_shape.specs.declared.operator.Known.{Known}
+use Rattle.asl_shape.specs.declared.operator.Known.TheVariants as known
+use Rattle.asl_shape.specs.declared.item.Reading.{Reading}
+use Rattle.asl_shape.specs.declared.item.Reading.TheVariants as read
+use Rattle.asl_shape.specs.Written as piece
+use Rattle.asl_shape.specs.Written.{Written, Writtens, Group, item, apply, listed, comma, semicolon, empty, none, more, absent, given, writtens}
+use Rattle.asl_shape.specs.Plans.{Plan, an_integer, a_text, Plans, no_plans, plan, plan_at, join, first_alone, number_of, is_omitted, constant_of, plans_of}
+use Rattle.asl_shape.specs.Paths.{path_of}
+use Rattle.asl_shape.specs.Operators.{parameters_of, body_of}
+use Rattle.asl_shape.specs.Shapes.{Shaped, fine, refused, nowhere, valued, evaluated, after, checked, is_member, is_given, count, has_arguments, item_fault, meaning_of, reading_of, are_all_types, is_all_text, number_shape, takes_expression, has_form, string_shape, text_shape, path_shape, call_shape, known_plan, listed_shape, read_shape, item_shape, form_shape, method_flags, one_plan, zero_plan, is_stated, stated_parameters, settled, within, place_of, left_out, is_separator, is_listed, byte_slot, list_shape, skipped, behind_if, bare, operands, call_args, arguments, arguments_in, contents, members, terms, inside_of}
+use Rattle.asl_shape.specs.Forms.{block_terms, terms_of, IsBlockOf}
+use Rattle.asl_shape.specs.Places.{IsIn, IsWithin, AreWithin, IsGroupWithin}
+use Rattle.program_shapes.specs.Places.{PlanWithin, PlansWithin}
+
+module _ (files : ℕ) where
+  -- one choice or the other
+  either : (c : Bool) (x y : Shaped Plan) → PlanWithin files x.made → PlanWithin files y.made → PlanWithin files (if c then x else y).made
+  either true x y h k = h
+  either false x y h k = k
+
+  string_in : (f : StringForm) (place : Place) (bytes : List ℕ) → PlanWithin files (string_shape f place bytes).made
+  string_in f place bytes = either (has_form f bytes && is_all_text bytes) (fine (a_text bytes)) (refused 6024 place) tt tt
+
+  number_in : (s : Slot) (place : Place) (n : ℕ) → PlanWithin files (number_shape s place n).made
+  number_in (slot.Term behind) place n = tt
+  number_in s place n = either (takes_expression s) (fine (an_integer (wrapped W64 n))) (refused 6022 place) tt tt
+
+  text_in : (s : Slot) (place : Place) (bytes : List ℕ) → PlanWithin files (text_shape s place bytes).made
+  text_in slot.Expression place bytes = string_in texts.Any place bytes
+  text_in slot.Element place bytes = string_in texts.Any place bytes
+  text_in (slot.String f) place bytes = string_in f place bytes
+  text_in _ place bytes = tt
+
+  listed_in : (s : Slot) (place : Place) (ws : Writtens) → PlanWithin files (listed_shape s place ws).made
+  listed_in (slot.Types most) place ws = either (are_all_types ws) (if nat_le (count ws) most then fine (an_integer (count ws)) else refused 6024 place) (refused 6022 place) (either (nat_le (count ws) most) (fine (an_integer (count ws))) (refused 6024 place) tt tt) tt
+  listed_in _ place ws = tt
+
+  valued_in : (least most : ℕ) (place : Place) (r : Result ℕ NoConstant) → PlanWithin files (valued least most place r).made
+  valued_in least most place (Ok n) = either (nat_le least n && nat_le n most) (fine (an_integer n)) (refused 6024 place) tt tt
+  valued_in least most place (Err NoConstant.Fault) = tt
+  valued_in least most place (Err NoConstant.Form) = tt
+
+  evaluated_in : (s : Slot) (place : Place) (p : Plan) → PlanWithin files p → PlanWithin files (evaluated s place p).made
+  evaluated_in (slot.Constant least most) place p h = either (is_omitted p) (fine p) (valued least most place (constant_of p)) h (valued_in least most place (constant_of p))
+  evaluated_in slot.Element place p h = either (is_member p) (fine p) (valued 0 18446744073709551615 place (constant_of p)) h (valued_in 0 18446744073709551615 place (constant_of p))
+  evaluated_in _ place p h = h
+
+  after_in : (faults : List Message) (old new : Shaped Plan) → PlanWithin files old.made → PlanWithin files new.made → PlanWithin files (after faults old new).made
+  after_in [] old new h k = k
+  after_in (m ∷ ms) old new h k = h
+
+  checked_in : (s : Slot) (place : Place) (shape : Shaped Plan) → PlanWithin files shape.made → PlanWithin files (checked s place shape).made
+  checked_in s place shape h = after_in shape.faults shape (evaluated s place shape.made) h (evaluated_in s place shape.made h)
+
+  path_in : (place : Place) (path : Option Path) → PlanWithin files (path_shape place path).made
+  path_in place None = tt
+  path_in place (Some path) = tt
+
+  call_in : (place : Place) (path : Option Path) (args : Shaped Plans) → PlansWithin files args.made → PlanWithin files (call_shape place path args).made
+  call_in place None args h = tt
+  call_in place (Some path) args h = h
+
+  known_in : (s : Slot) (k : Known) → PlanWithin files (known_plan s k)
+  known_in s (known.Word k n) = tt
+  known_in s (known.Local i) = tt
+  known_in s (known.Arg i) = tt
+  known_in s known.Debug = tt
+  known_in s known.LeftOut = tt
+
+  read_in : (s : Slot) (place : Place) (text : List ℕ) (reading : Reading) (args : Shaped Plans) (form : Op → Shaped Plan) → PlansWithin files args.made → ((o : Op) → PlanWithin files (form o).made)
+      → PlanWithin files (read_shape s place text reading args form).made
+  read_in s place text read.Wrong args form h go = tt
+  read_in s place text read.Path args form h go = path_in place (path_of text)
+  read_in s place text read.Call args form h go = call_in place (path_of text) args h
+  read_in s place text (read.Known k) args form h go = known_in s k
+  read_in s place text (read.Form o) args form h go = go o
+
+  item_in : (place : Place) (fault : Option ℕ) (shape : Shaped Plan) → PlanWithin files shape.made → PlanWithin files (item_shape place fault shape).made
+  item_in place (Some n) shape h = tt
+  item_in place None shape h = h
+
+  -- ---- the arguments of a form
+
+  join_in : (ps qs : Plans) → PlansWithin files ps → PlansWithin files qs → PlansWithin files (join ps qs)
+  join_in no_plans qs h k = k
+  join_in (plan place p ps) qs h k = (h.0, h.1, join_in ps qs h.2 k)
+
+  first_in : (ps : Plans) → PlansWithin files ps → PlansWithin files (first_alone ps)
+  first_in no_plans h = tt
+  first_in (plan place p ps) h = (h.0, h.1, tt)
+
+  behind_first : (place : Place) (ps : Plans) (n : ℕ) → IsIn files place → PlansWithin files ps → PlansWithin files (join (first_alone ps) (one_plan place (an_integer n)))
+  behind_first place ps n h k = join_in (first_alone ps) (one_plan place (an_integer n)) (first_in ps k) (h, tt, tt)
+
+  stated_in : (c : Bool) (place : Place) (p : Plan) → IsIn files place → PlansWithin files (if c then one_plan place (an_integer (number_of p)) else no_plans)
+  stated_in true place p h = (h, tt, tt)
+  stated_in false place p h = tt
+
+  return_in : (c : Bool) (place : Place) (ps : Plans) → IsIn files place → PlansWithin files ps → PlansWithin files (if c then ps else one_plan place zero_plan)
+  return_in true place ps h k = k
+  return_in false place ps h k = (h, (tt, tt), tt)
+
+  settled_in : (o : Op) (place : Place) (ps : Plans) → IsIn files place → PlansWithin files ps → PlansWithin files (settled o place ps)
+  settled_in (Op.Declaration Declaration.Method) place ps h k = behind_first place ps (method_flags ps) h k
+  settled_in (Op.Declaration Declaration.Mutex) place ps h k = behind_first place ps (number_of (plan_at ps 1) % 16) h k
+  settled_in (Op.Declaration Declaration.External) place ps h k =
+      join_in (join (first_alone ps) (one_plan place (an_integer (number_of (plan_at ps 1))))) (stated_parameters place (plan_at ps 3)) (behind_first place ps (number_of (plan_at ps 1)) h k) (stated_in (is_stated (plan_at ps 3)) place (plan_at ps 3) h)
+  settled_in (Op.Control Control.Return) place ps h k = return_in (is_stated (plan_at ps 0)) place ps h k
+  settled_in _ place ps h k = k
+
+  left_out_in : (place : Place) (qs : List Parameter) → IsIn files place → PlansWithin files (left_out place qs)
+  left_out_in place [] h = tt
+  left_out_in place (q ∷ qs) h = (h, tt, left_out_in place qs h)
+
+  place_in : (place : Place) (w : Written) → IsIn files place → IsWithin files w → IsIn files (place_of place w)
+  place_in place (piece.number p n) h k = k
+  place_in place (piece.text p t) h k = k
+  place_in place (item p w args body) h k = k.0
+  place_in place (apply p o args) h k = k.0
+  place_in place (listed p ws) h k = k.0
+  place_in place comma h k = h
+  place_in place semicolon h k = h
+  place_in place empty h k = h
+
+  skipped_in : (c : Bool) (place : Place) (first : Shaped Plan) (rest : Shaped Plans) → IsIn files place → PlanWithin files first.made → PlansWithin files rest.made → PlansWithin files (skipped c place first rest).made
+  skipped_in true place first rest p h k = k
+  skipped_in false place first rest p h k = (p, h, k)
+
+  list_in : (place : Place) (c : Bool) (all : Shaped Plans) → PlansWithin files all.made → PlansWithin files (list_shape place c all).made
+  list_in place true all h = h
+  list_in place false all h = tt
+
+  -- ---- the tree
+
+  module _ (main : 0 < files) where
+    mutual
+      bare_in : (s : Slot) (inside : Bool) (w : Written) → IsWithin files w → PlanWithin files (bare s inside w).made
+      bare_in s inside (piece.number place n) h = number_in s place n
+      bare_in s inside (piece.text place bytes) h = text_in s place bytes
+      bare_in s inside (listed place ws) h = listed_in s place ws
+      bare_in s inside (apply place o ws) h = tt
+      bare_in s inside (item place w args body) h =
+          let meaning = meaning_of w (is_given body) in
+          let form : Op → Shaped Plan = λ o. form_shape o place (arguments (parameters_of o) place inside args) (contents (body_of o) (within o inside) place body) in
+          item_in place (item_fault s inside meaning (has_arguments meaning (inside_of args)) (is_given body)) (read_shape s place w (reading_of s meaning (is_given args)) (call_args inside args) form)
+          (read_in s place w (reading_of s meaning (is_given args)) (call_args inside args) form (call_args_in inside args h.1)
+          (λ o. (settled_in o place (arguments (parameters_of o) place inside args).made h.0 (arguments_within (parameters_of o) place inside args h.0 h.1), contents_in (body_of o) (within o inside) place body h.2)))
+      bare_in s inside comma h = tt
+      bare_in s inside semicolon h = tt
+      bare_in s inside empty h = tt
+
+      operands_in : (s : Slot) (inside : Bool) (ws : Writtens) → AreWithin files ws → PlansWithin files (operands s inside ws).made
+      operands_in s inside none h = tt
+      operands_in s inside (more w ws) h = (place_in nowhere w main h.0, checked_in s (place_of nowhere w) (bare s inside w) (bare_in s inside w h.0), operands_in slot.Expression inside ws h.1)
+
+      call_args_in : (inside : Bool) (args : Group) → IsGroupWithin files args → PlansWithin files (call_args inside args).made
+      call_args_in inside absent h = tt
+      call_args_in inside (given ws) h = operands_in slot.Expression inside ws h
+
+      arguments_within : (qs : List Parameter) (place : Place) (inside : Bool) (args : Group) → IsIn files place → IsGroupWithin files args → PlansWithin files (arguments qs place inside args).made
+      arguments_within qs place inside absent p h = left_out_in place qs p
+      arguments_within qs place inside (given ws) p h = arguments_in_within qs place inside ws p h
+
+      arguments_in_within : (qs : List Parameter) (place : Place) (inside : Bool) (ws : Writtens) → IsIn files place → AreWithin files ws → PlansWithin files (arguments_in qs place inside ws).made
+      arguments_in_within qs place inside none p h = left_out_in place qs p
+      arguments_in_within [] place inside (more w ws) p h = tt
+      arguments_in_within (q ∷ qs) place inside (more w ws) p h =
+          (place_in place w p h.0, checked_in q.slot (place_of nowhere w) (bare q.slot inside w) (bare_in q.slot inside w h.0), arguments_in_within qs place inside ws p h.1)
+
+      contents_in : (b : Body) (inside : Bool) (place : Place) (body : Group) → IsGroupWithin files body → PlansWithin files (contents b inside place body).made
+      contents_in b inside place absent h = tt
+      contents_in braces.No inside place (given ws) h = tt
+      contents_in braces.Terms inside place (given ws) h = terms_in inside false ws h
+      contents_in braces.Bytes inside place (given ws) h = list_in place (is_listed true ws) (members (byte_slot ws) inside ws) (members_in (byte_slot ws) inside ws h)
+      contents_in braces.Elements inside place (given ws) h = list_in place (is_listed true ws) (members slot.Element inside ws) (members_in slot.Element inside ws h)
+
+      members_in : (s : Slot) (inside : Bool) (ws : Writtens) → AreWithin files ws → PlansWithin files (members s inside ws).made
+      members_in s inside none h = tt
+      members_in s inside (more w ws) h =
+          skipped_in (is_separator w) (place_of nowhere w) (checked s (place_of nowhere w) (bare s inside w)) (members s inside ws) (place_in nowhere w main h.0)
+          (checked_in s (place_of nowhere w) (bare s inside w) (bare_in s inside w h.0)) (members_in s inside ws h.1)
+
+      terms_in : (inside behind : Bool) (ws : Writtens) → AreWithin files ws → PlansWithin files (terms inside behind ws).made
+      terms_in inside behind none h = tt
+      terms_in inside behind (more w ws) h =
+          skipped_in (is_separator w) (place_of nowhere w) (checked (slot.Term behind) (place_of nowhere w) (bare (slot.Term behind) inside w)) (terms inside (behind_if behind w) ws) (place_in nowhere w main h.0)
+          (checked_in (slot.Term behind) (place_of nowhere w) (bare (slot.Term behind) inside w) (bare_in (slot.Term behind) inside w h.0)) (terms_in inside (behind_if behind w) ws h.1)
+
+    body_in : (body : Group) → IsGroupWithin files body → PlansWithin files (block_terms body).made
+    body_in absent h = tt
+    body_in (given ws) h = terms_in false false ws h
+
+-- the terms that a source makes, with errors or without, stand in the files in which its parts stand
+pub terms_within : (files : ℕ) (ws : Writtens) → AreWithin files ws → PlansWithin files (terms_of ws)
+terms_within files none h = tt
+terms_within files (more (item place word args body) none) h = body_in files (omega (arith, h.0.0)) body h.0.2
+terms_within files (more (item place word args body) (more w ws)) h = tt
+terms_within files (more _ ws) h = tt
+
+-- and so do the terms of its block
+pub block_within : (files : ℕ) (raws : List Raw) (block : Block) → IsBlockOf raws block → AreWithin files (writtens raws) → PlansWithin files (plans_of block.terms.items)
+unfolding IsBlockOf
+block_within files raws block h k = subst (PlansWithin files) (sym h.terms) (terms_within files (writtens raws) k)

@@ -1,0 +1,15 @@
+-- Where the parts of a plan stand.
+use Rattle.std.specs.Prelude.{ℕ}
+use Rattle.asl_shape.specs.Plans.{Plan, a_call, a_form, Plans, no_plans, plan}
+use Rattle.asl_shape.specs.Places.{IsIn}
+
+-- each part of the plan, at any depth, stands in one of so many files
+abbrev mutual
+  pub PlanWithin : ℕ → Plan → Type 0
+  PlanWithin files (a_call name args) = PlansWithin files args
+  PlanWithin files (a_form op args body) = PlansWithin files args × PlansWithin files body
+  PlanWithin files _ = Unit {0}
+
+  pub PlansWithin : ℕ → Plans → Type 0
+  PlansWithin files no_plans = Unit {0}
+  PlansWithin files (plan place p ps) = IsIn files place × PlanWithin files p × PlansWithin files ps
