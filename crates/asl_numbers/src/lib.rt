@@ -1,0 +1,4 @@
+//! The numbers of a program's nodes.
+#![tactic(auto)]
+
+pub mod number;

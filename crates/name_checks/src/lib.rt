@@ -1,0 +1,4 @@
+//! The errors of a block's names.
+#![tactic(auto)]
+
+pub mod check;

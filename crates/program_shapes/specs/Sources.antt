@@ -1,0 +1,51 @@
+-- What the one block of a source says, and its table.
+use Rattle.std.specs.Prelude.{◌≡◌, ℕ, ◌%◌, List, []}
+use Rattle.acpi_values.specs.declared.width.Width.TheVariants.{W64}
+use Rattle.asl_tree.specs.Tree.{Trees}
+use Rattle.asl_meaning.specs.Declarations.{known_of, externals}
+use Rattle.aml_code.specs.Header.{HeaderFields, table_bytes, IsHeader}
+use Rattle.aml_meaning.specs.Encoded.{encoded_all}
+use Rattle.aml_meaning.specs.ByteSession.{IsFaithful}
+use Rattle.acpi_names.specs.Errors.{name_errors, type_errors}
+use Rattle.named_sessions.specs.Core.{core_of}
+use Rattle.asl_parser.specs.declared.raw.Raw.{Raw}
+use Rattle.asl_shape.specs.Written.{writtens}
+use Rattle.asl_shape.specs.Plans.{Plans, plan_at, text_of, number_of}
+use Rattle.asl_shape.specs.Forms.{errors_at, args_of, terms_of}
+use Rattle.asl_numbers.specs.Numbers.{numbered_all}
+
+-- its terms, each node with its number
+abbrev pub terms_in : List Raw → Trees
+terms_in items = numbered_all 0 (terms_of (writtens items))
+
+-- what the arguments of a definition block say of the table's header (ACPI Specification 6.4, 19.6.29)
+abbrev pub stated_by : Plans → HeaderFields
+stated_by args = record {
+  signature = text_of (plan_at args 1);
+  revision = number_of (plan_at args 2) % 256;
+  oem_id = text_of (plan_at args 3);
+  table_id = text_of (plan_at args 4);
+  oem_revision = number_of (plan_at args 5) % 4294967296;
+}
+
+abbrev pub fields_in : List Raw → HeaderFields
+fields_in items = stated_by (args_of (writtens items))
+
+-- its table: the header, and the bytes of its terms with their names spelled
+abbrev pub table_in : List Raw → List ℕ
+table_in items = table_bytes (fields_in items) (encoded_all W64 true (core_of (terms_in items)))
+
+-- nothing is wrong with its form, with its names, nor with how many arguments its calls have
+pub record IsRight (items : List Raw) : Type 0 where
+  pub form : errors_at items ≡ []
+  pub names : name_errors (terms_in items) ≡ []
+  pub counts : type_errors (terms_in items) ≡ []
+
+-- for every bound, answers and calls that may be asked, whatever other tables are there, every session over the bytes is the program's
+abbrev pub DoesAs : Trees → List ℕ → Type 0
+DoesAs program bytes = IsFaithful W64 (known_of program) (externals program) program bytes
+
+-- bytes that begin with the header that the source states, and that do what it says
+pub record IsTableOf (items : List Raw) (bytes : List ℕ) : Type 0 where
+  pub header : IsHeader bytes (fields_in items)
+  pub faithful : DoesAs (terms_in items) bytes
