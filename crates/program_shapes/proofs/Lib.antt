@@ -12,5 +12,6 @@ pub mod Kept
 pub mod Lexed
 pub mod Few
 pub mod Places
+pub mod TreePlaces
 pub mod Blocks
 pub mod Headers
