@@ -12,3 +12,4 @@ pub mod Kept
 pub mod Lexed
 pub mod Blocks
 pub mod Headers
+pub mod Tables
