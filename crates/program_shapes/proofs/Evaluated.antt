@@ -1,5 +1,5 @@
 -- An argument that has to be a constant stands as one.
-use Rattle.std.proofs.Common.{◌≡◌, ℕ, ◌≤◌, Bool, true, false, List, [], ◌∷◌, Ok, Err, refl, sym}
+use Rattle.std.proofs.Common.{◌≡◌, ℕ, ◌≤◌, Bool, true, false, List, [], ◌∷◌, Ok, Err, refl, subst}
 use Rattle.std.specs.Prelude.{nat_le, ◌&&◌, if◌then◌else◌, Result}
 use Rattle.std.proofs.lemmas.Bool.{leb-true}
 use Rattle.iasl_messages.specs.declared.place.Place.{Place}
@@ -7,16 +7,15 @@ use Rattle.asl_tree.specs.declared.constant.NoConstant.{NoConstant}
 use Rattle.asl_tree.specs.declared.term.Op.{Op}
 use Rattle.asl_tree.specs.declared.term.Literal.{Literal}
 use Rattle.asl_tree.specs.declared.term.Special.TheVariants as Special
-use Rattle.asl_tree.specs.declared.term.Term.{Term}
-use Rattle.asl_tree.specs.declared.term.Term as D
 use Rattle.asl_tree.specs.Tree.{At, Tree, Integer, Omitted, Use, Package, VarPackage, Trees, no_trees, tree, count}
-use Rattle.asl_tree.specs.View.{form, tree_of, row_trees, counted}
+use Rattle.asl_tree.specs.View.{form, counted}
 use Rattle.aml_sessions.specs.Ready.{is_expression, is_constant}
 use Rattle.asl_shape.specs.declared.operator.Slot.{Slot}
 use Rattle.asl_shape.specs.declared.operator.Slot.TheVariants as slot
-use Rattle.asl_shape.specs.Plans.{Plan, an_integer, a_text, omitted, a_name, a_form, Plans, plan_of, is_omitted, constant_of}
+use Rattle.asl_shape.specs.Plans.{Plan, an_integer, a_text, omitted, a_name, a_form, Plans, is_omitted, constant_of}
 use Rattle.asl_shape.specs.Shapes.{Shaped, fine, refused, nowhere, valued, is_member, evaluated, after, checked}
 use Rattle.program_shapes.proofs.Fits.{Fits, IsAtMost}
+use Rattle.asl_numbers.specs.Numbers.{numbered, numbered_all}
 use Rattle.program_shapes.proofs.Plans.{PlanAs, integer_as, text_as, name_as, form_as}
 
 -- how a part is read before it is evaluated
@@ -44,8 +43,8 @@ is_left_out _ e = absurd cc
 
 -- what is left out is no expression
 never : (p : Plan) → is_omitted p ≡ true → PlanAs (Fits slot.Expression) p → ⊥
-unfolding plan_of tree_of
-never p e h = none (h here D.Omitted (sym (is_left_out p e))).0
+unfolding numbered
+never p e h = none (subst (PlanAs (Fits slot.Expression)) (is_left_out p e) h here 0).0
   where
     none : false ≡ true → ⊥
     none e = absurd cc
@@ -92,12 +91,12 @@ package_constant at (tree _ no_trees) bs = λ e. refl
 package_constant at (tree t (tree u us)) bs = λ e. absurd cc
 
 form_member : (op : Op) (ps bs : Plans) → ((at : At) (ts us : Trees) → ConstantIfValue (form at op ts us)) → PlanAs (Fits slot.Expression) (a_form op ps bs) → PlanAs (Fits slot.Element) (a_form op ps bs)
-form_member op ps bs k h = λ at t e. element_of (tree_of at t) (form_as ConstantIfValue op ps bs (λ at m n row body e f. k at (row_trees row) (row_trees body)) at t e (h at t e).0) (h at t e)
+form_member op ps bs k h = λ at n. element_of (numbered at n (a_form op ps bs)) (form_as ConstantIfValue op ps bs (λ at m n. k at (numbered_all m ps) (numbered_all n bs)) at n (h at n).0) (h at n)
 
 member_fit : (p : Plan) → is_member p ≡ true → PlanAs (Fits slot.Expression) p → PlanAs (Fits slot.Element) p
-unfolding plan_of tree_of
-member_fit (a_text bytes) e h = text_as (Fits slot.Element) bytes (refl, (h here (D.Text bytes) refl).1)
-member_fit (a_name path) e h = name_as (Fits slot.Element) path (λ at. (h at (D.Name path) refl).1)
+unfolding numbered
+member_fit (a_text bytes) e h = text_as (Fits slot.Element) bytes (refl, (h here 0).1)
+member_fit (a_name path) e h = name_as (Fits slot.Element) path (λ at. (h at 0).1)
 member_fit (a_form (Op.Literal l) ps bs) e h = form_member (Op.Literal l) ps bs (λ at ts us. literal_constant at l ts us) h
 member_fit (a_form (Op.Special Special.Buffer) ps bs) e h = form_member (Op.Special Special.Buffer) ps bs buffer_constant h
 member_fit (a_form (Op.Special Special.Package) ps bs) e h = form_member (Op.Special Special.Package) ps bs package_constant h

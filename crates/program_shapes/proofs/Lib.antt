@@ -15,3 +15,4 @@ pub mod Places
 pub mod TreePlaces
 pub mod Blocks
 pub mod Headers
+pub mod Tables

@@ -18,7 +18,7 @@ use Rattle.asl_tree.specs.declared.term.Control.{Control}
 use Rattle.asl_tree.specs.declared.term.Declaration.{Declaration}
 use Rattle.asl_tree.specs.declared.term.Special.TheVariants as Special
 use Rattle.asl_tree.specs.Tree.{At, Tree, Integer, String, Omitted, Package, VarPackage, Trees, no_trees, tree, count}
-use Rattle.asl_tree.specs.View.{form, tree_of, row_trees, counted}
+use Rattle.asl_tree.specs.View.{form, counted}
 use Rattle.aml_code.specs.Fronts.{IsUsedName}
 use Rattle.aml_sessions.specs.Ready.{is_expression, IsText}
 use Rattle.named_sessions.specs.Shaped.{IsShaped, IsShapedSpot, AreShapedValues}
@@ -42,6 +42,7 @@ use Rattle.program_shapes.proofs.Plains.{plain_made, index_spot, deref_spot}
 use Rattle.program_shapes.proofs.Forms.{Two, two, two_of}
 use Rattle.program_shapes.proofs.Operators.{SettledFit, BodyFit, IsBuilt, form_made}
 use Rattle.program_shapes.proofs.Words.{IsRightKnown, IsRightMeaning, both_true}
+use Rattle.asl_numbers.specs.Numbers.{numbered, numbered_all}
 use Rattle.program_shapes.proofs.Plans.{PlanAs, PlansAs, PlansFit, integer_as, text_as, local_as, arg_as, debug_as, name_as, call_as, form_as}
 use Rattle.program_shapes.proofs.Settled.{settled_fit}
 use Rattle.program_shapes.proofs.Evaluated.{loose}
@@ -109,10 +110,10 @@ path_fit _ at (Some path) h t e = absurd cc
 pub call_fit : (s : Slot) (at : Place) (o : Option Path) (args : Shaped Plans) → IfSome o IsUsedName → takes_expression s ≡ true → (args.faults ≡ [] → PlansAs (AreShapedValues W64) args.made) → (call_shape at o args).faults ≡ []
     → PlanAs (Fits (loose s)) (call_shape at o args).made
 call_fit s at None args h t k e = absurd cc
-call_fit slot.Expression at (Some path) args h t k e = call_as (Fits slot.Expression) path args.made (λ at m row f. (refl, (h, k e m row f)))
-call_fit (slot.Constant least most) at (Some path) args h t k e = call_as (Fits slot.Expression) path args.made (λ at m row f. (refl, (h, k e m row f)))
-call_fit slot.Element at (Some path) args h t k e = call_as (Fits slot.Expression) path args.made (λ at m row f. (refl, (h, k e m row f)))
-call_fit (slot.Term behind) at (Some path) args h t k e = call_as (IsShaped W64) path args.made (λ at m row f. (h, k e m row f))
+call_fit slot.Expression at (Some path) args h t k e = call_as (Fits slot.Expression) path args.made (λ at m. (refl, (h, k e m)))
+call_fit (slot.Constant least most) at (Some path) args h t k e = call_as (Fits slot.Expression) path args.made (λ at m. (refl, (h, k e m)))
+call_fit slot.Element at (Some path) args h t k e = call_as (Fits slot.Expression) path args.made (λ at m. (refl, (h, k e m)))
+call_fit (slot.Term behind) at (Some path) args h t k e = call_as (IsShaped W64) path args.made (λ at m. (h, k e m))
 call_fit _ at (Some path) args h t k e = absurd cc
 
 pub known_fit : (s : Slot) (k : Known) → IsRightKnown k → takes_known s k ≡ true → PlanAs (Fits (loose s)) (known_plan s k)
@@ -222,7 +223,7 @@ value_made at (Op.Control op) ts body i h b e = absurd (control_value op e)
 
 pub form_fit : (op : Op) (at : Place) (gs bs : Shaped Plans) → IsBuilt op → (gs.faults ≡ [] → PlansFit (parameters_of op) gs.made) → (bs.faults ≡ [] → PlansAs (BodyFit (body_of op)) bs.made) → (form_shape op at gs bs).faults ≡ []
     → PlanAs (OpFits op) (form_shape op at gs bs).made
-form_fit op at gs bs i h k e = form_as (OpFits op) op (settled op at gs.made) bs.made (λ here m n row body f g. made here (row_trees row) (row_trees body) (settled_fit op at gs.made (h (none_in gs.faults bs.faults e).0) m row f) (k (none_in gs.faults bs.faults e).1 n body g))
+form_fit op at gs bs i h k e = form_as (OpFits op) op (settled op at gs.made) bs.made (λ here m n. made here (numbered_all m (settled op at gs.made)) (numbered_all n bs.made) (settled_fit op at gs.made (h (none_in gs.faults bs.faults e).0) m) (k (none_in gs.faults bs.faults e).1 n))
   where
     made : (here : At) (ts body : Trees) → SettledFit op ts → BodyFit (body_of op) body → OpFits op (form here op ts body)
     made here ts body a b = record { value = value_made here op ts body i a b; spot = spot_made here op ts body a b; shaped = form_made here op ts body i a b }
@@ -265,7 +266,7 @@ pub read_fit : (s : Slot) (at : Place) (text : List ℕ) (m : Meaning) (called :
 read_fit s at text (is.Operator op) called calls form right path h k e = by (takes_role s (role_of op)) refl e
   where
     by : (b : Bool) → takes_role s (role_of op) ≡ b → (read_shape s at text (unless_wrong b (read.Form op)) calls form).faults ≡ [] → PlanAs (Fits (loose s)) (read_shape s at text (unless_wrong b (read.Form op)) calls form).made
-    by true t e = λ here term f. role_fit s op t (tree_of here term) (k op refl e here term f)
+    by true t e = λ here n. role_fit s op t (numbered here n (form op).made) (k op refl e here n)
     by false t e = absurd cc
 read_fit s at text (is.Known known) called calls form right path h k e = by (takes_known s known) refl e
   where

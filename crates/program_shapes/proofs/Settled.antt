@@ -8,7 +8,7 @@ use Rattle.asl_tree.specs.declared.term.Declaration.TheVariants as Declaration
 use Rattle.asl_tree.specs.declared.term.Control.TheVariants as Control
 use Rattle.asl_tree.specs.declared.term.Literal.TheVariants as Literal
 use Rattle.asl_tree.specs.Tree.{At, Tree, Trees, no_trees}
-use Rattle.asl_tree.specs.View.{form, row_trees}
+use Rattle.asl_tree.specs.View.{form}
 use Rattle.asl_shape.specs.declared.operator.Parameter.{Parameter}
 use Rattle.asl_shape.specs.declared.operator.Slot.TheVariants as slot
 use Rattle.asl_shape.specs.Operators.{asked, expression, declared, external, constant, parameters_of}
@@ -17,6 +17,7 @@ use Rattle.asl_shape.specs.Shapes.{settled, method_flags, is_stated, one_plan, z
 use Rattle.program_shapes.proofs.Fits.{Fits, TreesFit, IsAtMost, IsNumber}
 use Rattle.program_shapes.proofs.Forms.{Two, two, two_of, Three, three, three_of}
 use Rattle.program_shapes.proofs.Operators.{SettledFit, ExternalFit}
+use Rattle.asl_numbers.specs.Numbers.{numbered_all}
 use Rattle.program_shapes.proofs.Plans.{PlanAs, PlansAs, PlanTakes, PlansFit, integer_as, form_as, none_as, fits_as}
 
 flags_fit : (a b c : ℕ) → a % 8 + 8 * (b % 2) + 16 * (c % 16) ≤ 255
@@ -44,7 +45,7 @@ is_there _ e h = absurd cc
 
 -- Zero
 pub literal_as : (P : Tree → Type 0) (op : Op) → ((at : At) → P (form at op no_trees no_trees)) → PlanAs P (a_form op no_plans no_plans)
-literal_as P op h = form_as P op no_plans no_plans (λ at m n row body e f. made at (row_trees row) (row_trees body) (none_as (λ ts. ts ≡ no_trees) refl m row e) (none_as (λ ts. ts ≡ no_trees) refl n body f))
+literal_as P op h = form_as P op no_plans no_plans (λ at m n. made at (numbered_all m no_plans) (numbered_all n no_plans) (none_as (λ ts. ts ≡ no_trees) refl m) (none_as (λ ts. ts ≡ no_trees) refl n))
   where
     made : (at : At) (ts bs : Trees) → ts ≡ no_trees → bs ≡ no_trees → P (form at op ts bs)
     made at ts bs e f = subst (λ ts. P (form at op ts bs)) (sym e) (subst (λ bs. P (form at op no_trees bs)) (sym f) (h at))
@@ -61,12 +62,12 @@ external_fit : (place at : Place) (p q : Plan) (n m : ℕ) → PlanAs (Fits slot
 external_fit place at p q n m h = by (is_stated q)
   where
     by : (b : Bool) → PlansAs ExternalFit (plan at p (plan place (an_integer n) (if b then one_plan place (an_integer (number_of q)) else no_plans)))
-    by true = λ m row e.
-        external_three (row_trees row) (three_of external types types (row_trees row)
-        (fits_as (external ∷ types ∷ types ∷ []) (plan at p (plan place (an_integer n) (plan place (an_integer (number_of q)) no_plans))) (h, (integer_as IsNumber n tt, (integer_as IsNumber (number_of q) tt, tt))) m row e))
-    by false = λ m row e.
-        external_two (row_trees row) (two_of external types (row_trees row)
-        (fits_as (external ∷ types ∷ []) (plan at p (plan place (an_integer n) no_plans)) (h, (integer_as IsNumber n tt, tt)) m row e))
+    by true = λ m.
+        external_three (numbered_all m (plan at p (plan place (an_integer n) (plan place (an_integer (number_of q)) no_plans)))) (three_of external types types (numbered_all m (plan at p (plan place (an_integer n) (plan place (an_integer (number_of q)) no_plans))))
+        (fits_as (external ∷ types ∷ types ∷ []) (plan at p (plan place (an_integer n) (plan place (an_integer (number_of q)) no_plans))) (h, (integer_as IsNumber n tt, (integer_as IsNumber (number_of q) tt, tt))) m))
+    by false = λ m.
+        external_two (numbered_all m (plan at p (plan place (an_integer n) no_plans))) (two_of external types (numbered_all m (plan at p (plan place (an_integer n) no_plans)))
+        (fits_as (external ∷ types ∷ []) (plan at p (plan place (an_integer n) no_plans)) (h, (integer_as IsNumber n tt, tt)) m))
 
 pub settled_fit : (op : Op) (place : Place) (ps : Plans) → PlansFit (parameters_of op) ps → PlansAs (SettledFit op) (settled op place ps)
 unfolding parameters_of

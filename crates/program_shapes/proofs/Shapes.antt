@@ -7,7 +7,7 @@ use Rattle.acpi_values.specs.Widths.{ones_of}
 use Rattle.acpi_values.specs.declared.width.Width.TheVariants.{W64}
 use Rattle.asl_tree.specs.declared.term.Op.{Op}
 use Rattle.asl_tree.specs.Tree.{Tree, Integer, String, Trees, no_trees, tree, count}
-use Rattle.asl_tree.specs.View.{row_trees, body_bytes, listed as bytes_listed}
+use Rattle.asl_tree.specs.View.{body_bytes, listed as bytes_listed}
 use Rattle.named_sessions.specs.Shaped.{IsShaped, AreShaped, AreShapedElements, AreShapedValues}
 use Rattle.asl_shape.specs.declared.operator.Parameter.{Parameter}
 use Rattle.asl_shape.specs.declared.operator.Slot.{Slot}
@@ -27,6 +27,7 @@ use Rattle.program_shapes.specs.Kept.{IsKept, AreArguments, EachArgument, AreMem
 use Rattle.program_shapes.proofs.Fits.{Fits, IsAtMost, IsNumber}
 use Rattle.program_shapes.proofs.Operators.{BodyFit}
 use Rattle.program_shapes.proofs.Words.{path_ok, meaning_ok, both_true, IsRightMeaning}
+use Rattle.asl_numbers.specs.Numbers.{numbered_all}
 use Rattle.program_shapes.proofs.Plans.{PlanAs, PlansAs, PlanTakes, PlansFit, none_as, more_as, count_as}
 use Rattle.program_shapes.proofs.Evaluated.{loose, checked_fit}
 use Rattle.program_shapes.proofs.Parts.{none_in, number_fit, text_fit, string_fit, listed_fit, form_fit, read_fit, item_fit, has_call}
@@ -111,10 +112,10 @@ is_number most _ h = absurd h
 -- bytes that are numbers
 numbers_fit : (inside : Bool) (ws : Writtens) → PlansAs AreNumbers (members (slot.Constant 0 255) inside ws).made → shapes.count ws ≤ ones_of W64
     → PlansAs (λ ts. length (body_bytes ts) ≤ ones_of W64) (members (slot.Constant 0 255) inside ws).made
-numbers_fit inside ws h lt = λ m row e.
-    let all : count (row_trees row) ≡ how_many (members (slot.Constant 0 255) inside ws).made = count_as (members (slot.Constant 0 255) inside ws).made m row e in
+numbers_fit inside ws h lt = λ m.
+    let all : count (numbered_all m (members (slot.Constant 0 255) inside ws).made) ≡ how_many (members (slot.Constant 0 255) inside ws).made = count_as (members (slot.Constant 0 255) inside ws).made m in
     let some : how_many (members (slot.Constant 0 255) inside ws).made ≤ shapes.count ws = few (slot.Constant 0 255) inside ws in
-    let same : length (body_bytes (row_trees row)) ≡ count (row_trees row) = bytes_count (row_trees row) (h m row e) in
+    let same : length (body_bytes (numbered_all m (members (slot.Constant 0 255) inside ws).made)) ≡ count (numbered_all m (members (slot.Constant 0 255) inside ws).made) = bytes_count (numbered_all m (members (slot.Constant 0 255) inside ws).made) (h m) in
     omega (arith, all, some, same, lt)
 
 abbrev IsString' : Tree → Type 0
@@ -225,9 +226,9 @@ mutual
   contents_fit braces.Bytes inside at (given ws) k e = list_fit (BodyFit braces.Bytes) (is_listed true ws) at (members (byte_slot ws) inside ws) (λ f. bytes_fit inside ws k.0 k.1 (λ g. octets_fit inside ws k.0 g) f) e
   contents_fit braces.Elements inside at (given ws) k e =
       list_fit (BodyFit braces.Elements) (is_listed true ws) at (members slot.Element inside ws)
-      (λ f. λ m row g. (
-        elements_fit inside ws k.0 f m row g,
-        (let all : count (row_trees row) ≡ how_many (members slot.Element inside ws).made = count_as (members slot.Element inside ws).made m row g in
+      (λ f. λ m. (
+        elements_fit inside ws k.0 f m,
+        (let all : count (numbered_all m (members slot.Element inside ws).made) ≡ how_many (members slot.Element inside ws).made = count_as (members slot.Element inside ws).made m in
             let some : how_many (members slot.Element inside ws).made ≤ shapes.count ws = few slot.Element inside ws in
             let lt : shapes.count ws ≤ ones_of W64 = k.1 in
             omega (arith, all, some, lt)),

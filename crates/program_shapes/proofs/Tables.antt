@@ -1,5 +1,5 @@
 -- The table of a source in which nothing is wrong does what the source says.
-use Rattle.std.proofs.Common.{◌≡◌, ℕ, ◌+◌, ◌≤◌, ◌<◌, ◌^◌, List, [], length, ◌++◌, ap, ◌∙◌, sym, arith, length-append, true}
+use Rattle.std.proofs.Common.{◌≡◌, ◌+◌, ◌≤◌, List, [], length, ◌++◌, arith, length-append, true}
 use Rattle.std.proofs.lemmas.Nat.{mod_below}
 use Rattle.acpi_values.specs.declared.width.Width.TheVariants.{W64}
 use Rattle.aml_code.specs.Header.{header_length, checksum_of, header_with}
@@ -11,16 +11,15 @@ use Rattle.named_sessions.proofs.Main.{is_faithful}
 use Rattle.asl_parser.specs.declared.raw.Raw.{Raw}
 use Rattle.asl_shape.specs.Written.{writtens}
 use Rattle.asl_shape.specs.Plans.{plan_at, number_of}
-use Rattle.asl_shape.specs.Forms.{errors_at, args_of, terms_of}
+use Rattle.asl_shape.specs.Forms.{errors_at, args_of}
 use Rattle.program_shapes.specs.Kept.{IsKeptSource}
 use Rattle.program_shapes.specs.Sources.{terms_in, fields_in, table_in, IsRight, IsTableOf}
 use Rattle.program_shapes.proofs.Blocks.{terms_as, room_in}
 use Rattle.program_shapes.proofs.Headers.{HaveRoom}
-use Rattle.program_shapes.proofs.Numbered.{numbered_as}
 
 pub terms_are_shaped : (items : List Raw) → errors_at items ≡ [] → IsKeptSource (writtens items) → AreShaped W64 (terms_in items)
 unfolding errors_at
-terms_are_shaped items e k = numbered_as (AreShaped W64) 0 (terms_of (writtens items)) (terms_as (writtens items) e k)
+terms_are_shaped items e k = terms_as (writtens items) e k 0
 
 pub does_as : (items : List Raw) → IsRight items → IsKeptSource (writtens items) → length (table_in items) ≤ 16777216 → IsTableOf items (table_in items)
 unfolding errors_at

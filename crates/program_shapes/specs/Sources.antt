@@ -1,5 +1,5 @@
 -- What the one block of a source says, and its table.
-use Rattle.std.specs.Prelude.{◌≡◌, ℕ, ◌%◌, List, []}
+use Rattle.std.specs.Prelude.{◌≡◌, ℕ, ◌%◌, true, List, []}
 use Rattle.acpi_values.specs.declared.width.Width.TheVariants.{W64}
 use Rattle.asl_tree.specs.Tree.{Trees}
 use Rattle.asl_meaning.specs.Declarations.{known_of, externals}
