@@ -1,5 +1,5 @@
 -- The table of a block does what the block does.
-use Rattle.std.proofs.Common.{◌≡◌, ◌+◌, ◌≤◌, ◌<◌, true, length, ◌++◌, arith, length-append}
+use Rattle.std.proofs.Common.{◌+◌, ◌≤◌, true, length, ◌++◌, arith, length-append}
 use Rattle.acpi_values.specs.declared.width.Width.TheVariants.{W64}
 use Rattle.asl_tree.specs.declared.program.Block.{Block}
 use Rattle.aml_code.specs.Header.{header_length, checksum_of, header_with, fields_of}

@@ -4,3 +4,4 @@ pub mod Chains
 pub mod Settles
 pub mod Main
 pub mod Blocks
+pub mod Core
