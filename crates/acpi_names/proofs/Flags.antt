@@ -79,7 +79,7 @@ marked paths named n distinct lt size path = by_number (number_in paths path) re
         ap (is_flagged (set named n true)) h ∙ by_place m (nat_eq m n) refl h
         ∙ sym (ap (λ o. is_same_path path (get_or paths n []) || is_flagged named o) h)
 
-candidates_same : (has other : AbsolutePath → Bool) → ((path : AbsolutePath) → has path ≡ other path) → (paths : List AbsolutePath) → candidates has paths ≡ candidates other paths
+pub candidates_same : (has other : AbsolutePath → Bool) → ((path : AbsolutePath) → has path ≡ other path) → (paths : List AbsolutePath) → candidates has paths ≡ candidates other paths
 candidates_same has other h [] = refl
 candidates_same has other h (path ∷ paths) =
     ap (λ c. if c then path ∷ candidates has paths else candidates has paths) (h path)

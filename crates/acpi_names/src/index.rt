@@ -31,7 +31,7 @@ pub struct Index {
 }
 
 /// The number of the path of these segments below a scope; nothing more is named.
-fn reach(index: &mut Index, scope: usize, segs: &[NameSeg]) -> Result<usize, AllocError>
+pub(crate) fn reach(index: &mut Index, scope: usize, segs: &[NameSeg]) -> Result<usize, AllocError>
     requires scope_in { scope < length index.old.paths }
     requires all { length index.old.named.items ≡ length index.old.paths }
     ensures size { OnOk result (length index.new.named.items ≡ length index.new.paths) }

@@ -6,3 +6,4 @@ pub mod Main
 pub mod Terms
 pub mod Blocks
 pub mod Places
+pub mod Core

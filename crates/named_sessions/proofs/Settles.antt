@@ -101,7 +101,7 @@ or_true false true = refl
 or_true false false = refl
 
 -- what is known is what is declared, of another table, or of the root
-known_is_named : (program : Trees) (path : AbsolutePath) → is_known (known_of program) path ≡ is_named (declarations program) path
+pub known_is_named : (program : Trees) (path : AbsolutePath) → is_known (known_of program) path ≡ is_named (declarations program) path
 known_is_named program [] = sym (or_true _ _)
 known_is_named program (seg ∷ scope) =
     let d = declarations program in

@@ -1,0 +1,22 @@
+-- A block whose names are spelled by the names that are declared is its core.
+use Rattle.std.proofs.Common.{◌≡◌, ℕ, Bool, List, [], Option, sym, ap, ◌∙◌}
+use mathlib.Core.Path.{fun_ext}
+use Rattle.acpi_values.specs.Paths.{AbsolutePath}
+use Rattle.acpi_state.specs.Objects.{lookup}
+use Rattle.asl_tree.specs.Tree.{Trees}
+use Rattle.asl_meaning.specs.Declarations.{declarations, is_named}
+use Rattle.acpi_names.specs.Errors.{whole_of}
+use Rattle.acpi_names.specs.Parts.{Agrees}
+use Rattle.acpi_names.specs.Spelled.{spelled_all}
+use Rattle.acpi_names.specs.Spelling.{SpellsAll}
+use Rattle.acpi_names.specs.Tables.{Tabled}
+use Rattle.named_sessions.specs.Core.{says_of, core_of}
+use Rattle.named_sessions.proofs.Settles.{known_is_named}
+
+-- what is known of a program is what it declares
+pub spelled_core : (program : Trees) → spelled_all (is_named (declarations program)) (says_of program) program [] ≡ core_of program
+spelled_core program = ap (λ has. spelled_all has (says_of program) program []) (fun_ext (λ path. sym (known_is_named program path)))
+
+-- so what is spelled by the flags of the declarations and a table of the calls is the core
+pub core_spelled : (paths : List AbsolutePath) (named : List Bool) (table : List (Option ℕ)) (program spelt : Trees) → SpellsAll paths named table program spelt [] → Agrees paths named (declarations program) → Tabled paths table (lookup (whole_of program).calls) → spelt ≡ core_of program
+core_spelled paths named table program spelt spells agrees tabled = spells (declarations program) (whole_of program).calls agrees tabled ∙ spelled_core program
