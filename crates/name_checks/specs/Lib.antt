@@ -1,0 +1,4 @@
+pub mod Kinds
+pub mod Tables
+pub mod Depths
+pub mod Facts

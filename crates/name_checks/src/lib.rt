@@ -1,0 +1,6 @@
+//! What is wrong with the names of a block.
+#![tactic(auto)]
+
+pub mod facts;
+pub mod kind;
+pub mod tables;
