@@ -2,3 +2,5 @@ pub mod Kinds
 pub mod Tables
 pub mod Depths
 pub mod Facts
+pub mod Messages
+pub mod Faults

@@ -2,5 +2,6 @@
 #![tactic(auto)]
 
 pub mod facts;
+pub mod fault;
 pub mod kind;
 pub mod tables;
