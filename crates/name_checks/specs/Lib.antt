@@ -4,3 +4,5 @@ pub mod Depths
 pub mod Facts
 pub mod Messages
 pub mod Faults
+pub mod Calls
+pub mod Refusals
