@@ -5,38 +5,32 @@ use Rattle.iasl_messages.specs.declared.message.Message.{Message}
 use Rattle.name_checks.specs.Faults.{fault_as}
 use Rattle.name_checks.specs.declared.fault.Fault.{Fault}
 use Rattle.asl_tree.specs.Tree.{Trees}
-use Rattle.asl_meaning.specs.Declarations.{is_named, called, nothing_declared}
+use Rattle.asl_meaning.specs.Declarations.{declarations, is_named, called, nothing_declared}
 use Rattle.acpi_names.specs.Errors.{NameError, Whole, whole_of, name_errors, type_errors}
 use Rattle.acpi_names.specs.Mentions.{Mention, block_mentions, calls_in, all_errors, all_types, after_all}
 use Rattle.acpi_names.specs.Terms.{are_terms}
 use Rattle.acpi_names.proofs.Mentions.{after_block}
 use Rattle.acpi_names.proofs.MentionErrors.{block_errors, block_calls}
 use Rattle.acpi_names.proofs.MentionTypes.{block_types}
-use Rattle.name_checks.specs.Facts.{IsKnown}
+use Rattle.name_checks.specs.Seen.{known_with, seen, seen_errors}
 use Rattle.name_checks.specs.Messages.{message_of, first_errors, told_errors}
 
-pub block_all : (whole : Whole) (terms : Trees) (ms : List Mention) → whole ≡ whole_of terms → ms ≡ block_mentions terms [] nothing_declared → after_all ms nothing_declared ≡ whole.all
-block_all whole terms ms e h = ap (λ ms. after_all ms nothing_declared) h ∙ after_block terms [] nothing_declared ∙ ap (λ w. w.all) (sym e)
+-- the mentions of a block say what is known of it
+pub block_seen : (terms : Trees) → are_terms terms ≡ true → seen (block_mentions terms [] nothing_declared) ≡ whole_of terms
+block_seen terms are =
+    ap (λ all. known_with all (called (calls_in (is_named all) (block_mentions terms [] nothing_declared)))) (after_block terms [] nothing_declared)
+    ∙ ap (λ calls. known_with (declarations terms) (called calls)) (sym (block_calls (is_named (declarations terms)) terms are [] nothing_declared))
 
-pub block_called : (whole : Whole) (terms : Trees) (ms : List Mention) → are_terms terms ≡ true → whole ≡ whole_of terms → ms ≡ block_mentions terms [] nothing_declared → called (calls_in (is_named whole.all) ms) ≡ whole.calls
-block_called whole terms ms are e h =
-    ap (λ w. called (calls_in (is_named w.all) ms)) e
-    ∙ ap (λ ms. called (calls_in (is_named (whole_of terms).all) ms)) h
-    ∙ ap called (sym (block_calls (is_named (whole_of terms).all) terms are [] nothing_declared))
-    ∙ ap (λ w. w.calls) (sym e)
-
-pub block_known : (whole : Whole) (terms : Trees) → whole ≡ whole_of terms → IsKnown whole
-block_known whole terms e = subst IsKnown (sym e) refl
-
-pub block_told : (whole : Whole) (terms : Trees) (ms : List Mention) → are_terms terms ≡ true → whole ≡ whole_of terms → ms ≡ block_mentions terms [] nothing_declared → first_errors (all_errors whole ms nothing_declared) (all_types whole ms) ≡ first_errors (name_errors terms) (type_errors terms)
-block_told whole terms ms are e h =
-    ap (λ w. first_errors (all_errors w ms nothing_declared) (all_types w ms)) e
-    ∙ ap (λ ms. first_errors (all_errors (whole_of terms) ms nothing_declared) (all_types (whole_of terms) ms)) h
-    ∙ ap (λ es. first_errors es (all_types (whole_of terms) (block_mentions terms [] nothing_declared))) (sym (block_errors (whole_of terms) terms are [] nothing_declared))
+-- the errors of a block are those of its mentions
+pub block_told : (terms : Trees) → are_terms terms ≡ true → seen_errors (block_mentions terms [] nothing_declared) ≡ told_errors terms
+block_told terms are =
+    let ms = block_mentions terms [] nothing_declared in
+    ap (λ w. map message_of (first_errors (all_errors w ms nothing_declared) (all_types w ms))) (block_seen terms are)
+    ∙ ap (λ es. map message_of (first_errors es (all_types (whole_of terms) ms))) (sym (block_errors (whole_of terms) terms are [] nothing_declared))
     ∙ by_names (name_errors terms) refl
   where
-    by_names : (es : List NameError) → name_errors terms ≡ es → first_errors es (all_types (whole_of terms) (block_mentions terms [] nothing_declared)) ≡ first_errors es (type_errors terms)
-    by_names [] none = sym (block_types (whole_of terms) terms are [] nothing_declared none)
+    by_names : (es : List NameError) → name_errors terms ≡ es → map message_of (first_errors es (all_types (whole_of terms) (block_mentions terms [] nothing_declared))) ≡ map message_of (first_errors es (type_errors terms))
+    by_names [] none = ap (map message_of) (sym (block_types (whole_of terms) terms are [] nothing_declared none))
     by_names (x ∷ es) some = refl
 
 -- nothing is told where nothing is wrong, and only there
@@ -54,6 +48,9 @@ no_items {A} (x ∷ xs) e = absurd (omega (arith, e))
 
 pub none_wrong : (terms : Trees) (errors : List Message) → errors ≡ told_errors terms → length errors ≡ 0 → (name_errors terms ≡ []) × (type_errors terms ≡ [])
 none_wrong terms errors e h = told_none terms (sym e ∙ no_items errors h)
+
+pub some_wrong : (terms : Trees) (errors : List Message) → errors ≡ told_errors terms → (length errors ≡ 0 → ⊥) → told_errors terms ≡ [] → ⊥
+some_wrong terms errors e some none = some (ap length (e ∙ none))
 
 fused : (paths : List AbsolutePath) (faults : List Fault) → map (λ f. message_of (fault_as paths f)) faults ≡ map message_of (map (fault_as paths) faults)
 fused paths [] = refl

@@ -6,3 +6,4 @@ pub mod Messages
 pub mod Faults
 pub mod Calls
 pub mod Refusals
+pub mod Seen

@@ -4,7 +4,7 @@ ghost use Rattle.acpi_state.specs.Objects.{lookup};
 ghost use Rattle.asl_tree.specs.View.{trees_of};
 ghost use Rattle.asl_meaning.specs.Declarations.{Declarations, is_named, declarations, nothing_declared};
 ghost use Rattle.acpi_names.specs.Errors.{Whole, whole_of, name_errors, type_errors};
-ghost use Rattle.acpi_names.specs.Mentions.{mention_errors as errors_of, all_errors as all_errors_of, mention_types as types_of, all_types as all_types_of, after_all};
+ghost use Rattle.acpi_names.specs.Mentions.{mention_errors as errors_of, all_errors as all_errors_of, mention_types as types_of, all_types as all_types_of, after_all, block_mentions};
 ghost use Rattle.acpi_names.specs.Parts.{Agrees};
 ghost use Rattle.acpi_names.specs.Shown.{shown, all_shown};
 ghost use Rattle.acpi_names.specs.Tables.{Tabled};
@@ -14,6 +14,7 @@ ghost use Rattle.name_checks.specs.Facts.{Knows};
 ghost use Rattle.name_checks.specs.Messages.{message_of, first_errors, told_errors};
 ghost use Rattle.name_checks.specs.Tables.{AreSized, IsThere};
 ghost use Rattle.name_checks.specs.Refusals.{Refuses};
+ghost use Rattle.name_checks.specs.Seen.{seen, seen_errors};
 
 use crate::facts::{Facts, blank, facts_of};
 use crate::fault::{Fault, messages};
@@ -196,22 +197,19 @@ fn faults<'a>(
 
 // The names of a block, and what is wrong with them.
 #[derive(Drop)]
-struct Examined {
-    names: Names,
-    errors: Vec<Message>,
+pub(crate) struct Examined {
+    pub(crate) names: Names,
+    pub(crate) errors: Vec<Message>,
 }
 
-// What there is to say of a block.
-fn examine(alloc: Global, terms: &[Node]) -> Result<Examined, AllocError>
-    ghost whole: { Whole }
-    requires whole { whole ≡ whole_of (trees_of terms.now) }
-    requires terms { are_terms (trees_of terms.now) ≡ true }
+// What there is to say of the names that terms mention.
+pub(crate) fn examine(alloc: Global, terms: &[Node]) -> Result<Examined, AllocError>
     ensures size { IfOk result (λ e. length e.names.index.named.items ≡ length e.names.index.paths) }
     ensures some { IfOk result (λ e. 0 < length e.names.index.paths) }
     ensures root { IfOk result (λ e. get_or e.names.index.paths 0 [] ≡ []) }
     ensures names { IfOk result (λ e. Agrees e.names.index.paths e.names.index.named.items (declarations (trees_of terms.now))) }
-    ensures calls { IfOk result (λ e. Tabled e.names.index.paths e.names.calls.items (lookup (whole_of (trees_of terms.now)).calls)) }
-    ensures told { IfOk result (λ e. e.errors.items ≡ told_errors (trees_of terms.now)) }
+    ensures calls { IfOk result (λ e. Tabled e.names.index.paths e.names.calls.items (lookup (seen (block_mentions (trees_of terms.now) [] nothing_declared)).calls)) }
+    ensures told { IfOk result (λ e. e.errors.items ≡ seen_errors (block_mentions (trees_of terms.now) [] nothing_declared)) }
 {
     let found = names_of(alloc, terms)?;
     let facts = facts_of(alloc, found.index, &found.mentions)?;
@@ -229,7 +227,7 @@ fn examine(alloc: Global, terms: &[Node]) -> Result<Examined, AllocError>
 /// refused with the errors of names, 6040 to 6046, in the order of the terms, or where there are none with those of
 /// kinds, 6051. A want of memory is `Stage::Memory`.
 pub fn check(alloc: Global, terms: &[Node]) -> Result<Names, Stage>
-    requires { are_terms (trees_of terms.now) ≡ true }
+    requires terms { are_terms (trees_of terms.now) ≡ true }
     ensures size { IfOk result (λ n. length n.index.named.items ≡ length n.index.paths) }
     ensures some { IfOk result (λ n. 0 < length n.index.paths) }
     ensures root { IfOk result (λ n. get_or n.index.paths 0 [] ≡ []) }
