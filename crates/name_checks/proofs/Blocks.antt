@@ -1,13 +1,13 @@
 -- A block, and its mentions.
-use Rattle.std.proofs.Common.{◌≡◌, true, List, [], ◌∷◌, map, length, arith, refl, sym, ap, ◌∙◌, subst}
+use Rattle.std.proofs.Common.{◌≡◌, true, List, [], ◌∷◌, map, length, arith, refl, sym, ap, ◌∙◌}
 use Rattle.acpi_values.specs.Paths.{AbsolutePath}
 use Rattle.iasl_messages.specs.declared.message.Message.{Message}
 use Rattle.name_checks.specs.Faults.{fault_as}
 use Rattle.name_checks.specs.declared.fault.Fault.{Fault}
 use Rattle.asl_tree.specs.Tree.{Trees}
 use Rattle.asl_meaning.specs.Declarations.{declarations, is_named, called, nothing_declared}
-use Rattle.acpi_names.specs.Errors.{NameError, Whole, whole_of, name_errors, type_errors}
-use Rattle.acpi_names.specs.Mentions.{Mention, block_mentions, calls_in, all_errors, all_types, after_all}
+use Rattle.acpi_names.specs.Errors.{NameError, whole_of, name_errors, type_errors}
+use Rattle.acpi_names.specs.Mentions.{block_mentions, calls_in, all_errors, all_types}
 use Rattle.acpi_names.specs.Terms.{are_terms}
 use Rattle.acpi_names.proofs.Mentions.{after_block}
 use Rattle.acpi_names.proofs.MentionErrors.{block_errors, block_calls}

@@ -1,14 +1,14 @@
 -- What is looked up in what a block is known to have.
 use Rattle.acpi_names.specs.Errors.{Whole}
 use Rattle.name_checks.specs.Facts.{IsKnown}
-use Rattle.std.proofs.Common.{◌≡◌, ℕ, Bool, true, false, List, [], ◌∷◌, ◌++◌, Option, Some, None, refl, sym, ap, ◌∙◌, arith, zero, suc, ◌+◌, ◌-◌, ◌<◌, length, length-append}
+use Rattle.std.proofs.Common.{◌≡◌, ℕ, Bool, true, false, List, [], ◌∷◌, ◌++◌, Option, Some, None, refl, sym, ap, ◌∙◌, arith, suc, ◌+◌, length, length-append}
 use Rattle.std.specs.Prelude.{◌&&◌, is_some, if◌then◌else◌}
 use Rattle.std.specs.Option.{option_map}
 use Rattle.acpi_values.specs.Paths.{NameSeg, AbsolutePath, is_same_path}
 use Rattle.acpi_state.specs.Objects.{ExternalObject, Names, lookup, as_declared, root_objects, Object}
 use Rattle.acpi_state.specs.Outcomes.{choose}
 use Rattle.acpi_state.proofs.Lookups.{is_same_path-true}
-use Rattle.asl_tree.specs.Names.{Is, Kind, Known, kind_at, end_of, end_by}
+use Rattle.asl_tree.specs.Names.{Is, Kind, Known, kind_at}
 use Rattle.asl_meaning.specs.Declarations.{Declared, ExternalType, kind_of, declared_kinds, external_names, external_object, as_known, is_named}
 use Rattle.name_checks.specs.Kinds.{at_root, kind_from}
 
@@ -125,8 +125,3 @@ known_length whole count known e =
     let kinds = declared_kinds has whole.all.declared in
     let names = external_names whole.calls whole.all.external in
     omega (arith, e, ap length known, length-append kinds (as_known (names ++ root_objects)), kinds_long has whole.all.declared, known_long (names ++ root_objects), length-append names root_objects, names_long whole.calls whole.all.external)
-
--- one alias further
-pub end_next : (known : Known) (n : ℕ) (path : AbsolutePath) (kind : Option Kind) → 0 < n → kind ≡ kind_at known path → end_of known n path ≡ end_by kind path (end_of known (n - 1))
-end_next known zero path kind lt e = absurd (omega (arith, lt))
-end_next known (suc n) path kind lt e = ap (λ k. end_by k path (end_of known n)) (sym e) ∙ ap (λ m. end_by kind path (end_of known m)) (let h : n ≡ suc n - 1 = omega arith in h)

@@ -1,6 +1,6 @@
 -- What a block mentions is named over the whole block.
 use Rattle.acpi_names.proofs.Mentions.{right_nil, after_append}
-use Rattle.std.proofs.Common.{◌≡◌, ℕ, zero, suc, ◌<◌, Bool, true, false, List, [], ◌∷◌, length, get_or, Option, Some, refl, ap, ◌∙◌, subst, arith, take, drop, ◌++◌, ◌≤◌, ◌+◌, None, sym, map}
+use Rattle.std.proofs.Common.{◌≡◌, ℕ, zero, suc, ◌<◌, Bool, true, false, List, [], ◌∷◌, length, get_or, Option, Some, refl, ap, ◌∙◌, subst, arith, take, drop, ◌++◌, ◌≤◌, ◌+◌, None, sym}
 use Rattle.std.proofs.lemmas.List.{take_all, length-map, append_assoc}
 use Rattle.std.specs.Prelude.{◌||◌, is_some, if◌then◌else◌}
 use Rattle.acpi_values.specs.Paths.{AbsolutePath, is_same_path}

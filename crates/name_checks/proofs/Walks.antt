@@ -1,10 +1,10 @@
 -- One mention after another.
-use Rattle.std.proofs.Common.{◌≡◌, ℕ, ◌+◌, ◌<◌, ◌≤◌, List, [], ◌∷◌, ◌++◌, length, get_or, take, drop, map, refl, sym, ap, ◌∙◌, arith}
+use Rattle.std.proofs.Common.{◌≡◌, ℕ, ◌+◌, ◌<◌, ◌≤◌, List, [], ◌∷◌, ◌++◌, length, get_or, take, drop, map, sym, ap, ◌∙◌, arith}
 use Rattle.std.proofs.lemmas.List.{append_assoc, drop_all, length-map}
 use Rattle.acpi_values.specs.Paths.{AbsolutePath}
 use Rattle.asl_meaning.specs.Declarations.{Declarations, nothing_declared}
 use Rattle.acpi_names.specs.Errors.{NameError, Whole}
-use Rattle.acpi_names.specs.Mentions.{Mention, mention_errors, all_errors, mention_types, all_types, after, after_all}
+use Rattle.acpi_names.specs.Mentions.{mention_errors, all_errors, mention_types, all_types, after, after_all}
 use Rattle.acpi_names.specs.Shown.{shown, all_shown}
 use Rattle.acpi_names.specs.declared.mention.Mention.{Mention as CodeMention}
 use Rattle.acpi_names.proofs.Mentions.{after_append, right_nil}

@@ -1,6 +1,5 @@
 -- What code knows of a block.
-use Rattle.std.specs.Prelude.{◌≡◌, ◌+◌, ◌<◌, ◌^◌, ◌++◌, ℕ, List, [], length, get_or, Option, Some, None}
-use Rattle.std.specs.Option.{option_map}
+use Rattle.std.specs.Prelude.{◌≡◌, ◌+◌, ◌<◌, ◌^◌, ◌++◌, List, [], length, get_or, Option, Some, None}
 use Rattle.acpi_values.specs.Paths.{AbsolutePath}
 use Rattle.acpi_state.specs.Objects.{Object, root_objects}
 use Rattle.asl_meaning.specs.Declarations.{is_named, declared_kinds, external_names, as_known}

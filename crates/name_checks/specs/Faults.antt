@@ -1,5 +1,5 @@
 -- Errors in code.
-use Rattle.std.specs.Prelude.{◌≡◌, ◌++◌, Bool, true, false, List, [], ◌∷◌, get_or, map}
+use Rattle.std.specs.Prelude.{◌≡◌, ◌++◌, Bool, List, [], get_or, map}
 use Rattle.acpi_values.specs.Paths.{AbsolutePath}
 use Rattle.asl_meaning.specs.Declarations.{Declarations, declared_kinds}
 use Rattle.acpi_state.specs.Objects.{lookup}

@@ -39,8 +39,8 @@ IsThere whole (M.Outside here at name type scope) = is_named whole.all (place_of
 IsThere whole _ = Unit {0}
 
 -- from what is said before to what is said behind a declaration, an External, and a call of a path
-abbrev pub Declares : List AbsolutePath → Tables → Tables → Kind → AbsolutePath → Type 0
-Declares paths old new kind path =
+abbrev pub IsDeclared : List AbsolutePath → Tables → Tables → Kind → AbsolutePath → Type 0
+IsDeclared paths old new kind path =
     (has : AbsolutePath → Bool) (calls : List (AbsolutePath × ℕ)) (d : Declarations) (as' : Declared) → kind_as paths kind ≡ kind_of has as' → Notes paths has old calls d → Notes paths has new calls (with_declared path as' d)
 
 abbrev pub IsOutside : List AbsolutePath → Tables → Tables → External → AbsolutePath → Type 0

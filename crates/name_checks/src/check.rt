@@ -19,7 +19,10 @@ ghost use Rattle.name_checks.specs.Seen.{seen, seen_errors};
 use crate::facts::{Facts, blank, facts_of};
 use crate::fault::{Fault, messages};
 use crate::kind::External;
-use crate::rules::{call_errors, call_types, declared_errors, external_errors, scope_errors, step_errors, use_errors, use_types};
+use crate::rules::{
+    call_errors, call_types, declared_errors, external_errors, scope_errors, step_errors,
+    use_errors, use_types,
+};
 use crate::tables::{Tables, denoted, note};
 use acpi_names::index::{Index, names_of};
 use acpi_names::mention::Mention;
@@ -49,7 +52,12 @@ fn mention_errors<'a>(
     ensures { OnOk result ((d : Declarations) → Before facts.now.index.paths (is_named whole.all) before.now d → Finds facts.now.index.paths out.old.items out.new.items (errors_of whole (shown facts.now.index.paths mention.entry) d)) }
 {
     match mention {
-        Mention::Used { at, name, scope, .. } => {
+        Mention::Used {
+            at,
+            name,
+            scope,
+            ..
+        } => {
             let target = denoted(&facts.index, name, scope);
             use_errors(out, facts, at, name, scope, target)?;
             Ok(())
@@ -71,7 +79,10 @@ fn mention_errors<'a>(
             Ok(())
         }
         Mention::Declares {
-            at, name, scope, ..
+            at,
+            name,
+            scope,
+            ..
         } => {
             declared_errors(out, facts, before, at, name, scope)?;
             Ok(())

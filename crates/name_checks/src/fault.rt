@@ -143,14 +143,41 @@ pub fn message(alloc: Global, paths: &Paths, fault: Fault) -> Result<Message, Al
     ensures { IfOk result (λ m. m ≡ message_of (fault_as paths.now fault.entry)) }
 {
     match fault {
-        Fault::Twice { at, path } => Ok(pathed(alloc, paths, number::NAME_DECLARED_TWICE, at, path)?),
-        Fault::DeclaredHere { at, path } => Ok(pathed(alloc, paths, number::EXTERNAL_DECLARED_HERE, at, path)?),
+        Fault::Twice { at, path } => Ok(pathed(
+            alloc,
+            paths,
+            number::NAME_DECLARED_TWICE,
+            at,
+            path,
+        )?),
+        Fault::DeclaredHere { at, path } => Ok(pathed(
+            alloc,
+            paths,
+            number::EXTERNAL_DECLARED_HERE,
+            at,
+            path,
+        )?),
         Fault::Missing { at, name } => Ok(named(alloc, number::NAME_NOT_FOUND, at, name)?),
-        Fault::NoContainer { at, name } => Ok(named(alloc, number::SCOPE_IS_NO_CONTAINER, at, name)?),
+        Fault::NoContainer { at, name } => Ok(named(
+            alloc,
+            number::SCOPE_IS_NO_CONTAINER,
+            at,
+            name,
+        )?),
         Fault::LeavesRoot { at, name } => Ok(named(alloc, number::PATH_LEAVES_ROOT, at, name)?),
-        Fault::Differs { at, name } => Ok(named(alloc, number::EXTERNAL_ARGUMENTS_DIFFER, at, name)?),
+        Fault::Differs { at, name } => Ok(named(
+            alloc,
+            number::EXTERNAL_ARGUMENTS_DIFFER,
+            at,
+            name,
+        )?),
         Fault::TooLong { at, name } => Ok(named(alloc, number::PATH_IS_TOO_LONG, at, name)?),
-        Fault::WrongCount { at, name } => Ok(named(alloc, number::WRONG_CALL_ARGUMENT_COUNT, at, name)?),
+        Fault::WrongCount { at, name } => Ok(named(
+            alloc,
+            number::WRONG_CALL_ARGUMENT_COUNT,
+            at,
+            name,
+        )?),
     }
 }
 

@@ -44,7 +44,7 @@ pub struct End {
 }
 
 /// What an External says: the number of its object type, and that of its parameters (ACPI Specification 6.4,
-/// 19.6.46).
+/// 19.6).
 #[derive(Clone, Copy, PartialEq, Eq, Debug)]
 pub struct External {
     pub object: u64,
@@ -87,7 +87,7 @@ pub fn is_method(object: Object) -> bool
     }
 }
 
-/// Whether a Scope may open an object (ACPI Specification 6.4, 19.6.122).
+/// Whether a Scope may open an object (ACPI Specification 6.4, 19.6).
 pub fn is_container(object: Object) -> bool
     ensures { (path : AbsolutePath) → result ≡ container_is (Some (path, object_as object)) }
 {

@@ -7,3 +7,5 @@ pub mod fault;
 pub mod kind;
 pub mod rules;
 pub mod tables;
+#[cfg(test)]
+mod tests;

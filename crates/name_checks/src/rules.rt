@@ -29,11 +29,7 @@ use std::alloc::AllocError;
 const MOST: usize = 255;
 
 // An error, unless something holds.
-fn unless<'a>(
-    out: &mut Vec<Fault<'a>>,
-    holds: bool,
-    fault: Fault<'a>,
-) -> Result<(), AllocError>
+fn unless<'a>(out: &mut Vec<Fault<'a>>, holds: bool, fault: Fault<'a>) -> Result<(), AllocError>
     ensures { OnOk result ((paths : List AbsolutePath) → Finds paths out.old.items out.new.items (spec.unless holds (fault_as paths fault.entry))) }
 {
     if !holds {
@@ -171,7 +167,11 @@ pub fn step_errors<'a>(
     ensures { OnOk result (Finds facts.now.index.paths out.old.items out.new.items (spec.step_errors (spot_as at) name.now (get_or facts.now.index.paths scope []))) }
 {
     let depth = facts.depths[scope_in(&facts.index.paths, scope)];
-    unless(out, name.up as usize <= depth, Fault::LeavesRoot { at, name })?;
+    unless(
+        out,
+        name.up as usize <= depth,
+        Fault::LeavesRoot { at, name },
+    )?;
     Ok(())
 }
 
@@ -188,7 +188,11 @@ fn length_errors<'a>(
     requires within { number < length facts.now.index.paths }
     ensures { OnOk result (Finds facts.now.index.paths out.old.items out.new.items (spec.length_errors (spot_as at) name.now (get_or facts.now.index.paths number []))) }
 {
-    unless(out, facts.depths[number] <= MOST, Fault::TooLong { at, name })?;
+    unless(
+        out,
+        facts.depths[number] <= MOST,
+        Fault::TooLong { at, name },
+    )?;
     Ok(())
 }
 
@@ -238,7 +242,11 @@ pub fn external_errors<'a>(
     step_errors(out, facts, at, name, scope)?;
     length_errors(out, facts, at, name, path)?;
     let last = last_external(facts, before, path);
-    unless(out, agrees_with(last, external), Fault::Differs { at: here, name })?;
+    unless(
+        out,
+        agrees_with(last, external),
+        Fault::Differs { at: here, name },
+    )?;
     Ok(())
 }
 
@@ -312,7 +320,11 @@ pub fn call_errors<'a>(
         Some(number) => {
             let external = last_external(facts, &facts.tables, number);
             let first = first_call(facts, number);
-            unless(out, is_answered(external, first, args), Fault::Differs { at, name })?;
+            unless(
+                out,
+                is_answered(external, first, args),
+                Fault::Differs { at, name },
+            )?;
             Ok(())
         }
     }
@@ -351,8 +363,16 @@ pub fn scope_errors<'a>(
     match target {
         None => Ok(()),
         Some(number) => {
-            unless(out, is_same(facts, number, inner), Fault::Missing { at, name })?;
-            unless(out, opens(facts, number), Fault::NoContainer { at: here, name })?;
+            unless(
+                out,
+                is_same(facts, number, inner),
+                Fault::Missing { at, name },
+            )?;
+            unless(
+                out,
+                opens(facts, number),
+                Fault::NoContainer { at: here, name },
+            )?;
             Ok(())
         }
     }

@@ -9,7 +9,7 @@ ghost use Rattle.acpi_names.specs.Shown.{shown, declared_as};
 ghost use Rattle.acpi_values.specs.Paths.{is_same_path};
 ghost use Rattle.std.specs.Option.{option_map};
 ghost use Rattle.name_checks.specs.Kinds.{object_as, kind_as, at_root};
-ghost use Rattle.name_checks.specs.Tables.{AreSized, IsThere, Declares, IsOutside, IsCalled, Notices};
+ghost use Rattle.name_checks.specs.Tables.{AreSized, IsThere, IsDeclared, IsOutside, IsCalled, Notices};
 
 use crate::kind::{External, Kind, Object, root_object};
 use acpi_names::index::{Index, denoted_by};
@@ -124,7 +124,7 @@ fn note_declared(index: &Index, tables: &mut Tables, number: usize, kind: Kind)
     requires room { tables.old.count + 1 < 2 ^ 64 }
     ensures sized { AreSized index.now.paths tables.new }
     ensures count { tables.new.count ≡ tables.old.count + 1 }
-    ensures noted { Declares index.now.paths tables.old tables.new kind (get_or index.now.paths number []) }
+    ensures noted { IsDeclared index.now.paths tables.old tables.new kind (get_or index.now.paths number []) }
 {
     let count = index.paths.len();
     tables.kinds[number] = Some(kind);
@@ -179,14 +179,20 @@ pub fn note(index: &Index, tables: &mut Tables, mention: &Mention)
         Mention::Sought { .. } => {}
         Mention::Opens { .. } => {}
         Mention::Called {
-            name, args, scope, ..
+            name,
+            args,
+            scope,
+            ..
         } => {
             if let Some(number) = denoted(index, name, *scope) {
                 note_call(index, tables, number, *args);
             }
         }
         Mention::Declares {
-            name, what, scope, ..
+            name,
+            what,
+            scope,
+            ..
         } => {
             let kind = declared_kind(index, *what);
             let number = place(index, name, *scope);

@@ -1,5 +1,4 @@
 use Rattle.std.proofs.Common.{refl, arith}
-use Rattle.acpi_names.specs.Shown.{shown}
 use Rattle.name_checks.proofs.Places.{shown_there, notes_next}
 use Rattle.name_checks.proofs.Walks.{errors_next, errors_end}
 use Rattle.name_checks.proofs.check.all_errors.Goals as goal

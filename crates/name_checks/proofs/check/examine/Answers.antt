@@ -14,10 +14,13 @@ use Rattle.name_checks.proofs.check.examine.Goals as goal
 
 pub facts_of-requires : goal.facts_of-requires
 facts_of-requires c =
-    let told = ap (all_shown c.in_ok-found.found.index.paths) c.deref.ensures.value ∙ c.in_ok-found.ensures.told in
-    (c.in_ok-found.ensures.size,
-    ((λ path. c.in_ok-found.ensures.names path ∙ ap (λ d. is_named d path) (sym (after_block (trees_of c.args.terms.now) [] nothing_declared)) ∙ ap (λ ms. is_named (after_all ms nothing_declared) path) (sym told)),
-    (refl, (refl, refl))))
+    let told = ap (all_shown c.in_ok-found.found.index.paths) c.deref.ensures.value ∙ c.in_ok-found.ensures.told in (
+      c.in_ok-found.ensures.size,
+      (
+        (λ path. c.in_ok-found.ensures.names path ∙ ap (λ d. is_named d path) (sym (after_block (trees_of c.args.terms.now) [] nothing_declared)) ∙ ap (λ ms. is_named (after_all ms nothing_declared) path) (sym told)),
+        (refl, (refl, refl)),
+      ),
+    )
 
 pub faults-requires : goal.faults-requires
 faults-requires c =

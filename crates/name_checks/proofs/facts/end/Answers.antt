@@ -1,6 +1,6 @@
-use Rattle.std.proofs.Common.{[], get_or, refl, sym, ap, ◌∙◌}
+use Rattle.std.proofs.Common.{[], get_or, ap}
 use Rattle.asl_tree.specs.Names.{end_of}
-use Rattle.name_checks.proofs.Lookups.{known_length, end_next}
+use Rattle.name_checks.proofs.Lookups.{known_length}
 use Rattle.name_checks.proofs.facts.end.Goals as goal
 
 pub loop-left-init : goal.loop-left-init

@@ -1,4 +1,4 @@
-use Rattle.std.proofs.Common.{[], get_or, sym, ap, ◌∙◌}
+use Rattle.std.proofs.Common.{[], get_or, sym, ◌∙◌}
 use Rattle.acpi_state.specs.Objects.{lookup}
 use Rattle.asl_meaning.specs.Declarations.{is_named, declared_kinds}
 use Rattle.name_checks.specs.Kinds.{kind_as, type_as}

@@ -1,5 +1,4 @@
 use Rattle.std.proofs.Common.{arith}
-use Rattle.acpi_names.specs.Shown.{shown}
 use Rattle.name_checks.proofs.Places.{shown_there, notes_next, notes_all}
 use Rattle.name_checks.proofs.facts.noted.Goals as goal
 

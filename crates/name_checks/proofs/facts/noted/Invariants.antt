@@ -1,4 +1,4 @@
-use Rattle.std.proofs.Common.{◌≤◌, ℕ, take}
+use Rattle.std.proofs.Common.{◌≤◌, take}
 use Rattle.asl_meaning.specs.Declarations.{is_named, called, nothing_declared}
 use Rattle.acpi_names.specs.Mentions.{after_all, calls_in}
 use Rattle.acpi_names.specs.Shown.{all_shown}

@@ -1,4 +1,3 @@
-use Rattle.std.proofs.Common.{arith}
 use Rattle.name_checks.proofs.Finding.{flag_here}
 use Rattle.name_checks.proofs.rules.is_named_at.Goals as goal
 
