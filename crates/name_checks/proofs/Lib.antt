@@ -1,0 +1,7 @@
+pub mod Entries
+pub mod Lookups
+pub mod Places
+pub mod Noting
+pub mod Finding
+pub mod Walks
+pub mod Blocks

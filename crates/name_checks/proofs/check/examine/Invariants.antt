@@ -1,0 +1,9 @@
+use Rattle.acpi_names.specs.Shown.{all_shown}
+use Rattle.name_checks.specs.Seen.{seen}
+use Rattle.name_checks.proofs.check.examine.Given as goal
+
+abbrev pub ghost-facts_of : goal.ghost-facts_of
+ghost-facts_of a = seen (all_shown a.index.paths a.mentions.now)
+
+abbrev pub ghost-faults : goal.ghost-faults
+ghost-faults a = seen (all_shown a.facts.now.index.paths a.mentions.now)

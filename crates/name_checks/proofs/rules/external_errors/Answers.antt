@@ -1,0 +1,30 @@
+use Rattle.std.proofs.Common.{[], get_or, ap, ◌∙◌}
+use Rattle.std.specs.Prelude.{not, is_some}
+use Rattle.acpi_state.specs.Objects.{lookup}
+use Rattle.acpi_names.specs.Errors as spec
+use Rattle.acpi_names.specs.Shown.{spot_as}
+use Rattle.name_checks.specs.Kinds.{type_as}
+use Rattle.name_checks.proofs.Finding.{finds_as, finds_then}
+use Rattle.name_checks.proofs.rules.external_errors.Goals as goal
+
+pub returns : goal.returns
+returns g c d before =
+    let paths = c.args.facts.now.index.paths in
+    let at = spot_as c.args.at in
+    let name = c.args.name.now in
+    let type = type_as c.args.external in
+    let differs = spec.Differs (spot_as c.args.here) name in
+    let here = get_or paths c.place-path.result [] in
+    let e = c.place-path.ensures.path in
+    let notes = c.requires.0.notes in
+    let w0 = c.args.out.now.items in
+    let w1 = c.unless.new.out.items in
+    let w2 = c.step_errors.new.out.items in
+    let w3 = c.length_errors.new.out.items in
+    let w4 = c.unless-2.new.out.items in
+    finds_then paths w0 w1 w4 _ _
+    (finds_as paths w0 w1 _ _ (ap (λ b. spec.unless (not b) (spec.DeclaredHere at here)) (c.is_declared-declared.ensures g.whole.all (record { kinds = notes.kinds; externals = notes.externals })) ∙ ap (λ p. spec.unless (not (is_some (lookup g.whole.all.declared p))) (spec.DeclaredHere at p)) e) (c.in_ok-unless.ensures paths))
+    (finds_then paths w1 w2 w4 _ _ c.in_ok-step_errors.ensures
+    (finds_then paths w2 w3 w4 _ _
+    (finds_as paths w2 w3 _ _ (ap (spec.length_errors at name) e) c.in_ok-length_errors.ensures)
+    (finds_as paths w3 w4 _ _ (ap (λ b. spec.unless b differs) (c.agrees_with.ensures ∙ ap (λ o. spec.agrees_with o type) (c.last_external-last.ensures d before ∙ ap (lookup d.external) e))) (c.in_ok-unless-2.ensures paths))))

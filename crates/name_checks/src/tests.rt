@@ -1,0 +1,319 @@
+use crate::check::{check, examine};
+use asl_tree::path::{Path, Segs};
+use asl_tree::term::{Control, Declaration, Node, Op, Special, Term};
+use iasl_messages::message::Message;
+use iasl_messages::place::Place;
+use std::alloc::{AllocError, Global};
+use std::test::Fail;
+
+// A name as it is written, with segments of four bytes.
+fn path(alloc: Global, text: &[u8]) -> Result<Path, AllocError> {
+    let mut root = false;
+    let mut up: u32 = 0;
+    let mut segs = Segs::new(alloc);
+    let mut seg = [b'_'; 4];
+    let mut count: usize = 0;
+    for byte in text {
+        match *byte {
+            b'\\' => root = true,
+            b'^' => up = up.wrapping_add(1),
+            b'.' => {}
+            other => {
+                if count >= 3 {
+                    seg[3] = other;
+                    segs.push(seg)?;
+                    count = 0;
+                } else {
+                    seg[count] = other;
+                    count += 1;
+                }
+            }
+        }
+    }
+    Ok(Path { root, up, segs })
+}
+
+fn add(nodes: &mut Vec<Node>, line: u32, column: u32, term: Term) -> Result<(), AllocError> {
+    nodes.push(Node {
+        id: 0,
+        place: Place {
+            file: 0,
+            line,
+            column,
+        },
+        term,
+    })?;
+    Ok(())
+}
+
+// The digit at a place of a key.
+fn digit(key: &[u8], place: usize) -> Option<u64> {
+    key.get(place).map(|byte| byte.wrapping_sub(b'0') as u64)
+}
+
+// The number at a place of a key, in a column of its own.
+fn add_digit(args: &mut Vec<Node>, line: u32, key: &[u8], place: usize) -> Result<(), AllocError> {
+    if let Some(number) = digit(key, place) {
+        add(args, line, 9, Term::Integer(number))?;
+    }
+    Ok(())
+}
+
+// The operator that a key stands for.
+fn operator(key: &[u8]) -> Option<Op> {
+    match key.first() {
+        Some(b'N') => Some(Op::Declaration(Declaration::Name)),
+        Some(b'D') => Some(Op::Declaration(Declaration::Device)),
+        Some(b'S') => Some(Op::Declaration(Declaration::Scope)),
+        Some(b'M') => Some(Op::Declaration(Declaration::Method)),
+        Some(b'E') => Some(Op::Declaration(Declaration::External)),
+        Some(b'A') => Some(Op::Declaration(Declaration::Alias)),
+        Some(b'Q') => Some(Op::Special(Special::CondRefOf)),
+        Some(b'R') => Some(Op::Control(Control::Return)),
+        _ => None,
+    }
+}
+
+// The arguments of a form: the names, which an = parts, and what else it takes.
+fn arguments(alloc: Global, line: u32, key: &[u8], names: &[u8]) -> Result<Vec<Node>, AllocError> {
+    let mut args = Vec::new(alloc);
+    let mut column: u32 = 2;
+    for name in names.split(|byte| *byte == b'=') {
+        add(&mut args, line, column, Term::Name(path(alloc, name)?))?;
+        column = column.wrapping_add(1);
+    }
+    add_digit(&mut args, line, key, 1)?;
+    add_digit(&mut args, line, key, 2)?;
+    match key.first() {
+        Some(b'N') => {
+            if args.len() < 2 {
+                add(&mut args, line, 9, Term::Integer(1))?;
+            }
+        }
+        Some(b'Q') => add(&mut args, line, 9, Term::Omitted)?,
+        _ => {}
+    }
+    Ok(args)
+}
+
+// A call of a name with so many arguments.
+fn call(alloc: Global, line: u32, key: &[u8], name: &[u8]) -> Result<Term, AllocError> {
+    let mut args = Vec::new(alloc);
+    if let Some(count) = digit(key, 1) {
+        for number in 0..count {
+            add(&mut args, line, 9, Term::Integer(number))?;
+        }
+    }
+    Ok(Term::Call {
+        path: path(alloc, name)?,
+        args,
+    })
+}
+
+// Terms with the form that they are the body of.
+#[derive(Drop)]
+struct Open {
+    nodes: Vec<Node>,
+    line: u32,
+    op: Op,
+    args: Vec<Node>,
+}
+
+// The terms of a text that has a blank between each two words; a term's line is the number of its word, and its first
+// name stands in column 2. D, S and M open a body, which } ends.
+fn terms(alloc: Global, text: &str) -> Result<Vec<Node>, AllocError> {
+    let mut nodes = Vec::new(alloc);
+    let mut open: Vec<Open> = Vec::new(alloc);
+    let mut line: u32 = 0;
+    for word in text.split(' ') {
+        line = line.wrapping_add(1);
+        let Some((key, names)) = word.split_once(':') else {
+            if let Some(outer) = open.pop() {
+                let Open {
+                    nodes: mut around,
+                    line: first,
+                    op,
+                    args,
+                } = outer;
+                add(
+                    &mut around,
+                    first,
+                    1,
+                    Term::Form {
+                        op,
+                        args,
+                        body: nodes,
+                    },
+                )?;
+                nodes = around;
+            }
+            continue;
+        };
+        let key = key.as_bytes();
+        let names = names.as_bytes();
+        match key.first() {
+            Some(b'U') => add(&mut nodes, line, 2, Term::Name(path(alloc, names)?))?,
+            Some(b'C') => add(&mut nodes, line, 2, call(alloc, line, key, names)?)?,
+            first => {
+                let Some(op) = operator(key) else {
+                    continue;
+                };
+                let args = arguments(alloc, line, key, names)?;
+                if matches!(first, Some(b'D' | b'S' | b'M')) {
+                    open.push(Open {
+                        nodes,
+                        line,
+                        op,
+                        args,
+                    })?;
+                    nodes = Vec::new(alloc);
+                } else {
+                    let body = Vec::new(alloc);
+                    add(&mut nodes, line, 1, Term::Form { op, args, body })?;
+                }
+            }
+        }
+    }
+    Ok(nodes)
+}
+
+// Errors, each with its number, its line and column, and its name.
+fn told(alloc: Global, errors: &[Message]) -> Result<String, AllocError> {
+    let mut out = String::new(alloc);
+    for error in errors {
+        let number = error.number;
+        let line = error.place.line;
+        let column = error.place.column;
+        out.push_str(format!(in alloc; "{number} {line}.{column} ")?.as_str())?;
+        for byte in error.name.as_bytes() {
+            out.push(char::from(*byte))?;
+        }
+        out.push_str("; ")?;
+    }
+    Ok(out)
+}
+
+fn errors(alloc: Global, text: &str) -> Result<String, AllocError> {
+    let nodes = terms(alloc, text)?;
+    let examined = examine(alloc, &nodes)?;
+    told(alloc, examined.errors.as_slice())
+}
+
+#[test]
+fn tells_each_error_at_its_place(rt: HostRuntime) -> Result<(), Fail> {
+    let alloc = rt.alloc();
+    for (text, want) in [
+        // Declared twice, also in a Scope that is opened again, and of the root.
+        ("N:X___ N:X___", "6040 2.2 \\X___; "),
+        (
+            "S:\\_SB_ N:X___ } S:\\_SB_ N:X___ N:Y___ }",
+            "6040 5.2 \\_SB_.X___; ",
+        ),
+        ("N:\\_SB_ N:\\", "6040 1.2 \\_SB_; 6040 2.2 \\; "),
+        (
+            "D:D___ N:X___ } N:X___ N:\\D___.X___",
+            "6040 5.2 \\D___.X___; ",
+        ),
+        // The scope of a declared name, and the steps of any.
+        ("N:\\D___.X___", "6041 1.2 \\D___.X___; "),
+        ("D:D___ N:^X___ N:^^Y___ }", "6043 3.2 ^^Y___; "),
+        (
+            "M0:M___ R:^^AB__.CD__ }",
+            "6043 2.2 ^^AB__.CD__; 6041 2.2 ^^AB__.CD__; ",
+        ),
+        // A used name may stand before its declaration, and that of CondRefOf may lead nowhere.
+        ("R:X___ N:X___", ""),
+        ("M0:M___ U:Y___ } C0:Y___", "6041 2.2 Y___; 6041 4.2 Y___; "),
+        ("Q:Y___ Q:^Y___", "6043 2.2 ^Y___; "),
+        (
+            "N:X___=Z___ A:Y___=X___",
+            "6041 1.3 Z___; 6041 2.2 Y___; 6040 2.3 \\X___; ",
+        ),
+    ] {
+        assert_eq!(rt; errors(alloc, text)?.as_str(), want);
+    }
+    for (text, want) in [
+        // A Scope opens a container, through aliases too, and the same one wherever it is searched.
+        ("S:Y___ }", "6041 1.2 Y___; "),
+        ("N:X___ S:X___ }", "6042 2.1 X___; "),
+        ("D:D___ } A:D___=A___ S:A___ }", ""),
+        ("A:B___=A___ A:A___=B___ S:A___ }", "6042 3.1 A___; "),
+        ("S:D___ } D:D___ }", ""),
+        ("D:B___ } S:\\_SB_ S:B___ } D:B___ } }", "6041 4.2 B___; "),
+        ("E6:X___ S:X___ } E0:Y___ S:Y___ }", ""),
+        ("E0:Y___ S:Y___ } C1:Y___", "6042 2.1 Y___; "),
+        // Externals: declared here, not as before, or called otherwise.
+        ("E0:X___ N:X___", "6044 1.2 \\X___; "),
+        ("E1:X___ E2:X___ E2:X___", "6045 2.1 X___; "),
+        ("E80:X___ E81:X___", "6045 2.1 X___; "),
+        ("E1:\\_REV E2:\\_REV", ""),
+        ("E8:X___ C1:X___ C2:X___ C1:X___", "6045 3.2 X___; "),
+        ("E81:X___ C1:X___", ""),
+    ] {
+        assert_eq!(rt; errors(alloc, text)?.as_str(), want);
+    }
+    Ok(())
+}
+
+#[test]
+fn tells_kinds_behind_names(rt: HostRuntime) -> Result<(), Fail> {
+    let alloc = rt.alloc();
+    for (text, want) in [
+        ("M1:M___ } U:M___ R:M___", "6051 3.2 M___; 6051 4.2 M___; "),
+        (
+            "M1:M___ } C1:M___ C0:M___ C2:M___",
+            "6051 4.2 M___; 6051 5.2 M___; ",
+        ),
+        ("N:X___ C0:X___ U:X___", "6051 2.2 X___; "),
+        (
+            "M1:M___ } A:M___=A___ A:A___=B___ C1:B___ C2:B___",
+            "6051 6.2 B___; ",
+        ),
+        ("A:B___=A___ A:A___=B___ U:A___ C0:A___", "6051 4.2 A___; "),
+        ("C1:_OSI C0:_OSI", "6051 2.2 _OSI; "),
+        ("E81:X___ C2:X___", "6051 2.2 X___; "),
+        ("E0:X___ C2:X___ U:X___", "6051 3.2 X___; "),
+        // Kinds are told only where all names are right.
+        ("N:X___ C0:X___ N:X___", "6040 3.2 \\X___; "),
+    ] {
+        assert_eq!(rt; errors(alloc, text)?.as_str(), want);
+    }
+    Ok(())
+}
+
+// A path of so many segments.
+fn long(alloc: Global, count: u32) -> Result<String, AllocError> {
+    let mut text = String::from_str(alloc, "N:\\")?;
+    for number in 0..count {
+        text.push_str("A___")?;
+    }
+    Ok(text)
+}
+
+#[test]
+fn paths_have_at_most_255_segments(rt: HostRuntime) -> Result<(), Fail> {
+    let alloc = rt.alloc();
+    let nodes = terms(alloc, long(alloc, 255)?.as_str())?;
+    assert_eq!(rt; examine(alloc, &nodes)?.errors.len(), 1);
+    let nodes = terms(alloc, long(alloc, 256)?.as_str())?;
+    let errors = examine(alloc, &nodes)?.errors;
+    assert_eq!(rt; errors.len(), 2);
+    let Some(last) = errors.last() else {
+        return Ok(());
+    };
+    assert_eq!(rt; last.number, 6046);
+    Ok(())
+}
+
+#[test]
+#[tactic(auto, unfolding(asl_tree::specs::View::trees_of))]
+fn an_empty_block_is_right(rt: HostRuntime) -> Result<(), Fail> {
+    let alloc = rt.alloc();
+    match check(alloc, &[]) {
+        Ok(names) => {
+            assert_eq!(rt; names.index.paths.len(), 10);
+            Ok(())
+        }
+        Err(_) => Err(AllocError)?,
+    }
+}
