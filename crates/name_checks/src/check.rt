@@ -219,6 +219,7 @@ pub(crate) fn examine(alloc: Global, terms: &[Node]) -> Result<Examined, AllocEr
     ensures some { IfOk result (λ e. 0 < length e.names.index.paths) }
     ensures root { IfOk result (λ e. get_or e.names.index.paths 0 [] ≡ []) }
     ensures names { IfOk result (λ e. Agrees e.names.index.paths e.names.index.named.items (declarations (trees_of terms.now))) }
+    ensures sized { IfOk result (λ e. length e.names.calls.items ≡ length e.names.index.paths) }
     ensures calls { IfOk result (λ e. Tabled e.names.index.paths e.names.calls.items (lookup (seen (block_mentions (trees_of terms.now) [] nothing_declared)).calls)) }
     ensures told { IfOk result (λ e. e.errors.items ≡ seen_errors (block_mentions (trees_of terms.now) [] nothing_declared)) }
 {
@@ -243,6 +244,7 @@ pub fn check(alloc: Global, terms: &[Node]) -> Result<Names, Stage>
     ensures some { IfOk result (λ n. 0 < length n.index.paths) }
     ensures root { IfOk result (λ n. get_or n.index.paths 0 [] ≡ []) }
     ensures names { IfOk result (λ n. Agrees n.index.paths n.index.named.items (declarations (trees_of terms.now))) }
+    ensures sized { IfOk result (λ n. length n.calls.items ≡ length n.index.paths) }
     ensures calls { IfOk result (λ n. Tabled n.index.paths n.calls.items (lookup (whole_of (trees_of terms.now)).calls)) }
     ensures right { OnOk result ((name_errors (trees_of terms.now) ≡ []) × (type_errors (trees_of terms.now) ≡ [])) }
     ensures refused { IfErr result (λ stage. Refuses stage (told_errors (trees_of terms.now))) }
