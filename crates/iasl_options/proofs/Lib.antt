@@ -4,7 +4,7 @@ mod Extensions
 mod Values
 mod Settings
 mod WordForms
-mod CommandLines
+pub mod CommandLines
 mod Offending
 mod OneOffending
 mod Worked

@@ -2,7 +2,7 @@
 use Rattle.std.proofs.Common.{◌≡◌, ℕ, ◌+◌, ◌≤◌, Bool, true, false, refl, subst, ◌⊎◌, inl, inr, Err, List, [], ◌∷◌, ◌++◌, length, Option, Some, None, Result, Ok, ap, sym, ◌∙◌, arith, length-append}
 use Rattle.std.proofs.lemmas.Bool.{le-leb}
 use Rattle.std.proofs.lemmas.Bool.Decides.{nat_tests}
-use Rattle.std.specs.Prelude.{nat_le, cond, if◌then◌else◌}
+use Rattle.std.specs.Prelude.{nat_le, cond, map, if◌then◌else◌}
 use Rattle.iasl_ports.specs.Gained.{Named, Gains}
 use Rattle.iasl_ports.specs.Delivery.{Answer, due_of, status_of}
 use Rattle.iasl_messages.specs.declared.place.Line.{Line}
@@ -12,71 +12,92 @@ use Rattle.asl_preprocess.specs.Preprocess.{Preprocessed, Given, Stopped, Absent
 use Rattle.asl_lexer.specs.declared.token.Token.{Token}
 use Rattle.asl_lexer.specs.declared.mode.Fault.{Fault}
 use Rattle.asl_lexer.specs.Marks.{tokens_of}
+use Rattle.asl_lexer.proofs.Told.{tokens_are_cut, cut_is_tokens}
 use Rattle.asl_parser.specs.declared.raw.Raw.{Raw}
 use Rattle.asl_parser.specs.Parse.{Outcome, outcome, read, stopped, sunk, tall}
-use Rattle.acpi_values.specs.declared.width.Width.TheVariants.{W64}
-use Rattle.aml_meaning.specs.Encoded.{encoded_all}
-use Rattle.named_sessions.specs.Core.{core_of}
-use Rattle.named_sessions.proofs.Main.{is_faithful}
-use Rattle.aml_code.specs.Header.{header_length, checksum_of, header_with}
-use Rattle.aml_sessions.proofs.Tables.{definition_is, is_header}
-use Rattle.aml_writer.specs.Written.{most_table_bytes}
+use Rattle.asl_parser.specs.Grammar.{Spells}
+use Rattle.asl_parser.proofs.Told.{is_spelled}
+use Rattle.asl_shape.specs.Written.{writtens}
+use Rattle.asl_shape.specs.Forms.{errors_at, block_place}
+use Rattle.acpi_names.specs.Errors.{NameError, name_errors, type_errors}
+use Rattle.name_checks.specs.Messages.{message_of, first_errors, told_errors}
 use Rattle.iasl_options.specs.Asking.{Asked, asked_by}
-use Rattle.iasl_tool.specs.declared.source.Source.{Source}
+use Rattle.iasl_options.proofs.CommandLines.{line_from, line_to}
+use Rattle.program_shapes.specs.Kept.{IsKeptSource}
+use Rattle.program_shapes.specs.Sources.{terms_in, fields_in, table_in, IsRight}
+use Rattle.program_shapes.proofs.Kept.{is_kept}
+use Rattle.program_shapes.proofs.Lexed.{lexed_short}
+use Rattle.program_shapes.proofs.Few.{few_tokens}
+use Rattle.program_shapes.proofs.Tables.{does_as}
+use Rattle.aml_writer.specs.Written.{most_table_bytes}
 use Rattle.iasl_tool.specs.declared.compile.Compiled.{Compiled}
 use Rattle.iasl_tool.specs.declared.compile.Compiled.TheVariants.{Table, Refused}
-use Rattle.iasl_tool.specs.Blocks.{source_fields, items_trees}
-use Rattle.iasl_tool.specs.Sources.{source_of}
-use Rattle.iasl_tool.specs.Compiled.{of_lines, of_source, of_form, of_outcome, of_tokens, source_table, too_long}
-use Rattle.iasl_tool.specs.Readiness.{IsReadySource}
+use Rattle.iasl_tool.specs.Compiled.{of_lines, of_items, of_terms, of_table, unless_wrong, of_outcome, of_tokens, too_long}
 use Rattle.iasl_tool.specs.Due.{table_name, is_fetched, made_file, in_use, answer_to_text, answer_to_compiled, answer_to_preprocessed, answer_to_file, answer_to_asked, answer_for}
 use Rattle.iasl_tool.specs.Headline.{Request, table_of, NamesSource, PutsFaithfulTable, AreItsTables, WritesItsTable, only_by, asks_for_text}
-use Rattle.iasl_tool.proofs.Ready.{ready_of}
+use Rattle.iasl_tool.proofs.Programs.{none_told}
+use Rattle.iasl_tool.proofs.Sizes.{given_sizes}
 
-fits_table : (source : Source) → length (source_table source) ≤ most_table_bytes → of_source source ≡ Table source.signature (source_table source)
-fits_table source within =
-    let le : nat_le (length (source_table source)) most_table_bytes ≡ true = le-leb (length (source_table source)) most_table_bytes within in
-    ap (λ c. if c then Table source.signature (source_table source) else Refused (too_long source.place ∷ [])) le
+abbrev signature_of : List Raw → List ℕ
+signature_of items = (fields_in items).signature
+
+-- what the tree of a right source comes to
+items_are : (items : List Raw) → IsRight items → length (table_in items) ≤ most_table_bytes → of_items items ≡ Table (signature_of items) (table_in items)
+items_are items right within =
+    let place = block_place (writtens items) in
+    let le : nat_le (length (table_in items)) most_table_bytes ≡ true = le-leb (length (table_in items)) most_table_bytes within in
+    ap (λ es. unless_wrong es (of_terms place (fields_in items) (terms_in items))) right.form
+    ∙ ap (λ es. unless_wrong es (of_table place (signature_of items) (table_in items))) (none_told (terms_in items) right.names right.counts)
+    ∙ ap (λ c. if c then Table (signature_of items) (table_in items) else Refused (too_long place ∷ [])) le
 
 -- what is due of a source whose table's name is free
-abbrev due_table : Request → List (List ℕ) → List Message → Source → Answer
-due_table request files notes source = made_file files notes (table_line (table_of request) source.signature (length (source_table source))) (table_of request) (source_table source)
+abbrev due_table : Request → List (List ℕ) → List Message → List Raw → Answer
+due_table request files notes items = made_file files notes (table_line (table_of request) (signature_of items) (length (table_in items))) (table_of request) (table_in items)
 
-answer_is : (words : List (List ℕ)) (told : List Named) (request : Request) (source : Source) (h : NamesSource words told request source) → answer_for words told ≡ Some (due_table request h.files h.notes source)
-answer_is words told request source h =
+answer_is : (words : List (List ℕ)) (told : List Named) (request : Request) (items : List Raw) (h : NamesSource words told request items) → answer_for words told ≡ Some (due_table request h.files h.notes items)
+answer_is words told request items h =
     let asked = request.asked in
     let file = request.file in
-    let table : of_lines h.lines ≡ Table source.signature (source_table source) = ap of_tokens h.tokens_are ∙ ap (of_outcome h.tokens) h.tokens_spell ∙ ap (of_form h.items) h.source_is ∙ fits_table source h.table_within in
-    ap (answer_to_asked told) h.words_are
+    let table : of_lines h.lines ≡ Table (signature_of items) (table_in items) = ap of_tokens (cut_is_tokens h.lines h.tokens h.tokens_are) ∙ ap (of_outcome h.tokens) h.tokens_spell ∙ items_are items h.right h.table_within in
+    ap (answer_to_asked told) (line_to words asked h.words_are)
     ∙ ap (answer_to_file asked told) h.file_is
     ∙ ap (answer_to_preprocessed asked file) h.lines_are
     ∙ ap (λ c. Some (cond c (answer_to_text asked file h.files h.lines h.notes) (answer_to_compiled asked file h.files h.notes (of_lines h.lines)))) h.compiles
     ∙ ap (λ it. Some (answer_to_compiled asked file h.files h.notes it)) table
-    ∙ ap (λ c. Some (cond c (in_use (table_of request)) (due_table request h.files h.notes source))) h.name_is_free
+    ∙ ap (λ c. Some (cond c (in_use (table_of request)) (due_table request h.files h.notes items))) h.name_is_free
 
-pub puts_faithful_table : (words : List (List ℕ)) (told : List Named) (request : Request) (source : Source) → NamesSource words told request source → PutsFaithfulTable words told request source
-puts_faithful_table words told request source h =
-    let answer = answer_is words told request source h in
-    let ready : IsReadySource source = ready_of h.items source h.source_is in
-    let fields = source_fields source in
-    let program = items_trees source.items in
-    let content = encoded_all W64 true program in
-    let core : encoded_all W64 true (core_of program) ≡ content = ap (encoded_all W64 true) ready.core in
-    let size = header_length + length content in
-    let header = header_with fields size (checksum_of (header_with fields size 0 ++ content)) in
-    let small : length content ≤ most_table_bytes = omega (arith, h.table_within, length-append header content) in
+-- the parser keeps what it reads
+kept_source : (words : List (List ℕ)) (told : List Named) (request : Request) (items : List Raw) → NamesSource words told request items → IsKeptSource (writtens items)
+kept_source words told request items h =
+    let asked = request.asked in
+    let sizes = given_sizes told request.file asked.directories asked.definitions asked.enabled h.files h.lines h.notes h.lines_are in
+    let cut : tokens_of h.lines ≡ Ok h.tokens = cut_is_tokens h.lines h.tokens h.tokens_are in
+    let spelled : Spells items h.tokens = is_spelled h.tokens (Ok (record { items = items })) h.tokens_spell in
+    is_kept items h.tokens spelled (few_tokens h.lines h.tokens cut sizes.0) (lexed_short h.lines h.tokens cut sizes.1)
+
+pub puts_faithful_table : (words : List (List ℕ)) (told : List Named) (request : Request) (items : List Raw) → NamesSource words told request items → PutsFaithfulTable words told request items
+puts_faithful_table words told request items h =
+    let answer = answer_is words told request items h in
     record {
       status = ap status_of answer;
       due = ap due_of answer;
-      header = is_header fields content ready.signature (omega (arith, small)) ready.oem_revision;
-      faithful = is_faithful W64 true program (source_table source) ready.terms ready.names ready.counts (omega (arith, small, ap length core)) (definition_is fields content ready.signature (omega (arith, small)) ∙ sym core);
+      does = does_as items h.right (kept_source words told request items h) h.table_within;
     }
+
+-- no errors of names are told where there are none of either class
+right_names : (terms : _) → told_errors terms ≡ [] → (name_errors terms ≡ []) × (type_errors terms ≡ [])
+right_names terms e = by (name_errors terms) (type_errors terms) e
+  where
+    by : (ns ts : List NameError) → map message_of (first_errors ns ts) ≡ [] → (ns ≡ []) × (ts ≡ [])
+    by [] [] e = (refl, refl)
+    by [] (t ∷ ts) e = absurd cc
+    by (n ∷ ns) ts e = absurd cc
 
 -- the source that the words name
 record FoundSource (words : List (List ℕ)) (told : List Named) : Type 0 where
   request : Request
-  source : Source
-  names : NamesSource words told request source
+  items : List Raw
+  names : NamesSource words told request items
 
 -- what is known of a source's lines
 record Known (words : List (List ℕ)) (told : List Named) : Type 0 where
@@ -93,41 +114,48 @@ abbrev status_with : (words : List (List ℕ)) (told : List Named) → Known wor
 status_with words told k it = status_of (Some (answer_to_compiled k.request.asked k.request.file k.files k.notes it))
 
 module _ (words : List (List ℕ)) (told : List Named) where
-  by_name : (k : Known words told) (tokens : List Token) (items : List Raw) (source : Source) (c : Bool) → tokens_of k.lines ≡ Ok tokens → outcome tokens ≡ read items → source_of items ≡ Some source → nat_le (length (source_table source)) most_table_bytes ≡ true
-      → is_fetched k.files (table_of k.request) ≡ c → status_of (Some (cond c (in_use (table_of k.request)) (due_table k.request k.files k.notes source))) ≡ 0 → FoundSource words told
-  by_name k tokens items source true et eo es ec en h = absurd (omega (arith, h))
-  by_name k tokens items source false et eo es ec en h = record {
+  by_name : (k : Known words told) (tokens : List Token) (items : List Raw) (c : Bool) → tokens_of k.lines ≡ Ok tokens → outcome tokens ≡ read items → IsRight items → nat_le (length (table_in items)) most_table_bytes ≡ true
+      → is_fetched k.files (table_of k.request) ≡ c → status_of (Some (cond c (in_use (table_of k.request)) (due_table k.request k.files k.notes items))) ≡ 0 → FoundSource words told
+  by_name k tokens items true et eo es ec en h = absurd (omega (arith, h))
+  by_name k tokens items false et eo es ec en h = record {
     request = k.request;
-    source = source;
+    items = items;
     names = record {
       files = k.files;
       lines = k.lines;
       notes = k.notes;
       tokens = tokens;
-      items = items;
-      words_are = k.words_are;
+      words_are = line_from words k.request.asked k.words_are;
       file_is = k.file_is;
       compiles = k.compiles;
       lines_are = k.lines_are;
-      tokens_are = et;
+      tokens_are = tokens_are_cut k.lines tokens et;
       tokens_spell = eo;
-      source_is = es;
+      right = es;
       table_within = grind (arith, nat_tests);
       name_is_free = en;
     };
   }
 
-  by_table : (k : Known words told) (tokens : List Token) (items : List Raw) (source : Source) (c : Bool) → tokens_of k.lines ≡ Ok tokens → outcome tokens ≡ read items → source_of items ≡ Some source → nat_le (length (source_table source)) most_table_bytes ≡ c
-      → status_with words told k (if c then Table source.signature (source_table source) else Refused (too_long source.place ∷ [])) ≡ 0 → FoundSource words told
-  by_table k tokens items source true et eo es ec h = by_name k tokens items source (is_fetched k.files (table_of k.request)) et eo es ec refl h
-  by_table k tokens items source false et eo es ec h = absurd (omega (arith, h))
+  by_table : (k : Known words told) (tokens : List Token) (items : List Raw) (c : Bool) → tokens_of k.lines ≡ Ok tokens → outcome tokens ≡ read items → IsRight items → nat_le (length (table_in items)) most_table_bytes ≡ c
+      → status_with words told k (if c then Table (signature_of items) (table_in items) else Refused (too_long (block_place (writtens items)) ∷ [])) ≡ 0 → FoundSource words told
+  by_table k tokens items true et eo es ec h = by_name k tokens items (is_fetched k.files (table_of k.request)) et eo es ec refl h
+  by_table k tokens items false et eo es ec h = absurd (omega (arith, h))
 
-  by_source : (k : Known words told) (tokens : List Token) (items : List Raw) (o : Option Source) → tokens_of k.lines ≡ Ok tokens → outcome tokens ≡ read items → source_of items ≡ o → status_with words told k (of_form items o) ≡ 0 → FoundSource words told
-  by_source k tokens items None et eo es h = absurd (omega (arith, h))
-  by_source k tokens items (Some source) et eo es h = by_table k tokens items source (nat_le (length (source_table source)) most_table_bytes) et eo es refl h
+  by_names : (k : Known words told) (tokens : List Token) (items : List Raw) (ms : List Message) → tokens_of k.lines ≡ Ok tokens → outcome tokens ≡ read items → errors_at items ≡ [] → told_errors (terms_in items) ≡ ms
+      → status_with words told k (unless_wrong ms (of_table (block_place (writtens items)) (signature_of items) (table_in items))) ≡ 0 → FoundSource words told
+  by_names k tokens items [] et eo form en h =
+      let names = right_names (terms_in items) en in
+      by_table k tokens items (nat_le (length (table_in items)) most_table_bytes) et eo (record { form = form; names = names.0; counts = names.1 }) refl h
+  by_names k tokens items (m ∷ ms) et eo form en h = absurd (omega (arith, h))
+
+  by_items : (k : Known words told) (tokens : List Token) (items : List Raw) (ms : List Message) → tokens_of k.lines ≡ Ok tokens → outcome tokens ≡ read items → errors_at items ≡ ms
+      → status_with words told k (unless_wrong ms (of_terms (block_place (writtens items)) (fields_in items) (terms_in items))) ≡ 0 → FoundSource words told
+  by_items k tokens items [] et eo form h = by_names k tokens items (told_errors (terms_in items)) et eo form refl h
+  by_items k tokens items (m ∷ ms) et eo form h = absurd (omega (arith, h))
 
   by_outcome : (k : Known words told) (tokens : List Token) (o : Outcome) → tokens_of k.lines ≡ Ok tokens → outcome tokens ≡ o → status_with words told k (of_outcome tokens o) ≡ 0 → FoundSource words told
-  by_outcome k tokens (read items) et eo h = by_source k tokens items (source_of items) et eo refl h
+  by_outcome k tokens (read items) et eo h = by_items k tokens items (errors_at items) et eo refl h
   by_outcome k tokens (stopped rest) et eo h = absurd (omega (arith, h))
   by_outcome k tokens (sunk rest) et eo h = absurd (omega (arith, h))
   by_outcome k tokens (tall number) et eo h = absurd (omega (arith, h))
@@ -159,20 +187,19 @@ module _ (words : List (List ℕ)) (told : List Named) where
 pub writes_its_table : (words : List (List ℕ)) (told : List Named) (old new : Option (List Named)) → asks_for_text words ≡ false → status_of (answer_for words told) ≡ 0 → Gains old new (due_of (answer_for words told)) → WritesItsTable words told old new
 writes_its_table words told old new z h gained =
     let found : FoundSource words told = by_words words told (asked_by words) refl z h in
-    let puts : PutsFaithfulTable words told found.request found.source = puts_faithful_table words told found.request found.source found.names in
+    let puts : PutsFaithfulTable words told found.request found.items = puts_faithful_table words told found.request found.items found.names in
     record {
       request = found.request;
-      source = found.source;
+      items = found.items;
       names = found.names;
       table = subst (Gains old new) puts.due gained;
-      header = puts.header;
-      faithful = puts.faithful;
+      does = puts.does;
     }
 
 -- each source that the words name has status 0
-pub status_of_source : (words : List (List ℕ)) (told : List Named) (request : Request) (source : Source) (result : ℕ) → NamesSource words told request source → (result ≡ status_of (answer_for words told)) ⊎ (result ≡ 4) → (result ≡ 0) ⊎ (result ≡ 4)
-status_of_source words told request source result h (inl e) = inl (e ∙ (puts_faithful_table words told request source h).status)
-status_of_source words told request source result h (inr e) = inr e
+pub status_of_source : (words : List (List ℕ)) (told : List Named) (request : Request) (items : List Raw) (result : ℕ) → NamesSource words told request items → (result ≡ status_of (answer_for words told)) ⊎ (result ≡ 4) → (result ≡ 0) ⊎ (result ≡ 4)
+status_of_source words told request items result h (inl e) = inl (e ∙ (puts_faithful_table words told request items h).status)
+status_of_source words told request items result h (inr e) = inr e
 
 -- what is due of a status other than 0 is nothing
 abbrev Settled : Option Answer → Type 0
@@ -205,18 +232,18 @@ module _ (words : List (List ℕ)) (told : List Named) where
   words_settled (Err word) z = inr refl
   words_settled (Ok asked) z = file_settled asked asked.file z
 
-  one_table : (request : Request) (source : Source) → NamesSource words told request source → AreItsTables words told ((table_of request, source_table source) ∷ [])
-  one_table request source names =
-      let puts : PutsFaithfulTable words told request source = puts_faithful_table words told request source names in
-      (record { request = request; source = source; names = names; name = refl; bytes = refl; header = puts.header; faithful = puts.faithful }, tt)
+  one_table : (request : Request) (items : List Raw) → NamesSource words told request items → AreItsTables words told ((table_of request, table_in items) ∷ [])
+  one_table request items names =
+      let puts : PutsFaithfulTable words told request items = puts_faithful_table words told request items names in
+      (record { request = request; items = items; names = names; name = refl; bytes = refl; does = puts.does }, tt)
 
   by_settled : (o : Option Answer) → answer_for words told ≡ o → asks_for_text words ≡ false → Settled o → AreItsTables words told (due_of o)
   by_settled None is z h = tt
   by_settled (Some answer) is z (inr none) = subst (AreItsTables words told) (sym none) tt
   by_settled (Some answer) is z (inl zero) =
       let found : FoundSource words told = by_words words told (asked_by words) refl z (ap status_of is ∙ zero) in
-      let puts : PutsFaithfulTable words told found.request found.source = puts_faithful_table words told found.request found.source found.names in
-      subst (AreItsTables words told) (sym (sym (ap due_of is) ∙ puts.due)) (one_table found.request found.source found.names)
+      let puts : PutsFaithfulTable words told found.request found.items = puts_faithful_table words told found.request found.items found.names in
+      subst (AreItsTables words told) (sym (sym (ap due_of is) ∙ puts.due)) (one_table found.request found.items found.names)
 
   -- whatever the status, each file that is due is the table of a source that the words name
   pub are_its_tables : asks_for_text words ≡ false → AreItsTables words told (due_of (answer_for words told))

@@ -1,9 +1,4 @@
-pub mod Distinct
-pub mod ItemLists
-pub mod Trees
-pub mod ItemNames
-pub mod Ready
-pub mod Refusals
+pub mod Programs
 pub mod Written
 pub mod Outcomes
 pub mod Homes

@@ -12,9 +12,8 @@ use Rattle.asl_parser.specs.Marks.{marks}
 use Rattle.asl_parser.specs.Parse.{outcome, read, stopped, sunk, tall}
 use Rattle.std.proofs.lemmas.List.{length-drop}
 use Rattle.iasl_tool.specs.declared.compile.Compiled.TheVariants.{Refused}
-use Rattle.iasl_tool.specs.Sources.{source_of}
 use Rattle.iasl_tool.specs.Syntax.{not_source, too_deep}
-use Rattle.iasl_tool.specs.Compiled.{of_form, of_outcome, of_tokens, of_lines}
+use Rattle.iasl_tool.specs.Compiled.{of_items, of_outcome, of_tokens, of_lines}
 
 length-marks : (n : ℕ) (tokens : List Token) → length (marks n tokens) ≡ length tokens
 length-marks n [] = refl
@@ -23,7 +22,7 @@ length-marks n (t ∷ ts) = ap suc (length-marks (suc n) ts)
 left : (k : ℕ) (tokens : List Token) → length (drop k (marks 0 tokens)) ≡ length tokens - k
 left k tokens = length-drop k (marks 0 tokens) ∙ ap (λ n. n - k) (length-marks 0 tokens)
 
-pub read_is : (tokens : List Token) (items : List Raw) → outcome tokens ≡ read items → of_form items (source_of items) ≡ of_outcome tokens (outcome tokens)
+pub read_is : (tokens : List Token) (items : List Raw) → outcome tokens ≡ read items → of_items items ≡ of_outcome tokens (outcome tokens)
 read_is tokens items e = sym (ap (of_outcome tokens) e)
 
 pub stop_is : (tokens : List Token) (k : ℕ) → (k ≤ length tokens) × (outcome tokens ≡ stopped (drop k (marks 0 tokens))) → Refused (not_source tokens k ∷ []) ≡ of_outcome tokens (outcome tokens)

@@ -1,5 +1,5 @@
 -- What a source comes to: its table, or its errors.
-use Rattle.std.specs.Prelude.{ℕ, suc, ◌-◌, nat_le, if◌then◌else◌, List, [], ◌∷◌, length, true, All, ◌<◌, ⊤, Option, Some, None, Result, Ok, Err}
+use Rattle.std.specs.Prelude.{ℕ, suc, ◌-◌, nat_le, true, if◌then◌else◌, List, [], ◌∷◌, length, All, ◌<◌, ⊤, Result, Ok, Err}
 use Rattle.iasl_messages.specs.declared.place.Place.{Place}
 use Rattle.iasl_messages.specs.declared.place.Line.{Line}
 use Rattle.iasl_messages.specs.declared.message.Message.{Message}
@@ -7,51 +7,50 @@ use Rattle.asl_lexer.specs.declared.token.Token.{Token}
 use Rattle.asl_lexer.specs.declared.mode.Fault.{Fault}
 use Rattle.asl_lexer.specs.Marks.{tokens_of, message_of}
 use Rattle.acpi_values.specs.declared.width.Width.TheVariants.{W64}
+use Rattle.asl_tree.specs.Tree.{Trees}
+use Rattle.asl_tree.specs.declared.program.Block.{Block}
+use Rattle.aml_code.specs.Header.{HeaderFields, table_bytes, fields_of}
 use Rattle.aml_meaning.specs.Encoded.{encoded_all}
-use Rattle.aml_code.specs.Header.{table_bytes}
 use Rattle.aml_writer.specs.Written.{most_table_bytes}
-use Rattle.iasl_tool.specs.declared.source.Source.{Source}
+use Rattle.named_sessions.specs.Core.{core_of}
+use Rattle.name_checks.specs.Messages.{told_errors}
+use Rattle.asl_parser.specs.declared.raw.Raw.{Raw}
+use Rattle.asl_parser.specs.Parse.{Outcome, outcome, read, stopped, sunk, tall}
+use Rattle.asl_shape.specs.Written.{writtens}
+use Rattle.asl_shape.specs.Forms.{errors_at, block_place}
+use Rattle.program_shapes.specs.Sources.{terms_in, fields_in}
 use Rattle.iasl_tool.specs.declared.compile.Compiled.{Compiled}
 use Rattle.iasl_tool.specs.declared.compile.Compiled.TheVariants.{Table, Refused}
-use Rattle.iasl_tool.specs.Blocks.{source_fields, items_trees}
-use Rattle.asl_parser.specs.declared.raw.Raw.{Raw}
-use Rattle.asl_shape.specs.Forms.{errors_at}
-use Rattle.iasl_tool.specs.Sources.{source_of}
 use Rattle.iasl_tool.specs.Syntax.{not_source, too_deep}
-use Rattle.asl_parser.specs.Parse.{Outcome, outcome, read, stopped, sunk, tall}
-
--- a source that has no errors and is not of the form that is written so far: 6020 at the first character
-abbrev pub unknown : Message
-unknown = record { number = 6020; place = record { file = 0; line = 1; column = 1 }; name = [] }
 
 -- a table of more than 16 MiB: 6080 at the block
 abbrev pub too_long : Place → Message
 too_long place = record { number = 6080; place = place; name = [] }
 
--- the table of a source
-abbrev pub source_table : Source → List ℕ
-source_table source = table_bytes (source_fields source) (encoded_all W64 true (items_trees source.items))
+-- a table, if it is not too long
+abbrev pub of_table : Place → List ℕ → List ℕ → Compiled
+of_table place signature bytes = if nat_le (length bytes) most_table_bytes then Table signature bytes else Refused (too_long place ∷ [])
 
--- what is told of a source that is not written: its errors, or, where it has none, that its form is not known
-abbrev pub or_unknown : List Message → List Message
-or_unknown [] = unknown ∷ []
-or_unknown (m ∷ ms) = m ∷ ms
+-- the table of a block of these terms
+abbrev pub its_table : Trees → Block → List ℕ
+its_table terms block = table_bytes (fields_of block) (encoded_all W64 true (core_of terms))
 
-abbrev pub form_errors : List Raw → List Message
-form_errors items = or_unknown (errors_at items)
+-- errors, where there are any
+abbrev pub unless_wrong : List Message → Compiled → Compiled
+unless_wrong [] it = it
+unless_wrong (m ∷ ms) it = Refused (m ∷ ms)
 
--- what a source comes to, whose form is known
-abbrev pub of_source : Source → Compiled
-of_source source =
-    if nat_le (length (source_table source)) most_table_bytes then Table source.signature (source_table source) else Refused (too_long source.place ∷ [])
+-- a block of this form, that is refused with what is wrong with its names
+abbrev pub of_terms : Place → HeaderFields → Trees → Compiled
+of_terms place fields terms = unless_wrong (told_errors terms) (of_table place fields.signature (table_bytes fields (encoded_all W64 true (core_of terms))))
 
-abbrev pub of_form : List Raw → Option Source → Compiled
-of_form items None = Refused (form_errors items)
-of_form items (Some source) = of_source source
+-- the tree of a source's syntax, that is refused with what is wrong with its form
+abbrev pub of_items : List Raw → Compiled
+of_items items = unless_wrong (errors_at items) (of_terms (block_place (writtens items)) (fields_in items) (terms_in items))
 
 -- tokens that are a source, or the place where they stop being one or nest too deep
 abbrev pub of_outcome : List Token → Outcome → Compiled
-of_outcome tokens (read items) = of_form items (source_of items)
+of_outcome tokens (read items) = of_items items
 of_outcome tokens (stopped rest) = Refused (not_source tokens (length tokens - length rest) ∷ [])
 of_outcome tokens (sunk rest) = Refused (too_deep tokens (length tokens - suc (length rest)) ∷ [])
 of_outcome tokens (tall number) = Refused (too_deep tokens number ∷ [])

@@ -6,20 +6,13 @@ use Rattle.iasl_messages.specs.declared.place.Line.{Line}
 use Rattle.iasl_messages.specs.declared.message.Message.{Message}
 use Rattle.asl_preprocess.specs.Preprocess.{Given, preprocessed}
 use Rattle.asl_lexer.specs.declared.token.Token.{Token}
-use Rattle.asl_lexer.specs.Marks.{tokens_of}
+use Rattle.asl_lexer.specs.Cut.{IsCut}
 use Rattle.asl_parser.specs.declared.raw.Raw.{Raw}
 use Rattle.asl_parser.specs.Parse.{outcome, read}
-use Rattle.acpi_values.specs.declared.width.Width.TheVariants.{W64}
-use Rattle.asl_meaning.specs.Declarations.{known_of, externals}
-use Rattle.asl_tree.specs.Tree.{Trees}
-use Rattle.aml_meaning.specs.ByteSession.{IsFaithful}
-use Rattle.aml_code.specs.Header.{IsHeader}
 use Rattle.aml_writer.specs.Written.{most_table_bytes}
 use Rattle.iasl_options.specs.Asking.{Asked, asked_by}
-use Rattle.iasl_tool.specs.declared.source.Source.{Source}
-use Rattle.iasl_tool.specs.Sources.{source_of}
-use Rattle.iasl_tool.specs.Blocks.{source_fields, items_trees}
-use Rattle.iasl_tool.specs.Compiled.{source_table}
+use Rattle.iasl_options.specs.CommandLine.{IsCommandLine}
+use Rattle.program_shapes.specs.Sources.{IsRight, IsTableOf, table_in}
 use Rattle.iasl_tool.specs.Due.{table_name, is_fetched, answer_for}
 
 -- what good words ask for, and the file that they name
@@ -33,42 +26,35 @@ table_of request = table_name request.asked request.file
 
 -- The words ask for a compilation of this file; its lines, with those of its includes, are this source, whose table is not
 -- too long; and the name of the table's file is not that of a file that was fetched.
-pub record NamesSource (words : List (List ℕ)) (told : List Named) (request : Request) (source : Source) : Type 0 where
+pub record NamesSource (words : List (List ℕ)) (told : List Named) (request : Request) (items : List Raw) : Type 0 where
   pub files : List (List ℕ)
   pub lines : List Line
   pub notes : List Message
   pub tokens : List Token
-  pub items : List Raw
-  pub words_are : asked_by words ≡ Ok request.asked
+  pub words_are : IsCommandLine words request.asked
   pub file_is : request.asked.file ≡ Some request.file
   pub compiles : request.asked.only ≡ false
   pub lines_are : preprocessed told request.file request.asked.directories request.asked.definitions request.asked.enabled ≡ Given files lines notes
-  pub tokens_are : tokens_of lines ≡ Ok tokens
+  pub tokens_are : IsCut lines tokens
   pub tokens_spell : outcome tokens ≡ read items
-  pub source_is : source_of items ≡ Some source
-  pub table_within : length (source_table source) ≤ most_table_bytes
+  pub right : IsRight items
+  pub table_within : length (table_in items) ≤ most_table_bytes
   pub name_is_free : is_fetched files (table_of request) ≡ false
 
--- for every bound, answers and calls that may be asked, whatever other tables are there, every session over the bytes is the program's
-abbrev pub DoesAs : Trees → List ℕ → Type 0
-DoesAs program bytes = IsFaithful W64 (known_of program) (externals program) program bytes
-
 -- the call puts the source's table, and nothing else; the table has the source's header and does what the source says
-pub record PutsFaithfulTable (words : List (List ℕ)) (told : List Named) (request : Request) (source : Source) : Type 0 where
+pub record PutsFaithfulTable (words : List (List ℕ)) (told : List Named) (request : Request) (items : List Raw) : Type 0 where
   pub status : status_of (answer_for words told) ≡ 0
-  pub due : due_of (answer_for words told) ≡ (table_of request, source_table source) ∷ []
-  pub header : IsHeader (source_table source) (source_fields source)
-  pub faithful : DoesAs (items_trees source.items) (source_table source)
+  pub due : due_of (answer_for words told) ≡ (table_of request, table_in items) ∷ []
+  pub does : IsTableOf items (table_in items)
 
 -- a file is the table of a source that the words name: it has the source's header and does what the source says
 pub record IsItsTable (words : List (List ℕ)) (told : List Named) (file : Named) : Type 0 where
   pub request : Request
-  pub source : Source
-  pub names : NamesSource words told request source
+  pub items : List Raw
+  pub names : NamesSource words told request items
   pub name : file.0 ≡ table_of request
-  pub bytes : file.1 ≡ source_table source
-  pub header : IsHeader file.1 (source_fields source)
-  pub faithful : DoesAs (items_trees source.items) file.1
+  pub bytes : file.1 ≡ table_in items
+  pub does : IsTableOf items file.1
 
 abbrev pub AreItsTables : List (List ℕ) → List Named → List Named → Type 0
 AreItsTables words told [] = Unit {0}
@@ -78,11 +64,10 @@ AreItsTables words told (file ∷ files) = IsItsTable words told file × AreItsT
 -- source states, and every session over its bytes is the source's.
 pub record WritesItsTable (words : List (List ℕ)) (told : List Named) (old new : Option (List Named)) : Type 0 where
   pub request : Request
-  pub source : Source
-  pub names : NamesSource words told request source
-  pub table : Gains old new ((table_of request, source_table source) ∷ [])
-  pub header : IsHeader (source_table source) (source_fields source)
-  pub faithful : DoesAs (items_trees source.items) (source_table source)
+  pub items : List Raw
+  pub names : NamesSource words told request items
+  pub table : Gains old new ((table_of request, table_in items) ∷ [])
+  pub does : IsTableOf items (table_in items)
 
 -- whether words ask for preprocessed text alone
 abbrev pub only_by : Result Asked ℕ → Bool

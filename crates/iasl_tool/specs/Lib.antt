@@ -1,11 +1,5 @@
-pub mod Segments
-pub mod NameSets
-pub mod Forms
-pub mod Items
-pub mod Sources
-pub mod Blocks
 pub mod Syntax
 pub mod Compiled
-pub mod Readiness
+pub mod Ready
 pub mod Due
 pub mod Headline

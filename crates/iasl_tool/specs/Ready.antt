@@ -4,20 +4,21 @@ use Rattle.acpi_values.specs.declared.width.Width.TheVariants.{W64}
 use Rattle.asl_tree.specs.declared.program.Block.{Block}
 use Rattle.asl_tree.specs.Tree.{Trees}
 use Rattle.asl_tree.specs.View.{trees_of}
+use Rattle.aml_code.specs.Header.{HeaderFields, fields_of}
 use Rattle.acpi_names.specs.Errors.{name_errors, type_errors}
 use Rattle.named_sessions.specs.Shaped.{AreShaped}
 use Rattle.named_sessions.specs.Core.{core_of}
 
 -- the texts of the header have room
-pub record HasRoom (block : Block) : Type 0 where
-  pub signature : length block.signature ≡ 4
-  pub oem_id : length block.oem_id ≤ 6
-  pub table_id : length block.table_id ≤ 8
-  pub oem_revision : block.oem_revision < 2 ^ 32
+pub record HasRoom (fields : HeaderFields) : Type 0 where
+  pub signature : length fields.signature ≡ 4
+  pub oem_id : length fields.oem_id ≤ 6
+  pub table_id : length fields.table_id ≤ 8
+  pub oem_revision : fields.oem_revision < 2 ^ 32
 
 -- the terms are these, which are shaped and whose names are right, with their names spelled
 pub record IsCoreOf (terms : Trees) (block : Block) : Type 0 where
-  pub room : HasRoom block
+  pub room : HasRoom (fields_of block)
   pub shaped : AreShaped W64 terms
   pub names : name_errors terms ≡ []
   pub counts : type_errors terms ≡ []

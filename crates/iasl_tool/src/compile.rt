@@ -1,28 +1,38 @@
 //! A source to its table, or its errors.
-ghost use Rattle.std.specs.Prelude.{◌≡◌, ℕ, ◌≤◌, ◌<◌, ◌^◌, ◌++◌, ◌∷◌, [], length, take, All, Some, IfOk, IfErr};
+ghost use Rattle.std.specs.Prelude.{◌≡◌, ℕ, ◌<◌, ◌^◌, ◌++◌, ◌∷◌, [], List, length, All, Ok, Some, IfOk};
+ghost use Rattle.acpi_values.specs.declared.width.Width.TheVariants.{W64};
+ghost use Rattle.asl_tree.specs.Tree.{Trees};
 ghost use Rattle.asl_tree.specs.View.{trees_of};
+ghost use Rattle.asl_tree.specs.declared.program.Block.{Block as SpecBlock};
+ghost use Rattle.aml_code.specs.Header.{fields_of};
 ghost use Rattle.aml_writer.specs.Pieces.{joined_pieces};
-ghost use Rattle.iasl_tool.specs.Blocks.{IsBlockOf};
-ghost use Rattle.iasl_tool.specs.Sources.{source_of as found_source};
-ghost use Rattle.iasl_tool.specs.Readiness.{IsReadySource};
+ghost use Rattle.asl_parser.specs.declared.raw.Raw.{Raw};
 ghost use Rattle.asl_parser.specs.Parse.{outcome};
-ghost use Rattle.iasl_tool.specs.Syntax.{at_token};
+ghost use Rattle.asl_shape.specs.Forms.{Forms};
+ghost use Rattle.asl_shape.specs.Written.{writtens};
+ghost use Rattle.named_sessions.specs.Shaped.{AreShaped};
+ghost use Rattle.program_shapes.specs.Kept.{IsKeptSource};
+ghost use Rattle.program_shapes.proofs.Kept.{HaveShortTexts};
 ghost use Rattle.iasl_messages.specs.declared.message.Stage.TheVariants as stages;
+ghost use Rattle.iasl_tool.specs.Syntax.{at_token};
+ghost use Rattle.iasl_tool.specs.Ready.{HasRoom, IsCoreOf};
 ghost use Rattle.iasl_tool.specs.declared.compile.Compiled.TheVariants.{Refused};
-ghost use Rattle.iasl_tool.specs.Compiled.{of_lines, of_source, of_form, form_errors, of_outcome, of_tokens, unknown as unknown_form, RefusesWithin};
+ghost use Rattle.iasl_tool.specs.Compiled.{its_table, of_table, of_terms, of_items, of_lines, of_outcome, RefusesWithin};
 
-use crate::block::{block_of, core_of};
-use crate::source::{Source, source_of};
+use acpi_names::spell::spell;
 use aml_writer::stop::WriteStop;
 use aml_writer::write::write;
 use asl_lexer::token::Tokens;
 use asl_lexer::tokens;
+use asl_numbers::number::number_nodes;
 use asl_parser::{RawUnit, Syntax, parse, place_at};
 use asl_shape::shape;
+use asl_tree::program::{Block, Blocks, Core, Program};
 use iasl_messages::message::{Message, Messages, Stage};
-use iasl_messages::number::{NESTING_TOO_DEEP, SYNTAX, UNKNOWN_OPERATOR};
-use iasl_messages::place::{LineList, Lines, Piece, Place};
+use iasl_messages::number::{NESTING_TOO_DEEP, SYNTAX};
+use iasl_messages::place::{LineList, Lines, Piece};
 use iasl_ports::list::{Text, Texts};
+use name_checks::check::check;
 use std::alloc::{AllocError, Global};
 
 /// The most tokens that are numbered.
@@ -45,24 +55,6 @@ pub(crate) fn one_message(alloc: Global, message: Message) -> Result<Messages, A
     Ok(messages)
 }
 
-// The refusal of a source that is not of the form that is read so far.
-fn unknown(alloc: Global) -> Result<Messages, AllocError>
-    ensures { IfOk result (λ messages. messages ≡ unknown_form ∷ []) }
-{
-    one_message(
-        alloc,
-        Message {
-            number: UNKNOWN_OPERATOR,
-            place: Place {
-                file: 0,
-                line: 1,
-                column: 1,
-            },
-            name: Text::new(alloc),
-        },
-    )
-}
-
 // The bytes of pieces, one after another.
 #[tactic(auto, using(aml_writer::proofs::Sums::joined_more))]
 fn join(alloc: Global, pieces: &[Piece]) -> Result<Text, AllocError>
@@ -75,13 +67,33 @@ fn join(alloc: Global, pieces: &[Piece]) -> Result<Text, AllocError>
     Text::from_vec(alloc, bytes)
 }
 
-// The table of a source, or its refusal where that is too long. No listing shows the lines, so its pieces have no text.
-fn write_source(alloc: Global, source: Source) -> Result<Compiled, AllocError>
-    requires { IsReadySource source }
-    ensures { IfOk result (λ compiled. compiled ≡ of_source source) }
+// The messages of a stage's refusal.
+fn refusal(stage: Stage) -> Result<Messages, AllocError>
+    ensures { IfOk result (λ messages. stage ≡ stages.Refused messages) }
 {
-    let signature = Text::from_bytes(alloc, source.signature.as_bytes())?;
-    let core = core_of(alloc, block_of(alloc, source)?)?;
+    match stage {
+        Stage::Refused(messages) => Ok(messages),
+        Stage::Memory => Err(AllocError),
+    }
+}
+
+// The core of one block.
+fn core_of(alloc: Global, block: Block) -> Result<Core, AllocError>
+    ensures { IfOk result (λ core. core.program.blocks ≡ block ∷ []) }
+{
+    let mut blocks = Blocks::new(alloc);
+    blocks.push(block)?;
+    Ok(Core {
+        program: Program { blocks },
+    })
+}
+
+// The table of a core's block, or its refusal where that is too long. No listing shows the lines, so its pieces have no text.
+fn write_block(alloc: Global, block: Block) -> Result<Compiled, AllocError>
+    ensures { (terms : Trees) → IsCoreOf terms block → IfOk result (λ it. it ≡ of_table block.place block.signature (its_table terms block)) }
+{
+    let signature = Text::from_bytes(alloc, block.signature.as_bytes())?;
+    let core = core_of(alloc, block)?;
     let lines = Lines {
         files: Texts::new(alloc),
         list: LineList::new(alloc),
@@ -96,24 +108,50 @@ fn write_source(alloc: Global, source: Source) -> Result<Compiled, AllocError>
     }
 }
 
-// The refusal of a source that is not written: with all its errors, or as one whose form is not known.
-#[tactic(auto, using(crate::proofs::Refusals::no_errors, crate::proofs::Refusals::some_errors))]
-fn refuse_form(alloc: Global, unit: &RawUnit) -> Result<Compiled, AllocError>
-    ensures { IfOk result (λ compiled. compiled ≡ Refused (form_errors unit.now.items)) }
+// A block whose nodes have their numbers: its table, with its names spelled, or what is wrong with them.
+fn compile_block(alloc: Global, mut block: Block) -> Result<Compiled, AllocError>
+    requires room { HasRoom (fields_of block) }
+    requires shaped { AreShaped W64 (trees_of block.terms.items) }
+    ensures { IfOk result (λ it. it ≡ of_terms block.place (fields_of block) (trees_of block.terms.items)) }
 {
-    match shape(alloc, unit) {
-        Ok(_) => Ok(Compiled::Refused(unknown(alloc)?)),
-        Err(Stage::Refused(errors)) => Ok(Compiled::Refused(errors)),
-        Err(Stage::Memory) => Err(AllocError),
+    match check(alloc, block.terms.as_slice()) {
+        Ok(mut names) => {
+            spell(
+                alloc,
+                &mut names.index,
+                names.calls.as_slice(),
+                &mut block.terms,
+            )?;
+            write_block(alloc, block)
+        }
+        Err(stage) => Ok(Compiled::Refused(refusal(stage)?)),
     }
 }
 
-fn compile_form(alloc: Global, unit: &RawUnit) -> Result<Compiled, AllocError>
-    ensures { IfOk result (λ compiled. compiled ≡ of_form unit.now.items (found_source unit.now.items)) }
+// The one block of a program.
+fn block_of(program: Program) -> Result<Block, AllocError>
+    ensures { (block : SpecBlock) → program.blocks ≡ block ∷ [] → result ≡ Ok block }
 {
-    match source_of(alloc, unit.items.as_slice())? {
-        Some(source) => write_source(alloc, source),
-        None => refuse_form(alloc, unit),
+    match program.blocks.into_vec().pop() {
+        Some(block) => Ok(block),
+        None => Err(AllocError),
+    }
+}
+
+// The tree of a source's syntax.
+fn compile_unit(alloc: Global, unit: &RawUnit) -> Result<Compiled, AllocError>
+    requires { IsKeptSource (writtens unit.now.items) }
+    ensures { IfOk result (λ compiled. compiled ≡ of_items unit.now.items) }
+{
+    match shape(alloc, unit) {
+        Ok(program) => {
+            let mut block = block_of(program)?;
+            match number_nodes(&mut block.terms, 0) {
+                Some(_) => compile_block(alloc, block),
+                None => Err(AllocError),
+            }
+        }
+        Err(stage) => Ok(Compiled::Refused(refusal(stage)?)),
     }
 }
 
@@ -140,25 +178,16 @@ fn refuse_at(
 
 #[tactic(auto, using(crate::proofs::Outcomes::read_is, crate::proofs::Outcomes::stop_is, crate::proofs::Outcomes::deep_is))]
 fn compile_tokens(alloc: Global, tokens: &Tokens) -> Result<Compiled, AllocError>
-    requires { length tokens.now < 2 ^ 32 }
+    requires few { length tokens.now < 2 ^ 32 }
+    requires short { HaveShortTexts tokens.now }
     ensures value { IfOk result (λ compiled. compiled ≡ of_outcome tokens.now (outcome tokens.now)) }
     ensures within { (files : ℕ) → 0 < files → All (λ token. token.place.file < files) tokens.now → IfOk result (RefusesWithin files) }
 {
     match parse(alloc, tokens) {
-        Ok(unit) => compile_form(alloc, &unit),
+        Ok(unit) => compile_unit(alloc, &unit),
         Err(Syntax::Stop { token }) => refuse_at(alloc, tokens, SYNTAX, token),
         Err(Syntax::TooDeep { token }) => refuse_at(alloc, tokens, NESTING_TOO_DEEP, token),
         Err(Syntax::Memory) => Err(AllocError),
-    }
-}
-
-// The messages of a stage's refusal.
-fn refusal(stage: Stage) -> Result<Messages, AllocError>
-    ensures { IfOk result (λ messages. stage ≡ stages.Refused messages) }
-{
-    match stage {
-        Stage::Refused(messages) => Ok(messages),
-        Stage::Memory => Err(AllocError),
     }
 }
 

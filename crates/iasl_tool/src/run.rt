@@ -1,9 +1,9 @@
 //! The top call: a source to its table.
-ghost use Rattle.std.specs.Prelude.{◌≡◌, ◌⊎◌, map, string_bytes, false};
+ghost use Rattle.std.specs.Prelude.{◌≡◌, ◌⊎◌, List, map, string_bytes, false};
 ghost use Rattle.std.specs.Option.{ForSome};
 ghost use Rattle.iasl_ports.specs.Delivery.{due_of};
 ghost use Rattle.iasl_runs.specs.Ends.{files_seen, outputs_seen, console_seen, world, IsQuiet, Ends};
-ghost use Rattle.iasl_tool.specs.declared.source.Source.{Source};
+ghost use Rattle.asl_parser.specs.declared.raw.Raw.{Raw};
 ghost use Rattle.iasl_tool.specs.Due.{answer_for, fault_text, memory_text};
 ghost use Rattle.iasl_tool.specs.Headline.{Request, NamesSource, AreItsTables, WritesItsTable, asks_for_text};
 
@@ -45,7 +45,7 @@ pub fn iasl<F: Files, O: Outputs, C: Sink>(
     ensures headline { result ≡ 0 → asks_for_text (map string_bytes words.now) ≡ false → ForSome (F.contents files.old) (λ told. WritesItsTable (map string_bytes words.now) told (O.written outs.old) (O.written outs.new)) }
 
     // And every such source gives 0, or 4, where no count rose.
-    ensures complete { ForSome (F.contents files.old) (λ told. (request : Request) → (source : Source) → NamesSource (map string_bytes words.now) told request source
+    ensures complete { ForSome (F.contents files.old) (λ told. (request : Request) → (items : List Raw) → NamesSource (map string_bytes words.now) told request items
         → IsQuiet
         (world (files_seen (F.contents files.old) (F.faults files.old) (F.absents files.old)) (outputs_seen (O.written outs.old) (O.faults outs.old)) (console_seen (C.told console.old) (C.faults console.old)))
         (world (files_seen (F.contents files.new) (F.faults files.new) (F.absents files.new)) (outputs_seen (O.written outs.new) (O.faults outs.new)) (console_seen (C.told console.new) (C.faults console.new)))

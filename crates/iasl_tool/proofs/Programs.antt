@@ -1,0 +1,109 @@
+-- What a block, a program and a source come to.
+use Rattle.std.proofs.Common.{◌≡◌, ℕ, ◌<◌, ◌≤◌, ◌^◌, length, List, [], ◌∷◌, Result, Ok, Err, refl, sym, ap, ◌∙◌, subst, arith}
+use Rattle.std.specs.Prelude.{map, IfOk}
+use Rattle.std.specs.declared.alloc.AllocError.{AllocError}
+use Rattle.iasl_messages.specs.declared.message.Stage.{Stage}
+use Rattle.iasl_messages.specs.declared.message.Stage.TheVariants.{Refused as Refused'}
+use Rattle.name_checks.specs.Refusals.{Refuses}
+use Rattle.asl_shape.specs.AtRaw.{Refuses as ShapeRefuses}
+use Rattle.std.proofs.lemmas.Nat.{mod_below}
+use Rattle.iasl_messages.specs.declared.message.Message.{Message}
+use Rattle.acpi_values.specs.declared.width.Width.TheVariants.{W64}
+use Rattle.asl_tree.specs.declared.program.Block.{Block}
+use Rattle.asl_tree.specs.Tree.{Trees}
+use Rattle.aml_code.specs.Header.{HeaderFields, fields_of}
+use Rattle.acpi_names.specs.Errors.{NameError, name_errors, type_errors}
+use Rattle.named_sessions.specs.Shaped.{AreShaped}
+use Rattle.asl_parser.specs.declared.raw.Raw.{Raw}
+use Rattle.asl_shape.specs.Written.{writtens}
+use Rattle.asl_shape.specs.Plans.{plans_of, plan_at, number_of}
+use Rattle.asl_shape.specs.Forms.{IsBlockOf, errors_at, args_of, block_place}
+use Rattle.asl_numbers.specs.Numbers.{numbered_all}
+use Rattle.name_checks.specs.Messages.{message_of, first_errors, told_errors}
+use Rattle.program_shapes.specs.Kept.{IsKeptSource}
+use Rattle.program_shapes.specs.Sources.{terms_in, fields_in}
+use Rattle.program_shapes.proofs.Blocks.{room_in}
+use Rattle.program_shapes.proofs.Headers.{HaveRoom}
+use Rattle.program_shapes.proofs.Tables.{terms_are_shaped}
+use Rattle.iasl_tool.specs.declared.compile.Compiled.{Compiled}
+use Rattle.iasl_tool.specs.declared.compile.Compiled.TheVariants.{Refused}
+use Rattle.iasl_tool.specs.Compiled.{unless_wrong, of_terms, of_items}
+use Rattle.iasl_tool.specs.Ready.{HasRoom}
+
+abbrev pub ok_block : Block → Result Block AllocError
+ok_block block = Ok block
+
+-- errors that there are
+pub refused_is : (messages errors : List Message) (it : Compiled) → (messages ≡ errors) × (errors ≡ [] → ⊥) → Refused messages ≡ unless_wrong errors it
+refused_is messages [] it h = absurd (h.1 refl)
+refused_is messages (m ∷ ms) it h = ap Refused h.0
+
+-- none
+pub right_is : (errors : List Message) (it other : Compiled) → errors ≡ [] → it ≡ other → it ≡ unless_wrong errors other
+right_is errors it other e h = h ∙ sym (ap (λ es. unless_wrong es other) e)
+
+-- the block that is found
+pub found_block : (found block : Block) → ok_block found ≡ ok_block block → found ≡ block
+found_block found block e = cc
+
+-- no errors of names, nor of kinds
+pub none_told : (terms : Trees) → name_errors terms ≡ [] → type_errors terms ≡ [] → told_errors terms ≡ []
+none_told terms names types = by (name_errors terms) (type_errors terms) names types
+  where
+    by : (ns ts : List NameError) → ns ≡ [] → ts ≡ [] → map message_of (first_errors ns ts) ≡ []
+    by [] [] en et = refl
+    by [] (t ∷ ts) en et = absurd cc
+    by (n ∷ ns) ts en et = absurd cc
+
+-- the header of a block has room
+pub block_room : (items : List Raw) (block : Block) → errors_at items ≡ [] → IsBlockOf items block → IsKeptSource (writtens items) → HasRoom (fields_of block)
+unfolding errors_at IsBlockOf
+block_room items block e h k =
+    let room : HaveRoom (args_of (writtens items)) = room_in (writtens items) e k in
+    record {
+      signature = ap length h.signature ∙ room.signature;
+      oem_id = subst (λ text. length text ≤ 6) (sym h.oem_id) room.oem_id;
+      table_id = subst (λ text. length text ≤ 8) (sym h.table_id) room.table_id;
+      oem_revision = subst (λ n. n < 2 ^ 32) (sym h.oem_revision) (mod_below (number_of (plan_at (args_of (writtens items)) 5)) 4294967296 (omega arith));
+    }
+
+same_terms : (items : List Raw) (block : Block) (terms : Trees) → IsBlockOf items block → terms ≡ numbered_all 0 (plans_of block.terms.items) → terms ≡ terms_in items
+unfolding IsBlockOf
+same_terms items block terms h e = e ∙ ap (numbered_all 0) h.terms
+
+-- its terms, numbered, are shaped
+pub block_shaped : (items : List Raw) (block : Block) (terms : Trees) → errors_at items ≡ [] → IsBlockOf items block → IsKeptSource (writtens items) → terms ≡ numbered_all 0 (plans_of block.terms.items) → AreShaped W64 terms
+block_shaped items block terms e h k is = subst (AreShaped W64) (sym (same_terms items block terms h is)) (terms_are_shaped items e k)
+
+same_fields : (items : List Raw) (block : Block) → IsBlockOf items block → fields_of block ≡ fields_in items
+unfolding IsBlockOf
+same_fields items block h = cc (h.signature, h.revision, h.oem_id, h.table_id, h.oem_revision)
+
+same_place : (items : List Raw) (block : Block) → IsBlockOf items block → block.place ≡ block_place (writtens items)
+unfolding IsBlockOf
+same_place items block h = h.place
+
+-- and it comes to what its source comes to
+pub block_comes : (items : List Raw) (block : Block) (terms : Trees) (it : Compiled) → errors_at items ≡ [] → IsBlockOf items block → terms ≡ numbered_all 0 (plans_of block.terms.items) → it ≡ of_terms block.place (fields_of block) terms → it ≡ of_items items
+block_comes items block terms it e h is comes =
+    right_is (errors_at items) it (of_terms (block_place (writtens items)) (fields_in items) (terms_in items)) e
+    (comes ∙ ap (λ p. of_terms p (fields_of block) terms) (same_place items block h) ∙ ap (λ f. of_terms (block_place (writtens items)) f terms) (same_fields items block h)
+    ∙ ap (of_terms (block_place (writtens items)) (fields_in items)) (same_terms items block terms h is))
+
+-- a block in whose names nothing is wrong
+pub right_comes : (r : Result Compiled AllocError) (errors : List Message) (it : Compiled) → errors ≡ [] → IfOk r (λ made. made ≡ it) → IfOk r (λ made. made ≡ unless_wrong errors it)
+right_comes (Ok made) errors it e h = right_is errors made it e h
+right_comes (Err error) errors it e h = tt
+
+-- a stage that refuses
+pub stage_comes : (stage : Stage) (messages errors : List Message) (it : Compiled) → Refuses stage errors → stage ≡ Refused' messages → Refused messages ≡ unless_wrong errors it
+stage_comes stage messages errors it h e = refused_is messages errors it (subst (λ (s : Stage). Refuses s errors) e h)
+
+pub shape_comes : (stage : Stage) (messages errors : List Message) (it : Compiled) → ShapeRefuses stage errors → stage ≡ Refused' messages → Refused messages ≡ unless_wrong errors it
+shape_comes stage messages errors it h e = refused_is messages errors it (subst (λ (s : Stage). ShapeRefuses s errors) e h)
+
+-- what a block that is compiled comes to is what its source comes to
+pub program_comes : (r : Result Compiled AllocError) (items : List Raw) (block : Block) (terms : Trees) → errors_at items ≡ [] → IsBlockOf items block → terms ≡ numbered_all 0 (plans_of block.terms.items)
+    → IfOk r (λ it. it ≡ of_terms block.place (fields_of block) terms) → IfOk r (λ it. it ≡ of_items items)
+program_comes (Ok it) items block terms e h is comes = block_comes items block terms it e h is comes
+program_comes (Err error) items block terms e h is comes = tt

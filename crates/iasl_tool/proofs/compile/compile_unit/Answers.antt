@@ -1,0 +1,23 @@
+use Rattle.std.proofs.Common.{◌≡◌, List, [], ◌∷◌, sym, subst}
+use Rattle.asl_tree.specs.declared.program.Block.{Block}
+use Rattle.asl_tree.specs.declared.program.Program.{Program}
+use Rattle.asl_parser.specs.declared.raw.Raw.{Raw}
+use Rattle.asl_tree.specs.View.{trees_of}
+use Rattle.asl_shape.specs.Forms.{Forms, IsBlockOf}
+use Rattle.iasl_tool.proofs.Programs.{ok_block, found_block, block_room, block_shaped, program_comes, shape_comes}
+use Rattle.iasl_tool.proofs.compile.compile_unit.Goals as goal
+
+is_block : (items : List Raw) (program : Program) (found : Block) → Forms items program → ((block : Block) → program.blocks ≡ block ∷ [] → ok_block found ≡ ok_block block) → IsBlockOf items found
+is_block items program found forms is =
+    let one = forms.one_block in
+    subst (IsBlockOf items) (sym (found_block found one.0 (is one.0 one.1))) one.2
+
+pub compile_block-requires-clause-room : goal.compile_block-requires-clause-room
+compile_block-requires-clause-room c = block_room c.args.unit.now.items c.in_ok-block-in-Ok.block c.in-Ok.ensures.formed.no_errors (is_block c.args.unit.now.items c.in-Ok.program c.in_ok-block-in-Ok.block c.in-Ok.ensures.formed c.in_ok-block-in-Ok.ensures) c.requires
+
+pub compile_block-requires-clause-shaped : goal.compile_block-requires-clause-shaped
+compile_block-requires-clause-shaped c = block_shaped c.args.unit.now.items c.in_ok-block-in-Ok.block (trees_of c.number_nodes.new.nodes.items) c.in-Ok.ensures.formed.no_errors (is_block c.args.unit.now.items c.in-Ok.program c.in_ok-block-in-Ok.block c.in-Ok.ensures.formed c.in_ok-block-in-Ok.ensures) c.requires c.in-Some.ensures.trees
+
+pub returns-in-Some : goal.returns-in-Some
+returns-in-Some c =
+    program_comes c.compile_block.result c.args.unit.now.items c.in_ok-block-in-Ok.block (trees_of c.number_nodes.new.nodes.items) c.in-Ok.ensures.formed.no_errors (is_block c.args.unit.now.items c.in-Ok.program c.in_ok-block-in-Ok.block c.in-Ok.ensures.formed c.in_ok-block-in-Ok.ensures) c.in-Some.ensures.trees c.compile_block.ensures
