@@ -13,14 +13,14 @@ use Rattle.statement_checks.specs.declared.check.Around.{Around}
 abbrev pub outside : Around
 outside = record { arguments = 0; in_loop = false }
 
--- a method begins anew, with as many arguments as the low three bits of its flags say
+-- a method begins anew, with as many arguments as the low three bits of its flags say, which stand behind its name
 abbrev pub in_method : Plans → Around
 in_method args = record { arguments = number_of (plan_at args 1) % 8; in_loop = false }
 
 abbrev pub in_while : Around → Around
 in_while around = record { arguments = around.arguments; in_loop = true }
 
--- what the body of a form stands in, where the form stands in `around`
+-- what the body of a form stands in, where the form itself stands in `around`: an If, an Else and a Device change nothing
 abbrev pub around_body : Op → Plans → Around → Around
 around_body (Op.Declaration Declaration.Method) args around = in_method args
 around_body (Op.Control Control.While) args around = in_while around
