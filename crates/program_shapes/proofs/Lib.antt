@@ -13,6 +13,7 @@ pub mod Lexed
 pub mod Few
 pub mod Places
 pub mod TreePlaces
+pub mod StatementPlaces
 pub mod Blocks
 pub mod Headers
 pub mod Tables

@@ -1,0 +1,150 @@
+//! Loops that are left, and arguments of methods, checked.
+ghost use Rattle.std.specs.Prelude.{◌≡◌, ◌%◌, ◌++◌, IfOk, OnOk};
+ghost use Rattle.asl_shape.specs.Plans.{plan_at, plan_of, plans_of, number_of};
+ghost use Rattle.statement_checks.specs.Statements as spec;
+
+use asl_tree::term::{Control, Declaration, Node, Op, Term};
+use iasl_messages::message::{Message, Messages};
+use iasl_messages::number;
+use iasl_messages::place::Place;
+use iasl_ports::list::Text;
+use std::alloc::{AllocError, Global};
+
+/// What a term stands in: how many arguments its method has, none outside of methods, and whether a While of the same
+/// method or block is around it.
+#[derive(Clone, Copy)]
+pub struct Around {
+    pub arguments: u64,
+    pub in_loop: bool,
+}
+
+#[tactic(auto, using(asl_shape::proofs::Terms::integer_term, crate::proofs::Terms::no_number))]
+fn number_in(term: &Term) -> u64
+    ensures { result ≡ number_of (plan_of term.now) }
+{
+    match term {
+        Term::Integer(number) => *number,
+        _ => 0,
+    }
+}
+
+// How many arguments a method takes: the low three bits of its flags, which stand behind its name.
+#[tactic(auto, using(asl_shape::proofs::Settled::at_rules))]
+fn argument_count(args: &[Node]) -> u64
+    ensures { result ≡ number_of (plan_at (plans_of args.now) 1) % 8 }
+{
+    match args.get(1) {
+        Some(node) => number_in(&node.term) % 8,
+        None => 0,
+    }
+}
+
+// What the body of a form stands in.
+fn around_body(op: Op, args: &[Node], around: Around) -> Around
+    ensures { result ≡ spec.around_body op (plans_of args.now) around }
+{
+    match op {
+        Op::Declaration(Declaration::Method) => Around {
+            arguments: argument_count(args),
+            in_loop: false,
+        },
+        Op::Control(Control::While) => Around {
+            arguments: around.arguments,
+            in_loop: true,
+        },
+        _ => around,
+    }
+}
+
+// Whether a form leaves a loop or begins its next turn where no loop is around.
+fn misses_loop(op: Op, around: Around) -> bool
+    ensures { result ≡ spec.misses_loop op around }
+{
+    match op {
+        Op::Control(Control::Break | Control::Continue) => !around.in_loop,
+        _ => false,
+    }
+}
+
+// A message without a name, where something is wrong.
+fn tell_if(
+    alloc: Global,
+    out: &mut Messages,
+    wrong: bool,
+    number: u16,
+    place: Place,
+) -> Result<(), AllocError>
+    ensures { OnOk result (out.new ≡ out.old ++ spec.told wrong number place) }
+{
+    if !wrong {
+        return Ok(());
+    }
+    out.push(Message {
+        number,
+        place,
+        name: Text::new(alloc),
+    })?;
+    Ok(())
+}
+
+// The errors of a term: its own, then those of its arguments, then those of its body.
+#[cycle(walk)]
+fn term_errors(
+    alloc: Global,
+    out: &mut Messages,
+    node: &Node,
+    around: Around,
+) -> Result<(), AllocError>
+    ensures { OnOk result (out.new ≡ out.old ++ spec.term_errors around node.now.place (plan_of node.now.term)) }
+{
+    match &node.term {
+        Term::Arg(index) => {
+            let wrong = u64::from(*index) >= around.arguments;
+            tell_if(alloc, out, wrong, number::ARGUMENT_ABOVE_COUNT, node.place)?;
+            Ok(())
+        }
+        Term::Call { args, .. } => {
+            all_errors(alloc, out, args, around)?;
+            Ok(())
+        }
+        Term::Form { op, args, body } => {
+            let wrong = misses_loop(*op, around);
+            tell_if(alloc, out, wrong, number::NO_LOOP, node.place)?;
+            all_errors(alloc, out, args, around)?;
+            all_errors(alloc, out, body, around_body(*op, args, around))?;
+            Ok(())
+        }
+        _ => Ok(()),
+    }
+}
+
+// The errors of terms one after another.
+#[cycle(walk)]
+fn all_errors(
+    alloc: Global,
+    out: &mut Messages,
+    nodes: &[Node],
+    around: Around,
+) -> Result<(), AllocError>
+    ensures { OnOk result (out.new ≡ out.old ++ spec.statement_errors around (plans_of nodes.now)) }
+{
+    for node in nodes {
+        term_errors(alloc, out, node, around)?;
+    }
+    Ok(())
+}
+
+/// The errors of the statements of a block, in the order of the source: 6052 at each Break and Continue that stands in no
+/// While of its own method or block (ACPI Specification 6.4, 19.6.8 and 19.6.18), and 6055 at each ArgN whose number is
+/// that of the method's arguments or more, or that stands in no method (19.2.5).
+pub fn statement_errors(alloc: Global, terms: &[Node]) -> Result<Messages, AllocError>
+    ensures { IfOk result (λ ms. ms ≡ spec.errors_of_statements (plans_of terms.now)) }
+{
+    let mut out = Messages::new(alloc);
+    let outside = Around {
+        arguments: 0,
+        in_loop: false,
+    };
+    all_errors(alloc, &mut out, terms, outside)?;
+    Ok(out)
+}

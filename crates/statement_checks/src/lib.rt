@@ -1,0 +1,6 @@
+//! What is wrong with the statements of a block.
+#![tactic(auto)]
+
+pub mod check;
+#[cfg(test)]
+mod tests;
