@@ -24,7 +24,7 @@ use Rattle.name_checks.specs.Messages.{message_of, first_errors, told_errors}
 use Rattle.iasl_options.specs.Asking.{Asked, asked_by}
 use Rattle.iasl_options.proofs.CommandLines.{line_from, line_to}
 use Rattle.program_shapes.specs.Kept.{IsKeptSource}
-use Rattle.program_shapes.specs.Sources.{terms_in, fields_in, table_in, IsRight}
+use Rattle.program_shapes.specs.Sources.{terms_in, statements_in, fields_in, table_in, IsRight}
 use Rattle.program_shapes.proofs.Kept.{is_kept}
 use Rattle.program_shapes.proofs.Lexed.{lexed_short}
 use Rattle.program_shapes.proofs.Few.{few_tokens}
@@ -32,10 +32,10 @@ use Rattle.program_shapes.proofs.Tables.{does_as}
 use Rattle.aml_writer.specs.Written.{most_table_bytes}
 use Rattle.iasl_tool.specs.declared.compile.Compiled.{Compiled}
 use Rattle.iasl_tool.specs.declared.compile.Compiled.TheVariants.{Table, Refused}
-use Rattle.iasl_tool.specs.Compiled.{of_lines, of_items, of_terms, of_table, unless_wrong, of_outcome, of_tokens, too_long}
+use Rattle.iasl_tool.specs.Compiled.{of_lines, of_items, of_terms, of_table, unless_wrong, with_statements, of_outcome, of_tokens, too_long}
 use Rattle.iasl_tool.specs.Due.{table_name, is_fetched, made_file, in_use, answer_to_text, answer_to_compiled, answer_to_preprocessed, answer_to_file, answer_to_asked, answer_for}
 use Rattle.iasl_tool.specs.Headline.{Request, table_of, NamesSource, PutsFaithfulTable, AreItsTables, WritesItsTable, only_by, asks_for_text}
-use Rattle.iasl_tool.proofs.Programs.{none_told}
+use Rattle.iasl_tool.proofs.Programs.{none_told, none_behind, some_behind}
 use Rattle.iasl_tool.proofs.Sizes.{given_sizes}
 
 abbrev signature_of : List Raw → List ℕ
@@ -46,8 +46,8 @@ items_are : (items : List Raw) → IsRight items → length (table_in items) ≤
 items_are items right within =
     let place = block_place (writtens items) in
     let le : nat_le (length (table_in items)) most_table_bytes ≡ true = le-leb (length (table_in items)) most_table_bytes within in
-    ap (λ es. unless_wrong es (of_terms place (fields_in items) (terms_in items))) right.form
-    ∙ ap (λ es. unless_wrong es (of_table place (signature_of items) (table_in items))) (none_told (terms_in items) right.names right.counts)
+    ap (λ es. unless_wrong es (of_terms place (fields_in items) (statements_in items) (terms_in items))) right.form
+    ∙ ap (λ es. unless_wrong es (of_table place (signature_of items) (table_in items))) (none_behind (told_errors (terms_in items)) (statements_in items) (none_told (terms_in items) right.names right.counts) right.statements)
     ∙ ap (λ c. if c then Table (signature_of items) (table_in items) else Refused (too_long place ∷ [])) le
 
 -- what is due of a source whose table's name is free
@@ -92,6 +92,10 @@ right_names terms e = by (name_errors terms) (type_errors terms) e
     by [] [] e = (refl, refl)
     by [] (t ∷ ts) e = absurd cc
     by (n ∷ ns) ts e = absurd cc
+
+both_none : (errors statements : List Message) → with_statements errors statements ≡ [] → (errors ≡ []) × (statements ≡ [])
+both_none [] statements e = (refl, e)
+both_none (m ∷ ms) statements e = absurd (some_behind (m ∷ ms) statements (λ f. absurd cc) e)
 
 -- the source that the words name
 record FoundSource (words : List (List ℕ)) (told : List Named) : Type 0 where
@@ -142,16 +146,17 @@ module _ (words : List (List ℕ)) (told : List Named) where
   by_table k tokens items true et eo es ec h = by_name k tokens items (is_fetched k.files (table_of k.request)) et eo es ec refl h
   by_table k tokens items false et eo es ec h = absurd (omega (arith, h))
 
-  by_names : (k : Known words told) (tokens : List Token) (items : List Raw) (ms : List Message) → tokens_of k.lines ≡ Ok tokens → outcome tokens ≡ read items → errors_at items ≡ [] → told_errors (terms_in items) ≡ ms
+  by_names : (k : Known words told) (tokens : List Token) (items : List Raw) (ms : List Message) → tokens_of k.lines ≡ Ok tokens → outcome tokens ≡ read items → errors_at items ≡ [] → with_statements (told_errors (terms_in items)) (statements_in items) ≡ ms
       → status_with words told k (unless_wrong ms (of_table (block_place (writtens items)) (signature_of items) (table_in items))) ≡ 0 → FoundSource words told
   by_names k tokens items [] et eo form en h =
-      let names = right_names (terms_in items) en in
-      by_table k tokens items (nat_le (length (table_in items)) most_table_bytes) et eo (record { form = form; names = names.0; counts = names.1 }) refl h
+      let none = both_none (told_errors (terms_in items)) (statements_in items) en in
+      let names = right_names (terms_in items) none.0 in
+      by_table k tokens items (nat_le (length (table_in items)) most_table_bytes) et eo (record { form = form; names = names.0; counts = names.1; statements = none.1 }) refl h
   by_names k tokens items (m ∷ ms) et eo form en h = absurd (omega (arith, h))
 
   by_items : (k : Known words told) (tokens : List Token) (items : List Raw) (ms : List Message) → tokens_of k.lines ≡ Ok tokens → outcome tokens ≡ read items → errors_at items ≡ ms
-      → status_with words told k (unless_wrong ms (of_terms (block_place (writtens items)) (fields_in items) (terms_in items))) ≡ 0 → FoundSource words told
-  by_items k tokens items [] et eo form h = by_names k tokens items (told_errors (terms_in items)) et eo form refl h
+      → status_with words told k (unless_wrong ms (of_terms (block_place (writtens items)) (fields_in items) (statements_in items) (terms_in items))) ≡ 0 → FoundSource words told
+  by_items k tokens items [] et eo form h = by_names k tokens items (with_statements (told_errors (terms_in items)) (statements_in items)) et eo form refl h
   by_items k tokens items (m ∷ ms) et eo form h = absurd (omega (arith, h))
 
   by_outcome : (k : Known words told) (tokens : List Token) (o : Outcome) → tokens_of k.lines ≡ Ok tokens → outcome tokens ≡ o → status_with words told k (of_outcome tokens o) ≡ 0 → FoundSource words told

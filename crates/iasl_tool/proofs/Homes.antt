@@ -1,10 +1,10 @@
 -- Messages and tokens are in files that there are.
 use Rattle.std.proofs.Common.{◌≡◌, ℕ, ◌+◌, ◌-◌, ◌<◌, Bool, true, false, List, [], ◌∷◌, length, get_or, Option, Some, None, Result, Ok, Err, refl, sym, subst, arith}
-use Rattle.std.specs.Prelude.{nat_le, if◌then◌else◌, slice_get, IfOk, map}
+use Rattle.std.specs.Prelude.{nat_le, nat_eq, ◌++◌, if◌then◌else◌, slice_get, IfOk, map}
 use Rattle.std.specs.declared.alloc.AllocError.{AllocError}
 use Rattle.std.specs.List.{All}
 use Rattle.std.specs.Option.{option_map_or}
-use Rattle.std.proofs.lemmas.List.Elements.{All-push, All-map}
+use Rattle.std.proofs.lemmas.List.Elements.{All-push, All-map, All-append}
 use Rattle.std.proofs.lemmas.Option.{get_or_from_slice_get, slice_get_within}
 use Rattle.iasl_messages.specs.declared.place.Place.{Place}
 use Rattle.iasl_messages.specs.declared.message.Message.{Message}
@@ -19,16 +19,18 @@ use Rattle.named_sessions.specs.Places.{at_of, AreWithin as TreesWithin}
 use Rattle.named_sessions.proofs.Places.{errors_within as names_within}
 use Rattle.asl_shape.specs.Written.{Writtens, item, none, more, writtens}
 use Rattle.asl_shape.specs.Places.{AreWithin as PartsWithin}
-use Rattle.asl_shape.specs.Forms.{errors_at, block_place}
+use Rattle.asl_shape.specs.Forms.{errors_at, block_place, terms_of}
 use Rattle.asl_shape.proofs.Places.{errors_within}
 use Rattle.asl_shape.proofs.Homes.{spelled_within}
-use Rattle.program_shapes.specs.Sources.{terms_in, fields_in, table_in}
+use Rattle.program_shapes.specs.Sources.{terms_in, statements_in, fields_in, table_in}
+use Rattle.program_shapes.proofs.Places.{terms_within}
+use Rattle.program_shapes.proofs.StatementPlaces.{statement_errors_within}
 use Rattle.program_shapes.proofs.TreePlaces.{source_within}
 use Rattle.aml_writer.specs.Written.{most_table_bytes}
 use Rattle.iasl_tool.specs.declared.compile.Compiled.{Compiled}
 use Rattle.iasl_tool.specs.declared.compile.Compiled.TheVariants.{Table, Refused}
 use Rattle.iasl_tool.specs.Syntax.{at_token}
-use Rattle.iasl_tool.specs.Compiled.{AreWithin, RefusesWithin, too_long, of_table, unless_wrong, of_terms, of_items}
+use Rattle.iasl_tool.specs.Compiled.{AreWithin, RefusesWithin, too_long, of_table, unless_wrong, with_statements, of_terms, of_items}
 
 module _ (files : ℕ) where
   abbrev TokenHome : Token → Type 0
@@ -75,6 +77,14 @@ module _ (files : ℕ) where
       by [] ts hn ht = messages_home ts ht
       by (n ∷ ns) ts hn ht = messages_home (n ∷ ns) hn
 
+  statements_home : (errors statements : List Message) → AreWithin files errors → AreWithin files statements → AreWithin files (with_statements errors statements)
+  statements_home [] statements h k = k
+  statements_home (m ∷ ms) statements h k = by (nat_eq m.number 6051)
+    where
+      by : (b : Bool) → AreWithin files (if b then (m ∷ ms) ++ statements else m ∷ ms)
+      by true = All-append (λ (m : Message). m.place.file < files) (m ∷ ms) statements h k
+      by false = h
+
   block_home : (ws : Writtens) → PartsWithin files ws → 0 < files → (block_place ws).file < files
   block_home (more (item place word args body) none) h main = h.0.0
   block_home _ h main = main
@@ -83,8 +93,10 @@ module _ (files : ℕ) where
   pub items_home : (items : List Raw) (tokens : List Token) → Spells items tokens → All (λ t. t.place.file < files) tokens → 0 < files → RefusesWithin files (of_items items)
   items_home items tokens spelled h main =
       let parts : PartsWithin files (writtens items) = spelled_within files items tokens spelled h in
-      wrong_home (errors_at items) (of_terms (block_place (writtens items)) (fields_in items) (terms_in items)) (errors_within files main items parts)
-      (wrong_home (told_errors (terms_in items)) (of_table (block_place (writtens items)) (fields_in items).signature (table_in items)) (told_home (terms_in items) (source_within files 0 (writtens items) parts))
+      let names = told_home (terms_in items) (source_within files 0 (writtens items) parts) in
+      let statements = statement_errors_within files (terms_of (writtens items)) (terms_within files (writtens items) parts) in
+      wrong_home (errors_at items) (of_terms (block_place (writtens items)) (fields_in items) (statements_in items) (terms_in items)) (errors_within files main items parts)
+      (wrong_home (with_statements (told_errors (terms_in items)) (statements_in items)) (of_table (block_place (writtens items)) (fields_in items).signature (table_in items)) (statements_home (told_errors (terms_in items)) (statements_in items) names statements)
       (of_table_home (block_place (writtens items)) (fields_in items).signature (table_in items) (block_home (writtens items) parts main)))
 
   -- ---- tokens that are no source

@@ -1,6 +1,7 @@
 -- What a block, a program and a source come to.
 use Rattle.std.proofs.Common.{◌≡◌, ℕ, ◌<◌, ◌≤◌, ◌^◌, length, List, [], ◌∷◌, Result, Ok, Err, refl, sym, ap, ◌∙◌, subst, arith}
-use Rattle.std.specs.Prelude.{map, IfOk}
+use Rattle.std.specs.Prelude.{map, IfOk, nat_eq, if◌then◌else◌, ◌++◌, Bool, true, false}
+use Rattle.statement_checks.specs.Statements.{errors_of_statements}
 use Rattle.std.specs.declared.alloc.AllocError.{AllocError}
 use Rattle.iasl_messages.specs.declared.message.Stage.{Stage}
 use Rattle.iasl_messages.specs.declared.message.Stage.TheVariants.{Refused as Refused'}
@@ -21,13 +22,13 @@ use Rattle.asl_shape.specs.Forms.{IsBlockOf, errors_at, args_of, block_place}
 use Rattle.asl_numbers.specs.Numbers.{numbered_all}
 use Rattle.name_checks.specs.Messages.{message_of, first_errors, told_errors}
 use Rattle.program_shapes.specs.Kept.{IsKeptSource}
-use Rattle.program_shapes.specs.Sources.{terms_in, fields_in}
+use Rattle.program_shapes.specs.Sources.{terms_in, statements_in, fields_in}
 use Rattle.program_shapes.proofs.Blocks.{room_in}
 use Rattle.program_shapes.proofs.Headers.{HaveRoom}
 use Rattle.program_shapes.proofs.Tables.{terms_are_shaped}
 use Rattle.iasl_tool.specs.declared.compile.Compiled.{Compiled}
 use Rattle.iasl_tool.specs.declared.compile.Compiled.TheVariants.{Refused}
-use Rattle.iasl_tool.specs.Compiled.{unless_wrong, of_terms, of_items}
+use Rattle.iasl_tool.specs.Compiled.{unless_wrong, with_statements, of_terms, of_items}
 use Rattle.iasl_tool.specs.Ready.{HasRoom}
 
 abbrev pub ok_block : Block → Result Block AllocError
@@ -55,6 +56,23 @@ none_told terms names types = by (name_errors terms) (type_errors terms) names t
     by [] (t ∷ ts) en et = absurd cc
     by (n ∷ ns) ts en et = absurd cc
 
+-- nor of statements
+pub none_behind : (errors statements : List Message) → errors ≡ [] → statements ≡ [] → with_statements errors statements ≡ []
+none_behind errors statements e s = ap (λ es. with_statements es statements) e ∙ s
+
+-- errors of statements alone
+pub behind_none : (errors statements : List Message) → errors ≡ [] → statements ≡ with_statements errors statements
+behind_none errors statements e = sym (ap (λ es. with_statements es statements) e)
+
+-- what is told of errors is something
+pub some_behind : (errors statements : List Message) → (errors ≡ [] → ⊥) → with_statements errors statements ≡ [] → ⊥
+some_behind [] statements h e = h refl
+some_behind (m ∷ ms) statements h e = by (nat_eq m.number 6051) e
+  where
+    by : (b : Bool) → (if b then (m ∷ ms) ++ statements else m ∷ ms) ≡ [] → ⊥
+    by true e = absurd cc
+    by false e = absurd cc
+
 -- the header of a block has room
 pub block_room : (items : List Raw) (block : Block) → errors_at items ≡ [] → IsBlockOf items block → IsKeptSource (writtens items) → HasRoom (fields_of block)
 unfolding errors_at IsBlockOf
@@ -79,31 +97,48 @@ same_fields : (items : List Raw) (block : Block) → IsBlockOf items block → f
 unfolding IsBlockOf
 same_fields items block h = cc (h.signature, h.revision, h.oem_id, h.table_id, h.oem_revision)
 
+same_statements : (items : List Raw) (block : Block) → IsBlockOf items block → errors_of_statements (plans_of block.terms.items) ≡ statements_in items
+unfolding IsBlockOf
+same_statements items block h = ap errors_of_statements h.terms
+
 same_place : (items : List Raw) (block : Block) → IsBlockOf items block → block.place ≡ block_place (writtens items)
 unfolding IsBlockOf
 same_place items block h = h.place
 
 -- and it comes to what its source comes to
-pub block_comes : (items : List Raw) (block : Block) (terms : Trees) (it : Compiled) → errors_at items ≡ [] → IsBlockOf items block → terms ≡ numbered_all 0 (plans_of block.terms.items) → it ≡ of_terms block.place (fields_of block) terms → it ≡ of_items items
-block_comes items block terms it e h is comes =
-    right_is (errors_at items) it (of_terms (block_place (writtens items)) (fields_in items) (terms_in items)) e
-    (comes ∙ ap (λ p. of_terms p (fields_of block) terms) (same_place items block h) ∙ ap (λ f. of_terms (block_place (writtens items)) f terms) (same_fields items block h)
-    ∙ ap (of_terms (block_place (writtens items)) (fields_in items)) (same_terms items block terms h is))
+pub block_comes : (items : List Raw) (block : Block) (terms : Trees) (statements : List Message) (it : Compiled) → errors_at items ≡ [] → IsBlockOf items block → terms ≡ numbered_all 0 (plans_of block.terms.items) → statements ≡ errors_of_statements (plans_of block.terms.items)
+    → it ≡ of_terms block.place (fields_of block) statements terms → it ≡ of_items items
+block_comes items block terms statements it e h is are comes =
+    right_is (errors_at items) it (of_terms (block_place (writtens items)) (fields_in items) (statements_in items) (terms_in items)) e
+    (comes ∙ ap (λ p. of_terms p (fields_of block) statements terms) (same_place items block h) ∙ ap (λ f. of_terms (block_place (writtens items)) f statements terms) (same_fields items block h)
+    ∙ ap (λ ss. of_terms (block_place (writtens items)) (fields_in items) ss terms) (are ∙ same_statements items block h)
+    ∙ ap (of_terms (block_place (writtens items)) (fields_in items) (statements_in items)) (same_terms items block terms h is))
 
 -- a block in whose names nothing is wrong
 pub right_comes : (r : Result Compiled AllocError) (errors : List Message) (it : Compiled) → errors ≡ [] → IfOk r (λ made. made ≡ it) → IfOk r (λ made. made ≡ unless_wrong errors it)
 right_comes (Ok made) errors it e h = right_is errors made it e h
 right_comes (Err error) errors it e h = tt
 
--- a stage that refuses
-pub stage_comes : (stage : Stage) (messages errors : List Message) (it : Compiled) → Refuses stage errors → stage ≡ Refused' messages → Refused messages ≡ unless_wrong errors it
-stage_comes stage messages errors it h e = refused_is messages errors it (subst (λ (s : Stage). Refuses s errors) e h)
+-- a stage that refuses, with errors of statements behind its own
+pub stage_comes : (stage : Stage) (messages errors statements all : List Message) (it : Compiled) → Refuses stage errors → stage ≡ Refused' messages → all ≡ with_statements messages statements → Refused all ≡ unless_wrong (with_statements errors statements) it
+stage_comes stage messages errors statements all it h e is =
+    let told = subst (λ (s : Stage). Refuses s errors) e h in
+    refused_is all (with_statements errors statements) it (is ∙ ap (λ es. with_statements es statements) told.0, some_behind errors statements told.1)
 
 pub shape_comes : (stage : Stage) (messages errors : List Message) (it : Compiled) → ShapeRefuses stage errors → stage ≡ Refused' messages → Refused messages ≡ unless_wrong errors it
 shape_comes stage messages errors it h e = refused_is messages errors it (subst (λ (s : Stage). ShapeRefuses s errors) e h)
 
 -- what a block that is compiled comes to is what its source comes to
-pub program_comes : (r : Result Compiled AllocError) (items : List Raw) (block : Block) (terms : Trees) → errors_at items ≡ [] → IsBlockOf items block → terms ≡ numbered_all 0 (plans_of block.terms.items)
-    → IfOk r (λ it. it ≡ of_terms block.place (fields_of block) terms) → IfOk r (λ it. it ≡ of_items items)
-program_comes (Ok it) items block terms e h is comes = block_comes items block terms it e h is comes
-program_comes (Err error) items block terms e h is comes = tt
+pub program_comes : (r : Result Compiled AllocError) (items : List Raw) (block : Block) (terms : Trees) (statements : List Message) → errors_at items ≡ [] → IsBlockOf items block → terms ≡ numbered_all 0 (plans_of block.terms.items) → statements ≡ errors_of_statements (plans_of block.terms.items)
+    → IfOk r (λ it. it ≡ of_terms block.place (fields_of block) statements terms) → IfOk r (λ it. it ≡ of_items items)
+program_comes (Ok it) items block terms statements e h is are comes = block_comes items block terms statements it e h is are comes
+program_comes (Err error) items block terms statements e h is are comes = tt
+
+-- lists that are empty, and others
+pub no_length : (messages : List Message) → length messages ≡ 0 → messages ≡ []
+no_length [] e = refl
+no_length (m ∷ ms) e = absurd (omega (arith, e))
+
+pub some_length : (messages : List Message) (it : Compiled) (errors : List Message) → errors ≡ [] → (length messages ≡ 0 → ⊥) → Refused messages ≡ unless_wrong (with_statements errors messages) it
+some_length [] it errors e h = absurd (h refl)
+some_length (m ∷ ms) it errors e h = sym (ap (λ es. unless_wrong (with_statements es (m ∷ ms)) it) e)

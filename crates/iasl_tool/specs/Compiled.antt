@@ -1,5 +1,5 @@
 -- What a source comes to: its table, or its errors.
-use Rattle.std.specs.Prelude.{ℕ, suc, ◌-◌, nat_le, true, if◌then◌else◌, List, [], ◌∷◌, length, All, ◌<◌, ⊤, Result, Ok, Err}
+use Rattle.std.specs.Prelude.{ℕ, suc, ◌-◌, nat_le, nat_eq, true, if◌then◌else◌, List, [], ◌∷◌, ◌++◌, length, All, ◌<◌, ⊤, Result, Ok, Err}
 use Rattle.iasl_messages.specs.declared.place.Place.{Place}
 use Rattle.iasl_messages.specs.declared.place.Line.{Line}
 use Rattle.iasl_messages.specs.declared.message.Message.{Message}
@@ -18,7 +18,7 @@ use Rattle.asl_parser.specs.declared.raw.Raw.{Raw}
 use Rattle.asl_parser.specs.Parse.{Outcome, outcome, read, stopped, sunk, tall}
 use Rattle.asl_shape.specs.Written.{writtens}
 use Rattle.asl_shape.specs.Forms.{errors_at, block_place}
-use Rattle.program_shapes.specs.Sources.{terms_in, fields_in}
+use Rattle.program_shapes.specs.Sources.{terms_in, statements_in, fields_in}
 use Rattle.iasl_tool.specs.declared.compile.Compiled.{Compiled}
 use Rattle.iasl_tool.specs.declared.compile.Compiled.TheVariants.{Table, Refused}
 use Rattle.iasl_tool.specs.Syntax.{not_source, too_deep}
@@ -40,13 +40,19 @@ abbrev pub unless_wrong : List Message → Compiled → Compiled
 unless_wrong [] it = it
 unless_wrong (m ∷ ms) it = Refused (m ∷ ms)
 
--- a block of this form, that is refused with what is wrong with its names
-abbrev pub of_terms : Place → HeaderFields → Trees → Compiled
-of_terms place fields terms = unless_wrong (told_errors terms) (of_table place fields.signature (table_bytes fields (encoded_all W64 true (core_of terms))))
+-- the errors of statements are of the class of kinds, 6051: they come behind these, and not where names are wrong
+abbrev pub with_statements : List Message → List Message → List Message
+with_statements [] statements = statements
+with_statements (m ∷ ms) statements = if nat_eq m.number 6051 then (m ∷ ms) ++ statements else m ∷ ms
+
+-- a block of this form, that is refused with what is wrong with its names or its statements
+abbrev pub of_terms : Place → HeaderFields → List Message → Trees → Compiled
+of_terms place fields statements terms =
+    unless_wrong (with_statements (told_errors terms) statements) (of_table place fields.signature (table_bytes fields (encoded_all W64 true (core_of terms))))
 
 -- the tree of a source's syntax, that is refused with what is wrong with its form
 abbrev pub of_items : List Raw → Compiled
-of_items items = unless_wrong (errors_at items) (of_terms (block_place (writtens items)) (fields_in items) (terms_in items))
+of_items items = unless_wrong (errors_at items) (of_terms (block_place (writtens items)) (fields_in items) (statements_in items) (terms_in items))
 
 -- tokens that are a source, or the place where they stop being one or nest too deep
 abbrev pub of_outcome : List Token → Outcome → Compiled

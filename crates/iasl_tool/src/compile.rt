@@ -1,5 +1,5 @@
 //! A source to its table, or its errors.
-ghost use Rattle.std.specs.Prelude.{◌≡◌, ℕ, ◌<◌, ◌^◌, ◌++◌, ◌∷◌, [], List, length, All, Ok, Some, IfOk};
+ghost use Rattle.std.specs.Prelude.{◌≡◌, ℕ, ◌<◌, ◌^◌, ◌++◌, ◌∷◌, [], length, All, Ok, IfOk};
 ghost use Rattle.acpi_values.specs.declared.width.Width.TheVariants.{W64};
 ghost use Rattle.asl_tree.specs.Tree.{Trees};
 ghost use Rattle.asl_tree.specs.View.{trees_of};
@@ -17,7 +17,7 @@ ghost use Rattle.iasl_messages.specs.declared.message.Stage.TheVariants as stage
 ghost use Rattle.iasl_tool.specs.Syntax.{at_token};
 ghost use Rattle.iasl_tool.specs.Ready.{HasRoom, IsCoreOf};
 ghost use Rattle.iasl_tool.specs.declared.compile.Compiled.TheVariants.{Refused};
-ghost use Rattle.iasl_tool.specs.Compiled.{its_table, of_table, of_terms, of_items, of_lines, of_outcome, RefusesWithin};
+ghost use Rattle.iasl_tool.specs.Compiled.{its_table, of_table, of_terms, with_statements, of_items, of_lines, of_outcome, RefusesWithin};
 
 use acpi_names::spell::spell;
 use aml_writer::stop::WriteStop;
@@ -29,10 +29,11 @@ use asl_parser::{RawUnit, Syntax, parse, place_at};
 use asl_shape::shape;
 use asl_tree::program::{Block, Blocks, Core, Program};
 use iasl_messages::message::{Message, Messages, Stage};
-use iasl_messages::number::{NESTING_TOO_DEEP, SYNTAX};
+use iasl_messages::number::{NESTING_TOO_DEEP, SYNTAX, WRONG_CALL_ARGUMENT_COUNT};
 use iasl_messages::place::{LineList, Lines, Piece};
-use iasl_ports::list::{Text, Texts};
+use iasl_ports::list::{List, Text, Texts};
 use name_checks::check::check;
+use statement_checks::check::statement_errors;
 use std::alloc::{AllocError, Global};
 
 /// The most tokens that are numbered.
@@ -108,14 +109,46 @@ fn write_block(alloc: Global, block: Block) -> Result<Compiled, AllocError>
     }
 }
 
-// A block whose nodes have their numbers: its table, with its names spelled, or what is wrong with them.
-fn compile_block(alloc: Global, mut block: Block) -> Result<Compiled, AllocError>
+/// Messages, and others behind them.
+pub(crate) fn both(first: Messages, second: Messages) -> Result<Messages, AllocError>
+    ensures { IfOk result (λ all. all ≡ first ++ second) }
+{
+    let mut all = first.into_vec();
+    all.append(&mut second.into_vec())?;
+    Ok(List::from_vec(all))
+}
+
+// The errors of statements behind those of kinds.
+fn with_statements(errors: Messages, statements: Messages) -> Result<Messages, AllocError>
+    ensures { IfOk result (λ all. all ≡ with_statements errors statements) }
+{
+    let number = match errors.get(0) {
+        Some(first) => first.number,
+        None => return Ok(statements),
+    };
+    if number == WRONG_CALL_ARGUMENT_COUNT {
+        both(errors, statements)
+    } else {
+        Ok(errors)
+    }
+}
+
+// A block whose nodes have their numbers: its table, with its names spelled, or what is wrong with its names and its
+// statements.
+fn compile_block(
+    alloc: Global,
+    mut block: Block,
+    statements: Messages,
+) -> Result<Compiled, AllocError>
     requires room { HasRoom (fields_of block) }
     requires shaped { AreShaped W64 (trees_of block.terms.items) }
-    ensures { IfOk result (λ it. it ≡ of_terms block.place (fields_of block) (trees_of block.terms.items)) }
+    ensures { IfOk result (λ it. it ≡ of_terms block.place (fields_of block) statements (trees_of block.terms.items)) }
 {
     match check(alloc, block.terms.as_slice()) {
         Ok(mut names) => {
+            if !statements.is_empty() {
+                return Ok(Compiled::Refused(statements));
+            }
             spell(
                 alloc,
                 &mut names.index,
@@ -124,7 +157,7 @@ fn compile_block(alloc: Global, mut block: Block) -> Result<Compiled, AllocError
             )?;
             write_block(alloc, block)
         }
-        Err(stage) => Ok(Compiled::Refused(refusal(stage)?)),
+        Err(stage) => Ok(Compiled::Refused(with_statements(refusal(stage)?, statements)?)),
     }
 }
 
@@ -146,8 +179,9 @@ fn compile_unit(alloc: Global, unit: &RawUnit) -> Result<Compiled, AllocError>
     match shape(alloc, unit) {
         Ok(program) => {
             let mut block = block_of(program)?;
+            let statements = statement_errors(alloc, block.terms.as_slice())?;
             match number_nodes(&mut block.terms, 0) {
-                Some(_) => compile_block(alloc, block),
+                Some(_) => compile_block(alloc, block, statements),
                 None => Err(AllocError),
             }
         }

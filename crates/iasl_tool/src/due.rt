@@ -8,7 +8,7 @@ ghost use Rattle.iasl_tool.specs.Compiled.{AreWithin, of_lines};
 ghost use Rattle.iasl_tool.specs.Due.{console_text, refusal, made_file, in_use, is_fetched, made_or_in_use, text_of_lines, answer_to_text, answer_to_compiled, answer_to_lines, answer_to_file, table_name, usage, answer_for};
 ghost use Rattle.iasl_messages.specs.Console.{table_line};
 
-use crate::compile::{Compiled, compile, one_message};
+use crate::compile::{Compiled, both, compile, one_message};
 use asl_preprocess::{PreStop, Preprocessed, preprocess};
 use iasl_messages::console::{preprocessed_line, render, summary, table_line};
 use iasl_messages::message::Messages;
@@ -185,14 +185,6 @@ fn make_table(
         bytes.len() as u64,
     )?;
     make_or_refuse(alloc, files, notes, &line, name, bytes.to_vec(alloc)?)
-}
-
-fn both(first: Messages, second: Messages) -> Result<Messages, AllocError>
-    ensures { IfOk result (λ all. all ≡ first ++ second) }
-{
-    let mut all = first.into_vec();
-    all.append(&mut second.into_vec())?;
-    Ok(List::from_vec(all))
 }
 
 // What is due of lines that are compiled.

@@ -1,9 +1,11 @@
-use Rattle.std.proofs.Common.{◌≡◌, List, [], ◌∷◌, sym, subst}
+use Rattle.std.proofs.Common.{◌≡◌, List, [], ◌∷◌, sym, ap, ◌∙◌, subst}
 use Rattle.asl_tree.specs.declared.program.Block.{Block}
 use Rattle.asl_tree.specs.declared.program.Program.{Program}
 use Rattle.asl_parser.specs.declared.raw.Raw.{Raw}
 use Rattle.asl_tree.specs.View.{trees_of}
 use Rattle.asl_shape.specs.Forms.{Forms, IsBlockOf}
+use Rattle.asl_shape.specs.Plans.{plans_of}
+use Rattle.statement_checks.specs.Statements.{errors_of_statements}
 use Rattle.iasl_tool.proofs.Programs.{ok_block, found_block, block_room, block_shaped, program_comes, shape_comes}
 use Rattle.iasl_tool.proofs.compile.compile_unit.Goals as goal
 
@@ -20,4 +22,4 @@ compile_block-requires-clause-shaped c = block_shaped c.args.unit.now.items c.in
 
 pub returns-in-Some : goal.returns-in-Some
 returns-in-Some c =
-    program_comes c.compile_block.result c.args.unit.now.items c.in_ok-block-in-Ok.block (trees_of c.number_nodes.new.nodes.items) c.in-Ok.ensures.formed.no_errors (is_block c.args.unit.now.items c.in-Ok.program c.in_ok-block-in-Ok.block c.in-Ok.ensures.formed c.in_ok-block-in-Ok.ensures) c.in-Some.ensures.trees c.compile_block.ensures
+    program_comes c.compile_block.result c.args.unit.now.items c.in_ok-block-in-Ok.block (trees_of c.number_nodes.new.nodes.items) c.in_ok-statements-in-Ok.statements c.in-Ok.ensures.formed.no_errors (is_block c.args.unit.now.items c.in-Ok.program c.in_ok-block-in-Ok.block c.in-Ok.ensures.formed c.in_ok-block-in-Ok.ensures) c.in-Some.ensures.trees (c.in_ok-statements-in-Ok.ensures ∙ ap (λ ns. errors_of_statements (plans_of ns)) c.as_slice.ensures.value) c.compile_block.ensures
