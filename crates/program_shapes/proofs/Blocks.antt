@@ -13,7 +13,7 @@ use Rattle.program_shapes.proofs.Plans.{PlansAs}
 use Rattle.program_shapes.proofs.Parts.{none_in}
 use Rattle.program_shapes.specs.Kept.{IsKeptSource}
 use Rattle.program_shapes.proofs.Shapes.{in_braces}
-use Rattle.program_shapes.proofs.Headers.{HaveRoom, room_of, arguments_form}
+use Rattle.program_shapes.proofs.Headers.{HaveForms, HaveRoom, room_of, arguments_form}
 
 -- ---- the block
 
@@ -47,16 +47,21 @@ taken place args body e = by (takes block_parameters (inside_of args)) (is_given
     by true false t e = absurd cc
     by false b t e = absurd cc
 
-pub room_in : (ws : Writtens) → errors_of ws ≡ [] → IsKeptSource ws → HaveRoom (args_of ws)
-room_in none e k = absurd cc
-room_in (more (item place word args body) none) e k = by (is_block_word word) e
+-- the texts among the arguments of a block without errors have their forms
+pub forms_in : (ws : Writtens) → errors_of ws ≡ [] → IsKeptSource ws → HaveForms block_parameters (args_of ws)
+forms_in none e k = absurd cc
+forms_in (more (item place word args body) none) e k = by (is_block_word word) e
   where
-    by : (b : Bool) → (if b then block_errors place args body else no_block place) ≡ [] → HaveRoom (block_args place args).made
-    by true e = let t = taken place args body e in room_of (block_args place args).made (arguments_form block_parameters place false args k.0 t.0 t.1)
+    by : (b : Bool) → (if b then block_errors place args body else no_block place) ≡ [] → HaveForms block_parameters (block_args place args).made
+    by true e = let t = taken place args body e in arguments_form block_parameters place false args k.0 t.0 t.1
     by false e = absurd cc
-room_in (more (item place word args body) (more w ws)) e k = by (is_block_word word) e
+forms_in (more (item place word args body) (more w ws)) e k = by (is_block_word word) e
   where
-    by : (b : Bool) → (if b then forms.errors_before (block_errors place args body) (more w ws) else no_block place) ≡ [] → HaveRoom (args_of (more (item place word args body) (more w ws)))
+    by : (b : Bool) → (if b then forms.errors_before (block_errors place args body) (more w ws) else no_block place) ≡ [] → HaveForms block_parameters (args_of (more (item place word args body) (more w ws)))
     by true e = absurd cc
     by false e = absurd cc
-room_in (more _ ws) e k = absurd cc
+forms_in (more _ ws) e k = absurd cc
+
+-- the texts of its header have room in it
+pub room_in : (ws : Writtens) → errors_of ws ≡ [] → IsKeptSource ws → HaveRoom (args_of ws)
+room_in ws e k = room_of (args_of ws) (forms_in ws e k)

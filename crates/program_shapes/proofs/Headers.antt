@@ -22,9 +22,14 @@ use Rattle.program_shapes.proofs.Words.{both_true}
 use Rattle.program_shapes.proofs.Parts.{none_in, good_of, item_fit}
 use Rattle.program_shapes.specs.Kept.{AreArguments, EachArgument}
 
+-- a text has its form, and each of its bytes may stand in a text
+pub record IsTextOf (f : StringForm) (text : List ℕ) : Type 0 where
+  pub form : has_form f text ≡ true
+  pub bytes : is_all_text text ≡ true
+
 -- a text that has to stand has its form
 abbrev pub HasForm : Bool → Slot → Plan → Type 0
-HasForm false (slot.String f) p = has_form f (text_of p) ≡ true
+HasForm false (slot.String f) p = IsTextOf f (text_of p)
 HasForm _ _ p = Unit {0}
 
 abbrev pub HaveForms : List Parameter → Plans → Type 0
@@ -46,13 +51,14 @@ no_string f at word is.Path true calls form e = absurd cc
 no_string f at word is.Path false calls form e = absurd cc
 no_string f at word is.Unknown called calls form e = absurd cc
 
-string_form : (f : StringForm) (inside : Bool) (w : Written) → is_separator w ≡ false → is_empty w ≡ false → (bare (slot.String f) inside w).faults ≡ [] → has_form f (text_of (bare (slot.String f) inside w).made) ≡ true
+string_form : (f : StringForm) (inside : Bool) (w : Written) → is_separator w ≡ false → is_empty w ≡ false → (bare (slot.String f) inside w).faults ≡ [] → IsTextOf f (text_of (bare (slot.String f) inside w).made)
 string_form f inside (piece.text at bytes) sep emp e =
-    good_of (λ p. has_form f (text_of p) ≡ true) (has_form f bytes && is_all_text bytes) 6024 at (fine (a_text bytes)) (λ t g. (both_true (has_form f bytes) (is_all_text bytes) t).0) e
+    good_of (λ p. IsTextOf f (text_of p)) (has_form f bytes && is_all_text bytes) 6024 at (fine (a_text bytes))
+    (λ t g. let both = both_true (has_form f bytes) (is_all_text bytes) t in record { form = both.0; bytes = both.1 }) e
 string_form f inside (item at w args body) sep emp e =
     let m : Meaning = meaning_of w (is_given body) in
     let form : Op → Shaped Plan = λ o. form_shape o at (arguments (parameters_of o) at inside args) (contents (body_of o) (within o inside) at body) in
-    item_fit (λ p. has_form f (text_of p) ≡ true) (slot.String f) inside m (has_arguments m (inside_of args)) (is_given body) at (read_shape (slot.String f) at w (reading_of (slot.String f) m (is_given args)) (call_args inside args) form)
+    item_fit (λ p. IsTextOf f (text_of p)) (slot.String f) inside m (has_arguments m (inside_of args)) (is_given body) at (read_shape (slot.String f) at w (reading_of (slot.String f) m (is_given args)) (call_args inside args) form)
     (λ has g. absurd (no_string f at w m (is_given args) (call_args inside args) form g)) e
 string_form f inside (piece.number at n) sep emp e = absurd cc
 string_form f inside (listed at ws) sep emp e = absurd cc
@@ -61,10 +67,10 @@ string_form f inside comma sep emp e = absurd cc
 string_form f inside semicolon sep emp e = absurd cc
 string_form f inside empty sep emp e = absurd cc
 
-checked_form : (f : StringForm) (at : Place) (shape : Shaped Plan) → (shape.faults ≡ [] → has_form f (text_of shape.made) ≡ true) → (checked (slot.String f) at shape).faults ≡ [] → has_form f (text_of (checked (slot.String f) at shape).made) ≡ true
+checked_form : (f : StringForm) (at : Place) (shape : Shaped Plan) → (shape.faults ≡ [] → IsTextOf f (text_of shape.made)) → (checked (slot.String f) at shape).faults ≡ [] → IsTextOf f (text_of (checked (slot.String f) at shape).made)
 checked_form f at shape h e = by shape.faults refl e
   where
-    by : (fs : List _) → shape.faults ≡ fs → (after fs shape (fine shape.made)).faults ≡ [] → has_form f (text_of (after fs shape (fine shape.made)).made) ≡ true
+    by : (fs : List _) → shape.faults ≡ fs → (after fs shape (fine shape.made)).faults ≡ [] → IsTextOf f (text_of (after fs shape (fine shape.made)).made)
     by [] g e = h g
     by (m ∷ ms) g e = absurd cc
 
@@ -127,7 +133,7 @@ pub record HaveRoom (ps : Plans) : Type 0 where
 pub room_of : (ps : Plans) → HaveForms block_parameters ps → HaveRoom ps
 unfolding block_parameters
 room_of (plan a0 p0 (plan a1 p1 (plan a2 p2 (plan a3 p3 (plan a4 p4 ps))))) h =
-    record { signature = signature_length (text_of p1) h.1.0; oem_id = leb-true (length (text_of p3)) 6 h.1.1.1.0; table_id = leb-true (length (text_of p4)) 8 h.1.1.1.1.0 }
+    record { signature = signature_length (text_of p1) h.1.0.form; oem_id = leb-true (length (text_of p3)) 6 h.1.1.1.0.form; table_id = leb-true (length (text_of p4)) 8 h.1.1.1.1.0.form }
 room_of no_plans h = absurd h
 room_of (plan a0 p0 no_plans) h = absurd h.1
 room_of (plan a0 p0 (plan a1 p1 no_plans)) h = absurd h.1.1

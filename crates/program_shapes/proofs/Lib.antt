@@ -16,4 +16,5 @@ pub mod TreePlaces
 pub mod StatementPlaces
 pub mod Blocks
 pub mod Headers
+pub mod OwnNames
 pub mod Tables
