@@ -32,7 +32,7 @@ use Rattle.program_shapes.proofs.Tables.{does_as}
 use Rattle.aml_writer.specs.Written.{most_table_bytes}
 use Rattle.iasl_tool.specs.declared.compile.Compiled.{Compiled}
 use Rattle.iasl_tool.specs.declared.compile.Compiled.TheVariants.{Table, Refused}
-use Rattle.iasl_tool.specs.Compiled.{of_lines, of_items, of_terms, of_table, unless_wrong, with_statements, of_outcome, of_tokens, too_long}
+use Rattle.iasl_tool.specs.Compiled.{own_in, of_lines, of_items, of_terms, of_table, unless_wrong, with_statements, of_outcome, of_tokens, too_long}
 use Rattle.iasl_tool.specs.Due.{table_name, is_fetched, made_file, in_use, answer_to_text, answer_to_compiled, answer_to_preprocessed, answer_to_file, answer_to_asked, answer_for}
 use Rattle.iasl_tool.specs.Headline.{Request, table_of, NamesSource, PutsFaithfulTable, AreItsTables, WritesItsTable, only_by, asks_for_text}
 use Rattle.iasl_tool.proofs.Programs.{none_told, none_behind, some_behind}
@@ -42,29 +42,29 @@ abbrev signature_of : List Raw → List ℕ
 signature_of items = (fields_in items).signature
 
 -- what the tree of a right source comes to
-items_are : (items : List Raw) → IsRight items → length (table_in items) ≤ most_table_bytes → of_items items ≡ Table (signature_of items) (table_in items)
+items_are : (items : List Raw) → IsRight items → length (table_in items) ≤ most_table_bytes → of_items items ≡ Table (signature_of items) (own_in items) (table_in items)
 items_are items right within =
     let place = block_place (writtens items) in
     let le : nat_le (length (table_in items)) most_table_bytes ≡ true = le-leb (length (table_in items)) most_table_bytes within in
-    ap (λ es. unless_wrong es (of_terms place (fields_in items) (statements_in items) (terms_in items))) right.form
-    ∙ ap (λ es. unless_wrong es (of_table place (signature_of items) (table_in items))) (none_behind (told_errors (terms_in items)) (statements_in items) (none_told (terms_in items) right.names right.counts) right.statements)
-    ∙ ap (λ c. if c then Table (signature_of items) (table_in items) else Refused (too_long place ∷ [])) le
+    ap (λ es. unless_wrong es (of_terms place (own_in items) (fields_in items) (statements_in items) (terms_in items))) right.form
+    ∙ ap (λ es. unless_wrong es (of_table place (signature_of items) (own_in items) (table_in items))) (none_behind (told_errors (terms_in items)) (statements_in items) (none_told (terms_in items) right.names right.counts) right.statements)
+    ∙ ap (λ c. if c then Table (signature_of items) (own_in items) (table_in items) else Refused (too_long place ∷ [])) le
 
 -- what is due of a source whose table's name is free
 abbrev due_table : Request → List (List ℕ) → List Message → List Raw → Answer
-due_table request files notes items = made_file files notes (table_line (table_of request) (signature_of items) (length (table_in items))) (table_of request) (table_in items)
+due_table request files notes items = made_file files notes (table_line (table_of request items) (signature_of items) (length (table_in items))) (table_of request items) (table_in items)
 
 answer_is : (words : List (List ℕ)) (told : List Named) (request : Request) (items : List Raw) (h : NamesSource words told request items) → answer_for words told ≡ Some (due_table request h.files h.notes items)
 answer_is words told request items h =
     let asked = request.asked in
     let file = request.file in
-    let table : of_lines h.lines ≡ Table (signature_of items) (table_in items) = ap of_tokens (cut_is_tokens h.lines h.tokens h.tokens_are) ∙ ap (of_outcome h.tokens) h.tokens_spell ∙ items_are items h.right h.table_within in
+    let table : of_lines h.lines ≡ Table (signature_of items) (own_in items) (table_in items) = ap of_tokens (cut_is_tokens h.lines h.tokens h.tokens_are) ∙ ap (of_outcome h.tokens) h.tokens_spell ∙ items_are items h.right h.table_within in
     ap (answer_to_asked told) (line_to words asked h.words_are)
     ∙ ap (answer_to_file asked told) h.file_is
     ∙ ap (answer_to_preprocessed asked file) h.lines_are
     ∙ ap (λ c. Some (cond c (answer_to_text asked file h.files h.lines h.notes) (answer_to_compiled asked file h.files h.notes (of_lines h.lines)))) h.compiles
     ∙ ap (λ it. Some (answer_to_compiled asked file h.files h.notes it)) table
-    ∙ ap (λ c. Some (cond c (in_use (table_of request)) (due_table request h.files h.notes items))) h.name_is_free
+    ∙ ap (λ c. Some (cond c (in_use (table_of request items)) (due_table request h.files h.notes items))) h.name_is_free
 
 -- the parser keeps what it reads
 kept_source : (words : List (List ℕ)) (told : List Named) (request : Request) (items : List Raw) → NamesSource words told request items → IsKeptSource (writtens items)
@@ -119,7 +119,7 @@ status_with words told k it = status_of (Some (answer_to_compiled k.request.aske
 
 module _ (words : List (List ℕ)) (told : List Named) where
   by_name : (k : Known words told) (tokens : List Token) (items : List Raw) (c : Bool) → tokens_of k.lines ≡ Ok tokens → outcome tokens ≡ read items → IsRight items → nat_le (length (table_in items)) most_table_bytes ≡ true
-      → is_fetched k.files (table_of k.request) ≡ c → status_of (Some (cond c (in_use (table_of k.request)) (due_table k.request k.files k.notes items))) ≡ 0 → FoundSource words told
+      → is_fetched k.files (table_of k.request items) ≡ c → status_of (Some (cond c (in_use (table_of k.request items)) (due_table k.request k.files k.notes items))) ≡ 0 → FoundSource words told
   by_name k tokens items true et eo es ec en h = absurd (omega (arith, h))
   by_name k tokens items false et eo es ec en h = record {
     request = k.request;
@@ -142,12 +142,12 @@ module _ (words : List (List ℕ)) (told : List Named) where
   }
 
   by_table : (k : Known words told) (tokens : List Token) (items : List Raw) (c : Bool) → tokens_of k.lines ≡ Ok tokens → outcome tokens ≡ read items → IsRight items → nat_le (length (table_in items)) most_table_bytes ≡ c
-      → status_with words told k (if c then Table (signature_of items) (table_in items) else Refused (too_long (block_place (writtens items)) ∷ [])) ≡ 0 → FoundSource words told
-  by_table k tokens items true et eo es ec h = by_name k tokens items (is_fetched k.files (table_of k.request)) et eo es ec refl h
+      → status_with words told k (if c then Table (signature_of items) (own_in items) (table_in items) else Refused (too_long (block_place (writtens items)) ∷ [])) ≡ 0 → FoundSource words told
+  by_table k tokens items true et eo es ec h = by_name k tokens items (is_fetched k.files (table_of k.request items)) et eo es ec refl h
   by_table k tokens items false et eo es ec h = absurd (omega (arith, h))
 
   by_names : (k : Known words told) (tokens : List Token) (items : List Raw) (ms : List Message) → tokens_of k.lines ≡ Ok tokens → outcome tokens ≡ read items → errors_at items ≡ [] → with_statements (told_errors (terms_in items)) (statements_in items) ≡ ms
-      → status_with words told k (unless_wrong ms (of_table (block_place (writtens items)) (signature_of items) (table_in items))) ≡ 0 → FoundSource words told
+      → status_with words told k (unless_wrong ms (of_table (block_place (writtens items)) (signature_of items) (own_in items) (table_in items))) ≡ 0 → FoundSource words told
   by_names k tokens items [] et eo form en h =
       let none = both_none (told_errors (terms_in items)) (statements_in items) en in
       let names = right_names (terms_in items) none.0 in
@@ -155,7 +155,7 @@ module _ (words : List (List ℕ)) (told : List Named) where
   by_names k tokens items (m ∷ ms) et eo form en h = absurd (omega (arith, h))
 
   by_items : (k : Known words told) (tokens : List Token) (items : List Raw) (ms : List Message) → tokens_of k.lines ≡ Ok tokens → outcome tokens ≡ read items → errors_at items ≡ ms
-      → status_with words told k (unless_wrong ms (of_terms (block_place (writtens items)) (fields_in items) (statements_in items) (terms_in items))) ≡ 0 → FoundSource words told
+      → status_with words told k (unless_wrong ms (of_terms (block_place (writtens items)) (own_in items) (fields_in items) (statements_in items) (terms_in items))) ≡ 0 → FoundSource words told
   by_items k tokens items [] et eo form h = by_names k tokens items (with_statements (told_errors (terms_in items)) (statements_in items)) et eo form refl h
   by_items k tokens items (m ∷ ms) et eo form h = absurd (omega (arith, h))
 
@@ -217,7 +217,8 @@ module _ (words : List (List ℕ)) (told : List Named) where
   named_settled false files notes line name bytes = inl refl
 
   compiled_settled : (asked : Asked) (file : List ℕ) (files : List (List ℕ)) (notes : List Message) (it : Compiled) → Settled (Some (answer_to_compiled asked file files notes it))
-  compiled_settled asked file files notes (Table signature bytes) = named_settled (is_fetched files (table_name asked file)) files notes (table_line (table_name asked file) signature (length bytes)) (table_name asked file) bytes
+  compiled_settled asked file files notes (Table signature own bytes) =
+      named_settled (is_fetched files (table_name asked file own)) files notes (table_line (table_name asked file own) signature (length bytes)) (table_name asked file own) bytes
   compiled_settled asked file files notes (Refused messages) = inr refl
 
   lines_settled : (asked : Asked) (file : List ℕ) (files : List (List ℕ)) (lines : List Line) (notes : List Message) (c : Bool) → c ≡ false → Settled (Some (cond c (answer_to_text asked file files lines notes) (answer_to_compiled asked file files notes (of_lines lines))))
@@ -237,7 +238,7 @@ module _ (words : List (List ℕ)) (told : List Named) where
   words_settled (Err word) z = inr refl
   words_settled (Ok asked) z = file_settled asked asked.file z
 
-  one_table : (request : Request) (items : List Raw) → NamesSource words told request items → AreItsTables words told ((table_of request, table_in items) ∷ [])
+  one_table : (request : Request) (items : List Raw) → NamesSource words told request items → AreItsTables words told ((table_of request items, table_in items) ∷ [])
   one_table request items names =
       let puts : PutsFaithfulTable words told request items = puts_faithful_table words told request items names in
       (record { request = request; items = items; names = names; name = refl; bytes = refl; does = puts.does }, tt)

@@ -30,7 +30,7 @@ use Rattle.aml_writer.specs.Written.{most_table_bytes}
 use Rattle.iasl_tool.specs.declared.compile.Compiled.{Compiled}
 use Rattle.iasl_tool.specs.declared.compile.Compiled.TheVariants.{Table, Refused}
 use Rattle.iasl_tool.specs.Syntax.{at_token}
-use Rattle.iasl_tool.specs.Compiled.{AreWithin, RefusesWithin, too_long, of_table, unless_wrong, with_statements, of_terms, of_items}
+use Rattle.iasl_tool.specs.Compiled.{own_in, AreWithin, RefusesWithin, too_long, of_table, unless_wrong, with_statements, of_terms, of_items}
 
 module _ (files : ℕ) where
   abbrev TokenHome : Token → Type 0
@@ -41,10 +41,10 @@ module _ (files : ℕ) where
   one_home : (message : Message) → message.place.file < files → AreWithin files (message ∷ [])
   one_home message h = All-push (λ (m : Message). m.place.file < files) [] message (λ i d lt. absurd (omega arith)) h
 
-  of_table_home : (place : Place) (signature bytes : List ℕ) → place.file < files → RefusesWithin files (of_table place signature bytes)
-  of_table_home place signature bytes h = by_length (nat_le (length bytes) most_table_bytes)
+  of_table_home : (place : Place) (signature own bytes : List ℕ) → place.file < files → RefusesWithin files (of_table place signature own bytes)
+  of_table_home place signature own bytes h = by_length (nat_le (length bytes) most_table_bytes)
     where
-      by_length : (c : Bool) → RefusesWithin files (if c then Table signature bytes else Refused (too_long place ∷ []))
+      by_length : (c : Bool) → RefusesWithin files (if c then Table signature own bytes else Refused (too_long place ∷ []))
       by_length true = tt
       by_length false = one_home (too_long place) h
 
@@ -95,9 +95,9 @@ module _ (files : ℕ) where
       let parts : PartsWithin files (writtens items) = spelled_within files items tokens spelled h in
       let names = told_home (terms_in items) (source_within files 0 (writtens items) parts) in
       let statements = statement_errors_within files (terms_of (writtens items)) (terms_within files (writtens items) parts) in
-      wrong_home (errors_at items) (of_terms (block_place (writtens items)) (fields_in items) (statements_in items) (terms_in items)) (errors_within files main items parts)
-      (wrong_home (with_statements (told_errors (terms_in items)) (statements_in items)) (of_table (block_place (writtens items)) (fields_in items).signature (table_in items)) (statements_home (told_errors (terms_in items)) (statements_in items) names statements)
-      (of_table_home (block_place (writtens items)) (fields_in items).signature (table_in items) (block_home (writtens items) parts main)))
+      wrong_home (errors_at items) (of_terms (block_place (writtens items)) (own_in items) (fields_in items) (statements_in items) (terms_in items)) (errors_within files main items parts)
+      (wrong_home (with_statements (told_errors (terms_in items)) (statements_in items)) (of_table (block_place (writtens items)) (fields_in items).signature (own_in items) (table_in items)) (statements_home (told_errors (terms_in items)) (statements_in items) names statements)
+      (of_table_home (block_place (writtens items)) (fields_in items).signature (own_in items) (table_in items) (block_home (writtens items) parts main)))
 
   -- ---- tokens that are no source
 

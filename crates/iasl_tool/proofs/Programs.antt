@@ -1,6 +1,6 @@
 -- What a block, a program and a source come to.
 use Rattle.std.proofs.Common.{◌≡◌, ℕ, ◌<◌, ◌≤◌, ◌^◌, length, List, [], ◌∷◌, Result, Ok, Err, refl, sym, ap, ◌∙◌, subst, arith}
-use Rattle.std.specs.Prelude.{map, IfOk, nat_eq, if◌then◌else◌, ◌++◌, Bool, true, false}
+use Rattle.std.specs.Prelude.{map, IfOk, nat_eq, nat_le, if◌then◌else◌, ◌++◌, Bool, true, false}
 use Rattle.statement_checks.specs.Statements.{errors_of_statements}
 use Rattle.std.specs.declared.alloc.AllocError.{AllocError}
 use Rattle.iasl_messages.specs.declared.message.Stage.{Stage}
@@ -22,13 +22,17 @@ use Rattle.asl_shape.specs.Forms.{IsBlockOf, errors_at, args_of, block_place}
 use Rattle.asl_numbers.specs.Numbers.{numbered_all}
 use Rattle.name_checks.specs.Messages.{message_of, first_errors, told_errors}
 use Rattle.program_shapes.specs.Kept.{IsKeptSource}
-use Rattle.program_shapes.specs.Sources.{terms_in, statements_in, fields_in}
+use Rattle.program_shapes.specs.Sources.{terms_in, statements_in, fields_in, table_in}
+use Rattle.std.specs.Str.{IsAscii}
+use Rattle.iasl_messages.specs.declared.place.Place.{Place}
+use Rattle.aml_writer.specs.Written.{most_table_bytes}
+use Rattle.program_shapes.proofs.OwnNames.{own_is_ascii}
 use Rattle.program_shapes.proofs.Blocks.{room_in}
 use Rattle.program_shapes.proofs.Headers.{HaveRoom}
 use Rattle.program_shapes.proofs.Tables.{terms_are_shaped}
 use Rattle.iasl_tool.specs.declared.compile.Compiled.{Compiled}
-use Rattle.iasl_tool.specs.declared.compile.Compiled.TheVariants.{Refused}
-use Rattle.iasl_tool.specs.Compiled.{unless_wrong, with_statements, of_terms, of_items}
+use Rattle.iasl_tool.specs.declared.compile.Compiled.TheVariants.{Table, Refused}
+use Rattle.iasl_tool.specs.Compiled.{unless_wrong, with_statements, own_in, of_table, of_terms, of_items, too_long, HasAsciiName}
 use Rattle.iasl_tool.specs.Ready.{HasRoom}
 
 abbrev pub ok_block : Block → Result Block AllocError
@@ -101,18 +105,23 @@ same_statements : (items : List Raw) (block : Block) → IsBlockOf items block �
 unfolding IsBlockOf
 same_statements items block h = ap errors_of_statements h.terms
 
+same_own : (items : List Raw) (block : Block) → IsBlockOf items block → block.file ≡ own_in items
+unfolding IsBlockOf
+same_own items block h = h.file
+
 same_place : (items : List Raw) (block : Block) → IsBlockOf items block → block.place ≡ block_place (writtens items)
 unfolding IsBlockOf
 same_place items block h = h.place
 
 -- and it comes to what its source comes to
 pub block_comes : (items : List Raw) (block : Block) (terms : Trees) (statements : List Message) (it : Compiled) → errors_at items ≡ [] → IsBlockOf items block → terms ≡ numbered_all 0 (plans_of block.terms.items) → statements ≡ errors_of_statements (plans_of block.terms.items)
-    → it ≡ of_terms block.place (fields_of block) statements terms → it ≡ of_items items
+    → it ≡ of_terms block.place block.file (fields_of block) statements terms → it ≡ of_items items
 block_comes items block terms statements it e h is are comes =
-    right_is (errors_at items) it (of_terms (block_place (writtens items)) (fields_in items) (statements_in items) (terms_in items)) e
-    (comes ∙ ap (λ p. of_terms p (fields_of block) statements terms) (same_place items block h) ∙ ap (λ f. of_terms (block_place (writtens items)) f statements terms) (same_fields items block h)
-    ∙ ap (λ ss. of_terms (block_place (writtens items)) (fields_in items) ss terms) (are ∙ same_statements items block h)
-    ∙ ap (of_terms (block_place (writtens items)) (fields_in items) (statements_in items)) (same_terms items block terms h is))
+    right_is (errors_at items) it (of_terms (block_place (writtens items)) (own_in items) (fields_in items) (statements_in items) (terms_in items)) e
+    (comes ∙ ap (λ p. of_terms p block.file (fields_of block) statements terms) (same_place items block h) ∙ ap (λ own. of_terms (block_place (writtens items)) own (fields_of block) statements terms) (same_own items block h)
+    ∙ ap (λ f. of_terms (block_place (writtens items)) (own_in items) f statements terms) (same_fields items block h)
+    ∙ ap (λ ss. of_terms (block_place (writtens items)) (own_in items) (fields_in items) ss terms) (are ∙ same_statements items block h)
+    ∙ ap (of_terms (block_place (writtens items)) (own_in items) (fields_in items) (statements_in items)) (same_terms items block terms h is))
 
 -- a block in whose names nothing is wrong
 pub right_comes : (r : Result Compiled AllocError) (errors : List Message) (it : Compiled) → errors ≡ [] → IfOk r (λ made. made ≡ it) → IfOk r (λ made. made ≡ unless_wrong errors it)
@@ -130,7 +139,7 @@ shape_comes stage messages errors it h e = refused_is messages errors it (subst 
 
 -- what a block that is compiled comes to is what its source comes to
 pub program_comes : (r : Result Compiled AllocError) (items : List Raw) (block : Block) (terms : Trees) (statements : List Message) → errors_at items ≡ [] → IsBlockOf items block → terms ≡ numbered_all 0 (plans_of block.terms.items) → statements ≡ errors_of_statements (plans_of block.terms.items)
-    → IfOk r (λ it. it ≡ of_terms block.place (fields_of block) statements terms) → IfOk r (λ it. it ≡ of_items items)
+    → IfOk r (λ it. it ≡ of_terms block.place block.file (fields_of block) statements terms) → IfOk r (λ it. it ≡ of_items items)
 program_comes (Ok it) items block terms statements e h is are comes = block_comes items block terms statements it e h is are comes
 program_comes (Err error) items block terms statements e h is are comes = tt
 
@@ -142,3 +151,26 @@ no_length (m ∷ ms) e = absurd (omega (arith, e))
 pub some_length : (messages : List Message) (it : Compiled) (errors : List Message) → errors ≡ [] → (length messages ≡ 0 → ⊥) → Refused messages ≡ unless_wrong (with_statements errors messages) it
 some_length [] it errors e h = absurd (h refl)
 some_length (m ∷ ms) it errors e h = sym (ap (λ es. unless_wrong (with_statements es (m ∷ ms)) it) e)
+
+-- the name that a source states for its file
+pub named_in_ascii : (items : List Raw) → IsKeptSource (writtens items) → HasAsciiName (of_items items)
+named_in_ascii items kept = by (errors_at items) refl
+  where
+    place : Place
+    place = block_place (writtens items)
+
+    by_length : (c : Bool) → IsAscii (own_in items) → HasAsciiName (if c then Table (fields_in items).signature (own_in items) (table_in items) else Refused (too_long place ∷ []))
+    by_length true h = h
+    by_length false h = tt
+
+    by_names : (ms : List Message) → IsAscii (own_in items) → HasAsciiName (unless_wrong ms (of_table place (fields_in items).signature (own_in items) (table_in items)))
+    by_names [] h = by_length (nat_le (length (table_in items)) most_table_bytes) h
+    by_names (m ∷ ms) h = tt
+
+    by : (ms : List Message) → errors_at items ≡ ms → HasAsciiName (unless_wrong ms (of_terms place (own_in items) (fields_in items) (statements_in items) (terms_in items)))
+    by [] e = by_names (with_statements (told_errors (terms_in items)) (statements_in items)) (own_is_ascii items e kept)
+    by (m ∷ ms) e = tt
+
+pub ascii_comes : (r : Result Compiled AllocError) (it : Compiled) → HasAsciiName it → IfOk r (λ made. made ≡ it) → IfOk r HasAsciiName
+ascii_comes (Ok made) it h e = subst HasAsciiName (sym e) h
+ascii_comes (Err error) it h e = tt

@@ -33,16 +33,17 @@ block_ready terms block is = record {
   terms = subst (λ ts. AreReady W64 (known_of terms) ts []) (sym is.core) (is_ready W64 terms is.shaped is.names is.counts);
 }
 
-abbrev by_size : Bool → Place → List ℕ → List ℕ → Compiled
-by_size c place signature bytes = if c then Table signature bytes else Refused (too_long place ∷ [])
+abbrev by_size : Bool → Place → List ℕ → List ℕ → List ℕ → Compiled
+by_size c place signature own bytes = if c then Table signature own bytes else Refused (too_long place ∷ [])
 
-pub table_written : (terms : Trees) (block : Block) (signature bytes : List ℕ) → IsCoreOf terms block → signature ≡ block.signature → IsTable block true bytes → Table signature bytes ≡ of_table block.place block.signature (its_table terms block)
-table_written terms block signature bytes is esig any =
+pub table_written : (terms : Trees) (block : Block) (signature own bytes : List ℕ) → IsCoreOf terms block → signature ≡ block.signature → own ≡ block.file → IsTable block true bytes
+    → Table signature own bytes ≡ of_table block.place block.signature block.file (its_table terms block)
+table_written terms block signature own bytes is esig eown any =
     let table : IsTableOf (known_of terms) (externals terms) block true bytes = any.table (known_of terms) (externals terms) (knows_start terms is.names) (block_ready terms block is) in
     let e : bytes ≡ its_table terms block = table.encoded ∙ ap (λ ts. table_bytes (fields_of block) (encoded_all W64 true ts)) is.core in
     let within : length (its_table terms block) ≤ most_table_bytes = subst (λ bs. length bs ≤ most_table_bytes) e table.within in
     let fits : nat_le (length (its_table terms block)) most_table_bytes ≡ true = grind (arith, nat_tests) in
-    ap (λ s. Table s bytes) esig ∙ ap (Table block.signature) e ∙ sym (ap (λ c. by_size c block.place block.signature (its_table terms block)) fits)
+    ap (λ s. Table s own bytes) esig ∙ ap (λ o. Table block.signature o bytes) eown ∙ ap (Table block.signature block.file) e ∙ sym (ap (λ c. by_size c block.place block.signature block.file (its_table terms block)) fits)
 
 abbrev made : ℕ → Place → List ℕ → Message
 made number place name = record { number = number; place = place; name = name }
@@ -50,7 +51,7 @@ made number place name = record { number = number; place = place; name = name }
 message_is : (message other : Message) → message.number ≡ other.number → message.place ≡ other.place → message.name ≡ other.name → message ≡ other
 message_is message other en ep ex = ap (λ n. made n message.place message.name) en ∙ ap (λ p. made other.number p message.name) ep ∙ ap (λ name. made other.number other.place name) ex
 
-pub refused_written : (terms : Trees) (block : Block) (message : Message) (messages : List Message) → IsCoreOf terms block → messages ≡ message ∷ [] → IsTooLong block true message → Refused messages ≡ of_table block.place block.signature (its_table terms block)
+pub refused_written : (terms : Trees) (block : Block) (message : Message) (messages : List Message) → IsCoreOf terms block → messages ≡ message ∷ [] → IsTooLong block true message → Refused messages ≡ of_table block.place block.signature block.file (its_table terms block)
 refused_written terms block message messages is em long =
     let size : most_table_bytes < length (its_table terms block) =
     let l : length (its_table terms block) ≡ 36 + length (encoded_all W64 true (core_of terms)) = length_is (fields_of block) (encoded_all W64 true (core_of terms)) is.room.signature in
@@ -59,4 +60,4 @@ refused_written terms block message messages is em long =
     omega (arith, long.passes, l, n) in
     let passes : nat_le (length (its_table terms block)) most_table_bytes ≡ false = grind (arith, nat_tests) in
     let same : message ≡ too_long block.place = message_is message (too_long block.place) long.number long.place long.no_name in
-    ap Refused (em ∙ ap (λ m. m ∷ []) same) ∙ sym (ap (λ c. by_size c block.place block.signature (its_table terms block)) passes)
+    ap Refused (em ∙ ap (λ m. m ∷ []) same) ∙ sym (ap (λ c. by_size c block.place block.signature block.file (its_table terms block)) passes)

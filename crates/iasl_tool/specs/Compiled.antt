@@ -17,7 +17,9 @@ use Rattle.name_checks.specs.Messages.{told_errors}
 use Rattle.asl_parser.specs.declared.raw.Raw.{Raw}
 use Rattle.asl_parser.specs.Parse.{Outcome, outcome, read, stopped, sunk, tall}
 use Rattle.asl_shape.specs.Written.{writtens}
-use Rattle.asl_shape.specs.Forms.{errors_at, block_place}
+use Rattle.std.specs.Str.{IsAscii}
+use Rattle.asl_shape.specs.Plans.{plan_at, text_of}
+use Rattle.asl_shape.specs.Forms.{errors_at, block_place, args_of}
 use Rattle.program_shapes.specs.Sources.{terms_in, statements_in, fields_in}
 use Rattle.iasl_tool.specs.declared.compile.Compiled.{Compiled}
 use Rattle.iasl_tool.specs.declared.compile.Compiled.TheVariants.{Table, Refused}
@@ -27,9 +29,9 @@ use Rattle.iasl_tool.specs.Syntax.{not_source, too_deep}
 abbrev pub too_long : Place → Message
 too_long place = record { number = 6080; place = place; name = [] }
 
--- a table, if it is not too long
-abbrev pub of_table : Place → List ℕ → List ℕ → Compiled
-of_table place signature bytes = if nat_le (length bytes) most_table_bytes then Table signature bytes else Refused (too_long place ∷ [])
+-- a table, if it is not too long, with its signature and the name that its block states for its file
+abbrev pub of_table : Place → List ℕ → List ℕ → List ℕ → Compiled
+of_table place signature own bytes = if nat_le (length bytes) most_table_bytes then Table signature own bytes else Refused (too_long place ∷ [])
 
 -- the table of a block of these terms
 abbrev pub its_table : Trees → Block → List ℕ
@@ -46,13 +48,17 @@ with_statements [] statements = statements
 with_statements (m ∷ ms) statements = if nat_eq m.number 6051 then (m ∷ ms) ++ statements else m ∷ ms
 
 -- a block of this form, that is refused with what is wrong with its names or its statements
-abbrev pub of_terms : Place → HeaderFields → List Message → Trees → Compiled
-of_terms place fields statements terms =
-    unless_wrong (with_statements (told_errors terms) statements) (of_table place fields.signature (table_bytes fields (encoded_all W64 true (core_of terms))))
+abbrev pub of_terms : Place → List ℕ → HeaderFields → List Message → Trees → Compiled
+of_terms place own fields statements terms =
+    unless_wrong (with_statements (told_errors terms) statements) (of_table place fields.signature own (table_bytes fields (encoded_all W64 true (core_of terms))))
+
+-- the name that a source's block states for its file
+abbrev pub own_in : List Raw → List ℕ
+own_in items = text_of (plan_at (args_of (writtens items)) 0)
 
 -- the tree of a source's syntax, that is refused with what is wrong with its form
 abbrev pub of_items : List Raw → Compiled
-of_items items = unless_wrong (errors_at items) (of_terms (block_place (writtens items)) (fields_in items) (statements_in items) (terms_in items))
+of_items items = unless_wrong (errors_at items) (of_terms (block_place (writtens items)) (own_in items) (fields_in items) (statements_in items) (terms_in items))
 
 -- tokens that are a source, or the place where they stop being one or nest too deep
 abbrev pub of_outcome : List Token → Outcome → Compiled
@@ -76,5 +82,10 @@ AreWithin files messages = All (λ m. m.place.file < files) messages
 
 -- each refusal is told in one of so many files
 abbrev pub RefusesWithin : ℕ → Compiled → Type 0
-RefusesWithin files (Table signature bytes) = ⊤
+RefusesWithin files (Table signature own bytes) = ⊤
 RefusesWithin files (Refused messages) = AreWithin files messages
+
+-- the name that the block states for its file is ASCII
+abbrev pub HasAsciiName : Compiled → Type 0
+HasAsciiName (Table signature own bytes) = IsAscii own
+HasAsciiName (Refused messages) = ⊤

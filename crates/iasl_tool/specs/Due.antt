@@ -11,7 +11,7 @@ use Rattle.iasl_messages.specs.Order.{sorted_messages}
 use Rattle.iasl_messages.specs.Console.{messages_text, summary_line, table_line, preprocessed_line}
 use Rattle.asl_preprocess.specs.Preprocess.{Preprocessed, Given, Stopped, Absent, preprocessed}
 use Rattle.iasl_options.specs.Asking.{Asked, asked_by}
-use Rattle.iasl_options.specs.Names.{output_name}
+use Rattle.iasl_options.specs.Names.{output_name, table_name as name_of_table}
 use Rattle.iasl_tool.specs.declared.compile.Compiled.{Compiled}
 use Rattle.iasl_tool.specs.declared.compile.Compiled.TheVariants.{Table, Refused}
 use Rattle.iasl_tool.specs.Compiled.{of_lines}
@@ -39,9 +39,9 @@ is_fetched files name = list_any (λ file. same_name file name) files
 abbrev pub made_or_in_use : List (List ℕ) → List Message → List ℕ → List ℕ → List ℕ → Answer
 made_or_in_use files notes line name bytes = cond (is_fetched files name) (in_use name) (made_file files notes line name bytes)
 
--- the name of the table's file
-abbrev pub table_name : Asked → List ℕ → List ℕ
-table_name asked file = output_name asked.prefix file (codes ".aml")
+-- the name of the table's file, where its block states a name of its own
+abbrev pub table_name : Asked → List ℕ → List ℕ → List ℕ
+table_name asked file own = name_of_table asked.prefix file own
 
 -- the name of the preprocessed text's file
 abbrev pub text_name : Asked → List ℕ → List ℕ
@@ -57,7 +57,8 @@ abbrev pub answer_to_text : Asked → List ℕ → List (List ℕ) → List Line
 answer_to_text asked file files lines notes = made_or_in_use files notes (preprocessed_line (text_name asked file)) (text_name asked file) (text_of_lines lines)
 
 abbrev pub answer_to_compiled : Asked → List ℕ → List (List ℕ) → List Message → Compiled → Answer
-answer_to_compiled asked file files notes (Table signature bytes) = made_or_in_use files notes (table_line (table_name asked file) signature (length bytes)) (table_name asked file) bytes
+answer_to_compiled asked file files notes (Table signature own bytes) =
+    made_or_in_use files notes (table_line (table_name asked file own) signature (length bytes)) (table_name asked file own) bytes
 answer_to_compiled asked file files notes (Refused messages) = refusal files (notes ++ messages)
 
 -- of lines, with the files that they are of and the notes of the preprocessor

@@ -13,6 +13,7 @@ use Rattle.aml_writer.specs.Written.{most_table_bytes}
 use Rattle.iasl_options.specs.Asking.{Asked, asked_by}
 use Rattle.iasl_options.specs.CommandLine.{IsCommandLine}
 use Rattle.program_shapes.specs.Sources.{IsRight, IsTableOf, table_in}
+use Rattle.iasl_tool.specs.Compiled.{own_in}
 use Rattle.iasl_tool.specs.Due.{table_name, is_fetched, answer_for}
 
 -- what good words ask for, and the file that they name
@@ -21,8 +22,8 @@ pub record Request : Type 0 where
   pub file : List ℕ
 
 -- the name of the table's file
-abbrev pub table_of : Request → List ℕ
-table_of request = table_name request.asked request.file
+abbrev pub table_of : Request → List Raw → List ℕ
+table_of request items = table_name request.asked request.file (own_in items)
 
 -- The words ask for a compilation of this file; its lines, with those of its includes, are this source, whose table is not
 -- too long; and the name of the table's file is not that of a file that was fetched.
@@ -39,12 +40,12 @@ pub record NamesSource (words : List (List ℕ)) (told : List Named) (request : 
   pub tokens_spell : outcome tokens ≡ read items
   pub right : IsRight items
   pub table_within : length (table_in items) ≤ most_table_bytes
-  pub name_is_free : is_fetched files (table_of request) ≡ false
+  pub name_is_free : is_fetched files (table_of request items) ≡ false
 
 -- the call puts the source's table, and nothing else; the table has the source's header and does what the source says
 pub record PutsFaithfulTable (words : List (List ℕ)) (told : List Named) (request : Request) (items : List Raw) : Type 0 where
   pub status : status_of (answer_for words told) ≡ 0
-  pub due : due_of (answer_for words told) ≡ (table_of request, table_in items) ∷ []
+  pub due : due_of (answer_for words told) ≡ (table_of request items, table_in items) ∷ []
   pub does : IsTableOf items (table_in items)
 
 -- a file is the table of a source that the words name: it has the source's header and does what the source says
@@ -52,7 +53,7 @@ pub record IsItsTable (words : List (List ℕ)) (told : List Named) (file : Name
   pub request : Request
   pub items : List Raw
   pub names : NamesSource words told request items
-  pub name : file.0 ≡ table_of request
+  pub name : file.0 ≡ table_of request items
   pub bytes : file.1 ≡ table_in items
   pub does : IsTableOf items file.1
 
@@ -66,7 +67,7 @@ pub record WritesItsTable (words : List (List ℕ)) (told : List Named) (old new
   pub request : Request
   pub items : List Raw
   pub names : NamesSource words told request items
-  pub table : Gains old new ((table_of request, table_in items) ∷ [])
+  pub table : Gains old new ((table_of request items, table_in items) ∷ [])
   pub does : IsTableOf items (table_in items)
 
 -- whether words ask for preprocessed text alone

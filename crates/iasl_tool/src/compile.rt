@@ -17,7 +17,7 @@ ghost use Rattle.iasl_messages.specs.declared.message.Stage.TheVariants as stage
 ghost use Rattle.iasl_tool.specs.Syntax.{at_token};
 ghost use Rattle.iasl_tool.specs.Ready.{HasRoom, IsCoreOf};
 ghost use Rattle.iasl_tool.specs.declared.compile.Compiled.TheVariants.{Refused};
-ghost use Rattle.iasl_tool.specs.Compiled.{its_table, of_table, of_terms, with_statements, of_items, of_lines, of_outcome, RefusesWithin};
+ghost use Rattle.iasl_tool.specs.Compiled.{its_table, of_table, of_terms, with_statements, of_items, of_lines, of_outcome, HasAsciiName, RefusesWithin};
 
 use acpi_names::spell::spell;
 use aml_writer::stop::WriteStop;
@@ -42,8 +42,12 @@ const MOST_TOKENS: usize = 4_294_967_295;
 /// What a source comes to.
 #[derive(Drop)]
 pub(crate) enum Compiled {
-    /// Its table, with the signature.
-    Table { signature: Text, bytes: Text },
+    /// Its table, with the signature, and the name that the block states for its file, which is empty where it states none.
+    Table {
+        signature: Text,
+        own: Text,
+        bytes: Text,
+    },
     /// Its errors, of which there is at least one.
     Refused(Messages),
 }
@@ -91,9 +95,10 @@ fn core_of(alloc: Global, block: Block) -> Result<Core, AllocError>
 
 // The table of a core's block, or its refusal where that is too long. No listing shows the lines, so its pieces have no text.
 fn write_block(alloc: Global, block: Block) -> Result<Compiled, AllocError>
-    ensures { (terms : Trees) → IsCoreOf terms block → IfOk result (λ it. it ≡ of_table block.place block.signature (its_table terms block)) }
+    ensures { (terms : Trees) → IsCoreOf terms block → IfOk result (λ it. it ≡ of_table block.place block.signature block.file (its_table terms block)) }
 {
     let signature = Text::from_bytes(alloc, block.signature.as_bytes())?;
+    let own = Text::from_bytes(alloc, block.file.as_bytes())?;
     let core = core_of(alloc, block)?;
     let lines = Lines {
         files: Texts::new(alloc),
@@ -102,6 +107,7 @@ fn write_block(alloc: Global, block: Block) -> Result<Compiled, AllocError>
     match write(alloc, &core, &lines, 0, true) {
         Ok(pieces) => Ok(Compiled::Table {
             signature,
+            own,
             bytes: join(alloc, pieces.as_slice())?,
         }),
         Err(WriteStop::TooLong(message)) => Ok(Compiled::Refused(one_message(alloc, message)?)),
@@ -142,7 +148,7 @@ fn compile_block(
 ) -> Result<Compiled, AllocError>
     requires room { HasRoom (fields_of block) }
     requires shaped { AreShaped W64 (trees_of block.terms.items) }
-    ensures { IfOk result (λ it. it ≡ of_terms block.place (fields_of block) statements (trees_of block.terms.items)) }
+    ensures { IfOk result (λ it. it ≡ of_terms block.place block.file (fields_of block) statements (trees_of block.terms.items)) }
 {
     match check(alloc, block.terms.as_slice()) {
         Ok(mut names) => {
@@ -174,7 +180,8 @@ fn block_of(program: Program) -> Result<Block, AllocError>
 // The tree of a source's syntax.
 fn compile_unit(alloc: Global, unit: &RawUnit) -> Result<Compiled, AllocError>
     requires { IsKeptSource (writtens unit.now.items) }
-    ensures { IfOk result (λ compiled. compiled ≡ of_items unit.now.items) }
+    ensures value { IfOk result (λ compiled. compiled ≡ of_items unit.now.items) }
+    ensures own { IfOk result HasAsciiName }
 {
     match shape(alloc, unit) {
         Ok(program) => {
@@ -215,6 +222,7 @@ fn compile_tokens(alloc: Global, tokens: &Tokens) -> Result<Compiled, AllocError
     requires few { length tokens.now < 2 ^ 32 }
     requires short { HaveShortTexts tokens.now }
     ensures value { IfOk result (λ compiled. compiled ≡ of_outcome tokens.now (outcome tokens.now)) }
+    ensures own { IfOk result HasAsciiName }
     ensures within { (files : ℕ) → 0 < files → All (λ token. token.place.file < files) tokens.now → IfOk result (RefusesWithin files) }
 {
     match parse(alloc, tokens) {
@@ -232,6 +240,7 @@ pub(crate) fn compile(alloc: Global, lines: &Lines) -> Result<Compiled, AllocErr
     requires main { 0 < length lines.now.files }
     requires files { All (λ line. line.file < length lines.now.files) lines.now.list }
     ensures value { IfOk result (λ it. it ≡ of_lines lines.now.list) }
+    ensures own { IfOk result HasAsciiName }
     ensures within { IfOk result (RefusesWithin (length lines.now.files)) }
 {
     match tokens(alloc, lines) {

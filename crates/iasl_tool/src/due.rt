@@ -7,6 +7,7 @@ ghost use Rattle.iasl_options.specs.Shown.{AreTexts, asked_of};
 ghost use Rattle.iasl_tool.specs.Compiled.{AreWithin, of_lines};
 ghost use Rattle.iasl_tool.specs.Due.{console_text, refusal, made_file, in_use, is_fetched, made_or_in_use, text_of_lines, answer_to_text, answer_to_compiled, answer_to_lines, answer_to_file, table_name, usage, answer_for};
 ghost use Rattle.iasl_messages.specs.Console.{table_line};
+ghost use Rattle.std.specs.Str.{IsAscii};
 
 use crate::compile::{Compiled, both, compile, one_message};
 use asl_preprocess::{PreStop, Preprocessed, preprocess};
@@ -15,7 +16,7 @@ use iasl_messages::message::Messages;
 use iasl_messages::order::sort;
 use iasl_messages::place::{Line, Lines};
 use iasl_options::command_line::options;
-use iasl_options::names::{file_name, output_name};
+use iasl_options::names::{file_name, output_name, table_name};
 use iasl_options::request::{Options, WordsStop};
 use iasl_ports::delivery::{Due, OutFile, Stop};
 use iasl_ports::files::Files;
@@ -169,14 +170,16 @@ fn make_table(
     files: &Texts,
     notes: Messages,
     signature: &Text,
+    own: &Text,
     bytes: &Text,
 ) -> Result<Due, AllocError>
     requires texts { AreTexts options.now }
+    requires own { IsAscii own.now }
     requires notes { AreWithin (length files.now) notes }
-    ensures due { IfOk result (λ due. answer_of due ≡ made_or_in_use files.now notes (table_line (table_name (asked_of options.now) options.now.file) signature.now (length bytes.now)) (table_name (asked_of options.now) options.now.file) bytes.now) }
+    ensures due { IfOk result (λ due. answer_of due ≡ made_or_in_use files.now notes (table_line (table_name (asked_of options.now) options.now.file own.now) signature.now (length bytes.now)) (table_name (asked_of options.now) options.now.file own.now) bytes.now) }
     ensures settled { IfOk result IsSettled }
 {
-    let name = output_name(alloc, options, ".aml")?;
+    let name = table_name(alloc, options, own)?;
     let bytes = bytes.as_bytes();
     let line = table_line(
         alloc,
@@ -203,12 +206,17 @@ fn make_compiled(
     ensures settled { IfOk result IsSettled }
 {
     match compile(alloc, lines)? {
-        Compiled::Table { signature, bytes } => make_table(
+        Compiled::Table {
+            signature,
+            own,
+            bytes,
+        } => make_table(
             alloc,
             options,
             &lines.files,
             notes,
             &signature,
+            &own,
             &bytes,
         ),
         Compiled::Refused(messages) => refuse(alloc, &lines.files, both(notes, messages)?),

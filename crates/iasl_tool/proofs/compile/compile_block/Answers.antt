@@ -31,7 +31,7 @@ returns-in_ok-spell-in-Ok c =
     let agrees = subst (λ ts. Agrees c.in-Ok.names.index.paths c.in-Ok.names.index.named.items (declarations ts)) same c.in-Ok.ensures.names in
     let tabled = subst (λ ts. Tabled c.in-Ok.names.index.paths c.in-Ok.names.calls.items (lookup (whole_of ts).calls)) same c.in-Ok.ensures.calls in
     let core = c.in_ok-spell-in-Ok.ensures (declarations terms) (whole_of terms).calls agrees (subst (λ table. Tabled c.in-Ok.names.index.paths table (lookup (whole_of terms).calls)) (sym c.as_slice-in-Ok.ensures.value) tabled) ∙ spelled_core terms in
-    right_comes c.write_block.result (with_statements (told_errors terms) c.args.statements) (of_table block.place block.signature (its_table terms block)) (none_behind (told_errors terms) c.args.statements (none_told terms names counts) (no_length c.args.statements (let none : length c.args.statements ≡ 0 = grind (arith, c.is_empty.ensures, c.if-not-is_empty.false, c.statements.view_is) in none)))
+    right_comes c.write_block.result (with_statements (told_errors terms) c.args.statements) (of_table block.place block.signature block.file (its_table terms block)) (none_behind (told_errors terms) c.args.statements (none_told terms names counts) (no_length c.args.statements (let none : length c.args.statements ≡ 0 = grind (arith, c.is_empty.ensures, c.if-not-is_empty.false, c.statements.view_is) in none)))
     (c.write_block.ensures terms (record { room = c.requires.room; shaped = c.requires.shaped; names = names; counts = counts; core = core }))
 
 pub returns-then-not-is_empty : goal.returns-then-not-is_empty
@@ -41,7 +41,7 @@ returns-then-not-is_empty c =
     let same : trees_of c.as_slice.result.now ≡ terms = ap trees_of c.as_slice.ensures.value in
     let names : name_errors terms ≡ [] = sym (ap name_errors same) ∙ c.in-Ok.ensures.right.0 in
     let counts : type_errors terms ≡ [] = sym (ap type_errors same) ∙ c.in-Ok.ensures.right.1 in
-    some_length c.args.statements (of_table block.place block.signature (its_table terms block)) (told_errors terms) (none_told terms names counts)
+    some_length c.args.statements (of_table block.place block.signature block.file (its_table terms block)) (told_errors terms) (none_told terms names counts)
     (λ e. let never : ⊥ = grind (arith, e, c.is_empty.ensures, c.if-not-is_empty.true, c.statements.view_is) in never)
 
 pub returns-in_ok-with_statements-in-Err : goal.returns-in_ok-with_statements-in-Err
@@ -49,5 +49,5 @@ returns-in_ok-with_statements-in-Err c =
     let block = c.args.block in
     let terms : Trees = trees_of block.terms.items in
     let same : trees_of c.as_slice.result.now ≡ terms = ap trees_of c.as_slice.ensures.value in
-    stage_comes c.in-Err.stage c.in_ok-refusal-in-Err.field-0 (told_errors terms) c.args.statements c.in_ok-with_statements-in-Err.field-0 (of_table block.place block.signature (its_table terms block))
+    stage_comes c.in-Err.stage c.in_ok-refusal-in-Err.field-0 (told_errors terms) c.args.statements c.in_ok-with_statements-in-Err.field-0 (of_table block.place block.signature block.file (its_table terms block))
     (subst (λ ts. Refuses c.in-Err.stage (told_errors ts)) same c.in-Err.ensures.refused) c.in_ok-refusal-in-Err.ensures c.in_ok-with_statements-in-Err.ensures
