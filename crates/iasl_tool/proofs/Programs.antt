@@ -1,5 +1,5 @@
 -- What a block, a program and a source come to.
-use Rattle.std.proofs.Common.{◌≡◌, ℕ, ◌<◌, ◌≤◌, ◌^◌, length, List, [], ◌∷◌, Result, Ok, Err, refl, sym, ap, ◌∙◌, subst, arith}
+use Rattle.std.proofs.Common.{◌≡◌, ◌<◌, ◌≤◌, ◌^◌, length, List, [], ◌∷◌, Result, Ok, Err, refl, sym, ap, ◌∙◌, subst, arith}
 use Rattle.std.specs.Prelude.{map, IfOk, nat_eq, nat_le, if◌then◌else◌, ◌++◌, Bool, true, false}
 use Rattle.statement_checks.specs.Statements.{errors_of_statements}
 use Rattle.std.specs.declared.alloc.AllocError.{AllocError}
@@ -12,7 +12,7 @@ use Rattle.iasl_messages.specs.declared.message.Message.{Message}
 use Rattle.acpi_values.specs.declared.width.Width.TheVariants.{W64}
 use Rattle.asl_tree.specs.declared.program.Block.{Block}
 use Rattle.asl_tree.specs.Tree.{Trees}
-use Rattle.aml_code.specs.Header.{HeaderFields, fields_of}
+use Rattle.aml_code.specs.Header.{fields_of}
 use Rattle.acpi_names.specs.Errors.{NameError, name_errors, type_errors}
 use Rattle.named_sessions.specs.Shaped.{AreShaped}
 use Rattle.asl_parser.specs.declared.raw.Raw.{Raw}

@@ -6,7 +6,6 @@ use Rattle.iasl_messages.specs.declared.message.Message.{Message}
 use Rattle.iasl_messages.specs.declared.place.Place.{Place}
 use Rattle.asl_tree.specs.declared.program.Block.{Block}
 use Rattle.asl_tree.specs.Tree.{Trees}
-use Rattle.asl_tree.specs.View.{trees_of}
 use Rattle.acpi_values.specs.declared.width.Width.TheVariants.{W64}
 use Rattle.asl_meaning.specs.Declarations.{known_of, externals}
 use Rattle.aml_meaning.specs.Encoded.{encoded_all}

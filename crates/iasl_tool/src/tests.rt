@@ -39,10 +39,66 @@ const TWICE: &[u8] = b"DefinitionBlock (\"\", \"SSDT\", 2, \"OEMX00\", \"TABLE00
 }
 ";
 
-// A source, but not of the form.
 const ADDS: &[u8] = b"DefinitionBlock (\"\", \"SSDT\", 2, \"OEMX00\", \"TABLE001\", 1)
 {
-    Method (M, 0) { Return (Add (1, 2)) }
+    Method (M, 1) { Return (Add (Arg0, 1)) }
+}
+";
+
+const ADDS_TABLE: &[u8] =
+    b"SSDT0\x00\x00\x00\x02vOEMX00TABLE001\x01\x00\x00\x00INTL\x05\x01! \x14\x0BM___\x01\xA4rh\x01\x00";
+
+const CALLS: &[u8] = b"DefinitionBlock (\"\", \"SSDT\", 2, \"OEMX00\", \"TABLE001\", 1)
+{
+    External (E, MethodObj, , {IntObj, IntObj})
+    Method (M, 1) { Return (E (Arg0, 2)) }
+}
+";
+
+const CALLS_TABLE: &[u8] =
+    b"SSDT:\x00\x00\x00\x02\xEDOEMX00TABLE001\x01\x00\x00\x00INTL\x05\x01! \x15E___\x08\x02\x14\x0EM___\x01\xA4E___h\x0A\x02";
+
+const HIDES: &[u8] = b"DefinitionBlock (\"\", \"SSDT\", 2, \"OEMX00\", \"TABLE001\", 1)
+{
+    Name (X, 5)
+    Method (M, 1) { If (Arg0) { Name (X, 7) } Return (X) }
+}
+";
+
+const HIDES_TABLE: &[u8] =
+    b"SSDTG\x00\x00\x00\x02\x96OEMX00TABLE001\x01\x00\x00\x00INTL\x05\x01! \x08X___\x0A\x05\x14\x1BM___\x01\xA0\x09h\x08X___\x0A\x07\xA4\x5C.M___X___";
+
+const TEXT: &[u8] = b"DefinitionBlock (\"\", \"SSDT\", 2, \"OEMX00\", \"TABLE001\", 1)
+{
+    Name (S, \"A\\x42\")
+    Name (P, Package () {})
+}
+";
+
+const TEXT_TABLE: &[u8] =
+    b"SSDT5\x00\x00\x00\x02\xE9OEMX00TABLE001\x01\x00\x00\x00INTL\x05\x01! \x08S___\x0DAB\x00\x08P___\x12\x02\x00";
+
+// A name that is declared twice in a reopened Scope, and one that is not found.
+const NAMES: &[u8] = b"DefinitionBlock (\"\", \"SSDT\", 2, \"OEMX00\", \"TABLE001\", 1)
+{
+    Device (D) { Name (X, 1) }
+    Scope (D) { Name (X, 2) }
+    Method (M) { Return (Y) }
+}
+";
+
+// A call with an argument too few, an argument that the method has not, and no loop to leave.
+const STATEMENTS: &[u8] = b"DefinitionBlock (\"\", \"SSDT\", 2, \"OEMX00\", \"TABLE001\", 1)
+{
+    Method (N, 1) { Store (Arg1, Local0) }
+    Method (M) { N () Break }
+}
+";
+
+// The block states the name of its file.
+const OWN_NAME: &[u8] = b"DefinitionBlock (\"own.aml\", \"SSDT\", 2, \"OEMX00\", \"TABLE001\", 1)
+{
+    Name (X, 5)
 }
 ";
 
@@ -87,9 +143,6 @@ const WRONG_ARGUMENTS: &[u8] = b"DefinitionBlock (\"\", \"SSDT\", 2, \"OEMX00\",
     Method (N, 8) { }
 }
 ";
-
-const UNKNOWN: &[u8] =
-    b"t.asl:1:1: error 6020: unknown operator\n1 errors, 0 warnings, 0 remarks\n";
 
 // A run: words, the text of `t.asl`, and what is told and put.
 #[derive(Drop)]
@@ -178,15 +231,63 @@ fn words_and_sources(rt: HostRuntime) -> Result<(), AllocError> {
             status: 1,
             names: &[],
             bodies: &[],
-            told: UNKNOWN,
+            told: b"t.asl:4:11: error 6040: name is declared twice: \\X___\n1 errors, 0 warnings, 0 remarks\n",
         },
         Row {
             words: &["t.asl"],
             text: ADDS,
+            status: 0,
+            names: &[b"t.aml"],
+            bodies: &[ADDS_TABLE],
+            told: b"t.aml: SSDT, 48 bytes\n0 errors, 0 warnings, 0 remarks\n",
+        },
+        Row {
+            words: &["t.asl"],
+            text: CALLS,
+            status: 0,
+            names: &[b"t.aml"],
+            bodies: &[CALLS_TABLE],
+            told: b"t.aml: SSDT, 58 bytes\n0 errors, 0 warnings, 0 remarks\n",
+        },
+        Row {
+            words: &["t.asl"],
+            text: HIDES,
+            status: 0,
+            names: &[b"t.aml"],
+            bodies: &[HIDES_TABLE],
+            told: b"t.aml: SSDT, 71 bytes\n0 errors, 0 warnings, 0 remarks\n",
+        },
+        Row {
+            words: &["t.asl"],
+            text: TEXT,
+            status: 0,
+            names: &[b"t.aml"],
+            bodies: &[TEXT_TABLE],
+            told: b"t.aml: SSDT, 53 bytes\n0 errors, 0 warnings, 0 remarks\n",
+        },
+        Row {
+            words: &["t.asl"],
+            text: NAMES,
             status: 1,
             names: &[],
             bodies: &[],
-            told: UNKNOWN,
+            told: b"t.asl:4:23: error 6040: name is declared twice: \\D___.X___\nt.asl:5:26: error 6041: name is not found: Y___\n2 errors, 0 warnings, 0 remarks\n",
+        },
+        Row {
+            words: &["t.asl"],
+            text: STATEMENTS,
+            status: 1,
+            names: &[],
+            bodies: &[],
+            told: b"t.asl:3:28: error 6055: argument is above the count\nt.asl:4:18: error 6051: wrong number of call arguments: N___\nt.asl:4:23: error 6052: no loop to leave\n3 errors, 0 warnings, 0 remarks\n",
+        },
+        Row {
+            words: &["t.asl"],
+            text: OWN_NAME,
+            status: 0,
+            names: &[b"own.aml"],
+            bodies: &[ONE_NAME_TABLE],
+            told: b"own.aml: SSDT, 43 bytes\n0 errors, 0 warnings, 0 remarks\n",
         },
         Row {
             words: &["t.asl"],

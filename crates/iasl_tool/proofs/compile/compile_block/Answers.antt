@@ -4,14 +4,12 @@ use Rattle.acpi_state.specs.Objects.{lookup}
 use Rattle.asl_meaning.specs.Declarations.{declarations}
 use Rattle.asl_tree.specs.Tree.{Trees}
 use Rattle.asl_tree.specs.View.{trees_of}
-use Rattle.aml_code.specs.Header.{fields_of}
 use Rattle.acpi_names.specs.Errors.{whole_of, name_errors, type_errors}
 use Rattle.acpi_names.specs.Parts.{Agrees}
 use Rattle.acpi_names.specs.Tables.{Tabled}
 use Rattle.acpi_names.specs.Terms.{are_terms}
 use Rattle.name_checks.specs.Messages.{told_errors}
 use Rattle.name_checks.specs.Refusals.{Refuses}
-use Rattle.named_sessions.specs.Core.{core_of}
 use Rattle.named_sessions.proofs.Core.{spelled_core}
 use Rattle.named_sessions.proofs.Terms.{shaped_terms}
 use Rattle.iasl_tool.specs.Compiled.{its_table, of_table, with_statements}

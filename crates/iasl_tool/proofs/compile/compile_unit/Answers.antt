@@ -6,7 +6,7 @@ use Rattle.asl_tree.specs.View.{trees_of}
 use Rattle.asl_shape.specs.Forms.{Forms, IsBlockOf}
 use Rattle.asl_shape.specs.Plans.{plans_of}
 use Rattle.statement_checks.specs.Statements.{errors_of_statements}
-use Rattle.iasl_tool.proofs.Programs.{ok_block, found_block, block_room, block_shaped, program_comes, shape_comes, named_in_ascii, ascii_comes}
+use Rattle.iasl_tool.proofs.Programs.{ok_block, found_block, block_room, block_shaped, program_comes, named_in_ascii, ascii_comes}
 use Rattle.iasl_tool.specs.Compiled.{of_items}
 use Rattle.iasl_tool.proofs.compile.compile_unit.Goals as goal
 
