@@ -72,16 +72,16 @@ row_of d.Memory32Fixed = large d.Memory32Fixed 0x86 0x09 b.Nothing
 row_of d.Register = large d.Register 0x82 0x0C b.Nothing
 row_of d.Interrupt = large d.Interrupt 0x89 0x02 (b.Numbers 32 1)
 row_of d.WordIo = large d.WordIo 0x88 0x0D b.Nothing
-row_of d.DwordIo = large d.DwordIo 0x87 0x17 b.Nothing
-row_of d.QwordIo = large d.QwordIo 0x8A 0x2B b.Nothing
+row_of d.DWordIo = large d.DWordIo 0x87 0x17 b.Nothing
+row_of d.QWordIo = large d.QWordIo 0x8A 0x2B b.Nothing
 row_of d.ExtendedIo = large d.ExtendedIo 0x8B 0x35 b.Nothing
-row_of d.DwordMemory = large d.DwordMemory 0x87 0x17 b.Nothing
-row_of d.QwordMemory = large d.QwordMemory 0x8A 0x2B b.Nothing
+row_of d.DWordMemory = large d.DWordMemory 0x87 0x17 b.Nothing
+row_of d.QWordMemory = large d.QWordMemory 0x8A 0x2B b.Nothing
 row_of d.ExtendedMemory = large d.ExtendedMemory 0x8B 0x35 b.Nothing
 row_of d.WordBusNumber = large d.WordBusNumber 0x88 0x0D b.Nothing
 row_of d.WordSpace = large d.WordSpace 0x88 0x0D b.Nothing
-row_of d.DwordSpace = large d.DwordSpace 0x87 0x17 b.Nothing
-row_of d.QwordSpace = large d.QwordSpace 0x8A 0x2B b.Nothing
+row_of d.DWordSpace = large d.DWordSpace 0x87 0x17 b.Nothing
+row_of d.QWordSpace = large d.QWordSpace 0x8A 0x2B b.Nothing
 row_of d.ExtendedSpace = large d.ExtendedSpace 0x8B 0x35 b.Nothing
 
 -- ---- its fields

@@ -1,26 +1,45 @@
 //! What a resource descriptor is made of.
 
-/// What words of one kind tell.
+/// What words of one kind tell (ACPI Specification 6.4, 19.6).
 #[derive(Clone, Copy, PartialEq, Eq, Debug)]
 pub enum Kind {
+    /// `ResourceProducer` 0, `ResourceConsumer` 1.
     Usage,
+    /// `PosDecode` 0, `SubDecode` 1.
     Decode,
+    /// `MinNotFixed` 0, `MinFixed` 1.
     MinimumFixed,
+    /// `MaxNotFixed` 0, `MaxFixed` 1.
     MaximumFixed,
+    /// `ReadOnly` 0, `ReadWrite` 1.
     Access,
+    /// `NonCacheable` 0, `Cacheable` 1, `WriteCombining` 2, `Prefetchable` 3.
     Caching,
+    /// `AddressRangeMemory` 0, `AddressRangeReserved` 1, `AddressRangeACPI` 2, `AddressRangeNVS` 3.
     Range,
+    /// `TypeStatic` 0, `TypeTranslation` 1.
     Translation,
+    /// `DenseTranslation` 0, `SparseTranslation` 1.
     Sparse,
+    /// `NonISAOnlyRanges` 1, `ISAOnlyRanges` 2, `EntireRange` 3.
     IsaRange,
+    /// `Decode10` 0, `Decode16` 1.
     IoDecode,
+    /// `Level` 0, `Edge` 1.
     Mode,
+    /// `ActiveHigh` 0, `ActiveLow` 1.
     Level,
+    /// `Exclusive` 0, `Shared` 1, `ExclusiveAndWake` 2, `SharedAndWake` 3.
     Sharing,
+    /// `Compatibility` 0, `TypeA` 1, `TypeB` 2, `TypeF` 3.
     DmaType,
+    /// `NotBusMaster` 0, `BusMaster` 1.
     BusMaster,
+    /// `Transfer8` 0, `Transfer8_16` 1, `Transfer16` 2.
     Transfer,
+    /// `Width8bit` 0, `Width16bit` 1, `Width32bit` 2, `Width64bit` 3, `Width128bit` 4, `Width256bit` 5.
     DmaWidth,
+    /// The spaces of a region, as `SystemIO` 1, and `FFixedHW` 0x7F.
     Space,
 }
 
@@ -51,16 +70,16 @@ pub enum Descriptor {
     Register,
     Interrupt,
     WordIo,
-    DwordIo,
-    QwordIo,
+    DWordIo,
+    QWordIo,
     ExtendedIo,
-    DwordMemory,
-    QwordMemory,
+    DWordMemory,
+    QWordMemory,
     ExtendedMemory,
     WordBusNumber,
     WordSpace,
-    DwordSpace,
-    QwordSpace,
+    DWordSpace,
+    QWordSpace,
     ExtendedSpace,
 }
 

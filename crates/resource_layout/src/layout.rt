@@ -26,6 +26,7 @@ pub fn is_kind(a: Kind, b: Kind) -> bool
     kind_number(a) == kind_number(b)
 }
 
+// A small descriptor, of so many bytes.
 fn small(descriptor: Descriptor, name: u64, bytes: u8, body: Body) -> Row
     ensures { result ≡ spec.row descriptor (head.Small name) bytes body }
 {
@@ -37,6 +38,7 @@ fn small(descriptor: Descriptor, name: u64, bytes: u8, body: Body) -> Row
     }
 }
 
+// A large descriptor, of so many bytes.
 fn large(descriptor: Descriptor, tag: u64, bytes: u8, body: Body) -> Row
     ensures { result ≡ spec.row descriptor (head.Large tag) bytes body }
 {
@@ -48,7 +50,7 @@ fn large(descriptor: Descriptor, tag: u64, bytes: u8, body: Body) -> Row
     }
 }
 
-/// How a descriptor begins, and how long it is.
+/// How a descriptor begins, and how long it is (ACPI Specification 6.4, 6.4.2 and 6.4.3).
 #[tactic(auto, unfolding(crate::specs::Layout::row_of))]
 pub fn row_of(descriptor: Descriptor) -> Row
     ensures { result ≡ spec.row_of descriptor }
@@ -71,21 +73,21 @@ pub fn row_of(descriptor: Descriptor) -> Row
         Descriptor::Register => large(descriptor, 0x82, 15, Body::Nothing),
         Descriptor::Interrupt => large(descriptor, 0x89, 5, Body::Numbers { bits: 32, least: 1 }),
         Descriptor::WordIo => large(descriptor, 0x88, 16, Body::Nothing),
-        Descriptor::DwordIo => large(descriptor, 0x87, 26, Body::Nothing),
-        Descriptor::QwordIo => large(descriptor, 0x8A, 46, Body::Nothing),
+        Descriptor::DWordIo => large(descriptor, 0x87, 26, Body::Nothing),
+        Descriptor::QWordIo => large(descriptor, 0x8A, 46, Body::Nothing),
         Descriptor::ExtendedIo => large(descriptor, 0x8B, 56, Body::Nothing),
-        Descriptor::DwordMemory => large(descriptor, 0x87, 26, Body::Nothing),
-        Descriptor::QwordMemory => large(descriptor, 0x8A, 46, Body::Nothing),
+        Descriptor::DWordMemory => large(descriptor, 0x87, 26, Body::Nothing),
+        Descriptor::QWordMemory => large(descriptor, 0x8A, 46, Body::Nothing),
         Descriptor::ExtendedMemory => large(descriptor, 0x8B, 56, Body::Nothing),
         Descriptor::WordBusNumber => large(descriptor, 0x88, 16, Body::Nothing),
         Descriptor::WordSpace => large(descriptor, 0x88, 16, Body::Nothing),
-        Descriptor::DwordSpace => large(descriptor, 0x87, 26, Body::Nothing),
-        Descriptor::QwordSpace => large(descriptor, 0x8A, 46, Body::Nothing),
+        Descriptor::DWordSpace => large(descriptor, 0x87, 26, Body::Nothing),
+        Descriptor::QWordSpace => large(descriptor, 0x8A, 46, Body::Nothing),
         Descriptor::ExtendedSpace => large(descriptor, 0x8B, 56, Body::Nothing),
     }
 }
 
-/// The fields of a descriptor.
+/// The fields of a descriptor, those that arguments of its macro give first, in their order.
 #[tactic(auto, unfolding(crate::specs::Layout::fields_of))]
 pub fn fields_of(descriptor: Descriptor) -> &'static [Field]
     ensures { result.now ≡ spec.fields_of descriptor }
@@ -108,16 +110,16 @@ pub fn fields_of(descriptor: Descriptor) -> &'static [Field]
         Descriptor::Register => REGISTER,
         Descriptor::Interrupt => INTERRUPT,
         Descriptor::WordIo => WORD_IO,
-        Descriptor::DwordIo => DWORD_IO,
-        Descriptor::QwordIo => QWORD_IO,
+        Descriptor::DWordIo => DWORD_IO,
+        Descriptor::QWordIo => QWORD_IO,
         Descriptor::ExtendedIo => EXTENDED_IO,
-        Descriptor::DwordMemory => DWORD_MEMORY,
-        Descriptor::QwordMemory => QWORD_MEMORY,
+        Descriptor::DWordMemory => DWORD_MEMORY,
+        Descriptor::QWordMemory => QWORD_MEMORY,
         Descriptor::ExtendedMemory => EXTENDED_MEMORY,
         Descriptor::WordBusNumber => WORD_BUS_NUMBER,
         Descriptor::WordSpace => WORD_SPACE,
-        Descriptor::DwordSpace => DWORD_SPACE,
-        Descriptor::QwordSpace => QWORD_SPACE,
+        Descriptor::DWordSpace => DWORD_SPACE,
+        Descriptor::QWordSpace => QWORD_SPACE,
         Descriptor::ExtendedSpace => EXTENDED_SPACE,
     }
 }

@@ -221,7 +221,7 @@ pub(crate) const WORD_IO: &[Field] = &[
     fixed!(3, 8, 1),
 ];
 
-/// The fields of `DwordIo` (ACPI Specification 6.4, 6.4.3.5).
+/// The fields of `DWordIo` (ACPI Specification 6.4, 6.4.3.5).
 pub(crate) const DWORD_IO: &[Field] = &[
     word_or!(0, b"    ", 4, 0, 1, Usage, 1),
     word_or!(1, b"_MIF", 4, 2, 1, MinimumFixed, 0),
@@ -241,7 +241,7 @@ pub(crate) const DWORD_IO: &[Field] = &[
     fixed!(3, 8, 1),
 ];
 
-/// The fields of `QwordIo` (ACPI Specification 6.4, 6.4.3.5).
+/// The fields of `QWordIo` (ACPI Specification 6.4, 6.4.3.5).
 pub(crate) const QWORD_IO: &[Field] = &[
     word_or!(0, b"    ", 4, 0, 1, Usage, 1),
     word_or!(1, b"_MIF", 4, 2, 1, MinimumFixed, 0),
@@ -281,7 +281,7 @@ pub(crate) const EXTENDED_IO: &[Field] = &[
     fixed!(6, 8, 1),
 ];
 
-/// The fields of `DwordMemory` (ACPI Specification 6.4, 6.4.3.5).
+/// The fields of `DWordMemory` (ACPI Specification 6.4, 6.4.3.5).
 pub(crate) const DWORD_MEMORY: &[Field] = &[
     word_or!(0, b"    ", 4, 0, 1, Usage, 1),
     word_or!(1, b"_DEC", 4, 1, 1, Decode, 0),
@@ -302,7 +302,7 @@ pub(crate) const DWORD_MEMORY: &[Field] = &[
     fixed!(3, 8, 0),
 ];
 
-/// The fields of `QwordMemory` (ACPI Specification 6.4, 6.4.3.5).
+/// The fields of `QWordMemory` (ACPI Specification 6.4, 6.4.3.5).
 pub(crate) const QWORD_MEMORY: &[Field] = &[
     word_or!(0, b"    ", 4, 0, 1, Usage, 1),
     word_or!(1, b"_DEC", 4, 1, 1, Decode, 0),
@@ -379,7 +379,7 @@ pub(crate) const WORD_SPACE: &[Field] = &[
     name!(13),
 ];
 
-/// The fields of `DwordSpace` (ACPI Specification 6.4, 6.4.3.5).
+/// The fields of `DWordSpace` (ACPI Specification 6.4, 6.4.3.5).
 pub(crate) const DWORD_SPACE: &[Field] = &[
     between!(0, 3, 0, 8, 0xC0, 0xFF),
     word_or!(1, b"    ", 4, 0, 1, Usage, 1),
@@ -397,7 +397,7 @@ pub(crate) const DWORD_SPACE: &[Field] = &[
     name!(13),
 ];
 
-/// The fields of `QwordSpace` (ACPI Specification 6.4, 6.4.3.5).
+/// The fields of `QWordSpace` (ACPI Specification 6.4, 6.4.3.5).
 pub(crate) const QWORD_SPACE: &[Field] = &[
     between!(0, 3, 0, 8, 0xC0, 0xFF),
     word_or!(1, b"    ", 4, 0, 1, Usage, 1),

@@ -5,7 +5,7 @@ use crate::layout::{descriptor_field, fields_of, row_of};
 #[test]
 fn fields_have_their_places(rt: HostRuntime) {
     for (descriptor, name, place) in [
-        (Descriptor::QwordMemory, *b"_MIN", Some((112, 64))),
+        (Descriptor::QWordMemory, *b"_MIN", Some((112, 64))),
         (Descriptor::ExtendedMemory, *b"_ATT", Some((384, 64))),
         (Descriptor::Irq, *b"_INT", Some((8, 16))),
         (Descriptor::Irq, *b"_LL_", Some((27, 1))),
@@ -29,10 +29,10 @@ fn macros_have_their_arguments(rt: HostRuntime) {
         (Descriptor::Memory24, 12, 6),
         (Descriptor::Register, 15, 6),
         // Of these fields one is no argument: the type.
-        (Descriptor::QwordIo, 46, 16),
-        (Descriptor::DwordMemory, 26, 17),
+        (Descriptor::QWordIo, 46, 16),
+        (Descriptor::DWordMemory, 26, 17),
         (Descriptor::WordBusNumber, 16, 13),
-        (Descriptor::QwordSpace, 46, 14),
+        (Descriptor::QWordSpace, 46, 14),
     ] {
         assert!(rt; row_of(descriptor).bytes == bytes);
         assert!(rt; fields_of(descriptor).len() == fields);

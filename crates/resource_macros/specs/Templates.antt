@@ -18,7 +18,7 @@ use Rattle.resource_layout.specs.Layout.{row_of, fields_of}
 use Rattle.resource_macros.specs.declared.node.Node.{Node}
 use Rattle.resource_macros.specs.declared.node.Term.{Term}
 use Rattle.resource_macros.specs.declared.node.Term as D
-use Rattle.resource_macros.specs.declared.work.FieldOffset.{FieldOffset}
+use Rattle.resource_macros.specs.declared.output.FieldOffset.{FieldOffset}
 use Rattle.resource_macros.specs.Arguments.{answer_of, member_of, has_numbers}
 use Rattle.resource_macros.specs.Resources.{bytes_in, length_in, has_room, in_node, name_in, argument_by, is_name}
 use Rattle.resource_macros.specs.Reading.{IsResource}

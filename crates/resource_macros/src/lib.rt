@@ -8,7 +8,7 @@ mod encoded;
 mod faults;
 pub mod identifiers;
 pub mod node;
+pub mod output;
 pub mod template;
 #[cfg(test)]
 mod tests;
-pub mod work;

@@ -8,7 +8,7 @@ ghost use Rattle.resource_macros.specs.Templates as spec;
 use crate::encoded::{encode, name_of};
 use crate::faults::tell_all;
 use crate::node::{Node, Term};
-use crate::work::{FieldOffset, FieldOffsets, Template, Work};
+use crate::output::{FieldOffset, FieldOffsets, Template, Work};
 use iasl_messages::message::Stage;
 use iasl_messages::place::Place;
 use iasl_ports::list::{List, Text};
@@ -193,7 +193,8 @@ fn finished(alloc: Global, work: Work) -> Result<Template, Stage>
     }
 }
 
-/// The template of a list of descriptors, or the faults of their arguments and lists.
+/// The template of a list of descriptors, or the faults of their arguments and lists (ACPI Specification 6.4, 6.4.2 and
+/// 6.4.3). A template of 2^32 bytes or more is answered as want of memory.
 pub fn template(alloc: Global, list: &[Node]) -> Result<Template, Stage>
     ensures faultless { OnOk result (spec.all_faults (spec.resources_of list.now) ≡ []) }
     ensures bytes { IfOk result (λ t. t.bytes ≡ spec.all_bytes (spec.resources_of list.now) ++ 0x79 ∷ 0 ∷ []) }

@@ -1,7 +1,7 @@
 use crate::identifiers::{eisaid, utf16, uuid};
 use crate::node::{Node, Term};
+use crate::output::Template;
 use crate::template::template;
-use crate::work::Template;
 use asl_tree::path::{Path, Segs};
 use iasl_messages::message::Stage;
 use iasl_messages::place::Place;
@@ -180,7 +180,7 @@ fn descriptors_are_bytes(rt: HostRuntime) -> Result<(), Fail> {
             b"\x47\x01\x62\x00\x62\x00\x00\x01",
         ),
         (
-            Descriptor::QwordMemory,
+            Descriptor::QWordMemory,
             &MEMORY,
             &[],
             b"\x8A\x2B\x00\x00\x0C\x03\0\0\0\0\0\0\0\0\0\0\0\0\x01\0\0\0\xFF\xFF\xFF\xFF\x01\0\0\0\0\0\0\0\0\0\0\0\0\0\0\0\x01\0\0\0",
@@ -304,7 +304,7 @@ fn arguments_and_lists_have_faults(rt: HostRuntime) -> Result<(), Fail> {
 #[test]
 fn templates_tell_their_fields(rt: HostRuntime) -> Result<(), Fail> {
     let mut inner = Vec::new(rt.alloc());
-    inner.push(resource(rt.alloc(), Descriptor::QwordMemory, &MEMORY, &[])?)?;
+    inner.push(resource(rt.alloc(), Descriptor::QWordMemory, &MEMORY, &[])?)?;
     let mut list = Vec::new(rt.alloc());
     list.push(Node {
         place: place(1, 1),
