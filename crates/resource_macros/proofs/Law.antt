@@ -11,7 +11,7 @@ use Rattle.resource_layout.specs.declared.descriptor.Body.TheVariants as b
 use Rattle.resource_layout.specs.declared.descriptor.Row.{Row}
 use Rattle.resource_layout.specs.declared.descriptor.Field.{Field}
 use Rattle.resource_layout.specs.Layout.{row_of, fields_of}
-use Rattle.resource_layout.specs.Sound.{window_of, head_windows, windows_of, are_apart, is_within, has_whole_bytes, is_sound}
+use Rattle.resource_layout.specs.Sound.{Window, window_of, is_apart, head_windows, windows_of, are_apart, is_within, has_whole_bytes, is_sound}
 use Rattle.resource_layout.proofs.Sound.{row_sound}
 use Rattle.iasl_messages.specs.declared.place.Place.{Place}
 use Rattle.resource_macros.specs.declared.node.Node.{Node}
@@ -22,11 +22,11 @@ use Rattle.resource_macros.specs.Numbers.{little_bytes, little_number}
 use Rattle.resource_macros.specs.Arguments.{fitted, or_zero, member_of, members_of}
 use Rattle.resource_macros.specs.Packing.{place_of, packed}
 use Rattle.resource_macros.specs.Resources.{is_fitting, head_dues, field_dues, dues_in, length_in, bytes_in, behind_in, members_in, source_in, width_behind, numbers_behind, numbers_bytes, has_room, least_of}
-use Rattle.resource_macros.specs.Reading.{AreRead, AreClear, numbers_read, IsResource}
+use Rattle.resource_macros.specs.Reading.{IsHead, AreRead, AreClear, numbers_read, IsResource}
 use Rattle.resource_macros.specs.Templates.{Resource, own_fault, argument_faults, list_faults, faults_of, all_faults, bytes_of, all_bytes, length_of, Describes}
 use Rattle.resource_macros.proofs.Bytes.{little_length, little_back}
 use Rattle.resource_macros.proofs.Lengths.{behind_length, numbers_length}
-use Rattle.resource_macros.proofs.Packing.{AreFitting, read_back, clear_back}
+use Rattle.resource_macros.proofs.Packing.{AreFitting, AreDuesRead, AreDuesClear, read_back, clear_back}
 
 both : (a b : Bool) → (a && b) ≡ true → (a ≡ true) × (b ≡ true)
 both true b e = (refl, e)
@@ -43,6 +43,23 @@ head_places (h.Large tag) bytes more = refl
 
 places : (row : Row) (args body : List Node) → map place_of (dues_in row args body) ≡ windows_of row
 places row args body = head_places row.head (length_in row args body) (field_dues args (members_in row body) (fields_of row.descriptor)) ∙ ap (λ ws. head_windows row.head ++ ws) (field_places args (members_in row body) (fields_of row.descriptor))
+
+-- what is read of the dues is read of the head and of the fields
+head_read : (head : Head) (size : ℕ) (bytes : List ℕ) (more : List Due) → AreDuesRead bytes (head_dues head size ++ more) → IsHead head size bytes × AreDuesRead bytes more
+head_read (h.Small name) size bytes more read = ((read.1.0, read.0), read.1.1)
+head_read (h.Large tag) size bytes more read = ((read.0, read.1.0), read.1.1)
+
+fields_read : (bytes : List ℕ) (args : List Node) (members : List ℕ) (fields : List Field) → AreDuesRead bytes (field_dues args members fields) → AreRead bytes args members fields
+fields_read bytes args members [] read = tt
+fields_read bytes args members (field ∷ fields) read = (read.0, fields_read bytes args members fields read.1)
+
+-- what is apart from the dues is apart from their places
+apart_from : (free : Window) (dues : List Due) → list_all (λ due. is_apart (place_of due) free) dues ≡ list_all (λ w. is_apart w free) (map place_of dues)
+apart_from free [] = refl
+apart_from free (due ∷ dues) = ap (λ t. is_apart (place_of due) free && t) (apart_from free dues)
+
+clear_from : (bits : ℕ) (bytes : List ℕ) (dues : List Due) → AreDuesClear bits bytes dues → AreClear bits bytes (map place_of dues)
+clear_from bits bytes dues clear free apart within = clear free (apart_from free dues ∙ apart) within
 
 fitting : (dues : List Due) → list_all is_fitting dues ≡ true → AreFitting dues
 fitting [] e = tt
@@ -115,10 +132,17 @@ resource_reads row args body sound room =
     let within : list_all (is_within (8 * row.bytes)) (map place_of dues) ≡ true = ap (list_all (is_within (8 * row.bytes))) (places row args body) ∙ u.0 in
     let here = front row.bytes (packed dues) tail in
     let rest = behind row.bytes (packed dues) tail in
+    let size = length-append (little_bytes row.bytes (packed dues)) tail ∙ ap (λ k. k + length tail) (little_length row.bytes (packed dues)) ∙ ap (λ k. row.bytes + k) (behind_length (width_behind row.body) (behind_in row body) (source_in row args)) in
+    let fields = field_dues args (members_in row body) (fields_of row.descriptor) in
+    let read = subst (λ (bs : List ℕ). AreDuesRead bs dues) (sym here) (read_back row.bytes dues apart within fit) in
+    let clear = subst (λ (bs : List ℕ). AreDuesClear (8 * row.bytes) bs dues) (sym here) (clear_back row.bytes dues apart fit) in
+    let front_bytes = take row.bytes (bytes_in row args body) in
+    let two = head_read row.head (length_in row args body) front_bytes fields read in
     record {
-      whole = length-append (little_bytes row.bytes (packed dues)) tail ∙ ap (λ k. k + length tail) (little_length row.bytes (packed dues)) ∙ ap (λ k. row.bytes + k) (behind_length (width_behind row.body) (behind_in row body) (source_in row args));
-      fields = subst (λ (bs : List ℕ). AreRead bs dues) (sym here) (read_back row.bytes dues apart within fit);
-      clear = subst (λ (bs : List ℕ). AreClear (8 * row.bytes) bs dues) (sym here) (clear_back row.bytes dues apart fit);
+      whole = size;
+      head = subst (λ (k : ℕ). IsHead row.head k front_bytes) (sym size) two.0;
+      fields = fields_read front_bytes args (members_in row body) (fields_of row.descriptor) two.1;
+      clear = subst (AreClear (8 * row.bytes) front_bytes) (places row args body) (clear_from (8 * row.bytes) front_bytes dues clear);
       numbers = ap (numbers_read (width_behind row.body) (length (behind_in row body))) rest ∙ numbers_back (width_behind row.body) (behind_in row body) (source_in row args) (behind_below row.body body u.1);
       source = ap (drop (width_behind row.body * length (behind_in row body))) rest ∙ source_back (width_behind row.body) (behind_in row body) (source_in row args);
     }

@@ -12,7 +12,7 @@ use crate::output::{FieldOffset, FieldOffsets, Template, Work};
 use iasl_messages::message::Stage;
 use iasl_messages::place::Place;
 use iasl_ports::list::{List, Text};
-use resource_layout::descriptor::{Descriptor, Field, Row};
+use resource_layout::descriptor::{Descriptor, Field};
 use resource_layout::layout::{fields_of, row_of};
 use std::alloc::{AllocError, Global};
 
