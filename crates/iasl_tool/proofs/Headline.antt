@@ -15,8 +15,8 @@ use Rattle.asl_lexer.specs.Marks.{tokens_of}
 use Rattle.asl_lexer.proofs.Told.{tokens_are_cut, cut_is_tokens}
 use Rattle.asl_parser.specs.declared.raw.Raw.{Raw}
 use Rattle.asl_parser.specs.Parse.{Outcome, outcome, read, stopped, sunk, tall}
-use Rattle.asl_parser.specs.Grammar.{Spells}
-use Rattle.asl_parser.proofs.Told.{is_spelled}
+use Rattle.asl_parser.proofs.Told.{is_spelled, is_not_deep}
+use Rattle.iasl_tool.proofs.Readings.{spelled_is_outcome}
 use Rattle.asl_shape.specs.Written.{writtens}
 use Rattle.asl_shape.specs.Forms.{errors_at, block_place}
 use Rattle.acpi_names.specs.Errors.{NameError, name_errors, type_errors}
@@ -58,7 +58,7 @@ answer_is : (words : List (List ℕ)) (told : List Named) (request : Request) (i
 answer_is words told request items h =
     let asked = request.asked in
     let file = request.file in
-    let table : of_lines h.lines ≡ Table (signature_of items) (own_in items) (table_in items) = ap of_tokens (cut_is_tokens h.lines h.tokens h.tokens_are) ∙ ap (of_outcome h.tokens) h.tokens_spell ∙ items_are items h.right h.table_within in
+    let table : of_lines h.lines ≡ Table (signature_of items) (own_in items) (table_in items) = ap of_tokens (cut_is_tokens h.lines h.tokens h.tokens_are) ∙ ap (of_outcome h.tokens) (spelled_is_outcome items h.tokens h.spelled h.shallow h.low) ∙ items_are items h.right h.table_within in
     ap (answer_to_asked told) (line_to words asked h.words_are)
     ∙ ap (answer_to_file asked told) h.file_is
     ∙ ap (answer_to_preprocessed asked file) h.lines_are
@@ -72,8 +72,7 @@ kept_source words told request items h =
     let asked = request.asked in
     let sizes = given_sizes told request.file asked.directories asked.definitions asked.enabled h.files h.lines h.notes h.lines_are in
     let cut : tokens_of h.lines ≡ Ok h.tokens = cut_is_tokens h.lines h.tokens h.tokens_are in
-    let spelled : Spells items h.tokens = is_spelled h.tokens (Ok (record { items = items })) h.tokens_spell in
-    is_kept items h.tokens spelled (few_tokens h.lines h.tokens cut sizes.0) (lexed_short h.lines h.tokens cut sizes.1)
+    is_kept items h.tokens h.spelled (few_tokens h.lines h.tokens cut sizes.0) (lexed_short h.lines h.tokens cut sizes.1)
 
 pub puts_faithful_table : (words : List (List ℕ)) (told : List Named) (request : Request) (items : List Raw) → NamesSource words told request items → PutsFaithfulTable words told request items
 puts_faithful_table words told request items h =
@@ -134,7 +133,9 @@ module _ (words : List (List ℕ)) (told : List Named) where
       compiles = k.compiles;
       lines_are = k.lines_are;
       tokens_are = tokens_are_cut k.lines tokens et;
-      tokens_spell = eo;
+      spelled = is_spelled tokens (Ok (record { items = items })) eo;
+      shallow = (is_not_deep tokens (Ok (record { items = items })) eo).0;
+      low = (is_not_deep tokens (Ok (record { items = items })) eo).1;
       right = es;
       table_within = grind (arith, nat_tests);
       name_is_free = en;

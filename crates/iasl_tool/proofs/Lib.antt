@@ -5,5 +5,6 @@ pub mod Homes
 pub mod Sorting
 pub mod Texts
 pub mod Sizes
+pub mod Readings
 pub mod Headline
 pub mod Results

@@ -8,7 +8,10 @@ use Rattle.asl_preprocess.specs.Preprocess.{Given, preprocessed}
 use Rattle.asl_lexer.specs.declared.token.Token.{Token}
 use Rattle.asl_lexer.specs.Cut.{IsCut}
 use Rattle.asl_parser.specs.declared.raw.Raw.{Raw}
-use Rattle.asl_parser.specs.Parse.{outcome, read}
+use Rattle.asl_parser.specs.Depth.{IsShallow, IsLow}
+use Rattle.asl_parser.specs.Grammar.{Spells}
+use Rattle.asl_parser.specs.Grow.{limit}
+use Rattle.asl_parser.specs.Marks.{marks}
 use Rattle.aml_writer.specs.Written.{most_table_bytes}
 use Rattle.iasl_options.specs.Asking.{Asked, asked_by}
 use Rattle.iasl_options.specs.CommandLine.{IsCommandLine}
@@ -25,8 +28,9 @@ pub record Request : Type 0 where
 abbrev pub table_of : Request → List Raw → List ℕ
 table_of request items = table_name request.asked request.file (own_in items)
 
--- The words ask for a compilation of this file; its lines, with those of its includes, are this source, whose table is not
--- too long; and the name of the table's file is not that of a file that was fetched.
+-- The words are a command line that asks for a compilation of this file; its lines, with those of its includes, are cut into tokens that
+-- spell this source, nowhere too deep; nothing is wrong with it, and its table is not too long; and the name of the table's file is not
+-- that of a file that was fetched.
 pub record NamesSource (words : List (List ℕ)) (told : List Named) (request : Request) (items : List Raw) : Type 0 where
   pub files : List (List ℕ)
   pub lines : List Line
@@ -37,7 +41,9 @@ pub record NamesSource (words : List (List ℕ)) (told : List Named) (request : 
   pub compiles : request.asked.only ≡ false
   pub lines_are : preprocessed told request.file request.asked.directories request.asked.definitions request.asked.enabled ≡ Given files lines notes
   pub tokens_are : IsCut lines tokens
-  pub tokens_spell : outcome tokens ≡ read items
+  pub spelled : Spells items tokens
+  pub shallow : IsShallow limit (marks 0 tokens)
+  pub low : IsLow limit (marks 0 tokens)
   pub right : IsRight items
   pub table_within : length (table_in items) ≤ most_table_bytes
   pub name_is_free : is_fetched files (table_of request items) ≡ false
