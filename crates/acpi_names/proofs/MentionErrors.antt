@@ -2,21 +2,21 @@
 use Rattle.std.proofs.Common.{◌≡◌, ℕ, Bool, true, false, List, [], ◌∷◌, ◌++◌, Option, refl, sym, ap, ◌∙◌, append_assoc, arith}
 use Rattle.std.specs.Prelude.{◌&&◌, not}
 use Rattle.acpi_values.specs.Paths.{AbsolutePath}
-use Rattle.acpi_values.specs.Operators.{Letter, row_of}
+use Rattle.acpi_values.specs.Operators.{Letter, Used, row_of}
 use Rattle.acpi_state.specs.Objects.{MethodObject, ContainerObject, DataObject, RegionObject}
 use Rattle.acpi_state.specs.FieldActs.{region_letters, field_letters}
 use Rattle.asl_tree.specs.FieldItems.{FieldItem, UnitItem, SkipItem, OffsetItem}
 use Rattle.asl_tree.specs.Names.{place_of, denoted}
-use Rattle.asl_tree.specs.Tree.{Tree, Use, Call, Apply, Buffer, Package, VarPackage, CondRefOf, Return, Name, Alias, External, Method, Mutex, Event, Container', Scope, Trees, no_trees, tree, count, OperationRegion, Field, IndexField, BankField, CreateField, UnitName, If, Else, While}
+use Rattle.asl_tree.specs.Tree.{Tree, Use, Call, Apply, Buffer, Package, VarPackage, CondRefOf, Return, Name, Alias, External, Method, Mutex, Event, Container', Scope, Trees, no_trees, tree, count, OperationRegion, Field, IndexField, BankField, CreateField, UnitName, If, ElseIf, Else, While, Operated, Assigned, AssignedBy}
 use Rattle.asl_meaning.specs.Declarations.{as_unit, as_buffer_field, As, Declarations, with_declared, scope_path, declare, calls, calls_all}
 use Rattle.asl_meaning.specs.Meaning.{spot_form}
-use Rattle.acpi_names.specs.Errors.{NameError, Whole, names, names_all, items_errors, cond_errors, use_errors, call_errors, declared_errors, scope_errors, unit_path}
+use Rattle.acpi_names.specs.Errors.{NameError, Asked, Anything, Whole, names, names_all, items_errors, cond_errors, use_errors, call_errors, declared_errors, scope_errors, unit_path}
 use Rattle.acpi_names.specs.Terms.{is_value, are_values, is_term, are_terms, has_no_targets}
-use Rattle.acpi_names.specs.Mentions.{Mention, Declares, is_spot, is_use, asks, cond_place, mentions, mentions_all, operand_mentions, target_mentions, element_mentions, item_mentions, term_mentions, block_mentions, after, after_all, call_in, calls_in, mention_errors, all_errors}
-use Rattle.acpi_names.proofs.Mentions.{right_nil, first_true, second_true, quiet, quiet_operands, cond_quiet, after_term}
+use Rattle.acpi_names.specs.Mentions.{Mention, Declares, is_spot, is_use, asks, asked_use, letter_mention, cond_place, mentions, mentions_all, operand_mentions, target_mentions, element_mentions, item_mentions, term_mentions, block_mentions, after, after_all, call_in, calls_in, mention_errors, all_errors}
+use Rattle.acpi_names.proofs.Mentions.{right_nil, first_true, second_true, quiet, quiet_operands, letter_quiet, cond_quiet, after_term}
 
 -- an expression declares nothing
-undeclared : (t : Tree) → is_value t ≡ true → (scope : AbsolutePath) (d : Declarations) → declare t scope d ≡ d
+pub undeclared : (t : Tree) → is_value t ≡ true → (scope : AbsolutePath) (d : Declarations) → declare t scope d ≡ d
 undeclared (Name at name value) e scope d = absurd (grind arith)
 undeclared (Alias from source at name) e scope d = absurd (grind arith)
 undeclared (External here at name type parameters) e scope d = absurd (grind arith)
@@ -26,6 +26,7 @@ undeclared (Event at name) e scope d = absurd (grind arith)
 undeclared (Container' kind at name body) e scope d = absurd (grind arith)
 undeclared (Scope here at name body) e scope d = absurd (grind arith)
 undeclared (If test body) e scope d = absurd (grind arith)
+undeclared (ElseIf test body) e scope d = absurd (grind arith)
 undeclared (Else body) e scope d = absurd (grind arith)
 undeclared (While test body) e scope d = absurd (grind arith)
 undeclared (OperationRegion at name space args) e scope d = absurd (grind arith)
@@ -50,6 +51,10 @@ module _ (whole : Whole) where
   cond_same (Use at name) ms errors scope d c h = sym (right_nil _)
   cond_same t ms errors scope d c h = h
 
+  letter_errors : (letter : Letter) (uses : Asked) (t : Tree) (ms : List Mention) (scope : AbsolutePath) (d c : Declarations) → names whole t scope d ≡ all_errors whole ms c → names whole t scope d ≡ all_errors whole (letter_mention letter uses t ms scope) c
+  letter_errors Used uses (Use at name) ms scope d c h = sym (right_nil _)
+  letter_errors letter uses t ms scope d c h = h
+
   mutual
     value_errors : (asked : Bool) (t : Tree) → is_value t ≡ true → (scope : AbsolutePath) (d c : Declarations) → names whole t scope d ≡ all_errors whole (mentions asked t scope) c
     value_errors asked (Use at name) e scope d c = sym (right_nil _)
@@ -57,9 +62,18 @@ module _ (whole : Whole) where
         ap (λ es. (use_errors whole at name scope ++ call_errors whole at name (count args) scope) ++ es) (values_errors asked args e scope d c)
     value_errors asked (Apply op args targets) e scope d c =
         let vs = second_true (has_no_targets (spot_form op) targets) (are_values args && are_values targets) e in
-        errors_both (operand_mentions asked (row_of op).operands args scope) (target_mentions asked targets scope) c (names_all whole args scope d) (names_all whole targets scope d) (quiet_operands asked (row_of op).operands args scope c)
-        (operands_errors asked (row_of op).operands args (first_true (are_values args) (are_values targets) vs) scope d c)
+        errors_both (operand_mentions asked (asked_use asked op) (row_of op).operands args scope) (target_mentions asked targets scope) c (names_all whole args scope d) (names_all whole targets scope d) (quiet_operands asked (asked_use asked op) (row_of op).operands args scope c)
+        (operands_errors asked (asked_use asked op) (row_of op).operands args (first_true (are_values args) (are_values targets) vs) scope d c)
         (targets_errors asked targets (second_true (are_values args) (are_values targets) vs) scope d c)
+    value_errors asked (Operated op args) e scope d c = operands_errors asked (asked_use asked op) (row_of op).operands args e scope d c
+    value_errors asked (Assigned target value) e scope d c =
+        errors_both (mentions asked value scope) (mentions (asked && is_spot target) target scope) c (names whole value scope d) (names whole target scope d) (quiet asked value scope c)
+        (value_errors asked value (second_true (is_value target) (is_value value) e) scope d c)
+        (value_errors (asked && is_spot target) target (first_true (is_value target) (is_value value) e) scope d c)
+    value_errors asked (AssignedBy op target value) e scope d c =
+        errors_both (mentions asked target scope) (mentions asked value scope) c (names whole target scope d) (names whole value scope d) (quiet asked target scope c)
+        (value_errors asked target (first_true (is_value target) (is_value value) e) scope d c)
+        (value_errors asked value (second_true (is_value target) (is_value value) e) scope d c)
     value_errors asked (Buffer size bytes) e scope d c = value_errors asked size e scope d c
     value_errors asked (Package n elements) e scope d c = elements_errors asked elements e scope d c
     value_errors asked (VarPackage size elements) e scope d c =
@@ -81,6 +95,7 @@ module _ (whole : Whole) where
     value_errors asked (Container' kind at name body) e scope d c = absurd (grind arith)
     value_errors asked (Scope here at name body) e scope d c = absurd (grind arith)
     value_errors asked (If test body) e scope d c = absurd (grind arith)
+    value_errors asked (ElseIf test body) e scope d c = absurd (grind arith)
     value_errors asked (Else body) e scope d c = absurd (grind arith)
     value_errors asked (While test body) e scope d c = absurd (grind arith)
     value_errors asked (OperationRegion at name space args) e scope d c = absurd (grind arith)
@@ -98,18 +113,18 @@ module _ (whole : Whole) where
         ap (λ d'. names whole t scope d ++ names_all whole ts scope d') (undeclared t h scope d)
         ∙ errors_both (mentions asked t scope) (mentions_all asked ts scope) c (names whole t scope d) (names_all whole ts scope d) (quiet asked t scope c) (value_errors asked t h scope d c) (values_errors asked ts k scope d c)
 
-    operands_errors : (asked : Bool) (letters : List Letter) (ts : Trees) → are_values ts ≡ true → (scope : AbsolutePath) (d c : Declarations) → names_all whole ts scope d ≡ all_errors whole (operand_mentions asked letters ts scope) c
-    operands_errors asked letters no_trees e scope d c = refl
-    operands_errors asked [] (tree t ts) e scope d c =
+    operands_errors : (asked : Bool) (uses : Asked) (letters : List Letter) (ts : Trees) → are_values ts ≡ true → (scope : AbsolutePath) (d c : Declarations) → names_all whole ts scope d ≡ all_errors whole (operand_mentions asked uses letters ts scope) c
+    operands_errors asked uses letters no_trees e scope d c = refl
+    operands_errors asked uses [] (tree t ts) e scope d c =
         let h = first_true (is_value t) (are_values ts) e in
         let k = second_true (is_value t) (are_values ts) e in
         ap (λ d'. names whole t scope d ++ names_all whole ts scope d') (undeclared t h scope d)
-        ∙ errors_both (mentions false t scope) (operand_mentions asked [] ts scope) c (names whole t scope d) (names_all whole ts scope d) (quiet false t scope c) (value_errors false t h scope d c) (operands_errors asked [] ts k scope d c)
-    operands_errors asked (letter ∷ letters) (tree t ts) e scope d c =
+        ∙ errors_both (mentions false t scope) (operand_mentions asked uses [] ts scope) c (names whole t scope d) (names_all whole ts scope d) (quiet false t scope c) (value_errors false t h scope d c) (operands_errors asked uses [] ts k scope d c)
+    operands_errors asked uses (letter ∷ letters) (tree t ts) e scope d c =
         let h = first_true (is_value t) (are_values ts) e in
         let k = second_true (is_value t) (are_values ts) e in
         ap (λ d'. names whole t scope d ++ names_all whole ts scope d') (undeclared t h scope d)
-        ∙ errors_both (mentions (asked && asks letter t) t scope) (operand_mentions asked letters ts scope) c (names whole t scope d) (names_all whole ts scope d) (quiet (asked && asks letter t) t scope c) (value_errors (asked && asks letter t) t h scope d c) (operands_errors asked letters ts k scope d c)
+        ∙ errors_both (letter_mention letter uses t (mentions (asked && asks letter t) t scope) scope) (operand_mentions asked uses letters ts scope) c (names whole t scope d) (names_all whole ts scope d) (letter_quiet letter uses t _ scope c (quiet (asked && asks letter t) t scope c)) (letter_errors letter uses t _ scope d c (value_errors (asked && asks letter t) t h scope d c)) (operands_errors asked uses letters ts k scope d c)
 
     targets_errors : (asked : Bool) (ts : Trees) → are_values ts ≡ true → (scope : AbsolutePath) (d c : Declarations) → names_all whole ts scope d ≡ all_errors whole (target_mentions asked ts scope) c
     targets_errors asked no_trees e scope d c = refl
@@ -156,18 +171,20 @@ module _ (whole : Whole) where
         ap (λ es. (use_errors whole at name scope ++ scope_errors whole here at name scope d) ++ es) (block_errors body e (scope_path d name scope) d)
     term_errors (If test body) e scope d =
         errors_both (mentions true test scope) (block_mentions body scope d) d (names whole test scope d) (names_all whole body scope d) (quiet true test scope d) (value_errors true test (first_true (is_value test) (are_terms body) e) scope d d) (block_errors body (second_true (is_value test) (are_terms body) e) scope d)
+    term_errors (ElseIf test body) e scope d =
+        errors_both (mentions true test scope) (block_mentions body scope d) d (names whole test scope d) (names_all whole body scope d) (quiet true test scope d) (value_errors true test (first_true (is_value test) (are_terms body) e) scope d d) (block_errors body (second_true (is_value test) (are_terms body) e) scope d)
     term_errors (Else body) e scope d = block_errors body e scope d
     term_errors (While test body) e scope d =
         errors_both (mentions true test scope) (block_mentions body scope d) d (names whole test scope d) (names_all whole body scope d) (quiet true test scope d) (value_errors true test (first_true (is_value test) (are_terms body) e) scope d d) (block_errors body (second_true (is_value test) (are_terms body) e) scope d)
     term_errors (OperationRegion at name space args) e scope d =
-        ap (λ es. declared_errors whole at name scope d ++ es) (operands_errors true region_letters args e scope d (with_declared (place_of name scope) (As (RegionObject space 0 0)) d))
+        ap (λ es. declared_errors whole at name scope d ++ es) (operands_errors true Anything region_letters args e scope d (with_declared (place_of name scope) (As (RegionObject space 0 0)) d))
     term_errors (Field here from region flags items) e scope d = ap (λ es. use_errors whole from region scope ++ es) (items_same items scope d)
     term_errors (IndexField here from index to register flags items) e scope d =
         ap (λ es. use_errors whole from index scope ++ (use_errors whole to register scope ++ es)) (items_same items scope d)
     term_errors (BankField here from region to bank value flags items) e scope d =
         ap (λ es. use_errors whole from region scope ++ (use_errors whole to bank scope ++ es)) (errors_both (mentions true value scope) (item_mentions items scope) d (names whole value scope d) (items_errors whole items scope d) (quiet true value scope d) (value_errors true value e scope d d) (items_same items scope d))
     term_errors (CreateField form args at name) e scope d =
-        errors_both (operand_mentions true (field_letters form) args scope) (Declares at name as_buffer_field scope ∷ []) d (names_all whole args scope d) (declared_errors whole at name scope d) (quiet_operands true (field_letters form) args scope d) (operands_errors true (field_letters form) args e scope d d) (sym (right_nil (declared_errors whole at name scope d)))
+        errors_both (operand_mentions true Anything (field_letters form) args scope) (Declares at name as_buffer_field scope ∷ []) d (names_all whole args scope d) (declared_errors whole at name scope d) (quiet_operands true Anything (field_letters form) args scope d) (operands_errors true Anything (field_letters form) args e scope d d) (sym (right_nil (declared_errors whole at name scope d)))
     term_errors t e scope d = value_errors true t e scope d d
 
     pub block_errors : (ts : Trees) → are_terms ts ≡ true → (scope : AbsolutePath) (d : Declarations) → names_all whole ts scope d ≡ all_errors whole (block_mentions ts scope d) d
@@ -189,6 +206,10 @@ module _ (has : AbsolutePath → Bool) where
   cond_calls (Use at name) ms scope d h = refl
   cond_calls t ms scope d h = h
 
+  letter_calls : (letter : Letter) (uses : Asked) (t : Tree) (ms : List Mention) (scope : AbsolutePath) (d : Declarations) → calls has t scope d ≡ calls_in has ms → calls has t scope d ≡ calls_in has (letter_mention letter uses t ms scope)
+  letter_calls Used uses (Use at name) ms scope d h = refl
+  letter_calls letter uses t ms scope d h = h
+
   no_items : (items : List (FieldItem UnitName)) (scope : AbsolutePath) → [] ≡ calls_in has (item_mentions items scope)
   no_items [] scope = refl
   no_items (UnitItem name bits ∷ items) scope = no_items items scope
@@ -201,9 +222,18 @@ module _ (has : AbsolutePath → Bool) where
     value_calls asked (Call at name args) e scope d = ap (λ cs. (denoted has name scope, count args) ∷ cs) (values_calls asked args e scope d)
     value_calls asked (Apply op args targets) e scope d =
         let vs = second_true (has_no_targets (spot_form op) targets) (are_values args && are_values targets) e in
-        calls_both (operand_mentions asked (row_of op).operands args scope) (target_mentions asked targets scope) (calls_all has args scope d) (calls_all has targets scope d)
-        (operands_calls asked (row_of op).operands args (first_true (are_values args) (are_values targets) vs) scope d)
+        calls_both (operand_mentions asked (asked_use asked op) (row_of op).operands args scope) (target_mentions asked targets scope) (calls_all has args scope d) (calls_all has targets scope d)
+        (operands_calls asked (asked_use asked op) (row_of op).operands args (first_true (are_values args) (are_values targets) vs) scope d)
         (targets_calls asked targets (second_true (are_values args) (are_values targets) vs) scope d)
+    value_calls asked (Operated op args) e scope d = operands_calls asked (asked_use asked op) (row_of op).operands args e scope d
+    value_calls asked (Assigned target value) e scope d =
+        calls_both (mentions asked value scope) (mentions (asked && is_spot target) target scope) (calls has value scope d) (calls has target scope d)
+        (value_calls asked value (second_true (is_value target) (is_value value) e) scope d)
+        (value_calls (asked && is_spot target) target (first_true (is_value target) (is_value value) e) scope d)
+    value_calls asked (AssignedBy op target value) e scope d =
+        calls_both (mentions asked target scope) (mentions asked value scope) (calls has target scope d) (calls has value scope d)
+        (value_calls asked target (first_true (is_value target) (is_value value) e) scope d)
+        (value_calls asked value (second_true (is_value target) (is_value value) e) scope d)
     value_calls asked (Buffer size bytes) e scope d = value_calls asked size e scope d
     value_calls asked (Package n elements) e scope d = elements_calls asked elements e scope d
     value_calls asked (VarPackage size elements) e scope d =
@@ -225,6 +255,7 @@ module _ (has : AbsolutePath → Bool) where
     value_calls asked (Container' kind at name body) e scope d = absurd (grind arith)
     value_calls asked (Scope here at name body) e scope d = absurd (grind arith)
     value_calls asked (If test body) e scope d = absurd (grind arith)
+    value_calls asked (ElseIf test body) e scope d = absurd (grind arith)
     value_calls asked (Else body) e scope d = absurd (grind arith)
     value_calls asked (While test body) e scope d = absurd (grind arith)
     value_calls asked (OperationRegion at name space args) e scope d = absurd (grind arith)
@@ -242,18 +273,18 @@ module _ (has : AbsolutePath → Bool) where
         ap (λ d'. calls has t scope d ++ calls_all has ts scope d') (undeclared t h scope d)
         ∙ calls_both (mentions asked t scope) (mentions_all asked ts scope) (calls has t scope d) (calls_all has ts scope d) (value_calls asked t h scope d) (values_calls asked ts k scope d)
 
-    operands_calls : (asked : Bool) (letters : List Letter) (ts : Trees) → are_values ts ≡ true → (scope : AbsolutePath) (d : Declarations) → calls_all has ts scope d ≡ calls_in has (operand_mentions asked letters ts scope)
-    operands_calls asked letters no_trees e scope d = refl
-    operands_calls asked [] (tree t ts) e scope d =
+    operands_calls : (asked : Bool) (uses : Asked) (letters : List Letter) (ts : Trees) → are_values ts ≡ true → (scope : AbsolutePath) (d : Declarations) → calls_all has ts scope d ≡ calls_in has (operand_mentions asked uses letters ts scope)
+    operands_calls asked uses letters no_trees e scope d = refl
+    operands_calls asked uses [] (tree t ts) e scope d =
         let h = first_true (is_value t) (are_values ts) e in
         let k = second_true (is_value t) (are_values ts) e in
         ap (λ d'. calls has t scope d ++ calls_all has ts scope d') (undeclared t h scope d)
-        ∙ calls_both (mentions false t scope) (operand_mentions asked [] ts scope) (calls has t scope d) (calls_all has ts scope d) (value_calls false t h scope d) (operands_calls asked [] ts k scope d)
-    operands_calls asked (letter ∷ letters) (tree t ts) e scope d =
+        ∙ calls_both (mentions false t scope) (operand_mentions asked uses [] ts scope) (calls has t scope d) (calls_all has ts scope d) (value_calls false t h scope d) (operands_calls asked uses [] ts k scope d)
+    operands_calls asked uses (letter ∷ letters) (tree t ts) e scope d =
         let h = first_true (is_value t) (are_values ts) e in
         let k = second_true (is_value t) (are_values ts) e in
         ap (λ d'. calls has t scope d ++ calls_all has ts scope d') (undeclared t h scope d)
-        ∙ calls_both (mentions (asked && asks letter t) t scope) (operand_mentions asked letters ts scope) (calls has t scope d) (calls_all has ts scope d) (value_calls (asked && asks letter t) t h scope d) (operands_calls asked letters ts k scope d)
+        ∙ calls_both (letter_mention letter uses t (mentions (asked && asks letter t) t scope) scope) (operand_mentions asked uses letters ts scope) (calls has t scope d) (calls_all has ts scope d) (letter_calls letter uses t _ scope d (value_calls (asked && asks letter t) t h scope d)) (operands_calls asked uses letters ts k scope d)
 
     targets_calls : (asked : Bool) (ts : Trees) → are_values ts ≡ true → (scope : AbsolutePath) (d : Declarations) → calls_all has ts scope d ≡ calls_in has (target_mentions asked ts scope)
     targets_calls asked no_trees e scope d = refl
@@ -284,16 +315,18 @@ module _ (has : AbsolutePath → Bool) where
     term_calls (Scope here at name body) e scope d = block_calls body e (scope_path d name scope) d
     term_calls (If test body) e scope d =
         calls_both (mentions true test scope) (block_mentions body scope d) (calls has test scope d) (calls_all has body scope d) (value_calls true test (first_true (is_value test) (are_terms body) e) scope d) (block_calls body (second_true (is_value test) (are_terms body) e) scope d)
+    term_calls (ElseIf test body) e scope d =
+        calls_both (mentions true test scope) (block_mentions body scope d) (calls has test scope d) (calls_all has body scope d) (value_calls true test (first_true (is_value test) (are_terms body) e) scope d) (block_calls body (second_true (is_value test) (are_terms body) e) scope d)
     term_calls (Else body) e scope d = block_calls body e scope d
     term_calls (While test body) e scope d =
         calls_both (mentions true test scope) (block_mentions body scope d) (calls has test scope d) (calls_all has body scope d) (value_calls true test (first_true (is_value test) (are_terms body) e) scope d) (block_calls body (second_true (is_value test) (are_terms body) e) scope d)
-    term_calls (OperationRegion at name space args) e scope d = operands_calls true region_letters args e scope d
+    term_calls (OperationRegion at name space args) e scope d = operands_calls true Anything region_letters args e scope d
     term_calls (Field here from region flags items) e scope d = no_items items scope
     term_calls (IndexField here from index to register flags items) e scope d = no_items items scope
     term_calls (BankField here from region to bank value flags items) e scope d =
         sym (right_nil (calls has value scope d)) ∙ calls_both (mentions true value scope) (item_mentions items scope) (calls has value scope d) [] (value_calls true value e scope d) (no_items items scope)
     term_calls (CreateField form args at name) e scope d =
-        sym (right_nil (calls_all has args scope d)) ∙ calls_both (operand_mentions true (field_letters form) args scope) (Declares at name as_buffer_field scope ∷ []) (calls_all has args scope d) [] (operands_calls true (field_letters form) args e scope d) refl
+        sym (right_nil (calls_all has args scope d)) ∙ calls_both (operand_mentions true Anything (field_letters form) args scope) (Declares at name as_buffer_field scope ∷ []) (calls_all has args scope d) [] (operands_calls true Anything (field_letters form) args e scope d) refl
     term_calls t e scope d = value_calls true t e scope d
 
     pub block_calls : (ts : Trees) → are_terms ts ≡ true → (scope : AbsolutePath) (d : Declarations) → calls_all has ts scope d ≡ calls_in has (block_mentions ts scope d)

@@ -2,13 +2,14 @@
 use Rattle.std.proofs.Common.{◌≡◌, Bool, true, false, List, [], ◌∷◌, ◌++◌, refl, ap, ◌∙◌, arith}
 use Rattle.std.specs.Prelude.{◌&&◌, not}
 use Rattle.acpi_values.specs.Paths.{AbsolutePath}
-use Rattle.acpi_values.specs.Operators.{Letter, row_of}
+use Rattle.acpi_values.specs.Operators.{Letter, Used, row_of}
 use Rattle.acpi_state.specs.FieldActs.{region_letters, field_letters}
 use Rattle.asl_tree.specs.FieldItems.{FieldItem, UnitItem, SkipItem, OffsetItem}
 use Rattle.asl_tree.specs.Names.{place_of}
-use Rattle.asl_tree.specs.Tree.{Tree, Use, Call, Apply, Buffer, Package, VarPackage, CondRefOf, Return, Name, Alias, External, Method, Mutex, Event, Container', Scope, Trees, no_trees, tree, OperationRegion, Field, IndexField, BankField, CreateField, UnitName, If, Else, While}
+use Rattle.asl_tree.specs.Tree.{Tree, Use, Call, Apply, Buffer, Package, VarPackage, CondRefOf, Return, Name, Alias, External, Method, Mutex, Event, Container', Scope, Trees, no_trees, tree, OperationRegion, Field, IndexField, BankField, CreateField, UnitName, If, ElseIf, Else, While, Operated, Assigned, AssignedBy}
 use Rattle.asl_meaning.specs.Declarations.{Declarations, scope_path, declare, declare_all, declare_items}
-use Rattle.acpi_names.specs.Mentions.{Mention, Declares, is_spot, is_use, asks, cond_place, mentions, mentions_all, operand_mentions, target_mentions, element_mentions, item_mentions, term_mentions, block_mentions, after, after_all}
+use Rattle.acpi_names.specs.Errors.{Asked, Anything}
+use Rattle.acpi_names.specs.Mentions.{Mention, Declares, is_spot, is_use, asks, asked_use, letter_mention, cond_place, mentions, mentions_all, operand_mentions, target_mentions, element_mentions, item_mentions, term_mentions, block_mentions, after, after_all}
 
 pub right_nil : {A : Type 0} (xs : List A) → xs ++ [] ≡ xs
 right_nil [] = refl
@@ -33,13 +34,22 @@ pub cond_quiet : (t : Tree) (ms : List Mention) (scope : AbsolutePath) (d : Decl
 cond_quiet (Use at name) ms scope d h = refl
 cond_quiet t ms scope d h = h
 
+pub letter_quiet : (letter : Letter) (uses : Asked) (t : Tree) (ms : List Mention) (scope : AbsolutePath) (d : Declarations) → after_all ms d ≡ d → after_all (letter_mention letter uses t ms scope) d ≡ d
+letter_quiet Used uses (Use at name) ms scope d h = refl
+letter_quiet letter uses t ms scope d h = h
+
 -- an expression declares nothing
 mutual
   pub quiet : (asked : Bool) (t : Tree) (scope : AbsolutePath) (d : Declarations) → after_all (mentions asked t scope) d ≡ d
   quiet asked (Use at name) scope d = refl
   quiet asked (Call at name args) scope d = quiet_all asked args scope d
   quiet asked (Apply op args targets) scope d =
-      after_both (operand_mentions asked (row_of op).operands args scope) (target_mentions asked targets scope) d (quiet_operands asked (row_of op).operands args scope d) (quiet_targets asked targets scope d)
+      after_both (operand_mentions asked (asked_use asked op) (row_of op).operands args scope) (target_mentions asked targets scope) d (quiet_operands asked (asked_use asked op) (row_of op).operands args scope d) (quiet_targets asked targets scope d)
+  quiet asked (Operated op args) scope d = quiet_operands asked (asked_use asked op) (row_of op).operands args scope d
+  quiet asked (Assigned target value) scope d =
+      after_both (mentions asked value scope) (mentions (asked && is_spot target) target scope) d (quiet asked value scope d) (quiet (asked && is_spot target) target scope d)
+  quiet asked (AssignedBy op target value) scope d =
+      after_both (mentions asked target scope) (mentions asked value scope) d (quiet asked target scope d) (quiet asked value scope d)
   quiet asked (Buffer size bytes) scope d = quiet asked size scope d
   quiet asked (Package n elements) scope d = quiet_elements asked elements scope d
   quiet asked (VarPackage size elements) scope d =
@@ -52,11 +62,12 @@ mutual
   quiet_all asked no_trees scope d = refl
   quiet_all asked (tree t ts) scope d = after_both (mentions asked t scope) (mentions_all asked ts scope) d (quiet asked t scope d) (quiet_all asked ts scope d)
 
-  pub quiet_operands : (asked : Bool) (letters : List Letter) (ts : Trees) (scope : AbsolutePath) (d : Declarations) → after_all (operand_mentions asked letters ts scope) d ≡ d
-  quiet_operands asked letters no_trees scope d = refl
-  quiet_operands asked [] (tree t ts) scope d = after_both (mentions false t scope) (operand_mentions asked [] ts scope) d (quiet false t scope d) (quiet_operands asked [] ts scope d)
-  quiet_operands asked (letter ∷ letters) (tree t ts) scope d =
-      after_both (mentions (asked && asks letter t) t scope) (operand_mentions asked letters ts scope) d (quiet (asked && asks letter t) t scope d) (quiet_operands asked letters ts scope d)
+  pub quiet_operands : (asked : Bool) (uses : Asked) (letters : List Letter) (ts : Trees) (scope : AbsolutePath) (d : Declarations) → after_all (operand_mentions asked uses letters ts scope) d ≡ d
+  quiet_operands asked uses letters no_trees scope d = refl
+  quiet_operands asked uses [] (tree t ts) scope d = after_both (mentions false t scope) (operand_mentions asked uses [] ts scope) d (quiet false t scope d) (quiet_operands asked uses [] ts scope d)
+  quiet_operands asked uses (letter ∷ letters) (tree t ts) scope d =
+      let ms = mentions (asked && asks letter t) t scope in
+      after_both (letter_mention letter uses t ms scope) (operand_mentions asked uses letters ts scope) d (letter_quiet letter uses t ms scope d (quiet (asked && asks letter t) t scope d)) (quiet_operands asked uses letters ts scope d)
 
   pub quiet_targets : (asked : Bool) (ts : Trees) (scope : AbsolutePath) (d : Declarations) → after_all (target_mentions asked ts scope) d ≡ d
   quiet_targets asked no_trees scope d = refl
@@ -88,16 +99,18 @@ mutual
   after_term (Scope here at name body) scope d = after_block body (scope_path d name scope) d
   after_term (If test body) scope d =
       after_append (mentions true test scope) (block_mentions body scope d) d ∙ ap (after_all (block_mentions body scope d)) (quiet true test scope d) ∙ after_block body scope d
+  after_term (ElseIf test body) scope d =
+      after_append (mentions true test scope) (block_mentions body scope d) d ∙ ap (after_all (block_mentions body scope d)) (quiet true test scope d) ∙ after_block body scope d
   after_term (Else body) scope d = after_block body scope d
   after_term (While test body) scope d =
       after_append (mentions true test scope) (block_mentions body scope d) d ∙ ap (after_all (block_mentions body scope d)) (quiet true test scope d) ∙ after_block body scope d
-  after_term (OperationRegion at name space args) scope d = quiet_operands true region_letters args scope _
+  after_term (OperationRegion at name space args) scope d = quiet_operands true Anything region_letters args scope _
   after_term (Field here from region flags items) scope d = after_items items scope d
   after_term (IndexField here from index to register flags items) scope d = after_items items scope d
   after_term (BankField here from region to bank value flags items) scope d =
       after_append (mentions true value scope) (item_mentions items scope) d ∙ ap (after_all (item_mentions items scope)) (quiet true value scope d) ∙ after_items items scope d
   after_term (CreateField form args at name) scope d =
-      after_append (operand_mentions true (field_letters form) args scope) _ d ∙ ap (after_all (Declares at name _ scope ∷ [])) (quiet_operands true (field_letters form) args scope d)
+      after_append (operand_mentions true Anything (field_letters form) args scope) _ d ∙ ap (after_all (Declares at name _ scope ∷ [])) (quiet_operands true Anything (field_letters form) args scope d)
   after_term t scope d = quiet true t scope d
 
   pub after_block : (ts : Trees) (scope : AbsolutePath) (d : Declarations) → after_all (block_mentions ts scope d) d ≡ declare_all ts scope d

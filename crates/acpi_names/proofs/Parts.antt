@@ -5,13 +5,15 @@ use Rattle.acpi_values.specs.Paths.{AbsolutePath}
 use Rattle.asl_tree.specs.FieldItems.{FieldItem}
 use Rattle.asl_meaning.specs.Declarations.{Declarations, declare, declare_items}
 use Rattle.acpi_names.specs.Parts.{part_of, declare_part}
-use Rattle.asl_tree.specs.View.{form, apply_of, buffer, body_bytes, packaged, counted, items_in}
+use Rattle.asl_tree.specs.View.{fits, operands_as, operated, symbol_of, form, apply_of, buffer, body_bytes, packaged, counted, items_in}
 use Rattle.acpi_values.specs.declared.operator.IntOp.{IntOp}
 use Rattle.acpi_values.specs.declared.operator.Plain.{Plain}
+use Rattle.acpi_values.specs.Operators.{row_of}
 use Rattle.asl_tree.specs.declared.term.Op.{Op}
 use Rattle.asl_tree.specs.declared.term.Declaration.TheVariants as Declaration
 use Rattle.asl_tree.specs.declared.term.Control.TheVariants as Control
 use Rattle.asl_tree.specs.declared.term.Special.TheVariants as Special
+use Rattle.asl_tree.specs.declared.term.Symbolic.TheVariants as Symbolic
 use Rattle.acpi_state.specs.Outcomes.{choose}
 use Rattle.asl_tree.specs.Tree.{At, Tree, Integer, Omitted, Use, Package, VarPackage, Misshapen, Trees, no_trees, tree, count, Field, IndexField, BankField, UnitName}
 
@@ -24,6 +26,19 @@ declared_apply (Plain.Number IntOp.LNotEqual) args scope d = refl
 declared_apply (Plain.Number IntOp.LLessEqual) args scope d = refl
 declared_apply (Plain.Number IntOp.LGreaterEqual) args scope d = refl
 declared_apply op args scope d = refl
+
+declared_operated : (op : Plain) (args : Trees) (scope : AbsolutePath) (d : Declarations) → declare (operated op args) scope d ≡ d
+declared_operated (Plain.Number IntOp.LNotEqual) args scope d = refl
+declared_operated (Plain.Number IntOp.LLessEqual) args scope d = refl
+declared_operated (Plain.Number IntOp.LGreaterEqual) args scope d = refl
+declared_operated op args scope d = refl
+
+declared_symbol : (op : Plain) (args : Trees) (scope : AbsolutePath) (d : Declarations) → declare (symbol_of op args) scope d ≡ d
+declared_symbol op args scope d = by_fit (fits (row_of op).operands args)
+  where
+    by_fit : (c : Bool) → declare (if c then operated op (operands_as (row_of op).operands args) else Misshapen) scope d ≡ d
+    by_fit true = declared_operated op (operands_as (row_of op).operands args) scope d
+    by_fit false = refl
 
 declared_buffer : (size : Tree) (bytes : List ℕ) (scope : AbsolutePath) (d : Declarations) → declare (buffer size bytes) scope d ≡ d
 declared_buffer Omitted bytes scope d = refl
@@ -66,6 +81,7 @@ declared_form here (Op.Declaration Declaration.CreateDWordField) (tree source (t
 declared_form here (Op.Declaration Declaration.CreateQWordField) (tree source (tree index (tree (Use at name) no_trees))) no_trees scope d = refl
 declared_form here (Op.Control Control.Return) (tree value no_trees) no_trees scope d = refl
 declared_form here (Op.Control Control.If) (tree test no_trees) body scope d = refl
+declared_form here (Op.Control Control.ElseIf) (tree test no_trees) body scope d = refl
 declared_form here (Op.Control Control.Else) no_trees body scope d = refl
 declared_form here (Op.Control Control.While) (tree test no_trees) body scope d = refl
 declared_form here (Op.Control Control.Break) no_trees no_trees scope d = refl
@@ -75,4 +91,7 @@ declared_form here (Op.Plain op) args no_trees scope d = declared_apply op args 
 declared_form here (Op.Special Special.CondRefOf) (tree place (tree target no_trees)) no_trees scope d = refl
 declared_form here (Op.Special Special.Buffer) (tree size no_trees) body scope d = declared_buffer size (body_bytes body) scope d
 declared_form here (Op.Special Special.Package) (tree size no_trees) body scope d = declared_packaged size body scope d
+declared_form here (Op.Symbolic (Symbolic.Operator op)) args no_trees scope d = declared_symbol op args scope d
+declared_form here (Op.Symbolic Symbolic.Assign) (tree target (tree value no_trees)) no_trees scope d = refl
+declared_form here (Op.Symbolic (Symbolic.AssignBy op)) (tree target (tree value no_trees)) no_trees scope d = refl
 declared_form here _ _ _ scope d = refl

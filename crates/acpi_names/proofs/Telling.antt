@@ -3,7 +3,7 @@ use Rattle.acpi_names.specs.declared.part.Shape.{Shape}
 use Rattle.acpi_names.specs.declared.part.Shape.TheVariants as S
 use Rattle.acpi_names.specs.Walked.{shape_as}
 use Rattle.std.proofs.Common.{Bor, ◌≡◌, ℕ, zero, suc, ◌+◌, ◌<◌, ◌≤◌, List, [], ◌∷◌, ◌++◌, length, get_or, drop, refl, sym, ap, ◌∙◌, append_assoc, arith}
-use Rattle.std.specs.Prelude.{Bool, slice_get, ◌&&◌}
+use Rattle.std.specs.Prelude.{Bool, false, slice_get, ◌&&◌}
 use Rattle.acpi_values.specs.Paths.{AbsolutePath}
 use Rattle.asl_tree.specs.declared.term.Node.{Node}
 use Rattle.asl_tree.specs.Tree.{Tree, Trees, no_trees, tree}
@@ -14,11 +14,13 @@ use Rattle.acpi_names.specs.Shown.{shown, all_shown, Tells}
 use Rattle.asl_tree.specs.declared.path.Path.{Path as Name}
 use Rattle.asl_tree.specs.Tree.{At, Use, count}
 use Rattle.acpi_names.specs.declared.mention.Spot.{Spot}
-use Rattle.acpi_names.specs.Mentions.{mentions, mentions_all, Called, Sought, is_spot}
+use Rattle.acpi_values.specs.Operators.{Used}
+use Rattle.acpi_names.specs.Errors.{Asked}
+use Rattle.acpi_names.specs.Mentions.{mentions, mentions_all, letter_mention, Used', Called, Sought, is_spot}
 use Rattle.asl_operators.specs.Letters.{letters_as}
 use Rattle.asl_operators.specs.declared.letter.Letter.{Letter as CodeLetter}
 use Rattle.acpi_names.specs.Shown.{spot_as}
-use Rattle.acpi_names.specs.Walked.{node_tree, TermShape, OfName, OfCall, term_shape, shape_mentions, cond_mention, cond_mentions, argument_mentions, optional_mentions}
+use Rattle.acpi_names.specs.Walked.{node_tree, TermShape, OfName, OfCall, term_shape, shape_mentions, cond_mention, cond_mentions, assign_mentions, argument_mentions, optional_mentions}
 use Rattle.acpi_names.proofs.Walked.{shape_same, shape_tree_name, shape_name_of}
 use Rattle.acpi_names.proofs.Mentions.{right_nil}
 
@@ -42,7 +44,7 @@ tells_then a b c x y h k paths = k paths ∙ ap (λ ms. ms ++ y paths) (h paths)
 pub tells_as : (a b : List Mention) (x y : List AbsolutePath → List M.Mention) → ((paths : List AbsolutePath) → x paths ≡ y paths) → Tells a b x → Tells a b y
 tells_as a b x y e h paths = h paths ∙ ap (λ ms. all_shown paths a ++ ms) (e paths)
 
-trees_at : (nodes : List Node) (i : ℕ) (node : Node) → i < length nodes → trees_of (drop i nodes) ≡ tree (node_tree (get_or nodes i node)) (trees_of (drop (suc i) nodes))
+pub trees_at : (nodes : List Node) (i : ℕ) (node : Node) → i < length nodes → trees_of (drop i nodes) ≡ tree (node_tree (get_or nodes i node)) (trees_of (drop (suc i) nodes))
 unfolding trees_of
 trees_at [] i node lt = absurd (omega (arith, lt))
 trees_at (n ∷ nodes) zero node lt = refl
@@ -60,7 +62,7 @@ remains_next nodes i node initial now next one first second whole lt e same befo
     ∙ ap (λ ts. all_shown paths now ++ first paths ts) (sym (trees_at nodes i node lt))
     ∙ before paths
 
-no_more : (nodes : List Node) (i : ℕ) → length nodes ≤ i → trees_of (drop i nodes) ≡ no_trees
+pub no_more : (nodes : List Node) (i : ℕ) → length nodes ≤ i → trees_of (drop i nodes) ≡ no_trees
 unfolding trees_of
 no_more [] zero le = refl
 no_more [] (suc i) le = refl
@@ -96,16 +98,30 @@ trees_two (x ∷ y ∷ []) a b e ea eb = ap (λ (n : Node). tree (node_tree n) (
 trees_two (x ∷ y ∷ z ∷ nodes) a b e ea eb = absurd (omega (arith, e))
 
 -- one argument of an operator
-argument_suc : (asked : Bool) (letters : List CodeLetter) (i : ℕ) (t : Tree) (ts : Trees) (scope : AbsolutePath) → argument_mentions asked (drop i (letters_as letters)) (tree t ts) scope ≡ optional_mentions asked (slice_get letters i) t scope ++ argument_mentions asked (drop (suc i) (letters_as letters)) ts scope
-argument_suc asked [] zero t ts scope = refl
-argument_suc asked [] (suc i) t ts scope = refl
-argument_suc asked (letter ∷ letters) zero t ts scope = refl
-argument_suc asked (letter ∷ letters) (suc i) t ts scope = argument_suc asked letters i t ts scope
+argument_suc : (asked : Bool) (uses : Asked) (letters : List CodeLetter) (i : ℕ) (t : Tree) (ts : Trees) (scope : AbsolutePath) → argument_mentions asked uses (drop i (letters_as letters)) (tree t ts) scope ≡ optional_mentions asked uses (slice_get letters i) t scope ++ argument_mentions asked uses (drop (suc i) (letters_as letters)) ts scope
+argument_suc asked uses [] zero t ts scope = refl
+argument_suc asked uses [] (suc i) t ts scope = refl
+argument_suc asked uses (letter ∷ letters) zero t ts scope = refl
+argument_suc asked uses (letter ∷ letters) (suc i) t ts scope = argument_suc asked uses letters i t ts scope
 
-pub argument_next : (asked : Bool) (letters : List CodeLetter) (i : ℕ) (t : Tree) (ts : Trees) (scope : AbsolutePath) → argument_mentions asked (drop i (letters_as letters)) (tree t ts) scope ≡ optional_mentions asked (slice_get letters i) t scope ++ argument_mentions asked (drop (i + 1) (letters_as letters)) ts scope
-argument_next asked letters i t ts scope =
+pub argument_next : (asked : Bool) (uses : Asked) (letters : List CodeLetter) (i : ℕ) (t : Tree) (ts : Trees) (scope : AbsolutePath) → argument_mentions asked uses (drop i (letters_as letters)) (tree t ts) scope ≡ optional_mentions asked uses (slice_get letters i) t scope ++ argument_mentions asked uses (drop (i + 1) (letters_as letters)) ts scope
+argument_next asked uses letters i t ts scope =
     let e : suc i ≡ i + 1 = omega arith in
-    argument_suc asked letters i t ts scope ∙ ap (λ k. optional_mentions asked (slice_get letters i) t scope ++ argument_mentions asked (drop k (letters_as letters)) ts scope) e
+    argument_suc asked uses letters i t ts scope ∙ ap (λ k. optional_mentions asked uses (slice_get letters i) t scope ++ argument_mentions asked uses (drop k (letters_as letters)) ts scope) e
+
+-- a path that is used
+pub used_name : (uses : Asked) (node : Node) (spot : Spot) (name : Name) (scope : AbsolutePath) → spot ≡ record { id = node.id; place = node.place } → OfName name ≡ term_shape node.term → Used' uses (spot_as spot) name scope ∷ [] ≡ letter_mention Used uses (node_tree node) (mentions false (node_tree node) scope) scope
+used_name uses node spot name scope es e = ap (λ (s : Spot). Used' uses (spot_as s) name scope ∷ []) es ∙ by_tree (node_tree node) (shape_tree_name (record { id = node.id; place = node.place }) node.term name e)
+  where
+    by_tree : (t : Tree) → Use (record { id = node.id; place = node.place }) name ≡ t → Used' uses (record { id = node.id; place = node.place }) name scope ∷ [] ≡ letter_mention Used uses t (mentions false t scope) scope
+    by_tree t h = ap (λ u. letter_mention Used uses u (mentions false u scope) scope) h
+
+pub used_other : (uses : Asked) (node : Node) (scope : AbsolutePath) → ((name : Name) → term_shape node.term ≡ OfName name → ⊥) → mentions false (node_tree node) scope ≡ letter_mention Used uses (node_tree node) (mentions false (node_tree node) scope) scope
+used_other uses node scope none = by_tree (node_tree node) refl
+  where
+    by_tree : (t : Tree) → node_tree node ≡ t → mentions false t scope ≡ letter_mention Used uses t (mentions false t scope) scope
+    by_tree (Use at name) h = absurd (none _ (shape_name_of _ node.term at name h))
+    by_tree t h = refl
 
 -- CondRefOf
 pub cond_two : (asked : Bool) (nodes : List Node) (a b : Node) (scope : AbsolutePath) → 2 ≤ length nodes → length nodes < 3 → a ≡ get_or nodes 0 a → b ≡ get_or nodes 1 b → cond_mentions asked (trees_of nodes) scope ≡ cond_mention asked (node_tree a) scope ++ mentions (asked && is_spot (node_tree b)) (node_tree b) scope
@@ -123,6 +139,23 @@ cond_many asked [] scope le = refl
 cond_many asked (x ∷ []) scope le = refl
 cond_many asked (x ∷ y ∷ []) scope le = absurd (omega (arith, le))
 cond_many asked (x ∷ y ∷ z ∷ nodes) scope le = refl
+
+-- the same of `X = E`
+pub assign_two : (asked : Bool) (nodes : List Node) (a b : Node) (scope : AbsolutePath) → 2 ≤ length nodes → length nodes < 3 → a ≡ get_or nodes 0 a → b ≡ get_or nodes 1 b → assign_mentions asked (trees_of nodes) scope ≡ mentions asked (node_tree b) scope ++ mentions (asked && is_spot (node_tree a)) (node_tree a) scope
+assign_two asked nodes a b scope le lt ea eb = ap (λ ts. assign_mentions asked ts scope) (trees_two nodes a b (omega (arith, le, lt)) ea eb)
+
+pub assign_few : (asked : Bool) (nodes : List Node) (scope : AbsolutePath) → length nodes < 2 → assign_mentions asked (trees_of nodes) scope ≡ []
+unfolding trees_of
+assign_few asked [] scope lt = refl
+assign_few asked (x ∷ []) scope lt = refl
+assign_few asked (x ∷ y ∷ nodes) scope lt = absurd (omega (arith, lt))
+
+pub assign_many : (asked : Bool) (nodes : List Node) (scope : AbsolutePath) → 3 ≤ length nodes → assign_mentions asked (trees_of nodes) scope ≡ []
+unfolding trees_of
+assign_many asked [] scope le = refl
+assign_many asked (x ∷ []) scope le = refl
+assign_many asked (x ∷ y ∷ []) scope le = absurd (omega (arith, le))
+assign_many asked (x ∷ y ∷ z ∷ nodes) scope le = refl
 
 -- the place of CondRefOf
 pub cond_name : (asked : Bool) (node : Node) (spot : Spot) (name : Name) (scope : AbsolutePath) → spot ≡ record { id = node.id; place = node.place } → OfName name ≡ term_shape node.term → Sought (spot_as spot) name scope ∷ [] ≡ cond_mention asked (node_tree node) scope

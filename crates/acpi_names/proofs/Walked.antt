@@ -14,13 +14,16 @@ use Rattle.asl_tree.specs.declared.term.Term.{Term}
 use Rattle.asl_tree.specs.declared.term.Declaration.TheVariants as Declaration
 use Rattle.asl_tree.specs.declared.term.Control.TheVariants as Control
 use Rattle.asl_tree.specs.declared.term.Special.TheVariants as Special
-use Rattle.asl_tree.specs.View.{form, operands_as, targets_of, plain_of, apply_of, buffer, body_bytes, packaged, counted, items_in}
-use Rattle.asl_tree.specs.Tree.{At, Tree, Integer, Omitted, Use, Package, VarPackage, Misshapen, Trees, no_trees, tree, count, Field, IndexField, BankField, UnitName}
+use Rattle.asl_tree.specs.declared.term.Symbolic.TheVariants as Symbolic
+use Rattle.asl_tree.specs.View.{fits, operated, symbol_of, form, operands_as, targets_of, plain_of, apply_of, buffer, body_bytes, packaged, counted, items_in}
+use Rattle.asl_tree.specs.Tree.{At, Tree, Integer, Operated, Omitted, Use, Package, VarPackage, Misshapen, Trees, no_trees, tree, count, Field, IndexField, BankField, UnitName}
 use Rattle.asl_meaning.specs.Declarations.{As, Declarations}
 use Rattle.asl_meaning.specs.Meaning.{spot_form}
-use Rattle.acpi_names.specs.Mentions.{Mention, Declares, is_place_form, is_spot, asks, mentions, operand_mentions, target_mentions, element_mentions, term_mentions, block_mentions}
+use Rattle.acpi_names.specs.Errors.{Asked, AUnit, ARegion}
+use Rattle.acpi_names.specs.Mentions.{Mention, Used', item_mentions, Declares, is_place_form, is_spot, asks, asked_use, letter_mention, mentions, operand_mentions, target_mentions, element_mentions, term_mentions, block_mentions}
 use Rattle.acpi_names.specs.Parts.{part_of}
-use Rattle.acpi_names.specs.Walked.{value_form_of, letter_mentions, argument_mentions, value_mentions, part_mentions}
+use Rattle.acpi_names.specs.declared.part.ValueForm.TheVariants as V
+use Rattle.acpi_names.specs.Walked.{fitting_value, value_form_of, letter_mentions, argument_mentions, value_mentions, part_mentions}
 use Rattle.asl_tree.specs.declared.term.Term as D
 use Rattle.std.proofs.Common.{arith}
 use Rattle.asl_tree.specs.View.{tree_of, row_trees}
@@ -34,36 +37,78 @@ and_true : (b : Bool) → (b && true) ≡ b
 and_true true = refl
 and_true false = refl
 
-targets_same : (asked : Bool) (ts : Trees) (scope : AbsolutePath) → target_mentions asked ts scope ≡ argument_mentions asked [] ts scope
-targets_same asked no_trees scope = refl
-targets_same asked (tree t ts) scope = ap (λ ms. mentions (asked && is_spot t) t scope ++ ms) (targets_same asked ts scope)
+targets_same : (asked : Bool) (uses : Asked) (ts : Trees) (scope : AbsolutePath) → target_mentions asked ts scope ≡ argument_mentions asked uses [] ts scope
+targets_same asked uses no_trees scope = refl
+targets_same asked uses (tree t ts) scope = ap (λ ms. mentions (asked && is_spot t) t scope ++ ms) (targets_same asked uses ts scope)
 
 -- the tree that an operand becomes
-operand_same : (asked : Bool) (letter : Letter) (letters : List Letter) (t : Tree) (ts : Trees) (scope : AbsolutePath) (rest : List Mention) → operand_mentions asked letters (operands_as letters ts) scope ≡ rest → operand_mentions asked (letter ∷ letters) (operands_as (letter ∷ letters) (tree t ts)) scope ≡ letter_mentions asked letter t scope ++ rest
-operand_same asked (L.Raw size) letters (Integer number) ts scope rest h = h
-operand_same asked (L.Raw size) letters t ts scope rest h = h
-operand_same asked Valued letters Omitted ts scope rest h = h
-operand_same asked Valued letters t ts scope rest h = ap (λ ms. mentions (asked && true) t scope ++ ms) h
-operand_same asked letter letters t ts scope rest h = ap (λ ms. mentions (asked && asks letter t) t scope ++ ms) h
+operand_same : (asked : Bool) (uses : Asked) (letter : Letter) (letters : List Letter) (t : Tree) (ts : Trees) (scope : AbsolutePath) (rest : List Mention) → operand_mentions asked uses letters (operands_as letters ts) scope ≡ rest → operand_mentions asked uses (letter ∷ letters) (operands_as (letter ∷ letters) (tree t ts)) scope ≡ letter_mentions asked uses letter t scope ++ rest
+operand_same asked uses (L.Raw size) letters (Integer number) ts scope rest h = h
+operand_same asked uses (L.Raw size) letters t ts scope rest h = h
+operand_same asked uses Valued letters Omitted ts scope rest h = h
+operand_same asked uses Valued letters t ts scope rest h = ap (λ ms. mentions (asked && true) t scope ++ ms) h
+operand_same asked uses letter letters t ts scope rest h = ap (λ ms. letter_mention letter uses t (mentions (asked && asks letter t) t scope) scope ++ ms) h
 
-arguments_same : (asked : Bool) (letters : List Letter) (ts : Trees) (scope : AbsolutePath) → operand_mentions asked letters (operands_as letters ts) scope ++ target_mentions asked (targets_of letters ts) scope ≡ argument_mentions asked letters ts scope
-arguments_same asked [] ts scope = targets_same asked ts scope
-arguments_same asked (letter ∷ letters) no_trees scope = refl
-arguments_same asked (letter ∷ letters) (tree t ts) scope =
-    ap (λ ms. ms ++ target_mentions asked (targets_of letters ts) scope) (operand_same asked letter letters t ts scope (operand_mentions asked letters (operands_as letters ts) scope) refl)
-    ∙ append_assoc (letter_mentions asked letter t scope) (operand_mentions asked letters (operands_as letters ts) scope) (target_mentions asked (targets_of letters ts) scope)
-    ∙ ap (λ ms. letter_mentions asked letter t scope ++ ms) (arguments_same asked letters ts scope)
+arguments_same : (asked : Bool) (uses : Asked) (letters : List Letter) (ts : Trees) (scope : AbsolutePath) → operand_mentions asked uses letters (operands_as letters ts) scope ++ target_mentions asked (targets_of letters ts) scope ≡ argument_mentions asked uses letters ts scope
+arguments_same asked uses [] ts scope = targets_same asked uses ts scope
+arguments_same asked uses (letter ∷ letters) no_trees scope = refl
+arguments_same asked uses (letter ∷ letters) (tree t ts) scope =
+    ap (λ ms. ms ++ target_mentions asked (targets_of letters ts) scope) (operand_same asked uses letter letters t ts scope (operand_mentions asked uses letters (operands_as letters ts) scope) refl)
+    ∙ append_assoc (letter_mentions asked uses letter t scope) (operand_mentions asked uses letters (operands_as letters ts) scope) (target_mentions asked (targets_of letters ts) scope)
+    ∙ ap (λ ms. letter_mentions asked uses letter t scope ++ ms) (arguments_same asked uses letters ts scope)
 
-negated : (asked : Bool) (op : IntOp) (args : Trees) (scope : AbsolutePath) → mentions asked (plain_of (Plain.Number IntOp.LNot) (tree (plain_of (Plain.Number op) args) no_trees)) scope ≡ argument_mentions asked (row_of (Plain.Number op)).operands args scope
+negated : (asked : Bool) (op : IntOp) (args : Trees) (scope : AbsolutePath) → mentions asked (plain_of (Plain.Number IntOp.LNot) (tree (plain_of (Plain.Number op) args) no_trees)) scope ≡ argument_mentions asked (asked_use asked (Plain.Number op)) (row_of (Plain.Number op)).operands args scope
 negated asked op args scope =
     right_nil (mentions (asked && true) (plain_of (Plain.Number op) args) scope ++ []) ∙ right_nil (mentions (asked && true) (plain_of (Plain.Number op) args) scope)
-    ∙ ap (λ b. mentions b (plain_of (Plain.Number op) args) scope) (and_true asked) ∙ arguments_same asked (row_of (Plain.Number op)).operands args scope
+    ∙ ap (λ b. mentions b (plain_of (Plain.Number op) args) scope) (and_true asked) ∙ arguments_same asked (asked_use asked (Plain.Number op)) (row_of (Plain.Number op)).operands args scope
 
-plain_mentions : (asked : Bool) (op : Plain) (args : Trees) (scope : AbsolutePath) → mentions asked (apply_of op args) scope ≡ argument_mentions asked (row_of op).operands args scope
-plain_mentions asked (Plain.Number IntOp.LNotEqual) args scope = negated asked IntOp.LEqual args scope
-plain_mentions asked (Plain.Number IntOp.LLessEqual) args scope = negated asked IntOp.LGreater args scope
-plain_mentions asked (Plain.Number IntOp.LGreaterEqual) args scope = negated asked IntOp.LLess args scope
-plain_mentions asked op args scope = arguments_same asked (row_of op).operands args scope
+-- no operator on integers uses a path
+no_use : (asked : Bool) (op other : IntOp) → asked_use asked (Plain.Number op) ≡ asked_use asked (Plain.Number other)
+no_use true op other = refl
+no_use false op other = refl
+
+negation : (asked : Bool) (op other : IntOp) (args : Trees) (scope : AbsolutePath) → argument_mentions asked (asked_use asked (Plain.Number op)) (row_of (Plain.Number op)).operands args scope ≡ argument_mentions asked (asked_use asked (Plain.Number other)) (row_of (Plain.Number op)).operands args scope
+negation asked op other args scope = ap (λ uses. argument_mentions asked uses (row_of (Plain.Number op)).operands args scope) (no_use asked op other)
+
+plain_mentions : (asked : Bool) (op : Plain) (args : Trees) (scope : AbsolutePath) → mentions asked (apply_of op args) scope ≡ argument_mentions asked (asked_use asked op) (row_of op).operands args scope
+plain_mentions asked (Plain.Number IntOp.LNotEqual) args scope = negated asked IntOp.LEqual args scope ∙ negation asked IntOp.LEqual IntOp.LNotEqual args scope
+plain_mentions asked (Plain.Number IntOp.LLessEqual) args scope = negated asked IntOp.LGreater args scope ∙ negation asked IntOp.LGreater IntOp.LLessEqual args scope
+plain_mentions asked (Plain.Number IntOp.LGreaterEqual) args scope = negated asked IntOp.LLess args scope ∙ negation asked IntOp.LLess IntOp.LGreaterEqual args scope
+plain_mentions asked op args scope = arguments_same asked (asked_use asked op) (row_of op).operands args scope
+
+-- operands that are all the arguments
+fitting_mentions : (asked : Bool) (uses : Asked) (letters : List Letter) (ts : Trees) (scope : AbsolutePath) → fits letters ts ≡ true → operand_mentions asked uses letters (operands_as letters ts) scope ≡ argument_mentions asked uses letters ts scope
+fitting_mentions asked uses [] no_trees scope e = refl
+fitting_mentions asked uses [] (tree t ts) scope e = absurd cc
+fitting_mentions asked uses (letter ∷ letters) no_trees scope e = absurd cc
+fitting_mentions asked uses (letter ∷ letters) (tree t ts) scope e =
+    operand_same asked uses letter letters t ts scope (argument_mentions asked uses letters ts scope) (fitting_mentions asked uses letters ts scope e)
+
+operated_negation : (asked : Bool) (op : IntOp) (args : Trees) (scope : AbsolutePath) → mentions asked (Operated (Plain.Number IntOp.LNot) (tree (Operated (Plain.Number op) args) no_trees)) scope ≡ operand_mentions asked (asked_use asked (Plain.Number op)) (row_of (Plain.Number op)).operands args scope
+operated_negation asked op args scope =
+    right_nil (mentions (asked && true) (Operated (Plain.Number op) args) scope) ∙ ap (λ b. mentions b (Operated (Plain.Number op) args) scope) (and_true asked)
+
+operated_other : (asked : Bool) (op other : IntOp) (args : Trees) (scope : AbsolutePath) → operand_mentions asked (asked_use asked (Plain.Number op)) (row_of (Plain.Number op)).operands args scope ≡ operand_mentions asked (asked_use asked (Plain.Number other)) (row_of (Plain.Number op)).operands args scope
+operated_other asked op other args scope = ap (λ uses. operand_mentions asked uses (row_of (Plain.Number op)).operands args scope) (no_use asked op other)
+
+operated_mentions : (asked : Bool) (op : Plain) (args : Trees) (scope : AbsolutePath) → mentions asked (operated op args) scope ≡ operand_mentions asked (asked_use asked op) (row_of op).operands args scope
+operated_mentions asked (Plain.Number IntOp.LNotEqual) args scope = operated_negation asked IntOp.LEqual args scope ∙ operated_other asked IntOp.LEqual IntOp.LNotEqual args scope
+operated_mentions asked (Plain.Number IntOp.LLessEqual) args scope = operated_negation asked IntOp.LGreater args scope ∙ operated_other asked IntOp.LGreater IntOp.LLessEqual args scope
+operated_mentions asked (Plain.Number IntOp.LGreaterEqual) args scope = operated_negation asked IntOp.LLess args scope ∙ operated_other asked IntOp.LLess IntOp.LGreaterEqual args scope
+operated_mentions asked op args scope = refl
+
+symbol_mentions : (asked : Bool) (op : Plain) (args : Trees) (scope : AbsolutePath) → mentions asked (symbol_of op args) scope ≡ value_mentions (value_form_of (Op.Symbolic (Symbolic.Operator op)) args no_trees) asked args no_trees scope
+symbol_mentions asked op args scope = by_fit (fits (row_of op).operands args) refl
+  where
+    by_fit : (c : Bool) → fits (row_of op).operands args ≡ c → mentions asked (symbol_of op args) scope ≡ value_mentions (value_form_of (Op.Symbolic (Symbolic.Operator op)) args no_trees) asked args no_trees scope
+    by_fit true e =
+        ap (λ c. mentions asked (if c then operated op (operands_as (row_of op).operands args) else Misshapen) scope) e
+        ∙ operated_mentions asked op (operands_as (row_of op).operands args) scope
+        ∙ fitting_mentions asked (asked_use asked op) (row_of op).operands args scope e
+        ∙ sym (ap (λ c. value_mentions (fitting_value c (V.Operator op)) asked args no_trees scope) e)
+    by_fit false e =
+        ap (λ c. mentions asked (if c then operated op (operands_as (row_of op).operands args) else Misshapen) scope) e
+        ∙ sym (ap (λ c. value_mentions (fitting_value c (V.Operator op)) asked args no_trees scope) e)
 
 buffer_mentions : (asked : Bool) (size : Tree) (bytes : List ℕ) (scope : AbsolutePath) → mentions asked (buffer size bytes) scope ≡ mentions asked size scope ++ []
 buffer_mentions asked Omitted bytes scope = refl
@@ -111,6 +156,19 @@ spot_apply (Plain.Number IntOp.LLessEqual) args = refl
 spot_apply (Plain.Number IntOp.LGreaterEqual) args = refl
 spot_apply op args = refl
 
+spot_operated : (op : Plain) (args : Trees) → is_spot (operated op args) ≡ is_place_form (spot_form op)
+spot_operated (Plain.Number IntOp.LNotEqual) args = refl
+spot_operated (Plain.Number IntOp.LLessEqual) args = refl
+spot_operated (Plain.Number IntOp.LGreaterEqual) args = refl
+spot_operated op args = refl
+
+spot_symbol : (op : Plain) (args : Trees) → is_spot (symbol_of op args) ≡ spot_by (value_form_of (Op.Symbolic (Symbolic.Operator op)) args no_trees)
+spot_symbol op args = by_fit (fits (row_of op).operands args)
+  where
+    by_fit : (c : Bool) → is_spot (if c then operated op (operands_as (row_of op).operands args) else Misshapen) ≡ spot_by (fitting_value c (V.Operator op))
+    by_fit true = spot_operated op (operands_as (row_of op).operands args)
+    by_fit false = refl
+
 pub value_form : (asked : Bool) (at : At) (op : Op) (args body : Trees) (scope : AbsolutePath) → mentions asked (form at op args body) scope ≡ value_mentions (value_form_of op args body) asked args body scope
 value_form asked here (Op.Declaration Declaration.Name) (tree (Use at name) (tree value no_trees)) no_trees scope = refl
 value_form asked here (Op.Declaration Declaration.Alias) (tree (Use from source) (tree (Use at name) no_trees)) no_trees scope = refl
@@ -136,6 +194,7 @@ value_form asked here (Op.Declaration Declaration.CreateDWordField) (tree source
 value_form asked here (Op.Declaration Declaration.CreateQWordField) (tree source (tree index (tree (Use at name) no_trees))) no_trees scope = refl
 value_form asked here (Op.Control Control.Return) (tree value no_trees) no_trees scope = refl
 value_form asked here (Op.Control Control.If) (tree test no_trees) body scope = refl
+value_form asked here (Op.Control Control.ElseIf) (tree test no_trees) body scope = refl
 value_form asked here (Op.Control Control.Else) no_trees body scope = refl
 value_form asked here (Op.Control Control.While) (tree test no_trees) body scope = refl
 value_form asked here (Op.Control Control.Break) no_trees no_trees scope = refl
@@ -145,13 +204,33 @@ value_form asked here (Op.Plain op) args no_trees scope = plain_mentions asked o
 value_form asked here (Op.Special Special.CondRefOf) (tree place (tree target no_trees)) no_trees scope = refl
 value_form asked here (Op.Special Special.Buffer) (tree size no_trees) body scope = buffer_mentions asked size (body_bytes body) scope
 value_form asked here (Op.Special Special.Package) (tree size no_trees) body scope = package_mentions asked size body scope
+value_form asked here (Op.Symbolic (Symbolic.Operator op)) args no_trees scope = symbol_mentions asked op args scope
+value_form asked here (Op.Symbolic Symbolic.Assign) (tree target (tree value no_trees)) no_trees scope = refl
+value_form asked here (Op.Symbolic (Symbolic.AssignBy op)) (tree target (tree value no_trees)) no_trees scope = ap (λ ms. mentions asked target scope ++ ms) (sym (right_nil (mentions asked value scope)))
 value_form asked here _ _ _ scope = refl
+
+told_items : (o : Option (List (FieldItem UnitName))) (made : List (FieldItem UnitName) → Tree) (before : List Mention) (scope : AbsolutePath) (d : Declarations) → ((items : List (FieldItem UnitName)) → term_mentions (made items) scope d ≡ before ++ item_mentions items scope) → term_mentions (choose o Misshapen made) scope d ≡ choose o [] (λ items. before ++ item_mentions items scope)
+told_items None made before scope d k = refl
+told_items (Some items) made before scope d k = k items
 
 term_apply : (op : Plain) (args : Trees) (scope : AbsolutePath) (d : Declarations) → term_mentions (apply_of op args) scope d ≡ mentions true (apply_of op args) scope
 term_apply (Plain.Number IntOp.LNotEqual) args scope d = refl
 term_apply (Plain.Number IntOp.LLessEqual) args scope d = refl
 term_apply (Plain.Number IntOp.LGreaterEqual) args scope d = refl
 term_apply op args scope d = refl
+
+term_operated : (op : Plain) (args : Trees) (scope : AbsolutePath) (d : Declarations) → term_mentions (operated op args) scope d ≡ mentions true (operated op args) scope
+term_operated (Plain.Number IntOp.LNotEqual) args scope d = refl
+term_operated (Plain.Number IntOp.LLessEqual) args scope d = refl
+term_operated (Plain.Number IntOp.LGreaterEqual) args scope d = refl
+term_operated op args scope d = refl
+
+term_symbol : (op : Plain) (args : Trees) (scope : AbsolutePath) (d : Declarations) → term_mentions (symbol_of op args) scope d ≡ mentions true (symbol_of op args) scope
+term_symbol op args scope d = by_fit (fits (row_of op).operands args)
+  where
+    by_fit : (c : Bool) → term_mentions (if c then operated op (operands_as (row_of op).operands args) else Misshapen) scope d ≡ mentions true (if c then operated op (operands_as (row_of op).operands args) else Misshapen) scope
+    by_fit true = term_operated op (operands_as (row_of op).operands args) scope d
+    by_fit false = refl
 
 term_buffer : (size : Tree) (bytes : List ℕ) (scope : AbsolutePath) (d : Declarations) → term_mentions (buffer size bytes) scope d ≡ mentions true (buffer size bytes) scope
 term_buffer Omitted bytes scope d = refl
@@ -183,9 +262,9 @@ term_form here (Op.Declaration Declaration.PowerResource) (tree (Use at name) (t
 term_form here (Op.Declaration Declaration.Processor) (tree (Use at name) (tree (Integer number) (tree (Integer address) (tree (Integer size) no_trees)))) body scope d = refl
 term_form here (Op.Declaration Declaration.Scope) (tree (Use at name) no_trees) body scope d = refl
 term_form here (Op.Declaration Declaration.OperationRegion) (tree (Use at name) (tree (Integer space) (tree offset (tree size no_trees)))) no_trees scope d = ap (λ ms. Declares at name (As (RegionObject space 0 0)) scope ∷ ms) (sym (right_nil (mentions true offset scope ++ (mentions true size scope ++ []))))
-term_form here (Op.Declaration Declaration.Field) (tree (Use from region) (tree (Integer flags) no_trees)) body scope d = refl
-term_form here (Op.Declaration Declaration.IndexField) (tree (Use from index) (tree (Use to register) (tree (Integer flags) no_trees))) body scope d = refl
-term_form here (Op.Declaration Declaration.BankField) (tree (Use from region) (tree (Use to bank) (tree value (tree (Integer flags) no_trees)))) body scope d = refl
+term_form here (Op.Declaration Declaration.Field) (tree (Use from region) (tree (Integer flags) no_trees)) body scope d = told_items (items_in body) (λ items. Field here from region flags items) (Used' (ARegion here) from region scope ∷ []) scope d (λ items. refl)
+term_form here (Op.Declaration Declaration.IndexField) (tree (Use from index) (tree (Use to register) (tree (Integer flags) no_trees))) body scope d = told_items (items_in body) (λ items. IndexField here from index to register flags items) (Used' AUnit from index scope ∷ Used' AUnit to register scope ∷ []) scope d (λ items. refl)
+term_form here (Op.Declaration Declaration.BankField) (tree (Use from region) (tree (Use to bank) (tree value (tree (Integer flags) no_trees)))) body scope d = told_items (items_in body) (λ items. BankField here from region to bank value flags items) (Used' (ARegion here) from region scope ∷ Used' AUnit to bank scope ∷ (mentions true value scope ++ [])) scope d (λ items. ap (λ ms. Used' (ARegion here) from region scope ∷ Used' AUnit to bank scope ∷ (ms ++ item_mentions items scope)) (sym (right_nil (mentions true value scope))))
 term_form here (Op.Declaration Declaration.CreateField) (tree source (tree index (tree bits (tree (Use at name) no_trees)))) no_trees scope d = refl
 term_form here (Op.Declaration Declaration.CreateBitField) (tree source (tree index (tree (Use at name) no_trees))) no_trees scope d = refl
 term_form here (Op.Declaration Declaration.CreateByteField) (tree source (tree index (tree (Use at name) no_trees))) no_trees scope d = refl
@@ -194,6 +273,7 @@ term_form here (Op.Declaration Declaration.CreateDWordField) (tree source (tree 
 term_form here (Op.Declaration Declaration.CreateQWordField) (tree source (tree index (tree (Use at name) no_trees))) no_trees scope d = refl
 term_form here (Op.Control Control.Return) (tree value no_trees) no_trees scope d = sym (right_nil (mentions true value scope))
 term_form here (Op.Control Control.If) (tree test no_trees) body scope d = ap (λ ms. ms ++ block_mentions body scope d) (sym (right_nil (mentions true test scope)))
+term_form here (Op.Control Control.ElseIf) (tree test no_trees) body scope d = ap (λ ms. ms ++ block_mentions body scope d) (sym (right_nil (mentions true test scope)))
 term_form here (Op.Control Control.Else) no_trees body scope d = refl
 term_form here (Op.Control Control.While) (tree test no_trees) body scope d = ap (λ ms. ms ++ block_mentions body scope d) (sym (right_nil (mentions true test scope)))
 term_form here (Op.Control Control.Break) no_trees no_trees scope d = refl
@@ -203,6 +283,9 @@ term_form here (Op.Plain op) args no_trees scope d = term_apply op args scope d 
 term_form here (Op.Special Special.CondRefOf) (tree place (tree target no_trees)) no_trees scope d = refl
 term_form here (Op.Special Special.Buffer) (tree size no_trees) body scope d = term_buffer size (body_bytes body) scope d ∙ buffer_mentions true size (body_bytes body) scope
 term_form here (Op.Special Special.Package) (tree size no_trees) body scope d = term_packaged size body scope d ∙ package_mentions true size body scope
+term_form here (Op.Symbolic (Symbolic.Operator op)) args no_trees scope d = term_symbol op args scope d ∙ symbol_mentions true op args scope
+term_form here (Op.Symbolic Symbolic.Assign) (tree target (tree value no_trees)) no_trees scope d = refl
+term_form here (Op.Symbolic (Symbolic.AssignBy op)) (tree target (tree value no_trees)) no_trees scope d = ap (λ ms. mentions true target scope ++ ms) (sym (right_nil (mentions true value scope)))
 term_form here _ _ _ scope d = refl
 
 pub spot_form_of : (at : At) (op : Op) (args body : Trees) → is_spot (form at op args body) ≡ spot_by (value_form_of op args body)
@@ -230,6 +313,7 @@ spot_form_of here (Op.Declaration Declaration.CreateDWordField) (tree source (tr
 spot_form_of here (Op.Declaration Declaration.CreateQWordField) (tree source (tree index (tree (Use at name) no_trees))) no_trees = refl
 spot_form_of here (Op.Control Control.Return) (tree value no_trees) no_trees = refl
 spot_form_of here (Op.Control Control.If) (tree test no_trees) body = refl
+spot_form_of here (Op.Control Control.ElseIf) (tree test no_trees) body = refl
 spot_form_of here (Op.Control Control.Else) no_trees body = refl
 spot_form_of here (Op.Control Control.While) (tree test no_trees) body = refl
 spot_form_of here (Op.Control Control.Break) no_trees no_trees = refl
@@ -239,6 +323,9 @@ spot_form_of here (Op.Plain op) args no_trees = spot_apply op args
 spot_form_of here (Op.Special Special.CondRefOf) (tree place (tree target no_trees)) no_trees = refl
 spot_form_of here (Op.Special Special.Buffer) (tree size no_trees) body = spot_buffer size (body_bytes body)
 spot_form_of here (Op.Special Special.Package) (tree size no_trees) body = spot_packaged size body
+spot_form_of here (Op.Symbolic (Symbolic.Operator op)) args no_trees = spot_symbol op args
+spot_form_of here (Op.Symbolic Symbolic.Assign) (tree target (tree value no_trees)) no_trees = refl
+spot_form_of here (Op.Symbolic (Symbolic.AssignBy op)) (tree target (tree value no_trees)) no_trees = refl
 spot_form_of here _ _ _ = refl
 
 -- the same over terms

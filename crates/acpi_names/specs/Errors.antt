@@ -3,7 +3,9 @@ use Rattle.std.specs.Prelude.{ℕ, suc, Bool, true, false, not, nat_eq, nat_le, 
 use Rattle.acpi_values.specs.Paths.{NameSeg, AbsolutePath, is_same_path}
 use Rattle.acpi_values.specs.Operators.{Letter, Valued, Kept, Placed, Used, Row, row_of}
 use Rattle.acpi_values.specs.Operators as L
-use Rattle.acpi_state.specs.Objects.{Object, MethodObject, ContainerObject, ExternalObject, ExternalData, ExternalOther, lookup, operand_count, is_method}
+use Rattle.acpi_values.specs.declared.operator.Plain.{Plain}
+use Rattle.acpi_values.specs.declared.operator.EventOp.TheVariants as EventOp
+use Rattle.acpi_state.specs.Objects.{Object, MethodObject, ContainerObject, MutexObject, EventObject, RegionObject, UnitObject, ExternalObject, ExternalData, ExternalOther, lookup, operand_count, is_method}
 use Rattle.acpi_state.specs.Outcomes.{choose}
 use Rattle.asl_tree.specs.declared.path.Path.{Path}
 use Rattle.asl_tree.specs.Names.{Known, end_of, place_of, denoted}
@@ -11,12 +13,29 @@ use Rattle.asl_meaning.specs.Declarations.{As, ExternalType, Declarations, nothi
 use Rattle.asl_meaning.specs.Meaning.{SpotForm, OfResult, OfInside, NoSpot, spot_form}
 use Rattle.acpi_state.specs.FieldActs.{region_letters, field_letters}
 use Rattle.asl_tree.specs.FieldItems.{FieldItem, UnitItem, SkipItem, OffsetItem}
-use Rattle.asl_tree.specs.Tree.{At, Tree, Use, Call, Apply, Buffer, Package, VarPackage, CondRefOf, Return, Name, Alias, External, Method, Mutex, Event, Container', Scope, Trees, no_trees, tree, count, OperationRegion, Field, IndexField, BankField, CreateField, UnitName, If, Else, While}
+use Rattle.asl_tree.specs.Tree.{At, Tree, Use, Call, Apply, Buffer, Package, VarPackage, CondRefOf, Return, Name, Alias, External, Method, Mutex, Event, Container', Scope, Trees, no_trees, tree, count, OperationRegion, Field, IndexField, BankField, CreateField, UnitName, If, ElseIf, Else, While, Operated, Assigned, AssignedBy}
 
--- an error at a node, with the path that is declared or the name as it is written
+-- an error at a node, with the path that is declared or the name as it is written; a field over a space that is not
+-- built has no name
 pub data NameError : Type 0 where
   Twice DeclaredHere : (at : At) (path : AbsolutePath) → NameError
-  Missing NoContainer LeavesRoot Differs TooLong WrongCount : (at : At) (name : Path) → NameError
+  Missing NoContainer LeavesRoot Differs TooLong WrongCount WrongKind : (at : At) (name : Path) → NameError
+  UnbuiltSpace : (at : At) → NameError
+
+-- what is asked of a used name: nothing; that it is a value, and so no method with arguments; or that it is an object
+-- of a kind. A field asks at its own node for a region that it can lie in.
+pub data Asked : Type 0 where
+  Anything AValue AMutex AnEvent AUnit : Asked
+  ARegion : (field : At) → Asked
+
+-- what an operator asks of the path that it uses
+abbrev pub asked_by : Plain → Asked
+asked_by (Plain.Event EventOp.Acquire) = AMutex
+asked_by (Plain.Event EventOp.Release) = AMutex
+asked_by (Plain.Event EventOp.Wait) = AnEvent
+asked_by (Plain.Event EventOp.Signal) = AnEvent
+asked_by (Plain.Event EventOp.Reset) = AnEvent
+asked_by op = Anything
 
 abbrev pub unless : Bool → NameError → List NameError
 unless true e = []
@@ -77,6 +96,37 @@ abbrev pub takes : ℕ → Option (AbsolutePath × Object) → Bool
 takes n None = false
 takes n (Some found) = is_method found.1 && nat_eq (operand_count found.1) n
 
+-- the kinds of objects that operators and fields use; the object types of externals are Mutex, Event, OpRegion and
+-- FieldUnit
+abbrev pub is_mutex : Option (AbsolutePath × Object) → Bool
+is_mutex (Some (path, MutexObject level)) = true
+is_mutex (Some (path, ExternalObject (ExternalOther type))) = nat_eq type 9
+is_mutex _ = false
+
+abbrev pub is_event : Option (AbsolutePath × Object) → Bool
+is_event (Some (path, EventObject)) = true
+is_event (Some (path, ExternalObject (ExternalOther type))) = nat_eq type 7
+is_event _ = false
+
+abbrev pub is_region : Option (AbsolutePath × Object) → Bool
+is_region (Some (path, RegionObject space offset length)) = true
+is_region (Some (path, ExternalObject (ExternalOther type))) = nat_eq type 10
+is_region _ = false
+
+abbrev pub is_unit : Option (AbsolutePath × Object) → Bool
+is_unit (Some (path, UnitObject unit)) = true
+is_unit (Some (path, ExternalObject (ExternalData type))) = nat_eq type 5
+is_unit _ = false
+
+-- SMBus, IPMI, GeneralPurposeIO and GenericSerialBus are not built
+abbrev pub is_unbuilt_space : ℕ → Bool
+is_unbuilt_space space = nat_eq space 4 || (nat_eq space 7 || (nat_eq space 8 || nat_eq space 9))
+
+-- a region of this source that no field can lie in
+abbrev pub is_unbuilt : Option (AbsolutePath × Object) → Bool
+is_unbuilt (Some (path, RegionObject space offset length)) = is_unbuilt_space space
+is_unbuilt _ = false
+
 -- the name of a unit as one that is declared
 abbrev pub unit_path : NameSeg → Path
 unit_path segment = record { root = false; up = 0; segs = segment ∷ [] }
@@ -133,6 +183,9 @@ module _ (whole : Whole) where
     names (Use at name) scope d = use_errors at name scope
     names (Call at name args) scope d = (use_errors at name scope ++ call_errors at name (count args) scope) ++ names_all args scope d
     names (Apply op args targets) scope d = names_all args scope d ++ names_all targets scope d
+    names (Operated op args) scope d = names_all args scope d
+    names (Assigned target value) scope d = names value scope d ++ names target scope d
+    names (AssignedBy op target value) scope d = names target scope d ++ names value scope d
     names (Buffer size bytes) scope d = names size scope d
     names (Package n elements) scope d = names_all elements scope d
     names (VarPackage size elements) scope d = names size scope d ++ names_all elements scope d
@@ -147,6 +200,7 @@ module _ (whole : Whole) where
     names (Mutex at name level) scope d = declared_errors at name scope d
     names (Event at name) scope d = declared_errors at name scope d
     names (If test body) scope d = names test scope d ++ names_all body scope d
+    names (ElseIf test body) scope d = names test scope d ++ names_all body scope d
     names (Else body) scope d = names_all body scope d
     names (While test body) scope d = names test scope d ++ names_all body scope d
     names (OperationRegion at name space args) scope d = declared_errors at name scope d ++ names_all args scope d
@@ -169,13 +223,28 @@ module _ (whole : Whole) where
   abbrev pub name_end : Path → AbsolutePath → Option (AbsolutePath × Object)
   name_end name scope = choose (denoted (is_named whole.all) name scope) None (final whole.known)
 
-  -- an operand by its letter: as an expression, as a place, or neither
-  abbrev pub letter_types : Letter → List NameError → List NameError → List NameError
-  letter_types Valued value place = value
-  letter_types Kept value place = value
-  letter_types Placed value place = place
-  letter_types Used value place = []
-  letter_types (L.Raw size) value place = []
+  -- a used name, of which something is asked
+  abbrev pub asked_types : Asked → At → Path → AbsolutePath → List NameError
+  asked_types Anything at name scope = []
+  asked_types AValue at name scope = unless (takes_none (name_end name scope)) (WrongCount at name)
+  asked_types AMutex at name scope = unless (is_mutex (name_end name scope)) (WrongKind at name)
+  asked_types AnEvent at name scope = unless (is_event (name_end name scope)) (WrongKind at name)
+  asked_types AUnit at name scope = unless (is_unit (name_end name scope)) (WrongKind at name)
+  asked_types (ARegion field) at name scope =
+      unless (is_region (name_end name scope)) (WrongKind at name) ++ unless (not (is_unbuilt (name_end name scope))) (UnbuiltSpace field)
+
+  -- the path that an operator uses
+  abbrev pub used_types : Asked → Tree → AbsolutePath → List NameError
+  used_types asked (Use at name) scope = asked_types asked at name scope
+  used_types asked t scope = []
+
+  -- an operand by its letter: as an expression, as a place, as a path that is used, or not at all
+  abbrev pub letter_types : Letter → List NameError → List NameError → List NameError → List NameError
+  letter_types Valued value place used = value
+  letter_types Kept value place used = value
+  letter_types Placed value place used = place
+  letter_types Used value place used = used
+  letter_types (L.Raw size) value place used = []
 
   -- a place by its operator: that of its result, or of what its operand refers to
   abbrev pub spot_form_types : SpotForm → List NameError → List NameError → List NameError
@@ -192,17 +261,24 @@ module _ (whole : Whole) where
     pub types : Tree → AbsolutePath → List NameError
     types (Use at name) scope = unless (takes_none (name_end name scope)) (WrongCount at name)
     types (Call at name args) scope = unless (takes (count args) (name_end name scope)) (WrongCount at name) ++ types_all args scope
-    types (Apply op args targets) scope = operand_types (row_of op).operands args scope ++ spot_types_all targets scope
+    types (Apply op args targets) scope = operand_types (asked_by op) (row_of op).operands args scope ++ spot_types_all targets scope
+    types (Operated op args) scope = operand_types (asked_by op) (row_of op).operands args scope
+    types (Assigned target value) scope = types value scope ++ spot_types target scope
+    types (AssignedBy op target value) scope = types target scope ++ types value scope
     types (Buffer size bytes) scope = types size scope
     types (Package n elements) scope = element_types_all elements scope
     types (VarPackage size elements) scope = types size scope ++ element_types_all elements scope
     types (CondRefOf place target) scope = spot_types place scope ++ spot_types target scope
     types (If test body) scope = types test scope ++ types_all body scope
+    types (ElseIf test body) scope = types test scope ++ types_all body scope
     types (Else body) scope = types_all body scope
     types (While test body) scope = types test scope ++ types_all body scope
-    types (OperationRegion at name space args) scope = operand_types region_letters args scope
-    types (BankField here from region to bank value flags items) scope = types value scope
-    types (CreateField form args at name) scope = operand_types (field_letters form) args scope
+    types (OperationRegion at name space args) scope = operand_types Anything region_letters args scope
+    types (Field here from region flags items) scope = asked_types (ARegion here) from region scope
+    types (IndexField here from index to register flags items) scope = asked_types AUnit from index scope ++ asked_types AUnit to register scope
+    types (BankField here from region to bank value flags items) scope =
+        asked_types (ARegion here) from region scope ++ (asked_types AUnit to bank scope ++ types value scope)
+    types (CreateField form args at name) scope = operand_types Anything (field_letters form) args scope
     types (Return value) scope = types value scope
     types (Name at name value) scope = types value scope
     types (Method at name flags body) scope = types_all body (place_of name scope)
@@ -213,17 +289,20 @@ module _ (whole : Whole) where
     -- a term that stands for a place
     pub spot_types : Tree → AbsolutePath → List NameError
     spot_types (Apply op args targets) scope =
-        spot_form_types (spot_form op) (operand_types (row_of op).operands args scope ++ spot_types_all targets scope) (first_types args scope)
+        spot_form_types (spot_form op) (operand_types (asked_by op) (row_of op).operands args scope ++ spot_types_all targets scope) (first_types args scope)
+    spot_types (Operated op args) scope =
+        spot_form_types (spot_form op) (operand_types (asked_by op) (row_of op).operands args scope) (first_types args scope)
     spot_types t scope = []
 
     pub first_types : Trees → AbsolutePath → List NameError
     first_types no_trees scope = []
     first_types (tree t ts) scope = types t scope
 
-    pub operand_types : List Letter → Trees → AbsolutePath → List NameError
-    operand_types [] ts scope = []
-    operand_types (letter ∷ letters) no_trees scope = []
-    operand_types (letter ∷ letters) (tree t ts) scope = letter_types letter (types t scope) (spot_types t scope) ++ operand_types letters ts scope
+    pub operand_types : Asked → List Letter → Trees → AbsolutePath → List NameError
+    operand_types asked [] ts scope = []
+    operand_types asked (letter ∷ letters) no_trees scope = []
+    operand_types asked (letter ∷ letters) (tree t ts) scope =
+        letter_types letter (types t scope) (spot_types t scope) (used_types asked t scope) ++ operand_types asked letters ts scope
 
     pub spot_types_all : Trees → AbsolutePath → List NameError
     spot_types_all no_trees scope = []

@@ -4,21 +4,22 @@ use Rattle.std.specs.Prelude.{ℕ, Bool, true, false, not, ◌&&◌, List, [], �
 use Rattle.acpi_values.specs.Paths.{AbsolutePath, is_same_path}
 use Rattle.acpi_values.specs.Operators.{Letter, Valued, Kept, Placed, Used, Row, row_of}
 use Rattle.acpi_values.specs.Operators as L
+use Rattle.acpi_values.specs.declared.operator.Plain.{Plain}
 use Rattle.acpi_state.specs.Objects.{MethodObject, ContainerObject, DataObject, MutexObject, EventObject, RegionObject}
 use Rattle.acpi_state.specs.Outcomes.{choose}
 use Rattle.asl_tree.specs.declared.path.Path.{Path}
 use Rattle.asl_tree.specs.FieldItems.{FieldItem, UnitItem, SkipItem, OffsetItem}
 use Rattle.asl_tree.specs.Names.{place_of, denoted}
-use Rattle.asl_tree.specs.Tree.{At, Tree, Use, Call, Apply, Buffer, Package, VarPackage, CondRefOf, Return, Name, Alias, External, Method, Mutex, Event, Container', Scope, Trees, no_trees, tree, count, OperationRegion, Field, IndexField, BankField, CreateField, UnitName, If, Else, While}
+use Rattle.asl_tree.specs.Tree.{At, Tree, Use, Call, Apply, Buffer, Package, VarPackage, CondRefOf, Return, Name, Alias, External, Method, Mutex, Event, Container', Scope, Trees, no_trees, tree, count, OperationRegion, Field, IndexField, BankField, CreateField, UnitName, If, ElseIf, Else, While, Operated, Assigned, AssignedBy}
 use Rattle.asl_meaning.specs.Declarations.{Declared, As, AliasOf, ExternalType, Declarations, in_root, is_named, with_declared, with_external, scope_path, declare, as_unit, as_buffer_field}
 use Rattle.asl_meaning.specs.Meaning.{SpotForm, OfResult, OfInside, NoSpot, spot_form}
 use Rattle.acpi_state.specs.FieldActs.{region_letters, field_letters}
-use Rattle.acpi_names.specs.Errors.{NameError, Missing, NoContainer, WrongCount, unless, Whole, final, is_container, takes_none, takes, unit_path, step_errors, use_errors, call_errors, declared_errors, external_errors, name_end}
+use Rattle.acpi_names.specs.Errors.{NameError, Missing, NoContainer, WrongCount, Asked, Anything, AValue, AUnit, ARegion, asked_by, unless, Whole, final, is_container, takes, unit_path, step_errors, use_errors, call_errors, declared_errors, external_errors, name_end, asked_types}
 
--- `asked` says whether the name stands where its kind is asked for, so that it may not be a method with arguments
+-- `asked` says what is asked of a used name, and of a called one whether it stands where a value is asked for
 pub data Mention : Type 0 where
   -- a used name, one that may lead nowhere, and a called one with its number of arguments
-  Used' : (asked : Bool) (at : At) (name : Path) (scope : AbsolutePath) → Mention
+  Used' : (asked : Asked) (at : At) (name : Path) (scope : AbsolutePath) → Mention
   Sought : (at : At) (name : Path) (scope : AbsolutePath) → Mention
   Called : (asked : Bool) (at : At) (name : Path) (args : ℕ) (scope : AbsolutePath) → Mention
   -- a declared name, that of an External, and that of a Scope, whose terms have the path `inner`
@@ -35,6 +36,7 @@ is_place_form OfInside = true
 -- whether a term that stands for a place is looked into
 abbrev pub is_spot : Tree → Bool
 is_spot (Apply op args targets) = is_place_form (spot_form op)
+is_spot (Operated op args) = is_place_form (spot_form op)
 is_spot _ = false
 
 abbrev pub is_use : Tree → Bool
@@ -54,12 +56,30 @@ abbrev pub cond_place : Tree → List Mention → AbsolutePath → List Mention
 cond_place (Use at name) others scope = Sought at name scope ∷ []
 cond_place t others scope = others
 
+-- what is asked of a name that is an expression, where kinds are asked for or not
+abbrev pub asked_value : Bool → Asked
+asked_value true = AValue
+asked_value false = Anything
+
+-- what an operator asks of the path that it uses, the same
+abbrev pub asked_use : Bool → Plain → Asked
+asked_use true op = asked_by op
+asked_use false op = Anything
+
+-- the path that an operator uses, of which something is asked; anything else is as ever
+abbrev pub letter_mention : Letter → Asked → Tree → List Mention → AbsolutePath → List Mention
+letter_mention Used uses (Use at name) others scope = Used' uses at name scope ∷ []
+letter_mention letter uses t others scope = others
+
 -- an expression, in a scope
 abbrev mutual
   pub mentions : Bool → Tree → AbsolutePath → List Mention
-  mentions asked (Use at name) scope = Used' asked at name scope ∷ []
+  mentions asked (Use at name) scope = Used' (asked_value asked) at name scope ∷ []
   mentions asked (Call at name args) scope = Called asked at name (count args) scope ∷ mentions_all asked args scope
-  mentions asked (Apply op args targets) scope = operand_mentions asked (row_of op).operands args scope ++ target_mentions asked targets scope
+  mentions asked (Apply op args targets) scope = operand_mentions asked (asked_use asked op) (row_of op).operands args scope ++ target_mentions asked targets scope
+  mentions asked (Operated op args) scope = operand_mentions asked (asked_use asked op) (row_of op).operands args scope
+  mentions asked (Assigned target value) scope = mentions asked value scope ++ mentions (asked && is_spot target) target scope
+  mentions asked (AssignedBy op target value) scope = mentions asked target scope ++ mentions asked value scope
   mentions asked (Buffer size bytes) scope = mentions asked size scope
   mentions asked (Package n elements) scope = element_mentions asked elements scope
   mentions asked (VarPackage size elements) scope = mentions asked size scope ++ element_mentions asked elements scope
@@ -71,11 +91,12 @@ abbrev mutual
   mentions_all asked no_trees scope = []
   mentions_all asked (tree t ts) scope = mentions asked t scope ++ mentions_all asked ts scope
 
-  -- operands by their letters
-  pub operand_mentions : Bool → List Letter → Trees → AbsolutePath → List Mention
-  operand_mentions asked letters no_trees scope = []
-  operand_mentions asked [] (tree t ts) scope = mentions false t scope ++ operand_mentions asked [] ts scope
-  operand_mentions asked (letter ∷ letters) (tree t ts) scope = mentions (asked && asks letter t) t scope ++ operand_mentions asked letters ts scope
+  -- operands by their letters, where `uses` is asked of a path that is used
+  pub operand_mentions : Bool → Asked → List Letter → Trees → AbsolutePath → List Mention
+  operand_mentions asked uses letters no_trees scope = []
+  operand_mentions asked uses [] (tree t ts) scope = mentions false t scope ++ operand_mentions asked uses [] ts scope
+  operand_mentions asked uses (letter ∷ letters) (tree t ts) scope =
+      letter_mention letter uses t (mentions (asked && asks letter t) t scope) scope ++ operand_mentions asked uses letters ts scope
 
   pub target_mentions : Bool → Trees → AbsolutePath → List Mention
   target_mentions asked no_trees scope = []
@@ -98,7 +119,7 @@ abbrev mutual
   pub term_mentions : Tree → AbsolutePath → Declarations → List Mention
   term_mentions (Return value) scope d = mentions true value scope
   term_mentions (Name at name value) scope d = Declares at name (As DataObject) scope ∷ mentions true value scope
-  term_mentions (Alias from source at name) scope d = Used' false from source scope ∷ Declares at name (AliasOf source scope) scope ∷ []
+  term_mentions (Alias from source at name) scope d = Used' Anything from source scope ∷ Declares at name (AliasOf source scope) scope ∷ []
   term_mentions (External here at name type parameters) scope d = Outside here at name (record { type = type; parameters = parameters }) scope ∷ []
   term_mentions (Method at name flags body) scope d =
       Declares at name (As (MethodObject flags)) scope ∷ block_mentions body (place_of name scope) (with_declared (place_of name scope) (As (MethodObject flags)) d)
@@ -108,14 +129,15 @@ abbrev mutual
       Declares at name (As (ContainerObject kind)) scope ∷ block_mentions body (place_of name scope) (with_declared (place_of name scope) (As (ContainerObject kind)) d)
   term_mentions (Scope here at name body) scope d = Opens here at name scope (scope_path d name scope) ∷ block_mentions body (scope_path d name scope) d
   term_mentions (If test body) scope d = mentions true test scope ++ block_mentions body scope d
+  term_mentions (ElseIf test body) scope d = mentions true test scope ++ block_mentions body scope d
   term_mentions (Else body) scope d = block_mentions body scope d
   term_mentions (While test body) scope d = mentions true test scope ++ block_mentions body scope d
-  term_mentions (OperationRegion at name space args) scope d = Declares at name (As (RegionObject space 0 0)) scope ∷ operand_mentions true region_letters args scope
-  term_mentions (Field here from region flags items) scope d = Used' false from region scope ∷ item_mentions items scope
-  term_mentions (IndexField here from index to register flags items) scope d = Used' false from index scope ∷ Used' false to register scope ∷ item_mentions items scope
+  term_mentions (OperationRegion at name space args) scope d = Declares at name (As (RegionObject space 0 0)) scope ∷ operand_mentions true Anything region_letters args scope
+  term_mentions (Field here from region flags items) scope d = Used' (ARegion here) from region scope ∷ item_mentions items scope
+  term_mentions (IndexField here from index to register flags items) scope d = Used' AUnit from index scope ∷ Used' AUnit to register scope ∷ item_mentions items scope
   term_mentions (BankField here from region to bank value flags items) scope d =
-      Used' false from region scope ∷ Used' false to bank scope ∷ (mentions true value scope ++ item_mentions items scope)
-  term_mentions (CreateField form args at name) scope d = operand_mentions true (field_letters form) args scope ++ Declares at name as_buffer_field scope ∷ []
+      Used' (ARegion here) from region scope ∷ Used' AUnit to bank scope ∷ (mentions true value scope ++ item_mentions items scope)
+  term_mentions (CreateField form args at name) scope d = operand_mentions true Anything (field_letters form) args scope ++ Declares at name as_buffer_field scope ∷ []
   term_mentions t scope d = mentions true t scope
 
   pub block_mentions : Trees → AbsolutePath → Declarations → List Mention
@@ -161,7 +183,7 @@ module _ (whole : Whole) where
 
   -- the class of kinds and counts
   abbrev pub mention_types : Mention → List NameError
-  mention_types (Used' true at name scope) = unless (takes_none (name_end whole name scope)) (WrongCount at name)
+  mention_types (Used' asked at name scope) = asked_types whole asked at name scope
   mention_types (Called true at name args scope) = unless (takes args (name_end whole name scope)) (WrongCount at name)
   mention_types _ = []
 

@@ -1,6 +1,6 @@
 -- What a form is for the names of a block.
 use Rattle.std.specs.Prelude.{◌≡◌, ◌||◌, ◌+◌, ℕ, zero, suc, Bool, true, false, ◌&&◌, List, [], ◌∷◌, Option, Some, None, if◌then◌else◌}
-use Rattle.acpi_values.specs.Paths.{AbsolutePath, is_same_path}
+use Rattle.acpi_values.specs.Paths.{NameSeg, AbsolutePath, is_same_path}
 use Rattle.acpi_state.specs.Objects.{Object, DataObject, MethodObject, ContainerObject, MutexObject, EventObject, RegionObject, UnitObject, BufferFieldObject, Device, ThermalZone, PowerResource, Processor}
 use Rattle.acpi_state.specs.FieldUnits.{OfOtherTable, OverItsOwn}
 use Rattle.acpi_state.specs.Outcomes.{choose}
@@ -15,12 +15,14 @@ use Rattle.asl_tree.specs.declared.term.Control.TheVariants as Control
 use Rattle.asl_meaning.specs.Declarations.{is_named, As, AliasOf, Declarations, with_declared, with_external, in_root, scope_path, declare_all, declare_items}
 use Rattle.asl_tree.specs.Names.{place_of}
 use Rattle.asl_tree.specs.View.{items_in}
-use Rattle.asl_tree.specs.Tree.{Tree, Use, Integer, Trees, no_trees, tree}
+use Rattle.asl_tree.specs.FieldItems.{FieldItem}
+use Rattle.asl_tree.specs.Tree.{Tree, Use, Integer, Item, UnitName, Trees, no_trees, tree}
 use Rattle.acpi_names.specs.Paths.{is_named_in}
 use Rattle.acpi_names.specs.declared.part.What.{What}
 use Rattle.acpi_names.specs.declared.part.What.TheVariants as W
 use Rattle.acpi_names.specs.declared.part.Part.{Part}
 use Rattle.acpi_names.specs.declared.part.Part.TheVariants as P
+use Rattle.acpi_names.specs.declared.part.Over.TheVariants as O
 
 -- the object that is declared
 abbrev pub object_of : What → Object
@@ -115,10 +117,11 @@ part_of (Op.Declaration Declaration.CreateByteField) args body = fitting (is_the
 part_of (Op.Declaration Declaration.CreateWordField) args body = fitting (is_there (name_at 2 args) && (are 3 args && are 0 body)) (P.Declares 2 W.BufferField false)
 part_of (Op.Declaration Declaration.CreateDWordField) args body = fitting (is_there (name_at 2 args) && (are 3 args && are 0 body)) (P.Declares 2 W.BufferField false)
 part_of (Op.Declaration Declaration.CreateQWordField) args body = fitting (is_there (name_at 2 args) && (are 3 args && are 0 body)) (P.Declares 2 W.BufferField false)
-part_of (Op.Declaration Declaration.Field) args body = if is_there (name_at 0 args) then with_number (number_at 1 args) (λ flags. fitting (are 2 args) P.Items) else P.Nothing
-part_of (Op.Declaration Declaration.IndexField) args body = if is_there (name_at 0 args) && is_there (name_at 1 args) then with_number (number_at 2 args) (λ flags. fitting (are 3 args) P.Items) else P.Nothing
-part_of (Op.Declaration Declaration.BankField) args body = if is_there (name_at 0 args) && is_there (name_at 1 args) then with_number (number_at 3 args) (λ flags. fitting (are 4 args) P.Items) else P.Nothing
+part_of (Op.Declaration Declaration.Field) args body = if is_there (name_at 0 args) then with_number (number_at 1 args) (λ flags. fitting (are 2 args) (P.Units O.Region)) else P.Nothing
+part_of (Op.Declaration Declaration.IndexField) args body = if is_there (name_at 0 args) && is_there (name_at 1 args) then with_number (number_at 2 args) (λ flags. fitting (are 3 args) (P.Units O.Index)) else P.Nothing
+part_of (Op.Declaration Declaration.BankField) args body = if is_there (name_at 0 args) && is_there (name_at 1 args) then with_number (number_at 3 args) (λ flags. fitting (are 4 args) (P.Units O.Bank)) else P.Nothing
 part_of (Op.Control Control.If) args body = fitting (are 1 args) P.Within
+part_of (Op.Control Control.ElseIf) args body = fitting (are 1 args) P.Within
 part_of (Op.Control Control.Else) args body = fitting (are 0 args) P.Within
 part_of (Op.Control Control.While) args body = fitting (are 1 args) P.Within
 part_of (Op.Control Control.Return) args body = fitting (are 1 args && are 0 body) P.Returns
@@ -141,7 +144,24 @@ declare_part (P.External type parameters) args body scope d =
 declare_part P.Scope args body scope d = choose (name_at 0 args) d (λ name. declare_all body (scope_path d name scope) d)
 declare_part P.Returns args body scope d = d
 declare_part P.Within args body scope d = declare_all body scope d
-declare_part P.Items args body scope d = choose (items_in body) d (λ items. declare_items items scope d)
+declare_part (P.Units over) args body scope d = choose (items_in body) d (λ items. declare_items items scope d)
+
+-- the items of a field among terms, and the name of a unit
+abbrev pub is_item_term : Term → Bool
+is_item_term (D.Unit segment bits) = true
+is_item_term (D.Skip bits) = true
+is_item_term (D.Offset bytes) = true
+is_item_term _ = false
+
+abbrev pub unit_of : Term → Option NameSeg
+unit_of (D.Unit segment bits) = Some segment
+unit_of _ = None
+
+-- the items among some trees
+abbrev pub listed_items : Trees → List (FieldItem UnitName)
+listed_items no_trees = []
+listed_items (tree (Item item) ts) = item ∷ listed_items ts
+listed_items (tree _ ts) = listed_items ts
 
 -- the flags name what is declared
 abbrev pub Agrees : List AbsolutePath → List Bool → Declarations → Type 0

@@ -6,14 +6,30 @@ use Rattle.asl_tree.specs.Tree.{At, Tree, Use, Trees, no_trees, tree}
 use Rattle.asl_meaning.specs.Declarations.{As, AliasOf}
 use Rattle.asl_meaning.specs.Declarations as D
 use Rattle.acpi_names.specs.Parts.{object_of}
+use Rattle.acpi_names.specs.Errors.{unit_path}
+use Rattle.acpi_names.specs.Errors as E
 use Rattle.acpi_names.specs.Mentions as M
 use Rattle.acpi_names.specs.declared.mention.Spot.{Spot}
 use Rattle.acpi_names.specs.declared.mention.Named.{Named}
 use Rattle.acpi_names.specs.declared.mention.Declared.{Declared}
+use Rattle.acpi_names.specs.declared.mention.WrittenName.{WrittenName}
+use Rattle.acpi_names.specs.declared.mention.Asked.{Asked}
 use Rattle.acpi_names.specs.declared.mention.Mention.{Mention}
 
 abbrev pub spot_as : Spot → At
 spot_as spot = record { id = spot.id; place = spot.place }
+
+abbrev pub written_as : WrittenName → Path
+written_as (WrittenName.Path name) = name.now
+written_as (WrittenName.Segment segment) = unit_path segment
+
+abbrev pub asked_as : Asked → E.Asked
+asked_as Asked.Anything = E.Anything
+asked_as Asked.Value = E.AValue
+asked_as Asked.Mutex = E.AMutex
+asked_as Asked.Event = E.AnEvent
+asked_as Asked.Unit = E.AUnit
+asked_as (Asked.Region field) = E.ARegion (spot_as field)
 
 abbrev pub named_as : Named → At × Path
 named_as named = (spot_as named.at, named.name.now)
@@ -34,10 +50,10 @@ module _ (paths : List AbsolutePath) where
   declared_as (Declared.Alias source scope) = AliasOf source.now (get_or paths scope [])
 
   abbrev pub shown : Mention → M.Mention
-  shown (Mention.Used asked at name scope) = M.Used' asked (spot_as at) name.now (get_or paths scope [])
+  shown (Mention.Used asked at name scope) = M.Used' (asked_as asked) (spot_as at) name.now (get_or paths scope [])
   shown (Mention.Sought at name scope) = M.Sought (spot_as at) name.now (get_or paths scope [])
   shown (Mention.Called asked at name args scope) = M.Called asked (spot_as at) name.now args (get_or paths scope [])
-  shown (Mention.Declares at name what scope) = M.Declares (spot_as at) name.now (declared_as what) (get_or paths scope [])
+  shown (Mention.Declares at name what scope) = M.Declares (spot_as at) (written_as name) (declared_as what) (get_or paths scope [])
   shown (Mention.Outside here at name object parameters scope) =
       M.Outside (spot_as here) (spot_as at) name.now (record { type = object; parameters = parameters }) (get_or paths scope [])
   shown (Mention.Opens here at name scope inner) = M.Opens (spot_as here) (spot_as at) name.now (get_or paths scope []) (get_or paths inner [])

@@ -5,7 +5,7 @@ use Rattle.acpi_state.specs.Outcomes.{choose}
 use Rattle.asl_tree.specs.declared.path.Path.{Path}
 use Rattle.asl_tree.specs.Names.{place_of, denoted, spelled_name, spelled_element}
 use Rattle.asl_meaning.specs.Declarations.{ExternalType}
-use Rattle.asl_tree.specs.Tree.{Tree, Use, Call, Apply, Buffer, Package, VarPackage, CondRefOf, Return, Name, Alias, External, Method, Container', Scope, Trees, no_trees, tree, OperationRegion, Field, IndexField, BankField, CreateField, If, Else, While}
+use Rattle.asl_tree.specs.Tree.{Tree, Use, Call, Apply, Buffer, Package, VarPackage, CondRefOf, Return, Name, Alias, External, Method, Container', Scope, Trees, no_trees, tree, OperationRegion, Field, IndexField, BankField, CreateField, If, ElseIf, Else, While, Operated, Assigned, AssignedBy}
 
 module _ (has : AbsolutePath → Bool) where
   -- the scope of a Scope's terms
@@ -24,11 +24,15 @@ module _ (has : AbsolutePath → Bool) (says : AbsolutePath → ExternalType →
     spelled (Use at name) scope = Use at (spelled_name has name scope)
     spelled (Call at name args) scope = Call at (spelled_name has name scope) (spelled_all args scope)
     spelled (Apply op args targets) scope = Apply op (spelled_all args scope) (spelled_all targets scope)
+    spelled (Operated op args) scope = Operated op (spelled_all args scope)
+    spelled (Assigned target value) scope = Assigned (spelled target scope) (spelled value scope)
+    spelled (AssignedBy op target value) scope = AssignedBy op (spelled target scope) (spelled value scope)
     spelled (Buffer size bytes) scope = Buffer (spelled size scope) bytes
     spelled (Package n elements) scope = Package n (spelled_elements elements scope)
     spelled (VarPackage size elements) scope = VarPackage (spelled size scope) (spelled_elements elements scope)
     spelled (CondRefOf place target) scope = CondRefOf (spelled place scope) (spelled target scope)
     spelled (If test body) scope = If (spelled test scope) (spelled_all body scope)
+    spelled (ElseIf test body) scope = ElseIf (spelled test scope) (spelled_all body scope)
     spelled (Else body) scope = Else (spelled_all body scope)
     spelled (While test body) scope = While (spelled test scope) (spelled_all body scope)
     spelled (OperationRegion at name space args) scope = OperationRegion at name space (spelled_all args scope)

@@ -1,6 +1,6 @@
 -- Where expressions stand and where terms: no term that declares, and no statement, stands inside an expression.
 use Rattle.std.specs.Prelude.{Bool, true, false, ◌&&◌}
-use Rattle.asl_tree.specs.Tree.{Tree, Call, Apply, Buffer, Package, VarPackage, CondRefOf, Return, Name, Alias, External, Method, Mutex, Event, Container', Scope, Trees, no_trees, tree, OperationRegion, Field, IndexField, BankField, CreateField, If, Else, While}
+use Rattle.asl_tree.specs.Tree.{Tree, Call, Apply, Buffer, Package, VarPackage, CondRefOf, Return, Name, Alias, External, Method, Mutex, Event, Container', Scope, Trees, no_trees, tree, OperationRegion, Field, IndexField, BankField, CreateField, If, ElseIf, Else, While, Operated, Assigned, AssignedBy}
 use Rattle.asl_meaning.specs.Meaning.{SpotForm, OfInside, spot_form}
 
 -- an operator that leads to the place which its operand refers to has no targets
@@ -12,6 +12,9 @@ abbrev mutual
   pub is_value : Tree → Bool
   is_value (Call at name args) = are_values args
   is_value (Apply op args targets) = has_no_targets (spot_form op) targets && (are_values args && are_values targets)
+  is_value (Operated op args) = are_values args
+  is_value (Assigned target value) = is_value target && is_value value
+  is_value (AssignedBy op target value) = is_value target && is_value value
   is_value (Buffer size bytes) = is_value size
   is_value (Package n elements) = are_values elements
   is_value (VarPackage size elements) = is_value size && are_values elements
@@ -26,6 +29,7 @@ abbrev mutual
   is_value (Container' kind at name body) = false
   is_value (Scope here at name body) = false
   is_value (If test body) = false
+  is_value (ElseIf test body) = false
   is_value (Else body) = false
   is_value (While test body) = false
   is_value (OperationRegion at name space args) = false
@@ -51,6 +55,7 @@ abbrev mutual
   is_term (Container' kind at name body) = are_terms body
   is_term (Scope here at name body) = are_terms body
   is_term (If test body) = is_value test && are_terms body
+  is_term (ElseIf test body) = is_value test && are_terms body
   is_term (Else body) = are_terms body
   is_term (While test body) = is_value test && are_terms body
   is_term (OperationRegion at name space args) = are_values args

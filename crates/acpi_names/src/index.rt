@@ -14,7 +14,10 @@ ghost use Rattle.asl_meaning.specs.Declarations.{Declarations, declare, declare_
 ghost use Rattle.acpi_names.specs.Paths.{Extends, path_with};
 ghost use Rattle.acpi_names.specs.Parts.{Agrees, Marks, Keeps, Leads, part_of};
 
-use crate::mention::{Declared, Mention, Spot, first_nodes, later_nodes, name_at, spot_of};
+use crate::field::fold_field;
+use crate::mention::{
+    Asked, Declared, Mention, Spot, WrittenName, first_nodes, later_nodes, name_at, spot_of,
+};
 use crate::part::{Part, Shape, What, part_for, shape_of};
 use crate::paths::Paths;
 use crate::place::{denotes, intern, prefixed};
@@ -31,7 +34,7 @@ pub struct Index {
 }
 
 /// The number of the path of these segments below a scope; nothing more is named.
-pub(crate) fn reach(index: &mut Index, scope: usize, segs: &[NameSeg]) -> Result<usize, AllocError>
+pub fn reach(index: &mut Index, scope: usize, segs: &[NameSeg]) -> Result<usize, AllocError>
     requires scope_in { scope < length index.old.paths }
     requires all { length index.old.named.items ≡ length index.old.paths }
     ensures size { OnOk result (length index.new.named.items ≡ length index.new.paths) }
@@ -219,8 +222,10 @@ fn fold_form<'a>(
             values(out, args, scope, true)?;
             Ok(())
         }
-        // The units of fields are not built yet.
-        Part::Items => Err(AllocError),
+        Part::Units(over) => {
+            fold_field(index, out, here, over, args, body, scope)?;
+            Ok(())
+        }
     }
 }
 
@@ -248,7 +253,7 @@ fn fold_declared<'a>(
             values(out, first_nodes(args, place), scope, true)?;
             out.push(Mention::Declares {
                 at: found.at,
-                name: found.name,
+                name: WrittenName::Path(found.name),
                 what: Declared::As(what),
                 scope,
             })?;
@@ -280,14 +285,14 @@ fn fold_alias<'a>(
         Some(source) => match name_at(args, 1) {
             Some(alias) => {
                 out.push(Mention::Used {
-                    asked: false,
+                    asked: Asked::Anything,
                     at: source.at,
                     name: source.name,
                     scope,
                 })?;
                 out.push(Mention::Declares {
                     at: alias.at,
-                    name: alias.name,
+                    name: WrittenName::Path(alias.name),
                     what: Declared::Alias {
                         source: source.name,
                         scope,

@@ -6,7 +6,7 @@ ghost use Rattle.acpi_names.specs.Walked.{first_trees, later_trees};
 ghost use Rattle.asl_tree.specs.View.{trees_of};
 
 use crate::part::{Shape, What, node_at, shape_of};
-use asl_tree::path::Path;
+use asl_tree::path::{NameSeg, Path};
 use asl_tree::term::Node;
 use iasl_messages::place::Place;
 
@@ -31,12 +31,30 @@ pub enum Declared<'a> {
     Alias { source: &'a Path, scope: usize },
 }
 
-/// A mention of a name. `scope` is the number of the path of the scope in which it stands. `asked` says whether it
-/// stands where its kind is asked for, so that it may not be a method with arguments.
+/// A declared name as it is written: a path, or the one segment of a field's unit.
+#[derive(Clone, Copy)]
+pub enum WrittenName<'a> {
+    Path(&'a Path),
+    Segment(NameSeg),
+}
+
+/// What is asked of a used name: nothing; that it is a value, and so no method with arguments; or that it is an object
+/// of a kind. A field asks at its own node for a region that it can lie in.
+#[derive(Clone, Copy, PartialEq, Eq, Debug)]
+pub enum Asked {
+    Anything,
+    Value,
+    Mutex,
+    Event,
+    Unit,
+    Region(Spot),
+}
+
+/// A mention of a name. `scope` is the number of the path of the scope in which it stands.
 #[derive(Clone, Copy)]
 pub enum Mention<'a> {
     Used {
-        asked: bool,
+        asked: Asked,
         at: Spot,
         name: &'a Path,
         scope: usize,
@@ -47,7 +65,7 @@ pub enum Mention<'a> {
         name: &'a Path,
         scope: usize,
     },
-    /// A name with arguments behind it.
+    /// A name with arguments behind it. `asked` says whether it stands where a value is asked for.
     Called {
         asked: bool,
         at: Spot,
@@ -57,7 +75,7 @@ pub enum Mention<'a> {
     },
     Declares {
         at: Spot,
-        name: &'a Path,
+        name: WrittenName<'a>,
         what: Declared<'a>,
         scope: usize,
     },
@@ -80,7 +98,7 @@ pub enum Mention<'a> {
     },
 }
 
-pub(crate) fn spot_of(node: &Node) -> Spot
+pub fn spot_of(node: &Node) -> Spot
     ensures { result ≡ record { id = node.now.id; place = node.now.place } }
 {
     Spot {

@@ -1,7 +1,6 @@
-use crate::index::{Found, Index, denoted_by, names_of};
-use crate::mention::Mention;
-use crate::spell::spell;
-use acpi_values::operator::{DataOp, Plain};
+use crate::index::{Found, denoted_by, names_of};
+use crate::mention::{Asked, Mention};
+use acpi_values::operator::{DataOp, EventOp, Plain};
 use asl_tree::path::{NameSeg, Path, Segs};
 use asl_tree::term::{Control, Declaration, Node, Op, Special, Term};
 use iasl_messages::place::Place;
@@ -135,12 +134,31 @@ fn many_names_are_found(rt: HostRuntime) -> Result<(), Fail> {
     Ok(())
 }
 
-// One letter a mention; a small one where its kind is not asked for.
+// One letter a mention; a small one where nothing is asked of its kind.
 fn letters(alloc: Global, found: &Found) -> Result<Vec<u8>, AllocError> {
     let mut out = Vec::new(alloc);
     for mention in &found.mentions {
         let letter = match mention {
-            Mention::Used { asked: true, .. } => b'U',
+            Mention::Used {
+                asked: Asked::Value,
+                ..
+            } => b'U',
+            Mention::Used {
+                asked: Asked::Mutex,
+                ..
+            } => b'M',
+            Mention::Used {
+                asked: Asked::Event,
+                ..
+            } => b'V',
+            Mention::Used {
+                asked: Asked::Unit,
+                ..
+            } => b'F',
+            Mention::Used {
+                asked: Asked::Region(_),
+                ..
+            } => b'R',
             Mention::Used { .. } => b'u',
             Mention::Sought { .. } => b'S',
             Mention::Called { asked: true, .. } => b'C',
@@ -233,208 +251,87 @@ fn mentions_stand_in_order(rt: HostRuntime) -> Result<(), Fail> {
     Ok(())
 }
 
-// The names and the numbers of terms, each with a space behind it, in the order in which they stand.
-fn write_terms(out: &mut Vec<u8>, nodes: &[Node]) -> Result<(), AllocError> {
-    for node in nodes {
-        match &node.term {
-            Term::Name(path) => write_path(out, path)?,
-            Term::Integer(number) => {
-                out.push(b"0123456789"[(*number % 10) as usize])?;
-                out.push(b' ')?;
-            }
-            Term::Call { path, args } => {
-                write_path(out, path)?;
-                write_terms(out, args)?;
-            }
-            Term::Form { op, args, body } => {
-                write_terms(out, args)?;
-                write_terms(out, body)?;
-            }
-            _ => {}
-        }
-    }
-    Ok(())
-}
-
-fn write_path(out: &mut Vec<u8>, path: &Path) -> Result<(), AllocError> {
-    if path.root {
-        out.push(b'\\')?;
-    }
-    for segment in path.segs.as_slice() {
-        for byte in segment {
-            out.push(*byte)?;
-        }
-        out.push(b' ')?;
-    }
-    Ok(())
-}
-
-// The number of a name's path from the root, if it is there.
-fn number_of(alloc: Global, index: &Index, segment: NameSeg) -> Result<usize, AllocError> {
-    match name(alloc, segment)? {
-        Term::Name(path) => {
-            if index.named.len() != index.paths.len() || index.paths.len() == 0 {
-                return Ok(0);
-            }
-            Ok(denoted_by(index, &path, 0).unwrap_or(0))
-        }
-        _ => Ok(0),
-    }
-}
-
-// The terms as they are spelled, where a name is called first with so many arguments.
-fn spelled(
+// A field with these names as its first arguments, and these units, each behind a gap.
+fn field(
     alloc: Global,
-    mut terms: Vec<Node>,
-    called: NameSeg,
-    count: Option<usize>,
-) -> Result<Vec<u8>, AllocError> {
-    let Found {
-        mut index,
-        mentions,
-    } = names_of(alloc, &terms)?;
-    drop(mentions);
-    let number = number_of(alloc, &index, called)?;
-    let mut calls = Vec::new(alloc);
-    for _ in 0..number {
-        calls.push(None)?;
-    }
-    calls.push(count)?;
-    if index.named.len() == index.paths.len() && calls.len() <= index.paths.len() {
-        spell(alloc, &mut index, &calls, &mut terms)?;
-    }
-    let mut out = Vec::new(alloc);
-    write_terms(&mut out, &terms)?;
-    Ok(out)
-}
-
-// Name (segment, other)
-fn named_other(alloc: Global, segment: NameSeg, other: Term) -> Result<Term, AllocError> {
-    let mut value = Vec::new(alloc);
-    add(&mut value, other)?;
-    named_form(alloc, Declaration::Name, segment, value, Vec::new(alloc))
-}
-
-fn package(alloc: Global, segments: &[NameSeg]) -> Result<Term, AllocError> {
+    op: Declaration,
+    used: &[NameSeg],
+    units: &[NameSeg],
+) -> Result<Term, AllocError> {
     let mut args = Vec::new(alloc);
-    add(&mut args, Term::Omitted)?;
-    let mut body = Vec::new(alloc);
-    for segment in segments {
-        add(&mut body, name(alloc, *segment)?)?;
+    for segment in used {
+        add(&mut args, name(alloc, *segment)?)?;
     }
+    add(&mut args, Term::Integer(1))?;
+    let mut body = Vec::new(alloc);
+    for segment in units {
+        add(&mut body, Term::Skip(4))?;
+        add(
+            &mut body,
+            Term::Unit {
+                segment: *segment,
+                bits: 8,
+            },
+        )?;
+    }
+    add(&mut body, Term::Offset(16))?;
     Ok(Term::Form {
-        op: Op::Special(Special::Package),
+        op: Op::Declaration(op),
         args,
         body,
     })
 }
 
-// Device (A) { Name (X, 0) Name (B, X) Name (Y, 1) Name (C, Y) }, Name (X, 2), Name (D, X),
-// Name (P, Package { X, Z }): in A, X has two candidates and Y has one; a Package's names are searched late.
+// Field (R) { A, B }, IndexField (A, B) { C }, BankField (R, A, X) { E }, Release (M), Wait (V, X)
 #[test]
-fn names_are_spelled(rt: HostRuntime) -> Result<(), Fail> {
+fn fields_use_and_declare_names(rt: HostRuntime) -> Result<(), Fail> {
     let alloc = rt.alloc();
-    let mut body = Vec::new(alloc);
-    add(&mut body, named_other(alloc, *b"X___", Term::Integer(0))?)?;
+    let mut nodes = Vec::new(alloc);
     add(
-        &mut body,
-        named_other(alloc, *b"B___", name(alloc, *b"X___")?)?,
-    )?;
-    add(&mut body, named_other(alloc, *b"Y___", Term::Integer(1))?)?;
-    add(
-        &mut body,
-        named_other(alloc, *b"C___", name(alloc, *b"Y___")?)?,
-    )?;
-    let mut terms = Vec::new(alloc);
-    add(
-        &mut terms,
-        named_form(alloc, Declaration::Device, *b"A___", Vec::new(alloc), body)?,
-    )?;
-    add(&mut terms, named_other(alloc, *b"X___", Term::Integer(2))?)?;
-    add(
-        &mut terms,
-        named_other(alloc, *b"D___", name(alloc, *b"X___")?)?,
+        &mut nodes,
+        field(
+            alloc,
+            Declaration::Field,
+            &[*b"R___"],
+            &[*b"A___", *b"B___"],
+        )?,
     )?;
     add(
-        &mut terms,
-        named_other(alloc, *b"P___", package(alloc, &[*b"X___", *b"Z___"])?)?,
+        &mut nodes,
+        field(
+            alloc,
+            Declaration::IndexField,
+            &[*b"A___", *b"B___"],
+            &[*b"C___"],
+        )?,
     )?;
-    let seen = spelled(alloc, terms, *b"A___", None)?;
-    let wanted =
-        b"A___ X___ 0 B___ \\A___ X___ Y___ 1 C___ Y___ X___ 2 D___ X___ P___ \\X___ \\Z___ ";
-    assert_eq!(rt; seen.as_slice(), wanted.as_slice());
-    Ok(())
-}
-
-// An External's type, its parameters, the arguments of its first call, and the numbers that are written.
-struct Outside {
-    object: u64,
-    parameters: Option<u64>,
-    first: Option<usize>,
-    written: &'static [u8],
-}
-
-const OUTSIDE: [Outside; 6] = [
-    Outside {
-        object: 8,
-        parameters: Some(2),
-        first: None,
-        written: b"E___ 8 2 ",
-    },
-    Outside {
-        object: 8,
-        parameters: None,
-        first: Some(3),
-        written: b"E___ 8 3 ",
-    },
-    Outside {
-        object: 8,
-        parameters: None,
-        first: None,
-        written: b"E___ 8 0 ",
-    },
-    Outside {
-        object: 0,
-        parameters: None,
-        first: Some(1),
-        written: b"E___ 8 1 ",
-    },
-    Outside {
-        object: 0,
-        parameters: None,
-        first: None,
-        written: b"E___ 0 0 ",
-    },
-    Outside {
-        object: 1,
-        parameters: None,
-        first: None,
-        written: b"E___ 1 0 ",
-    },
-];
-
-#[test]
-fn externals_say_type_and_arity(rt: HostRuntime) -> Result<(), Fail> {
-    let alloc = rt.alloc();
-    for case in &OUTSIDE {
-        let mut numbers = Vec::new(alloc);
-        add(&mut numbers, Term::Integer(case.object))?;
-        if let Some(count) = case.parameters {
-            add(&mut numbers, Term::Integer(count))?;
-        }
-        let mut terms = Vec::new(alloc);
-        add(
-            &mut terms,
-            named_form(
-                alloc,
-                Declaration::External,
-                *b"E___",
-                numbers,
-                Vec::new(alloc),
-            )?,
-        )?;
-        let seen = spelled(alloc, terms, *b"E___", case.first)?;
-        assert_eq!(rt; seen.as_slice(), case.written);
-    }
+    add(
+        &mut nodes,
+        field(
+            alloc,
+            Declaration::BankField,
+            &[*b"R___", *b"A___", *b"X___"],
+            &[*b"E___"],
+        )?,
+    )?;
+    add(
+        &mut nodes,
+        operator(
+            alloc,
+            Op::Plain(Plain::Event(EventOp::Release)),
+            &[*b"M___"],
+        )?,
+    )?;
+    add(
+        &mut nodes,
+        operator(
+            alloc,
+            Op::Plain(Plain::Event(EventOp::Wait)),
+            &[*b"V___", *b"X___"],
+        )?,
+    )?;
+    let found = names_of(alloc, &nodes)?;
+    let seen = letters(alloc, &found)?;
+    assert_eq!(rt; seen.as_slice(), b"RDDFFDRFUDMVU".as_slice());
     Ok(())
 }

@@ -1,13 +1,16 @@
 //! The names that expressions mention.
-ghost use Rattle.std.specs.Prelude.{◌≡◌, [], ◌∷◌, get_or, not, ◌&&◌, OnOk, slice_get};
+ghost use Rattle.std.specs.Prelude.{◌≡◌, false, [], ◌∷◌, get_or, not, ◌&&◌, OnOk, slice_get};
 ghost use Rattle.asl_tree.specs.View.{trees_of};
 ghost use Rattle.asl_operators.specs.Letters.{letters_as};
-ghost use Rattle.acpi_names.specs.Mentions.{is_spot as spot_is, is_use as use_is, mentions, mentions_all, element_mentions};
-ghost use Rattle.acpi_names.specs.Walked.{value_form_of, value_mentions, optional_mentions, argument_mentions, cond_mention, node_tree};
-ghost use Rattle.acpi_names.specs.Shown.{Tells};
+ghost use Rattle.acpi_names.specs.Errors.{asked_by as asks_by};
+ghost use Rattle.acpi_names.specs.Mentions.{is_spot as spot_is, is_use as use_is, asked_value as value_asked, asked_use as use_asked, letter_mention, mentions, mentions_all, element_mentions};
+ghost use Rattle.acpi_values.specs.Operators as L;
+ghost use Rattle.acpi_names.specs.Walked.{value_form_of, value_mentions, optional_mentions, argument_mentions, cond_mention, node_tree, assign_mentions};
+ghost use Rattle.acpi_names.specs.Shown.{Tells, asked_as};
 
-use crate::mention::{Mention, spot_of};
+use crate::mention::{Asked, Mention, spot_of};
 use crate::part::{Shape, ValueForm, is_spot, is_use, shape_of, value_form_for};
+use acpi_values::operator::{EventOp, Plain};
 use asl_operators::letter::Letter;
 use asl_operators::rows::letters;
 use asl_tree::term::{Node, Op};
@@ -35,6 +38,33 @@ fn asks_element(asked: bool, node: &Node) -> bool
     asked && !is_use(&node.term)
 }
 
+// What is asked of a name that is an expression.
+fn asked_value(asked: bool) -> Asked
+    ensures { asked_as result ≡ value_asked asked }
+{
+    if asked { Asked::Value } else { Asked::Anything }
+}
+
+// What an operator asks of the path that it uses.
+fn asked_by(op: Plain) -> Asked
+    ensures { asked_as result ≡ asks_by op }
+{
+    match op {
+        Plain::Event(EventOp::Acquire) | Plain::Event(EventOp::Release) => Asked::Mutex,
+        Plain::Event(EventOp::Wait)
+        | Plain::Event(EventOp::Signal)
+        | Plain::Event(EventOp::Reset) => Asked::Event,
+        _ => Asked::Anything,
+    }
+}
+
+// The same, where kinds are asked for or not.
+fn asked_use(asked: bool, op: Plain) -> Asked
+    ensures { asked_as result ≡ use_asked asked op }
+{
+    if asked { asked_by(op) } else { Asked::Anything }
+}
+
 /// The mentions of an expression.
 #[cycle(walk)]
 pub(crate) fn value<'a>(
@@ -49,7 +79,7 @@ pub(crate) fn value<'a>(
     match shape_of(&node.term) {
         Shape::Name(name) => {
             out.push(Mention::Used {
-                asked,
+                asked: asked_value(asked),
                 at,
                 name,
                 scope,
@@ -106,7 +136,7 @@ pub(crate) fn form<'a>(
     match value_form_for(op, args, body) {
         ValueForm::Nothing => Ok(()),
         ValueForm::Operator(op) => {
-            operands(out, letters(op), args, scope, asked)?;
+            operands(out, letters(op), asked_use(asked, op), args, scope, asked)?;
             Ok(())
         }
         ValueForm::CondRefOf => match args {
@@ -117,6 +147,14 @@ pub(crate) fn form<'a>(
             }
             _ => Ok(()),
         },
+        ValueForm::Assign => {
+            assignment(out, args, scope, asked)?;
+            Ok(())
+        }
+        ValueForm::AssignBy => {
+            values(out, args, scope, asked)?;
+            Ok(())
+        }
         ValueForm::Buffer => {
             values(out, args, scope, asked)?;
             Ok(())
@@ -129,18 +167,39 @@ pub(crate) fn form<'a>(
     }
 }
 
+// The value and then the target of `X = E`.
+#[cycle(walk)]
+fn assignment<'a>(
+    out: &mut Vec<Mention<'a>>,
+    args: &'a [Node],
+    scope: usize,
+    asked: bool,
+) -> Result<(), AllocError>
+    ensures { OnOk result (Tells out.old.items out.new.items (λ paths. assign_mentions asked (trees_of args.now) (get_or paths scope []))) }
+{
+    match args {
+        [target, given] => {
+            value(out, given, scope, asked)?;
+            spot(out, target, scope, asked)?;
+            Ok(())
+        }
+        _ => Ok(()),
+    }
+}
+
 #[cycle(walk)]
 fn operands<'a>(
     out: &mut Vec<Mention<'a>>,
     letters: &[Letter],
+    uses: Asked,
     nodes: &'a [Node],
     scope: usize,
     asked: bool,
 ) -> Result<(), AllocError>
-    ensures { OnOk result (Tells out.old.items out.new.items (λ paths. argument_mentions asked (letters_as letters.now) (trees_of nodes.now) (get_or paths scope []))) }
+    ensures { OnOk result (Tells out.old.items out.new.items (λ paths. argument_mentions asked (asked_as uses) (letters_as letters.now) (trees_of nodes.now) (get_or paths scope []))) }
 {
     for (index, node) in nodes.iter().enumerate() {
-        argument(out, letter_at(letters, index), node, scope, asked)?;
+        argument(out, letter_at(letters, index), uses, node, scope, asked)?;
     }
     Ok(())
 }
@@ -150,11 +209,12 @@ fn operands<'a>(
 fn argument<'a>(
     out: &mut Vec<Mention<'a>>,
     letter: Option<Letter>,
+    uses: Asked,
     node: &'a Node,
     scope: usize,
     asked: bool,
 ) -> Result<(), AllocError>
-    ensures { OnOk result (Tells out.old.items out.new.items (λ paths. optional_mentions asked letter (node_tree node.now) (get_or paths scope []))) }
+    ensures { OnOk result (Tells out.old.items out.new.items (λ paths. optional_mentions asked (asked_as uses) letter (node_tree node.now) (get_or paths scope []))) }
 {
     match letter {
         Some(Letter::Valued) | Some(Letter::Kept) => {
@@ -166,10 +226,38 @@ fn argument<'a>(
             Ok(())
         }
         Some(Letter::Used) => {
-            value(out, node, scope, false)?;
+            used(out, node, scope, uses)?;
             Ok(())
         }
         Some(Letter::Byte) | Some(Letter::Word) | Some(Letter::DWord) => Ok(()),
+    }
+}
+
+// A path that is used.
+#[cycle(walk)]
+fn used<'a>(
+    out: &mut Vec<Mention<'a>>,
+    node: &'a Node,
+    scope: usize,
+    uses: Asked,
+) -> Result<(), AllocError>
+    ensures { OnOk result (Tells out.old.items out.new.items (λ paths. letter_mention L.Used (asked_as uses) (node_tree node.now) (mentions false (node_tree node.now) (get_or paths scope [])) (get_or paths scope []))) }
+{
+    match shape_of(&node.term) {
+        Shape::Name(name) => {
+            let at = spot_of(node);
+            out.push(Mention::Used {
+                asked: uses,
+                at,
+                name,
+                scope,
+            })?;
+            Ok(())
+        }
+        _ => {
+            value(out, node, scope, false)?;
+            Ok(())
+        }
     }
 }
 

@@ -4,7 +4,7 @@ use Rattle.byteorder.specs.Endian.{little_bytes}
 use Rattle.acpi_values.specs.declared.width.Width.{Width}
 use Rattle.asl_tree.specs.declared.term.Literal.{Literal}
 use Rattle.asl_tree.specs.FieldItems.{FieldItem, UnitItem, SkipItem, OffsetItem, behind_item}
-use Rattle.asl_tree.specs.Tree.{Tree, Integer, Constant, String, InSlot, Debug, Omitted, Raw, Use, Call, Apply, Buffer, Package, VarPackage, CondRefOf, Return, Name, Alias, External, Method, Mutex, Event, Container', Scope, Fill, Misshapen, Trees, no_trees, tree, UnitName, OperationRegion, Field, IndexField, BankField, CreateField, If, Else, While, Break, Continue, Item}
+use Rattle.asl_tree.specs.Tree.{Tree, Integer, Constant, String, InSlot, Debug, Omitted, Raw, Use, Call, Apply, Buffer, Package, VarPackage, CondRefOf, Return, Name, Alias, External, Method, Mutex, Event, Container', Scope, Fill, Misshapen, Operated, Assigned, AssignedBy, Trees, no_trees, tree, UnitName, OperationRegion, Field, IndexField, BankField, CreateField, If, ElseIf, Else, While, Break, Continue, Item}
 use Rattle.acpi_state.specs.Objects.{Container, ThermalZone, PowerResource, Processor}
 use Rattle.aml_meaning.specs.Codes.{Code, PlainCode, SlotCode, DebugCode, OmittedCode, StringCode, BufferCode, PackageCode, VarPackageCode, CondRefOfCode, NameCode, AliasCode, ScopeCode, MethodCode, ExternalCode, MutexCode, EventCode, ReturnCode, DeviceCode, ThermalZoneCode, PowerResourceCode, ProcessorCode, code_bytes, OperationRegionCode, FieldCode, IndexFieldCode, BankFieldCode, CreateFieldCode, IfCode, ElseCode, WhileCode, BreakCode, ContinueCode}
 use Rattle.aml_code.specs.Encoding.{bit_count_bytes, packed, integer_bytes, name_bytes}
@@ -96,6 +96,10 @@ abbrev mutual
   encoded width short (CreateField form args at name) = code_bytes (CreateFieldCode form) ++ (encoded_all width short args ++ name_bytes name)
   encoded width short (Item item) = []
   encoded width short (Fill bytes) = []
+  encoded width short (Operated op args) = []
+  encoded width short (Assigned target value) = []
+  encoded width short (AssignedBy op target value) = []
+  encoded width short (ElseIf test body) = []
   encoded width short Misshapen = []
 
   pub encoded_all : Width → Bool → Trees → List ℕ

@@ -14,7 +14,7 @@ use Rattle.asl_meaning.specs.Meaning.{SpotForm, OfResult, OfInside, NoSpot, spot
 use Rattle.acpi_state.specs.FieldUnits.{OfOtherTable, OverItsOwn}
 use Rattle.acpi_state.specs.FieldActs.{region_letters, field_letters}
 use Rattle.asl_tree.specs.FieldItems.{FieldItem, UnitItem, SkipItem, OffsetItem, behind_item}
-use Rattle.asl_tree.specs.Tree.{Tree, Integer, Constant, String, InSlot, Debug, Omitted, Raw, Use, Call, Apply, Buffer, Package, VarPackage, CondRefOf, Return, Name, Alias, External, Method, Mutex, Event, Container', Scope, Fill, Misshapen, Trees, no_trees, tree, count, OperationRegion, Field, IndexField, BankField, CreateField, UnitName, If, Else, While, Break, Continue, Item}
+use Rattle.asl_tree.specs.Tree.{Tree, Integer, Constant, String, InSlot, Debug, Omitted, Raw, Use, Call, Apply, Buffer, Package, VarPackage, CondRefOf, Return, Name, Alias, External, Method, Mutex, Event, Container', Scope, Fill, Misshapen, Operated, Assigned, AssignedBy, Trees, no_trees, tree, count, OperationRegion, Field, IndexField, BankField, CreateField, UnitName, If, ElseIf, Else, While, Break, Continue, Item}
 use Rattle.asl_tree.specs.View.{trees_of}
 use Rattle.aml_code.specs.Fronts.{IsName, IsUsedName, is_segment}
 use Rattle.aml_meaning.specs.Codes.{HasOwnCode, IsSlot}
@@ -49,6 +49,10 @@ is_expression (BankField here from region to bank value flags items) = false
 is_expression (CreateField form args at name) = false
 is_expression (Item item) = false
 is_expression (Fill bytes) = false
+is_expression (Operated op args) = false
+is_expression (Assigned target value) = false
+is_expression (AssignedBy op target value) = false
+is_expression (ElseIf test body) = false
 is_expression Misshapen = false
 is_expression _ = true
 
@@ -207,6 +211,10 @@ module _ (width : Width) (known : Known) where
         AreOperands (field_letters form) args scope × Declares known name scope (Is (BufferFieldObject (record { source = OverItsOwn; at = 0; bits = 0 })))
     IsReady (Item item) scope = ⊥
     IsReady (Fill bytes) scope = ⊥
+    IsReady (Operated op args) scope = ⊥
+    IsReady (Assigned target value) scope = ⊥
+    IsReady (AssignedBy op target value) scope = ⊥
+    IsReady (ElseIf test body) scope = ⊥
     IsReady Misshapen scope = ⊥
 
     -- a term that stands for a place, or a target that is left out

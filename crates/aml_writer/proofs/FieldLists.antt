@@ -8,7 +8,7 @@ use Rattle.asl_tree.specs.declared.term.Term.{Term}
 use Rattle.asl_tree.specs.declared.term.Term as D
 use Rattle.asl_tree.specs.FieldItems.{FieldItem, UnitItem, SkipItem, OffsetItem, behind_item}
 use Rattle.asl_tree.specs.Tree.{At, UnitName, Tree, Trees, tree, Item}
-use Rattle.asl_tree.specs.View.{unit_segment, items_in, form, tree_of, row_trees}
+use Rattle.asl_tree.specs.View.{items_in, form, tree_of, row_trees}
 use Rattle.aml_code.specs.Encoding.{bit_count_bytes}
 use Rattle.aml_meaning.specs.Encoded.{item_bytes, items_bytes}
 use Rattle.aml_sessions.specs.Ready.{IsItem, AreItems}
@@ -50,8 +50,8 @@ no_item _ ts at bytes h = tt
 
 by_term : (here : At) (at : ℕ) (t : Term) (nodes : List Node) (ts : Trees) → ((next : ℕ) → IsWritten next (written_items next nodes) (items_in ts)) → IsWritten at (written_term at t ++ written_items (behind_term at t) nodes) (items_in (tree (tree_of here t) ts))
 unfolding tree_of
-by_term here at (D.Unit path bits) nodes ts rest =
-    before (UnitItem (record { at = here; segment = unit_segment path.segs }) bits) at _ _ nodes (items_in ts) rest (λ h. ap (λ bs. unit_segment path.segs ++ bs) (count_written bits h.1)) (λ h. ap (λ n. at + n) (is_counted bits h.1))
+by_term here at (D.Unit segment bits) nodes ts rest =
+    before (UnitItem (record { at = here; segment = segment }) bits) at _ _ nodes (items_in ts) rest (λ h. ap (λ bs. segment ++ bs) (count_written bits h.1)) (λ h. ap (λ n. at + n) (is_counted bits h.1))
 by_term here at (D.Skip bits) nodes ts rest =
     before (SkipItem bits) at _ _ nodes (items_in ts) rest (λ h. ap (λ bs. 0x00 ∷ bs) (count_written bits h)) (λ h. ap (λ n. at + n) (is_counted bits h))
 by_term here at (D.Offset bytes) nodes ts rest =

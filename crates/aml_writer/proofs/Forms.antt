@@ -12,11 +12,12 @@ use Rattle.asl_tree.specs.declared.term.Op.{Op}
 use Rattle.asl_tree.specs.declared.term.Declaration.TheVariants as Declaration
 use Rattle.asl_tree.specs.declared.term.Control.TheVariants as Control
 use Rattle.asl_tree.specs.declared.term.Special.TheVariants as Special
+use Rattle.asl_tree.specs.declared.term.Symbolic.TheVariants as Symbolic
 use Rattle.asl_tree.specs.FieldItems.{FieldItem}
-use Rattle.asl_tree.specs.Tree.{At, Tree, Integer, String, InSlot, Omitted, Use, Call, Apply, Buffer, Package, VarPackage, CondRefOf, Return, Name, Alias, External, Method, Mutex, Event, Container', Scope, Fill, Misshapen, Trees, no_trees, tree, count, If, Else, While, OperationRegion, Field, IndexField, BankField, CreateField, UnitName}
+use Rattle.asl_tree.specs.Tree.{At, Tree, Integer, String, InSlot, Omitted, Use, Call, Apply, Buffer, Package, VarPackage, CondRefOf, Return, Name, Alias, External, Method, Mutex, Event, Container', Scope, Fill, Misshapen, Trees, no_trees, tree, count, If, ElseIf, Else, While, OperationRegion, Field, IndexField, BankField, CreateField, UnitName, Operated, Assigned, AssignedBy}
 use Rattle.acpi_state.specs.Outcomes.{choose}
 use Rattle.asl_tree.specs.View as V
-use Rattle.asl_tree.specs.View.{operands_as, targets_of, apply_of, buffer, packaged, items_in, form}
+use Rattle.asl_tree.specs.View.{fits, operated, symbol_of, operands_as, targets_of, apply_of, buffer, packaged, items_in, form}
 use Rattle.aml_meaning.specs.Codes.{BufferCode, PackageCode, VarPackageCode, code_bytes, IsSlot}
 use Rattle.aml_code.specs.Encoding.{integer_bytes, package_length_bytes, packed, name_bytes}
 use Rattle.aml_meaning.specs.Encoded.{items_bytes, encoded, encoded_all}
@@ -56,6 +57,10 @@ abbrev mutual
   IsWhole (IndexField here from index to register flags items) = IsName index × IsName register × AreItems 0 items
   IsWhole (BankField here from region to bank value flags items) = IsName region × IsName bank × IsWhole value × AreItems 0 items
   IsWhole (CreateField form args at name) = AreWhole args × IsName name
+  IsWhole (Operated op args) = ⊥
+  IsWhole (Assigned target value) = ⊥
+  IsWhole (AssignedBy op target value) = ⊥
+  IsWhole (ElseIf test body) = ⊥
   IsWhole Misshapen = ⊥
   IsWhole _ = Unit {0}
 
@@ -95,6 +100,20 @@ apply_whole (Plain.Number IntOp.LNotEqual) args h = split_whole (row_of (Plain.N
 apply_whole (Plain.Number IntOp.LLessEqual) args h = split_whole (row_of (Plain.Number IntOp.LGreater)).operands args h.0.0.0 h.0.0.1
 apply_whole (Plain.Number IntOp.LGreaterEqual) args h = split_whole (row_of (Plain.Number IntOp.LLess)).operands args h.0.0.0 h.0.0.1
 apply_whole op args h = split_whole (row_of op).operands args h.0 h.1
+
+-- what is written with a symbol is not whole
+no_operated : (op : Plain) (args : Trees) → IsWhole (operated op args) → ⊥
+no_operated (Plain.Number IntOp.LNotEqual) args h = h
+no_operated (Plain.Number IntOp.LLessEqual) args h = h
+no_operated (Plain.Number IntOp.LGreaterEqual) args h = h
+no_operated op args h = h
+
+pub no_symbol : (op : Plain) (args : Trees) → IsWhole (symbol_of op args) → ⊥
+no_symbol op args h = by_fit (fits (row_of op).operands args) h
+  where
+    by_fit : (c : Bool) → IsWhole (if c then operated op (operands_as (row_of op).operands args) else Misshapen) → ⊥
+    by_fit true h = no_operated op (operands_as (row_of op).operands args) h
+    by_fit false h = h
 
 module _ (short : Bool) where
   -- the same by cases of what stands in a package
@@ -241,6 +260,7 @@ module _ (short : Bool) where
   form_is here (Op.Declaration Declaration.CreateQWordField) (tree source (tree index (tree (Use at name) no_trees))) no_trees list h w = plain_is (0x8F ∷ []) _ _ (two_and (encoded W64 short source) (encoded W64 short index) (name_bytes name))
   form_is here (Op.Control Control.Return) (tree value no_trees) no_trees list h w = plain_is (0xA4 ∷ []) _ _ (append-nil (encoded W64 short value))
   form_is here (Op.Control Control.If) (tree test no_trees) body list h w = packed_is (0xA0 ∷ []) (encoded W64 short test ++ []) (encoded_all W64 short body) (encoded W64 short test ++ encoded_all W64 short body) (ap (λ bs. bs ++ encoded_all W64 short body) (append-nil (encoded W64 short test)))
+  form_is here (Op.Control Control.ElseIf) (tree test no_trees) body list h w = absurd h
   form_is here (Op.Control Control.Else) no_trees body list h w = packed_is (0xA1 ∷ []) [] (encoded_all W64 short body) (encoded_all W64 short body) refl
   form_is here (Op.Control Control.While) (tree test no_trees) body list h w = packed_is (0xA2 ∷ []) (encoded W64 short test ++ []) (encoded_all W64 short body) (encoded W64 short test ++ encoded_all W64 short body) (ap (λ bs. bs ++ encoded_all W64 short body) (append-nil (encoded W64 short test)))
   form_is here (Op.Control Control.Break) no_trees no_trees list h w = refl
@@ -250,4 +270,7 @@ module _ (short : Bool) where
   form_is here (Op.Special Special.CondRefOf) (tree place (tree target no_trees)) no_trees list h w = plain_is (0x5B ∷ 0x12 ∷ []) _ _ (ap (λ bs. encoded W64 short place ++ bs) (append-nil (encoded W64 short target)))
   form_is here (Op.Special Special.Buffer) (tree size no_trees) body list h w = buffer_is size body
   form_is here (Op.Special Special.Package) (tree size no_trees) body list h w = packaged_is size body
+  form_is here (Op.Symbolic (Symbolic.Operator op)) args no_trees list h w = absurd (no_symbol op args h)
+  form_is here (Op.Symbolic Symbolic.Assign) (tree target (tree value no_trees)) no_trees list h w = absurd h
+  form_is here (Op.Symbolic (Symbolic.AssignBy op)) (tree target (tree value no_trees)) no_trees list h w = absurd h
   form_is here _ _ _ list h w = absurd h

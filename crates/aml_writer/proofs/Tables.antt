@@ -16,6 +16,7 @@ use Rattle.asl_tree.specs.declared.term.Op.{Op}
 use Rattle.asl_tree.specs.declared.term.Declaration.TheVariants as Declaration
 use Rattle.asl_tree.specs.declared.term.Control.TheVariants as Control
 use Rattle.asl_tree.specs.declared.term.Special.TheVariants as Special
+use Rattle.asl_tree.specs.declared.term.Symbolic.TheVariants as Symbolic
 use Rattle.asl_tree.specs.declared.term.Node.{Node}
 use Rattle.asl_tree.specs.declared.term.Term.{Term}
 use Rattle.asl_tree.specs.declared.term.Term as D
@@ -24,7 +25,7 @@ use Rattle.asl_tree.specs.Names.{Known, place_of}
 use Rattle.asl_meaning.specs.Starts.{IsKnownStart}
 use Rattle.asl_meaning.specs.Meaning.{SpotForm, OfResult, OfInside, NoSpot, spot_form}
 use Rattle.asl_tree.specs.FieldItems.{FieldItem}
-use Rattle.asl_tree.specs.Tree.{At, Tree, Integer, InSlot, Debug, Omitted, Raw, Use, Call, Apply, Buffer, Package, VarPackage, CondRefOf, Return, Name, Alias, External, Method, Mutex, Event, Container', Scope, Fill, Misshapen, Trees, no_trees, tree, count, If, Else, While, Item, OperationRegion, Field, IndexField, BankField, CreateField, UnitName}
+use Rattle.asl_tree.specs.Tree.{At, Tree, Integer, InSlot, Debug, Omitted, Raw, Use, Call, Apply, Buffer, Package, VarPackage, CondRefOf, Return, Name, Alias, External, Method, Mutex, Event, Container', Scope, Fill, Misshapen, Trees, no_trees, tree, count, If, ElseIf, Else, While, Item, OperationRegion, Field, IndexField, BankField, CreateField, UnitName, Operated, Assigned, AssignedBy}
 use Rattle.asl_tree.specs.View.{buffer, packaged, items_in, form, tree_of, row_trees, trees_of}
 use Rattle.aml_code.specs.Encoding.{name_bytes}
 use Rattle.aml_meaning.specs.Encoded.{encoded, encoded_all}
@@ -45,7 +46,7 @@ use Rattle.aml_writer.proofs.NodePieces.{nodes_joined}
 use Rattle.acpi_state.specs.Outcomes.{choose}
 use Rattle.aml_writer.proofs.FormLeaves.{tree_leaf, tree_leaves, form_leaf}
 use Rattle.aml_writer.proofs.FieldLists.{IsWritten, items_written}
-use Rattle.aml_writer.proofs.Forms.{IsWhole, AreWhole, is_field, apply_whole, trees_bytes, all_is, formed_bytes, formed_parts, form_is}
+use Rattle.aml_writer.proofs.Forms.{IsWhole, AreWhole, is_field, apply_whole, no_symbol, trees_bytes, all_is, formed_bytes, formed_parts, form_is}
 
 -- a name that can be written has its bytes
 name_written : (path : Path) → IsName path → written_name path ≡ name_bytes path
@@ -106,6 +107,10 @@ module _ (known : Known) where
     ready_whole (CreateField form args at name) scope h = (operands_whole (field_letters form) args scope h.0, h.1.written)
     ready_whole (Fill bytes) scope h = absurd h
     ready_whole Misshapen scope h = absurd h
+    ready_whole (Operated op args) scope h = absurd h
+    ready_whole (Assigned target value) scope h = absurd h
+    ready_whole (AssignedBy op target value) scope h = absurd h
+    ready_whole (ElseIf test body) scope h = absurd h
     ready_whole _ scope h = tt
 
     spot_whole : (t : Tree) (scope : AbsolutePath) → IsSpot W64 known t scope → IsWhole t
@@ -197,6 +202,7 @@ form_whole here (Op.Declaration Declaration.CreateDWordField) (tree source (tree
 form_whole here (Op.Declaration Declaration.CreateQWordField) (tree source (tree index (tree (Use at name) no_trees))) no_trees h = ((h.0.0, (h.0.1.0, (h.1, tt))), tt)
 form_whole here (Op.Control Control.Return) (tree value no_trees) no_trees h = ((h, tt), tt)
 form_whole here (Op.Control Control.If) (tree test no_trees) body h = ((h.0, tt), h.1)
+form_whole here (Op.Control Control.ElseIf) (tree test no_trees) body h = absurd h
 form_whole here (Op.Control Control.Else) no_trees body h = (tt, h)
 form_whole here (Op.Control Control.While) (tree test no_trees) body h = ((h.0, tt), h.1)
 form_whole here (Op.Control Control.Break) no_trees no_trees h = (tt, tt)
@@ -206,6 +212,9 @@ form_whole here (Op.Plain op) args no_trees h = (apply_whole op args h, tt)
 form_whole here (Op.Special Special.CondRefOf) (tree place (tree target no_trees)) no_trees h = ((h.0, (h.1, tt)), tt)
 form_whole here (Op.Special Special.Buffer) (tree size no_trees) body h = ((buffer_whole size _ h, tt), tt)
 form_whole here (Op.Special Special.Package) (tree size no_trees) body h = let w = packaged_whole size body h in ((w.0, tt), w.1)
+form_whole here (Op.Symbolic (Symbolic.Operator op)) args no_trees h = absurd (no_symbol op args h)
+form_whole here (Op.Symbolic Symbolic.Assign) (tree target (tree value no_trees)) no_trees h = absurd h
+form_whole here (Op.Symbolic (Symbolic.AssignBy op)) (tree target (tree value no_trees)) no_trees h = absurd h
 form_whole here _ _ _ h = absurd h
 
 leaf_is : (at : At) (t : Term) → leaf_of t ≡ tree_leaf (tree_of at t)

@@ -51,9 +51,11 @@ special_code Special.CondRefOf = code_bytes CondRefOfCode
 special_code Special.Buffer = code_bytes BufferCode
 special_code Special.Package = code_bytes PackageCode
 
+-- an ElseIf and what is written with a symbol stand in no tree that is written
 abbrev pub control_code : Control → List ℕ
 control_code Control.Return = code_bytes ReturnCode
 control_code Control.If = code_bytes IfCode
+control_code Control.ElseIf = []
 control_code Control.Else = code_bytes ElseCode
 control_code Control.While = code_bytes WhileCode
 control_code Control.Break = code_bytes BreakCode
@@ -65,6 +67,7 @@ code_of (Op.Control control) = control_code control
 code_of (Op.Literal literal) = literal_bytes literal
 code_of (Op.Plain op) = plain_code op
 code_of (Op.Special special) = special_code special
+code_of (Op.Symbolic symbol) = []
 
 abbrev pub declaration_letters : Declaration → List Letter
 declaration_letters Declaration.External = Kept ∷ L.Raw 1 ∷ L.Raw 1 ∷ []

@@ -94,7 +94,7 @@ module _ (short : Bool) where
     term_bytes (D.Arg index) = ((0x68 + index) % 256) ∷ []
     term_bytes D.Debug = code_bytes DebugCode
     term_bytes D.Omitted = code_bytes OmittedCode
-    term_bytes (D.Unit path bits) = []
+    term_bytes (D.Unit segment bits) = []
     term_bytes (D.Skip bits) = []
     term_bytes (D.Offset bytes) = []
     term_bytes (D.Name path) = written_name path

@@ -30,7 +30,8 @@ use Rattle.asl_tree.specs.FieldItems.{placed_from}
 use Rattle.asl_meaning.specs.FieldTerms.{create_units}
 use Rattle.asl_tree.specs.Literals.{literal_number}
 use Rattle.asl_tree.specs.Names.{Known, is_known, place_of, denoted, element_path}
-use Rattle.asl_tree.specs.Tree.{Tree, Integer, Constant, String, InSlot, Debug, Omitted, Raw, Use, Call, Apply, Buffer, Package, VarPackage, CondRefOf, Return, Name, Alias, External, Method, Mutex, Event, Container', Scope, Fill, Misshapen, Trees, no_trees, tree, OperationRegion, Field, IndexField, BankField, CreateField, If, Else, While, Break, Continue, Item}
+use Rattle.asl_tree.specs.Symbols.{compound_operator, takes_target}
+use Rattle.asl_tree.specs.Tree.{Tree, Integer, Constant, String, InSlot, Debug, Omitted, Raw, Use, Call, Apply, Buffer, Package, VarPackage, CondRefOf, Return, Name, Alias, External, Method, Mutex, Event, Container', Scope, Fill, Misshapen, Trees, no_trees, tree, OperationRegion, Field, IndexField, BankField, CreateField, If, ElseIf, Else, While, Break, Continue, Item, Operated, Assigned, AssignedBy}
 
 -- a run that keeps the bodies of methods as trees
 abbrev pub SourceRun : Type 0 → Type 0
@@ -49,6 +50,36 @@ spot_form _ = NoSpot
 abbrev pub apply_with : {B : Type 0} → Width → Plain → Run B (List Operand) → (List Value → Run B (Unit {0})) → Run B Flow
 apply_with width op operands targets =
     then_run operands (λ os. then_run (act (act_of op width os)) (λ rs. then_run (targets rs) (λ u. done (last_of rs))))
+
+-- the last of an operator's results goes to a place, where it has a target; those before go nowhere
+abbrev pub store_last : {B : Type 0} → Width → ℕ → Run B Spot → List Value → Run B (Unit {0})
+store_last width zero spot rs = done tt
+store_last width (suc n) spot [] = fault WrongType
+store_last width (suc zero) spot (v ∷ rs) = then_run spot (λ p. act (store width p v))
+store_last width (suc (suc n)) spot (v ∷ rs) = store_last width (suc n) spot rs
+
+-- an operator whose last result goes to a place
+abbrev pub operate : {B : Type 0} → Width → Plain → (List Letter → Run B (List Operand)) → Run B Spot → Run B Flow
+operate width op operands spot = apply_with width op (operands (row_of op).operands) (store_last width (row_of op).targets spot)
+
+-- two values as operands
+abbrev pub two_values : {B : Type 0} → Run B Value → Run B Value → Run B (List Operand)
+two_values first second = then_run first (λ v. then_run second (λ w. done (OfValue v ∷ OfValue w ∷ [])))
+
+-- Store of a value
+abbrev pub store_with : {B : Type 0} → Width → Run B Value → Run B Spot → Run B Flow
+store_with width value spot =
+    apply_with width (Plain.Data DataOp.Store) (then_run value (λ v. then_run spot (λ p. done (OfValue v ∷ OfSpot p ∷ [])))) (λ rs. done tt)
+
+-- `X = E`, where E may be an operator that is given the target X
+abbrev pub assign_with : {B : Type 0} → Width → Option Plain → (List Letter → Run B (List Operand)) → Run B Value → Run B Spot → Run B Flow
+assign_with width (Some op) operands value spot = operate width op operands spot
+assign_with width None operands value spot = store_with width value spot
+
+-- the operator that is given the target
+abbrev pub target_operator : Tree → Option Plain
+target_operator (Operated op args) = if takes_target op then Some op else None
+target_operator _ = None
 
 module _ (known : Known) where
   -- the path that a name denotes, where it is there now
@@ -116,7 +147,7 @@ module _ (width : Width) (known : Known) where
 
   module _ (turns : ℕ) (call : AbsolutePath → List Value → SourceRun Flow) where
     abbrev mutual
-      -- what a term does in a scope; `due` says whether an Else is to run
+      -- what a term does in a scope; `due` says whether an Else or an ElseIf is to run, for no branch before it ran
       pub run : Tree → AbsolutePath → Bool → SourceRun Flow
       run (Integer number) scope due = done (Gives (Data (V.Integer (wrapped width number))))
       run (Constant literal) scope due = done (Gives (Data (V.Integer (literal_number width literal))))
@@ -130,6 +161,11 @@ module _ (width : Width) (known : Known) where
           then_run (found known name scope) (λ e. then_run (values args scope) (λ vs. call_written width call e.0 e.1 vs))
       run (Apply op args targets) scope due =
           apply_with width op (operands (row_of op).operands args scope) (λ rs. store_all targets rs scope)
+      run (Operated op args) scope due = operate width op (λ letters. operands letters args scope) (done Nowhere)
+      run (Assigned target value) scope due =
+          assign_with width (target_operator value) (λ letters. inner_operands letters value scope) (then_run (run value scope false) value_of) (spot target scope)
+      run (AssignedBy op target value) scope due =
+          operate width (compound_operator op) (λ letters. two_values (then_run (run target scope false) value_of) (then_run (run value scope false) value_of)) (spot target scope)
       run (Buffer size bytes) scope due =
           then_run (size_by (run size scope false)) (λ n. then_run (act (computed (buffer_of n bytes))) (λ v. done (Gives v)))
       run (Package count items) scope due =
@@ -153,6 +189,8 @@ module _ (width : Width) (known : Known) where
       run (Scope here at name body) scope due = then_run (find known name scope) (λ path. run_all body path false)
       run (If test body) scope due =
           then_run (size_by (run test scope false)) (λ n. if is_true n then run_all body scope false else done (Normal true))
+      run (ElseIf test body) scope due =
+          if due then then_run (size_by (run test scope false)) (λ n. if is_true n then run_all body scope false else done (Normal true)) else done (Normal false)
       run (Else body) scope due = if due then run_all body scope false else done (Normal false)
       run (While test body) scope due =
           loop {X = Unit {0}} turns (then_run (size_by (run test scope false)) (λ n. done (is_true n, tt))) (λ u. run_all body scope false)
@@ -181,7 +219,14 @@ module _ (width : Width) (known : Known) where
       spot (Use at name) scope = then_run (found known name scope) (λ e. done (At (Named e.0)))
       spot (Apply op args targets) scope =
           spot_by (spot_form op) (apply_with width op (operands (row_of op).operands args scope) (λ rs. store_all targets rs scope)) (first_value args scope)
+      spot (Operated op args) scope =
+          spot_by (spot_form op) (operate width op (λ letters. operands letters args scope) (done Nowhere)) (first_value args scope)
       spot _ scope = stop Broken
+
+      -- the operands of a symbolic operator
+      pub inner_operands : List Letter → Tree → AbsolutePath → SourceRun (List Operand)
+      inner_operands letters (Operated op args) scope = operands letters args scope
+      inner_operands letters _ scope = stop Broken
 
       pub operands : List Letter → Trees → AbsolutePath → SourceRun (List Operand)
       operands [] no_trees scope = done []

@@ -3,6 +3,7 @@ use Rattle.std.proofs.Common.{◌≡◌, ℕ, ◌+◌, List, Vec, Global, refl, 
 use mathlib.Core.Former.{Count}
 use Rattle.asl_tree.specs.declared.path.Path.{Path}
 use Rattle.asl_tree.specs.declared.term.Op.{Op}
+use Rattle.acpi_values.specs.Paths.{NameSeg}
 use Rattle.asl_tree.specs.declared.term.Word.{Word}
 use Rattle.asl_tree.specs.declared.term.Node.{Node}
 use Rattle.asl_tree.specs.declared.term.Term.{Term}
@@ -128,13 +129,13 @@ pub name_tree : (path : Path) (at : At) (next : ℕ) → tree_of at (D.Name path
 unfolding plan_of tree_of numbered
 name_tree path at next = refl
 
-pub none_in_unit : (path : Path) (bits : ℕ) → inside (plan_of (D.Unit path bits)) ≡ 0
+pub none_in_unit : (segment : NameSeg) (bits : ℕ) → inside (plan_of (D.Unit segment bits)) ≡ 0
 unfolding plan_of
-none_in_unit path bits = refl
+none_in_unit segment bits = refl
 
-pub unit_tree : (path : Path) (bits : ℕ) (at : At) (next : ℕ) → tree_of at (D.Unit path bits) ≡ numbered at next (plan_of (D.Unit path bits))
+pub unit_tree : (segment : NameSeg) (bits : ℕ) (at : At) (next : ℕ) → tree_of at (D.Unit segment bits) ≡ numbered at next (plan_of (D.Unit segment bits))
 unfolding plan_of tree_of numbered
-unit_tree path bits at next = refl
+unit_tree segment bits at next = refl
 
 pub none_in_skip : (bits : ℕ) → inside (plan_of (D.Skip bits)) ≡ 0
 unfolding plan_of

@@ -4,7 +4,7 @@ use Rattle.acpi_state.specs.Forms.{LocalSlot, ArgSlot}
 use Rattle.asl_tree.specs.FieldItems.{UnitItem, SkipItem, OffsetItem}
 use Rattle.asl_tree.specs.Literals.{word_number}
 use Rattle.asl_tree.specs.Tree.{At, Tree, Integer, String, InSlot, Debug, Omitted, Use, Call, Fill, Item, Trees, no_trees, tree}
-use Rattle.asl_tree.specs.View.{form, unit_segment}
+use Rattle.asl_tree.specs.View.{form}
 use Rattle.asl_shape.specs.Plans.{Plan, an_integer, a_text, a_fill, a_word, a_local, an_arg, debug, omitted, a_name, a_unit, a_skip, an_offset, a_call, a_form, Plans, no_plans, plan}
 
 -- how many nodes stand inside a term, and how many some terms have
@@ -30,7 +30,7 @@ unfoldable mutual
   numbered at next debug = Debug
   numbered at next omitted = Omitted
   numbered at next (a_name name) = Use at name
-  numbered at next (a_unit name bits) = Item (UnitItem (record { at = at; segment = unit_segment name.segs }) bits)
+  numbered at next (a_unit segment bits) = Item (UnitItem (record { at = at; segment = segment }) bits)
   numbered at next (a_skip bits) = Item (SkipItem bits)
   numbered at next (an_offset bytes) = Item (OffsetItem bytes)
   numbered at next (a_call name args) = Call at name (numbered_all next args)

@@ -62,7 +62,7 @@ fn numbered_inside(term: Term, first: u32) -> Option<(Term, u32)>
         Term::Debug => Some((Term::Debug, first)),
         Term::Omitted => Some((Term::Omitted, first)),
         Term::Name(path) => Some((Term::Name(path), first)),
-        Term::Unit { path, bits } => Some((Term::Unit { path, bits }, first)),
+        Term::Unit { segment, bits } => Some((Term::Unit { segment, bits }, first)),
         Term::Skip(bits) => Some((Term::Skip(bits), first)),
         Term::Offset(bytes) => Some((Term::Offset(bytes), first)),
     }

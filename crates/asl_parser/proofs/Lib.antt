@@ -8,3 +8,5 @@ pub mod Walks
 pub mod Outcomes
 pub mod Heights
 pub mod Told
+pub mod Views
+pub mod Homes

@@ -8,3 +8,5 @@ pub mod Front
 pub mod Depth
 pub mod Parse
 pub mod Place
+pub mod Written
+pub mod Within

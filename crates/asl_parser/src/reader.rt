@@ -1,11 +1,13 @@
 //! From tokens to the tree.
-ghost use Rattle.std.specs.Prelude.{◌≡◌, ◌<◌, ◌^◌, length, List, IfOk, OnOk, IfErr};
+ghost use Rattle.std.specs.Prelude.{◌≡◌, ◌<◌, ◌^◌, ℕ, length, List, All, IfOk, OnOk, IfErr};
 ghost use Rattle.asl_parser.specs.Machine as spec;
 ghost use Rattle.asl_parser.specs.Marks.{marks};
 ghost use Rattle.asl_parser.specs.Parse.{Answers, Reaches, Gives, Fails, outcome};
 ghost use Rattle.asl_parser.specs.Grammar.{Spells};
 ghost use Rattle.asl_parser.specs.Depth.{IsShallow, IsLow};
 ghost use Rattle.asl_parser.specs.Grow.{limit};
+ghost use Rattle.asl_parser.specs.Within.{AreWithin};
+ghost use Rattle.asl_parser.specs.Written.{writtens};
 ghost use Rattle.asl_parser.specs.declared.raw.Raw.{Raw};
 
 use crate::branch::{Branches, TALLEST};
@@ -98,6 +100,8 @@ pub fn parse(alloc: Global, tokens: &Tokens) -> Result<RawUnit, Syntax>
     ensures spelled { IfOk result (λ unit. Spells unit.items tokens.now) }
     // No other tree spells them.
     ensures one { IfOk result (λ unit. (others : List Raw) → Spells others tokens.now → others ≡ unit.items) }
+    // Each node stands in a file in which tokens stand.
+    ensures within { (files : ℕ) → All (λ token. token.place.file < files) tokens.now → IfOk result (λ unit. AreWithin files (writtens unit.items)) }
     // Nowhere is more open than may be, and no node stands under more others than may be.
     ensures not_deep { OnOk result (IsShallow limit (marks 0 tokens.now) × IsLow limit (marks 0 tokens.now)) }
     // The stop with no tree and nothing too deep before it, or the first token that is too deep.

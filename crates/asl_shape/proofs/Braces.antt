@@ -5,14 +5,15 @@ use Rattle.iasl_messages.specs.declared.place.Place.{Place}
 use Rattle.asl_parser.specs.declared.raw.Infix.{Infix}
 use Rattle.asl_parser.specs.declared.raw.Raw.{Raw}
 use Rattle.asl_parser.specs.declared.raw.Raw.TheVariants as raw
-use Rattle.asl_shape.specs.declared.operator.Slot.TheVariants as slot
-use Rattle.asl_shape.specs.declared.operator.StringForm.TheVariants as form
-use Rattle.asl_shape.specs.Written.{writtens, written_in}
-use Rattle.asl_shape.specs.Shapes.{is_separator, is_comma, behind_if, is_if, meaning_of, is_given, is_text, is_none}
+use Rattle.asl_words.specs.declared.operator.Slot.TheVariants as slot
+use Rattle.asl_words.specs.declared.operator.StringForm.TheVariants as form
+use Rattle.asl_parser.specs.Written.{writtens, written_in}
+use Rattle.asl_shape.specs.Shapes.{is_separator, is_comma, behind_if, is_if, is_given, is_text, is_none}
+use Rattle.asl_words.specs.Meanings.{meaning_of}
 use Rattle.asl_shape.specs.AtRaw.{is_separator_at, is_comma_at, behind_if_at, is_listed_at, byte_slot_at, is_some, is_text_at, due_at}
 use Rattle.acpi_state.specs.Outcomes.{choose}
 use Rattle.asl_shape.proofs.ItemLaws.{is_none_short, is_none_long}
-use Rattle.asl_shape.proofs.Views.{written_number, written_text, written_item, written_apply, written_list, written_comma, written_semicolon, written_empty}
+use Rattle.asl_parser.proofs.Views.{written_number, written_text, written_item, written_apply, written_list, written_comma, written_semicolon, written_empty}
 
 pub given_some : (raws : Option (List Raw)) → is_given (written_in raws) ≡ is_some raws
 given_some None = refl

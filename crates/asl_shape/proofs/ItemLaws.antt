@@ -2,12 +2,13 @@
 use Rattle.std.proofs.Common.{◌≡◌, suc, nat_le, length, arith, List, [], ◌∷◌, refl, ap, true, false, not, ◌&&◌, ◌||◌, None}
 use Rattle.asl_parser.specs.declared.raw.Raw.{Raw}
 use Rattle.asl_tree.specs.declared.term.Op.{Op}
-use Rattle.asl_shape.specs.declared.operator.Known.{Known}
-use Rattle.asl_shape.specs.declared.operator.Parameter.{Parameter}
-use Rattle.asl_shape.specs.declared.item.Meaning.TheVariants as is
-use Rattle.asl_shape.specs.Written.{written, writtens}
-use Rattle.asl_shape.specs.Operators.{parameters_of}
-use Rattle.asl_shape.specs.Shapes.{is_empty, may_end, count, none_empty, is_none}
+use Rattle.asl_words.specs.declared.operator.Known.{Known}
+use Rattle.asl_words.specs.declared.operator.Parameter.{Parameter}
+use Rattle.asl_words.specs.declared.meaning.Meaning.TheVariants as is
+use Rattle.asl_parser.specs.Written.{written, writtens}
+use Rattle.asl_words.specs.Operators.{parameters_of, offset_parameters}
+use Rattle.asl_shape.specs.Shapes.{is_empty, count, none_empty, is_none}
+use Rattle.asl_words.specs.Meanings.{may_end}
 use Rattle.asl_shape.specs.AtRaw.{takes_at, none_empty_at, has_arguments_at, inside_at, is_call_at}
 
 pub takes_no : (raws : List Raw) → takes_at [] raws ≡ is_none (writtens raws)
@@ -76,7 +77,11 @@ pub has_unknown : (raws : List Raw) → has_arguments_at is.Unknown raws ≡ tru
 unfolding has_arguments_at
 has_unknown raws = refl
 
-pub ruleset has_rules = (has_operator, has_known, has_name, has_path, has_unknown, is_none_short, is_none_long)
+pub has_offset : (raws : List Raw) → has_arguments_at is.Offset raws ≡ takes_at offset_parameters raws
+unfolding has_arguments_at takes_at
+has_offset raws = refl
+
+pub ruleset has_rules = (has_operator, has_offset, has_known, has_name, has_path, has_unknown, is_none_short, is_none_long)
 
 pub inside_none : inside_at None ≡ []
 inside_none = refl

@@ -1,15 +1,13 @@
-pub mod Tables
 pub mod Plans
 pub mod Constants
-pub mod PathLaws
-pub mod Views
 pub mod ItemLaws
 pub mod Terms
 pub mod Leaves
 pub mod Braces
 pub mod Types
 pub mod Settled
+pub mod FieldLaws
 pub mod Shapes
+pub mod FieldSteps
 pub mod Units
 pub mod Places
-pub mod Homes

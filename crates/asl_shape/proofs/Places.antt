@@ -1,6 +1,6 @@
 -- Each error of a source stands in a file in which a part of it stands.
-use Rattle.std.proofs.Common.{◌≡◌, ℕ, ◌<◌, Bool, true, false, List, [], ◌∷◌, ◌++◌, Option, Some, None, Result, Ok, Err, arith}
-use Rattle.std.specs.Prelude.{if◌then◌else◌, not, nat_le, ◌&&◌}
+use Rattle.std.proofs.Common.{ℕ, ◌<◌, Bool, true, false, List, [], ◌∷◌, ◌++◌, Option, Some, None, Result, Ok, Err, arith}
+use Rattle.std.specs.Prelude.{if◌then◌else◌, nat_le, ◌&&◌}
 use Rattle.std.specs.List.{All}
 use Rattle.std.proofs.lemmas.List.Elements.{All-cons}
 use Rattle.iasl_messages.specs.declared.place.Place.{Place}
@@ -9,25 +9,33 @@ use Rattle.asl_parser.specs.declared.raw.Raw.{Raw}
 use Rattle.asl_tree.specs.declared.constant.NoConstant.{NoConstant}
 use Rattle.asl_tree.specs.declared.path.Path.{Path}
 use Rattle.asl_tree.specs.declared.term.Op.{Op}
-use Rattle.asl_shape.specs.declared.operator.Parameter.{Parameter}
-use Rattle.asl_shape.specs.declared.operator.Slot.{Slot}
-use Rattle.asl_shape.specs.declared.operator.Slot.TheVariants as slot
-use Rattle.asl_shape.specs.declared.operator.Body.{Body}
-use Rattle.asl_shape.specs.declared.operator.Body.TheVariants as braces
-use Rattle.asl_shape.specs.declared.operator.StringForm.{StringForm}
-use Rattle.asl_shape.specs.declared.operator.StringForm.TheVariants as form
-use Rattle.asl_shape.specs.declared.item.Reading.{Reading}
-use Rattle.asl_shape.specs.declared.item.Reading.TheVariants as read
-use Rattle.asl_shape.specs.Written as piece
-use Rattle.asl_shape.specs.Written.{Written, Writtens, Group, item, apply, listed, comma, semicolon, empty, none, more, absent, given, writtens}
-use Rattle.asl_shape.specs.Plans.{Plan, Plans, an_integer, is_omitted, constant_of}
-use Rattle.asl_shape.specs.Paths.{path_of}
-use Rattle.asl_shape.specs.Operators.{parameters_of, body_of, block_parameters}
+use Rattle.asl_words.specs.declared.operator.Parameter.{Parameter}
+use Rattle.asl_words.specs.declared.operator.Slot.{Slot}
+use Rattle.asl_words.specs.declared.operator.Slot.TheVariants as slot
+use Rattle.asl_words.specs.declared.operator.Body.{Body}
+use Rattle.asl_words.specs.declared.operator.Body.TheVariants as braces
+use Rattle.asl_words.specs.declared.operator.StringForm.{StringForm}
+use Rattle.asl_words.specs.declared.operator.StringForm.TheVariants as form
+use Rattle.asl_words.specs.declared.meaning.Reading.{Reading}
+use Rattle.asl_words.specs.declared.meaning.Reading.TheVariants as read
+use Rattle.asl_parser.specs.Written as piece
+use Rattle.asl_parser.specs.Written.{Written, Writtens, Group, item, apply, listed, comma, semicolon, empty, none, more, absent, given, writtens}
+use Rattle.asl_shape.specs.declared.fields.Due.{Due}
+use Rattle.asl_shape.specs.declared.fields.UnitName.{UnitName}
+use Rattle.acpi_state.specs.Outcomes.{choose}
+use Rattle.acpi_values.specs.Paths.{NameSeg}
+use Rattle.asl_tree.specs.Names.{single_segment}
+use Rattle.asl_shape.specs.Plans.{Plan, Plans, an_integer, a_name, is_omitted, constant_of}
+use Rattle.asl_words.specs.Paths.{path_of}
+use Rattle.asl_words.specs.Operators.{parameters_of, body_of, block_parameters, offset_parameters}
 use Rattle.acpi_values.specs.Integers.{wrapped}
 use Rattle.acpi_values.specs.declared.width.Width.TheVariants.{W64}
-use Rattle.asl_shape.specs.Shapes.{Shaped, fine, fault_at, refused, nowhere, valued, evaluated, after, checked, is_member, is_given, takes, count, has_arguments, item_fault, meaning_of, reading_of, are_all_types, is_all_text, text_plan, number_shape, takes_expression, has_form, string_shape, text_shape, path_shape, call_shape, types_shape, listed_shape, read_shape, item_shape, form_shape, within, place_of, joined, left_out, is_separator, is_listed, byte_slot, list_shape, skipped, behind_if, bare, operands, call_args, arguments, arguments_in, contents, members, terms, inside_of}
+use Rattle.asl_shape.specs.Shapes.{Shaped, fine, fault_at, refused, nowhere, valued, evaluated, after, checked, is_member, is_given, takes, count, has_arguments, are_all_types, text_plan, number_shape, string_shape, text_shape, path_shape, call_shape, listed_shape, read_shape, item_shape, form_shape, within, place_of, is_separator, is_listed, byte_slot, list_shape, skipped, behind_if, bare, operands, call_args, arguments, arguments_in, contents, members, terms, inside_of, is_element, meaning_in, offset_shape, is_field_list, begin, named_unit, unit_behind, no_comma, field_part, field_slot, due_behind, elements}
+use Rattle.asl_words.specs.Meanings.{item_fault, meaning_of, reading_of, takes_expression, slot_as}
+use Rattle.asl_words.specs.Texts.{is_all_text, has_form}
 use Rattle.asl_shape.specs.Forms.{start, is_block_word, block_fault, errors_inside, block_errors, no_block, errors_before, first_errors, errors_of, errors_at}
-use Rattle.asl_shape.specs.Places.{IsIn, IsWithin, AreWithin, IsGroupWithin, AreTold}
+use Rattle.asl_parser.specs.Within.{IsIn, IsWithin, AreWithin, IsGroupWithin}
+use Rattle.asl_shape.specs.Places.{AreTold}
 
 module _ (files : ℕ) where
   one : (n : ℕ) (place : Place) → IsIn files place → AreTold files (fault_at n place ∷ [])
@@ -68,6 +76,7 @@ module _ (files : ℕ) where
   evaluated_told : (s : Slot) (place : Place) (p : Plan) → IsIn files place → AreTold files (evaluated s place p).faults
   evaluated_told (slot.Constant least most) place p h = either (is_omitted p) (fine p) (valued least most place (constant_of p)) tt (valued_told least most place (constant_of p) h)
   evaluated_told slot.Element place p h = either (is_member p) (fine p) (valued 0 18446744073709551615 place (constant_of p)) tt (valued_told 0 18446744073709551615 place (constant_of p) h)
+  evaluated_told slot.FieldElement place p h = either (is_element p) (fine p) (refused 6022 place) tt (one 6022 place h)
   evaluated_told _ place p h = tt
 
   after_told : (faults : List Message) (old new : Shaped Plan) → AreTold files old.faults → AreTold files new.faults → AreTold files (after faults old new).faults
@@ -85,12 +94,14 @@ module _ (files : ℕ) where
   call_told place None args h k = one 6024 place h
   call_told place (Some path) args h k = k
 
-  read_told : (s : Slot) (place : Place) (text : List ℕ) (reading : Reading) (args : Shaped Plans) (form : Op → Shaped Plan) → IsIn files place → AreTold files args.faults → ((o : Op) → AreTold files (form o).faults) → AreTold files (read_shape s place text reading args form).faults
-  read_told s place text read.Wrong args form h k go = one 6022 place h
-  read_told s place text read.Path args form h k go = path_told place (path_of text) h
-  read_told s place text read.Call args form h k go = call_told place (path_of text) args h k
-  read_told s place text (read.Known known) args form h k go = tt
-  read_told s place text (read.Form o) args form h k go = go o
+  read_told : (s : Slot) (place : Place) (text : List ℕ) (reading : Reading) (args : Shaped Plans) (offset : Shaped Plan) (form : Op → Shaped Plan) → IsIn files place → AreTold files args.faults → AreTold files offset.faults
+      → ((o : Op) → AreTold files (form o).faults) → AreTold files (read_shape s place text reading args offset form).faults
+  read_told s place text read.Wrong args offset form h k l go = one 6022 place h
+  read_told s place text read.Path args offset form h k l go = path_told place (path_of text) h
+  read_told s place text read.Call args offset form h k l go = call_told place (path_of text) args h k
+  read_told s place text read.Offset args offset form h k l go = l
+  read_told s place text (read.Known known) args offset form h k l go = tt
+  read_told s place text (read.Form o) args offset form h k l go = go o
 
   item_told : (place : Place) (fault : Option ℕ) (shape : Shaped Plan) → IsIn files place → AreTold files shape.faults → AreTold files (item_shape place fault shape).faults
   item_told place (Some n) shape h k = one n place h
@@ -114,6 +125,39 @@ module _ (files : ℕ) where
   list_told place true all h k = k
   list_told place false all h k = one 6022 place h
 
+  -- ---- the list of a field
+
+  abbrev UnitIn : Option UnitName → Type 0
+  UnitIn None = Unit {0}
+  UnitIn (Some unit) = IsIn files unit.place
+
+  named_in : (place : Place) (p : Plan) → IsIn files place → UnitIn (named_unit place p)
+  named_in place (a_name path) h = by (single_segment path)
+    where
+      by : (o : Option NameSeg) → UnitIn (choose o None (λ segment. Some (record { place = place; segment = segment })))
+      by None = tt
+      by (Some segment) = h
+  named_in place _ h = tt
+
+  unit_in : (due : Due) (unit : Option UnitName) (place : Place) (separator : Bool) (p : Plan) → UnitIn unit → IsIn files place → UnitIn (unit_behind due unit place separator p)
+  unit_in Due.Element unit place true p u h = tt
+  unit_in Due.Element unit place false p u h = named_in place p h
+  unit_in Due.NameComma unit place separator p u h = u
+  unit_in Due.Bits unit place separator p u h = tt
+  unit_in Due.Comma unit place separator p u h = tt
+
+  comma_told : (unit : Option UnitName) → UnitIn unit → AreTold files (no_comma unit)
+  comma_told None u = tt
+  comma_told (Some unit) u = one 6022 unit.place u
+
+  part_told : (due : Due) (unit : Option UnitName) (place : Place) (separator : Bool) (shape : Shaped Plan) → UnitIn unit → AreTold files shape.faults → AreTold files (field_part due unit place separator shape).faults
+  part_told Due.Element unit place true shape u h = tt
+  part_told Due.Element unit place false shape u h = h
+  part_told Due.NameComma unit place true shape u h = tt
+  part_told Due.NameComma unit place false shape u h = comma_told unit u
+  part_told Due.Bits unit place separator shape u h = h
+  part_told Due.Comma unit place separator shape u h = tt
+
   module _ (main : 0 < files) where
     mutual
       bare_told : (s : Slot) (inside : Bool) (w : Written) → IsWithin files w → AreTold files (bare s inside w).faults
@@ -124,8 +168,9 @@ module _ (files : ℕ) where
       bare_told s inside (item place w args body) h =
           let meaning = meaning_of w (is_given body) in
           let form : Op → Shaped Plan = λ o. form_shape o place (arguments (parameters_of o) place inside args) (contents (body_of o) (within o inside) place body) in
-          item_told place (item_fault s inside meaning (has_arguments meaning (inside_of args)) (is_given body)) (read_shape s place w (reading_of s meaning (is_given args)) (call_args inside args) form) h.0
-          (read_told s place w (reading_of s meaning (is_given args)) (call_args inside args) form h.0 (call_told_in inside args h.1)
+          let offset : Shaped Plan = offset_shape (arguments offset_parameters place inside args) in
+          item_told place (item_fault s inside meaning (has_arguments meaning (inside_of args)) (is_given body)) (read_shape s place w (reading_of s meaning (is_given args)) (call_args inside args) offset form) h.0
+          (read_told s place w (reading_of s meaning (is_given args)) (call_args inside args) offset form h.0 (call_told_in inside args h.1) (arguments_told offset_parameters place inside args h.0 h.1)
           (λ o. both (arguments (parameters_of o) place inside args).faults (contents (body_of o) (within o inside) place body).faults (arguments_told (parameters_of o) place inside args h.0 h.1) (contents_told (body_of o) (within o inside) place body h.0 h.2)))
       bare_told s inside comma h = tt
       bare_told s inside semicolon h = tt
@@ -148,7 +193,8 @@ module _ (files : ℕ) where
       arguments_in_told qs place inside none p h = tt
       arguments_in_told [] place inside (more w ws) p h = tt
       arguments_in_told (q ∷ qs) place inside (more w ws) p h =
-          both (checked q.slot (place_of nowhere w) (bare q.slot inside w)).faults (arguments_in qs place inside ws).faults (checked_told q.slot (place_of nowhere w) (bare q.slot inside w) (place_in nowhere w main h.0) (bare_told q.slot inside w h.0)) (arguments_in_told qs place inside ws p h.1)
+          let s : Slot = slot_as q.slot (meaning_in w) in
+          both (checked s (place_of nowhere w) (bare s inside w)).faults (arguments_in qs place inside ws).faults (checked_told s (place_of nowhere w) (bare s inside w) (place_in nowhere w main h.0) (bare_told s inside w h.0)) (arguments_in_told qs place inside ws p h.1)
 
       contents_told : (b : Body) (inside : Bool) (place : Place) (body : Group) → IsIn files place → IsGroupWithin files body → AreTold files (contents b inside place body).faults
       contents_told b inside place absent p h = tt
@@ -156,6 +202,19 @@ module _ (files : ℕ) where
       contents_told braces.Terms inside place (given ws) p h = terms_told inside false ws h
       contents_told braces.Bytes inside place (given ws) p h = list_told place (is_listed true ws) (members (byte_slot ws) inside ws) p (members_told (byte_slot ws) inside ws h)
       contents_told braces.Elements inside place (given ws) p h = list_told place (is_listed true ws) (members slot.Element inside ws) p (members_told slot.Element inside ws h)
+      contents_told braces.FieldList inside place (given ws) p h = list_told place (is_field_list begin ws) (elements begin None inside ws) p (elements_told begin None inside ws tt h)
+
+      elements_told : (due : Due) (unit : Option UnitName) (inside : Bool) (ws : Writtens) → UnitIn unit → AreWithin files ws → AreTold files (elements due unit inside ws).faults
+      elements_told due unit inside none u h = tt
+      elements_told due unit inside (more w ws) u h =
+          let place : Place = place_of nowhere w in
+          let shape : Shaped Plan = checked (field_slot due) place (bare (field_slot due) inside w) in
+          let part : Shaped Plans = field_part due unit place (is_separator w) shape in
+          let next : Option UnitName = unit_behind due unit place (is_separator w) shape.made in
+          let at : IsIn files place = place_in nowhere w main h.0 in
+          both part.faults (elements (due_behind due w) next inside ws).faults
+          (part_told due unit place (is_separator w) shape u (checked_told (field_slot due) place (bare (field_slot due) inside w) at (bare_told (field_slot due) inside w h.0)))
+          (elements_told (due_behind due w) next inside ws (unit_in due unit place (is_separator w) shape.made u at) h.1)
 
       members_told : (s : Slot) (inside : Bool) (ws : Writtens) → AreWithin files ws → AreTold files (members s inside ws).faults
       members_told s inside none h = tt

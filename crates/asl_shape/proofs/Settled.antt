@@ -6,7 +6,7 @@ use Rattle.asl_tree.specs.declared.term.Literal.{Literal}
 use Rattle.asl_tree.specs.declared.term.Node.{Node}
 use Rattle.asl_tree.specs.declared.term.Term.{Term}
 use Rattle.asl_tree.specs.declared.term.Term as D
-use Rattle.asl_shape.specs.Plans.{Plans, no_plans, plan, omitted, a_form, plan_of, plans_of, plan_at, number_of, first_alone, join}
+use Rattle.asl_shape.specs.Plans.{Plans, no_plans, plan, omitted, a_form, plan_of, plans_of, plan_at, number_of, first_plans, join}
 use Rattle.asl_shape.specs.Shapes.{is_stated, one_plan, zero_plan}
 use Rattle.asl_shape.proofs.Plans.{plan_form, plan_call}
 use Rattle.asl_shape.proofs.Terms.{term_rules}
@@ -55,10 +55,11 @@ push_is (n ∷ ns) node = ap (plan n.place (plan_of n.term)) (push_is ns node)
 
 pub ruleset push_rules = (push_is)
 
-pub first_is : (nodes : List Node) → plans_of (take 1 nodes) ≡ first_alone (plans_of nodes)
+pub first_are : (n : ℕ) (nodes : List Node) → plans_of (take n nodes) ≡ first_plans n (plans_of nodes)
 unfolding plans_of
-first_is [] = refl
-first_is (node ∷ nodes) = refl
+first_are zero nodes = refl
+first_are (suc n) [] = refl
+first_are (suc n) (node ∷ nodes) = ap (plan node.place (plan_of node.term)) (first_are n nodes)
 
 pub join_nothing : (ps : Plans) → join ps no_plans ≡ ps
 join_nothing no_plans = refl

@@ -8,23 +8,25 @@ use Rattle.asl_parser.specs.declared.raw.Raw.{Raw}
 use Rattle.asl_parser.specs.declared.raw.Raw.TheVariants as raw
 use Rattle.asl_tree.specs.declared.term.Op.{Op}
 use Rattle.asl_tree.specs.declared.term.Node.{Node}
-use Rattle.asl_shape.specs.Paths.{path_of}
+use Rattle.asl_words.specs.Paths.{path_of}
 use Rattle.asl_shape.specs.Plans.{plan_of, plans_of, Plan, omitted, Plans, no_plans, plan, join}
 use Rattle.asl_shape.proofs.Plans.{plan_form, plan_call, no_plans_are}
-use Rattle.asl_shape.specs.declared.operator.Known.{Known}
-use Rattle.asl_shape.specs.declared.operator.Parameter.{Parameter}
-use Rattle.asl_shape.specs.declared.operator.Slot.{Slot}
-use Rattle.asl_shape.specs.declared.operator.Slot.TheVariants as slot
-use Rattle.asl_shape.specs.declared.operator.Body.{Body}
-use Rattle.asl_shape.specs.declared.operator.Body.TheVariants as braces
-use Rattle.asl_shape.specs.declared.item.Reading.TheVariants as read
-use Rattle.asl_shape.specs.Written.{size, sizes, size_at, sizes_at, size_in_at, writtens, written, written_in}
-use Rattle.asl_shape.specs.Operators.{parameters_of, body_of}
+use Rattle.asl_words.specs.declared.operator.Known.{Known}
+use Rattle.asl_words.specs.declared.operator.Parameter.{Parameter}
+use Rattle.asl_words.specs.declared.operator.Slot.{Slot}
+use Rattle.asl_words.specs.declared.operator.Slot.TheVariants as slot
+use Rattle.asl_words.specs.declared.operator.Body.{Body}
+use Rattle.asl_words.specs.declared.operator.Body.TheVariants as braces
+use Rattle.asl_words.specs.declared.meaning.Reading.TheVariants as read
+use Rattle.asl_parser.specs.Written.{writtens, written, written_in}
+use Rattle.asl_shape.specs.Sizes.{size, sizes, size_at, sizes_at, size_in_at}
+use Rattle.asl_words.specs.Operators.{parameters_of, body_of, offset_parameters}
 use Rattle.asl_shape.specs.Shapes
-use Rattle.asl_shape.specs.Shapes.{Shaped, fine, refused, is_given, inside_of, has_arguments, item_fault, meaning_of, reading_of, after, checked, evaluated, number_shape, text_shape, listed_shape, form_shape, read_shape, item_shape, path_shape, call_shape, known_plan, within, place_of, joined, left_out, list_shape, skipped, is_separator, nowhere, bare, call_args, arguments, contents}
-use Rattle.asl_shape.specs.AtRaw.{has_arguments_at, inside_at, bare_at, listed_at, place_at, shape_at, is_separator_at, behind_if_at, operands_at, call_at, arguments_at, arguments_in_at, contents_at, members_at, terms_at, member_at, argument_at, form_at, read_at, is_some, one_at, left_at, is_listed_at, byte_slot_at, item_at}
-use Rattle.asl_shape.proofs.Views.{written_number, written_text, written_item, written_apply, written_list, written_comma, written_semicolon, written_empty}
-use Rattle.asl_shape.proofs.Terms.{term_rules, omitted_term, nothing_more}
+use Rattle.asl_shape.specs.Shapes.{Shaped, fine, refused, is_given, inside_of, has_arguments, after, checked, evaluated, number_shape, text_shape, listed_shape, form_shape, read_shape, item_shape, path_shape, call_shape, known_plan, within, place_of, joined, left_out, list_shape, skipped, is_separator, nowhere, bare, call_args, arguments, contents, meaning_in, offset_shape, begin}
+use Rattle.asl_words.specs.Meanings.{item_fault, meaning_of, reading_of, slot_as}
+use Rattle.asl_shape.specs.AtRaw.{has_arguments_at, inside_at, bare_at, listed_at, place_at, shape_at, is_separator_at, behind_if_at, operands_at, call_at, arguments_at, arguments_in_at, contents_at, members_at, terms_at, member_at, argument_at, form_at, read_at, is_some, one_at, left_at, is_listed_at, byte_slot_at, item_at, meaning_at, offset_at, is_field_list_at, elements_at}
+use Rattle.asl_parser.proofs.Views.{written_number, written_text, written_item, written_apply, written_list, written_comma, written_semicolon, written_empty}
+use Rattle.asl_shape.proofs.Terms.{term_rules, omitted_term, offset_term, nothing_more}
 use Rattle.asl_shape.proofs.Braces.{given_some, from_item}
 
 -- ---- errors in order
@@ -83,13 +85,14 @@ inside_written None = refl
 inside_written (Some raws) = refl
 
 pub bare_item : (s : Slot) (inside : Bool) (place : Place) (w : List ℕ) (args body : Option (List Raw)) → bare_at s inside (raw.Item place w args body) ≡ item_at s inside place w args body
-unfolding bare_at item_at has_arguments_at read_at call_at form_at arguments_at contents_at
+unfolding bare_at item_at has_arguments_at read_at call_at offset_at form_at arguments_at contents_at
 bare_item s inside place w args body =
     let form : Op → Shaped Plan = λ o. form_at o place inside args body in
+    let offset : Shaped Plan = offset_at place inside args in
     ap (bare s inside) (written_item place w args body)
-    ∙ ap (λ b. item_shape place (item_fault s inside (meaning_of w b) (has_arguments (meaning_of w b) (inside_of (written_in args))) b) (read_shape s place w (reading_of s (meaning_of w b) (is_given (written_in args))) (call_args inside (written_in args)) form)) (given_some body)
-    ∙ ap (λ ws. item_shape place (item_fault s inside (meaning_of w (is_some body)) (has_arguments (meaning_of w (is_some body)) ws) (is_some body)) (read_shape s place w (reading_of s (meaning_of w (is_some body)) (is_given (written_in args))) (call_args inside (written_in args)) form)) (inside_written args)
-    ∙ ap (λ b. item_shape place (item_fault s inside (meaning_of w (is_some body)) (has_arguments (meaning_of w (is_some body)) (writtens (inside_at args))) (is_some body)) (read_shape s place w (reading_of s (meaning_of w (is_some body)) b) (call_args inside (written_in args)) form)) (given_some args)
+    ∙ ap (λ b. item_shape place (item_fault s inside (meaning_of w b) (has_arguments (meaning_of w b) (inside_of (written_in args))) b) (read_shape s place w (reading_of s (meaning_of w b) (is_given (written_in args))) (call_args inside (written_in args)) offset form)) (given_some body)
+    ∙ ap (λ ws. item_shape place (item_fault s inside (meaning_of w (is_some body)) (has_arguments (meaning_of w (is_some body)) ws) (is_some body)) (read_shape s place w (reading_of s (meaning_of w (is_some body)) (is_given (written_in args))) (call_args inside (written_in args)) offset form)) (inside_written args)
+    ∙ ap (λ b. item_shape place (item_fault s inside (meaning_of w (is_some body)) (has_arguments (meaning_of w (is_some body)) (writtens (inside_at args))) (is_some body)) (read_shape s place w (reading_of s (meaning_of w (is_some body)) b) (call_args inside (written_in args)) offset form)) (given_some args)
 
 pub ruleset bare_rules = (bare_number, bare_text, bare_apply, bare_list, bare_comma, bare_semicolon, bare_empty, bare_item, nothing_more, omitted_term)
 
@@ -130,6 +133,10 @@ pub form_is : (o : Op) (place : Place) (inside : Bool) (args body : Option (List
 unfolding form_at
 form_is o place inside args body = ap (λ a. form_shape o place a (contents_at (body_of o) (within o inside) place body)) (arguments_are (parameters_of o) place inside args)
 
+pub offset_is : (place : Place) (inside : Bool) (args : Option (List Raw)) → offset_at place inside args ≡ offset_shape (arguments_in_at offset_parameters place inside (inside_at args))
+unfolding offset_at
+offset_is place inside args = ap offset_shape (arguments_are offset_parameters place inside args)
+
 -- ---- items as they are read
 
 pub read_wrong : (s : Slot) (place : Place) (w : List ℕ) (inside : Bool) (args body : Option (List Raw)) → read_at s place w read.Wrong inside args body ≡ refused 6022 place
@@ -152,7 +159,11 @@ pub read_form : (s : Slot) (place : Place) (w : List ℕ) (o : Op) (inside : Boo
 unfolding read_at
 read_form s place w o inside args body = refl
 
-pub ruleset read_rules = (read_wrong, read_path, read_call, read_known, read_form, nothing_more)
+pub read_offset : (s : Slot) (place : Place) (w : List ℕ) (inside : Bool) (args body : Option (List Raw)) → read_at s place w read.Offset inside args body ≡ offset_at place inside args
+unfolding read_at
+read_offset s place w inside args body = refl
+
+pub ruleset read_rules = (read_wrong, read_path, read_call, read_offset, read_known, read_form, nothing_more)
 
 -- ---- lists from one of their items on
 
@@ -190,6 +201,8 @@ pub ruleset argument_rules = (append_assoc, join_assoc, nothing_more, nothing_be
 
 pub ruleset call_rules = (plan_call, from_none, call_is)
 
+pub ruleset offset_rules = (offset_term, from_none, offset_is)
+
 pub ruleset form_rules = (plan_form, from_none, form_is, append_assoc)
 
 pub ruleset push_rules = (push_plan, omitted_term)
@@ -202,6 +215,7 @@ contents_none braces.No inside place = refl
 contents_none braces.Terms inside place = refl
 contents_none braces.Bytes inside place = refl
 contents_none braces.Elements inside place = refl
+contents_none braces.FieldList inside place = refl
 
 pub contents_no : (inside : Bool) (place : Place) (raws : List Raw) → contents_at braces.No inside place (Some raws) ≡ fine no_plans
 unfolding contents_at
@@ -218,6 +232,10 @@ contents_bytes inside place raws = refl
 pub contents_elements : (inside : Bool) (place : Place) (raws : List Raw) → contents_at braces.Elements inside place (Some raws) ≡ list_shape place (is_listed_at true raws) (members_at slot.Element inside raws)
 unfolding contents_at members_at is_listed_at
 contents_elements inside place raws = refl
+
+pub contents_fields : (inside : Bool) (place : Place) (raws : List Raw) → contents_at braces.FieldList inside place (Some raws) ≡ list_shape place (is_field_list_at begin raws) (elements_at begin None inside raws)
+unfolding contents_at is_field_list_at elements_at
+contents_fields inside place raws = refl
 
 -- ---- sizes
 
@@ -262,7 +280,7 @@ pub ruleset operand_all = (operand_faults, operand_made, operand_end, nothing_mo
 
 pub ruleset size_rules = (size_item, size_apply, size_inside, size_some, size_within)
 
-pub ruleset content_rules = (append_assoc, nothing_more, nothing_behind, contents_none, contents_no, contents_terms, contents_bytes, contents_elements, size_some)
+pub ruleset content_rules = (append_assoc, nothing_more, nothing_behind, contents_none, contents_no, contents_terms, contents_bytes, contents_elements, contents_fields, size_some)
 
 -- ---- steps of the other lists
 
@@ -322,8 +340,8 @@ run_made inside run raws i d old new w lt e f =
 
 -- ---- arguments, by the parameters that are left
 
-pub argument_more : (q : Parameter) (qs : List Parameter) (place : Place) (inside : Bool) (r : Raw) (rs : List Raw) → arguments_in_at (q ∷ qs) place inside (r ∷ rs) ≡ joined (place_at place r) (shape_at q.slot inside r) (arguments_in_at qs place inside rs)
-unfolding arguments_in_at writtens place_at bare_at
+pub argument_more : (q : Parameter) (qs : List Parameter) (place : Place) (inside : Bool) (r : Raw) (rs : List Raw) → arguments_in_at (q ∷ qs) place inside (r ∷ rs) ≡ joined (place_at place r) (shape_at (slot_as q.slot (meaning_at r)) inside r) (arguments_in_at qs place inside rs)
+unfolding arguments_in_at writtens place_at bare_at meaning_at
 argument_more q qs place inside r rs = refl
 
 pub argument_left : (q : Parameter) (qs : List Parameter) (place : Place) (inside : Bool) → arguments_in_at (q ∷ qs) place inside [] ≡ joined place (fine omitted) (arguments_in_at qs place inside [])
@@ -344,11 +362,11 @@ pub left_made : (q : Parameter) (place : Place) (inside : Bool) (o : Option Raw)
 unfolding argument_at
 left_made q place inside o e = ap (λ o. (argument_at q place inside o).made) e
 
-pub argument_some_faults : (q : Parameter) (place : Place) (inside : Bool) (o : Option Raw) (r : Raw) → o ≡ Some r → (argument_at q place inside o).faults ≡ (shape_at q.slot inside r).faults
+pub argument_some_faults : (q : Parameter) (place : Place) (inside : Bool) (o : Option Raw) (r : Raw) → o ≡ Some r → (argument_at q place inside o).faults ≡ (shape_at (slot_as q.slot (meaning_at r)) inside r).faults
 unfolding argument_at
-argument_some_faults q place inside o r e = ap (λ o. (argument_at q place inside o).faults) e ∙ append-nil (shape_at q.slot inside r).faults
+argument_some_faults q place inside o r e = ap (λ o. (argument_at q place inside o).faults) e ∙ append-nil (shape_at (slot_as q.slot (meaning_at r)) inside r).faults
 
-pub argument_some_made : (q : Parameter) (place : Place) (inside : Bool) (o : Option Raw) (r : Raw) → o ≡ Some r → (argument_at q place inside o).made ≡ one_at place r (shape_at q.slot inside r).made
+pub argument_some_made : (q : Parameter) (place : Place) (inside : Bool) (o : Option Raw) (r : Raw) → o ≡ Some r → (argument_at q place inside o).made ≡ one_at place r (shape_at (slot_as q.slot (meaning_at r)) inside r).made
 unfolding argument_at
 argument_some_made q place inside o r e = ap (λ o. (argument_at q place inside o).made) e
 
@@ -381,7 +399,7 @@ next_argument : (q : Parameter) (qs : List Parameter) (place : Place) (inside : 
 unfolding argument_at
 next_argument q qs place inside [] zero = (sym (ap (λ x. x.faults) (argument_left q qs place inside)), sym (ap (λ x. x.made) (argument_left q qs place inside)))
 next_argument q qs place inside [] (suc i) = (sym (ap (λ x. x.faults) (argument_left q qs place inside)), sym (ap (λ x. x.made) (argument_left q qs place inside)))
-next_argument q qs place inside (r ∷ rs) zero = (ap (λ ms. ms ++ (arguments_in_at qs place inside rs).faults) (append-nil (shape_at q.slot inside r).faults) ∙ sym (ap (λ x. x.faults) (argument_more q qs place inside r rs)), sym (ap (λ x. x.made) (argument_more q qs place inside r rs)))
+next_argument q qs place inside (r ∷ rs) zero = (ap (λ ms. ms ++ (arguments_in_at qs place inside rs).faults) (append-nil (shape_at (slot_as q.slot (meaning_at r)) inside r).faults) ∙ sym (ap (λ x. x.faults) (argument_more q qs place inside r rs)), sym (ap (λ x. x.made) (argument_more q qs place inside r rs)))
 next_argument q qs place inside (r ∷ rs) (suc i) = next_argument q qs place inside rs i
 
 later_argument : (qs : List Parameter) (place : Place) (inside : Bool) (raws : List Raw) (i : ℕ) (d : Parameter) → i < length qs

@@ -2,11 +2,13 @@
 use Rattle.std.proofs.Common.{◌≡◌, ℕ, List, [], ◌++◌, append-nil, Vec, Global, refl, ap, true, false}
 use Rattle.iasl_messages.specs.declared.message.Message.{Message}
 use Rattle.asl_tree.specs.declared.path.Path.{Path}
+use Rattle.acpi_values.specs.Paths.{NameSeg}
 use Rattle.asl_tree.specs.declared.term.Op.{Op}
 use Rattle.asl_tree.specs.declared.term.Op.TheVariants as op
 use Rattle.asl_tree.specs.declared.term.Declaration.{Declaration}
 use Rattle.asl_tree.specs.declared.term.Control.{Control}
 use Rattle.acpi_values.specs.declared.operator.Plain.{Plain}
+use Rattle.asl_tree.specs.declared.term.Symbolic.{Symbolic}
 use Rattle.asl_tree.specs.declared.term.Special.{Special}
 use Rattle.asl_tree.specs.declared.term.Literal.{Literal}
 use Rattle.asl_tree.specs.declared.term.Word.{Word}
@@ -15,7 +17,7 @@ use Rattle.asl_tree.specs.declared.term.Term.{Term}
 use Rattle.asl_tree.specs.declared.term.Term as D
 use Rattle.asl_shape.specs.Plans.{plan_of, an_integer, a_text, a_fill, a_word, a_local, an_arg, debug, omitted, a_name, a_unit, a_skip, an_offset, is_omitted}
 use Rattle.asl_shape.proofs.Plans.{plan_form, plan_call}
-use Rattle.asl_shape.specs.Shapes.{is_member}
+use Rattle.asl_shape.specs.Shapes.{is_member, is_element}
 
 pub omitted_term : plan_of D.Omitted ≡ omitted
 unfolding plan_of
@@ -53,9 +55,9 @@ pub debug_term : plan_of D.Debug ≡ debug
 unfolding plan_of
 debug_term = refl
 
-pub unit_term : (path : Path) (bits : ℕ) → plan_of (D.Unit path bits) ≡ a_unit path bits
+pub unit_term : (segment : NameSeg) (bits : ℕ) → plan_of (D.Unit segment bits) ≡ a_unit segment bits
 unfolding plan_of
-unit_term path bits = refl
+unit_term segment bits = refl
 
 pub skip_term : (bits : ℕ) → plan_of (D.Skip bits) ≡ a_skip bits
 unfolding plan_of
@@ -76,6 +78,9 @@ member_declaration o args body = ap is_member (plan_form (op.Declaration o) args
 pub member_control : (o : Control) (args body : Vec Node Global) → is_member (plan_of (D.Form (op.Control o) args body)) ≡ false
 member_control o args body = ap is_member (plan_form (op.Control o) args body)
 
+pub member_symbol : (o : Symbolic) (args body : Vec Node Global) → is_member (plan_of (D.Form (op.Symbolic o) args body)) ≡ false
+member_symbol o args body = ap is_member (plan_form (op.Symbolic o) args body)
+
 pub member_plain : (o : Plain) (args body : Vec Node Global) → is_member (plan_of (D.Form (op.Plain o) args body)) ≡ false
 member_plain o args body = ap is_member (plan_form (op.Plain o) args body)
 
@@ -94,7 +99,15 @@ member_reference args body = ap is_member (plan_form (op.Special Special.CondRef
 pub member_call : (path : Path) (args : Vec Node Global) → is_member (plan_of (D.Call path args)) ≡ false
 member_call path args = ap is_member (plan_call path args)
 
-pub ruleset member_rules = (term_rules, member_declaration, member_control, member_plain, member_literal, member_buffer, member_package, member_reference, member_call)
+pub ruleset member_rules = (term_rules, member_declaration, member_control, member_symbol, member_plain, member_literal, member_buffer, member_package, member_reference, member_call)
+
+pub element_form : (o : Op) (args body : Vec Node Global) → is_element (plan_of (D.Form o args body)) ≡ false
+element_form o args body = ap is_element (plan_form o args body)
+
+pub element_call : (path : Path) (args : Vec Node Global) → is_element (plan_of (D.Call path args)) ≡ false
+element_call path args = ap is_element (plan_call path args)
+
+pub ruleset element_rules = (term_rules, element_form, element_call)
 
 pub omitted_form : (o : Op) (args body : Vec Node Global) → is_omitted (plan_of (D.Form o args body)) ≡ false
 omitted_form o args body = ap is_omitted (plan_form o args body)

@@ -5,16 +5,16 @@ use Rattle.iasl_messages.specs.declared.place.Place.{Place}
 use Rattle.asl_parser.specs.declared.raw.Infix.{Infix}
 use Rattle.asl_parser.specs.declared.raw.Raw.{Raw}
 use Rattle.asl_parser.specs.declared.raw.Raw.TheVariants as raw
-use Rattle.asl_shape.specs.declared.operator.Slot.{Slot}
+use Rattle.asl_words.specs.declared.operator.Slot.{Slot}
 use Rattle.acpi_state.specs.Outcomes.{choose}
-use Rattle.asl_shape.specs.Written.{writtens, written_in}
+use Rattle.asl_parser.specs.Written.{writtens, written_in}
 use Rattle.asl_shape.specs.Plans.{an_integer}
 use Rattle.asl_shape.specs.Shapes.{is_type, is_bare_type, is_given, is_type_or_list, types_shape, most_types, refused, fine}
 use Rattle.asl_shape.specs.AtRaw.{is_type_at, are_types_at, is_type_or_list_at, are_all_types_at, types_at, listed_at, is_some}
 use Rattle.asl_shape.proofs.Terms.{term_rules, nothing_more}
 use Rattle.asl_shape.proofs.Braces.{from_item, given_some}
 use Rattle.asl_shape.proofs.ItemLaws.{counted}
-use Rattle.asl_shape.proofs.Views.{written_number, written_text, written_item, written_apply, written_list, written_comma, written_semicolon, written_empty}
+use Rattle.asl_parser.proofs.Views.{written_number, written_text, written_item, written_apply, written_list, written_comma, written_semicolon, written_empty}
 
 pub type_number : (place : Place) (n : ℕ) → is_type_at (raw.Number place n) ≡ false
 unfolding is_type_at

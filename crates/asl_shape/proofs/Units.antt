@@ -12,9 +12,9 @@ use Rattle.asl_tree.specs.declared.term.Op.{Op}
 use Rattle.asl_tree.specs.declared.term.Node.{Node}
 use Rattle.asl_tree.specs.declared.term.Term.{Term}
 use Rattle.asl_tree.specs.declared.term.Term as D
-use Rattle.asl_shape.specs.Written.{none, more, written, writtens, written_in}
+use Rattle.asl_parser.specs.Written.{none, more, written, writtens, written_in}
 use Rattle.asl_shape.specs.Plans.{plan_of, plans_of, plan_at, text_of}
-use Rattle.asl_shape.specs.Operators.{block_parameters}
+use Rattle.asl_words.specs.Operators.{block_parameters}
 use Rattle.asl_shape.specs.Shapes.{fault_at, takes, inside_of, is_given, terms, place_of}
 use Rattle.asl_shape.specs.AtRaw.{takes_at, inside_at, is_some, terms_at, arguments_at, arguments_in_at, place_at, Refuses}
 use Rattle.asl_shape.specs.Forms.{start, is_block_word, block_fault, errors_inside, block_errors, no_block, errors_before, first_errors, block_place, args_of, terms_of, IsBlock, errors_at, IsBlockOf, args_in, terms_in, errors_in, block_errors_at, item_errors_at, IsItemBlock, Forms}
@@ -23,7 +23,7 @@ use Rattle.asl_shape.proofs.Settled.{at_some, at_none}
 use Rattle.asl_shape.proofs.Terms.{term_rules, nothing_more}
 use Rattle.asl_shape.proofs.Braces.{given_some}
 use Rattle.asl_shape.proofs.Shapes.{inside_written, arguments_are, from_none, none_left, all_made}
-use Rattle.asl_shape.proofs.Views.{written_number, written_text, written_item, written_apply, written_list, written_comma, written_semicolon, written_empty}
+use Rattle.asl_parser.proofs.Views.{written_number, written_text, written_item, written_apply, written_list, written_comma, written_semicolon, written_empty}
 
 pub text_form : (o : Op) (args body : Vec Node Global) → text_of (plan_of (D.Form o args body)) ≡ []
 text_form o args body = ap text_of (plan_form o args body)

@@ -7,14 +7,18 @@ use Rattle.iasl_messages.specs.declared.message.Stage.TheVariants as stage
 use Rattle.asl_parser.specs.declared.raw.Raw.{Raw}
 use Rattle.asl_shape.specs.Plans.{Plan, omitted, Plans, no_plans, plan}
 use Rattle.asl_tree.specs.declared.term.Op.{Op}
-use Rattle.asl_shape.specs.declared.operator.Parameter.{Parameter}
-use Rattle.asl_shape.specs.declared.operator.Slot.{Slot}
-use Rattle.asl_shape.specs.declared.operator.Body.{Body}
-use Rattle.asl_shape.specs.declared.item.Meaning.{Meaning}
-use Rattle.asl_shape.specs.declared.item.Reading.{Reading}
-use Rattle.asl_shape.specs.Written.{written, writtens, written_in}
-use Rattle.asl_shape.specs.Shapes.{Shaped, fine, takes, none_empty, has_arguments, item_fault, is_comma, due_after, is_text, item_fault, meaning_of, reading_of, bare, behind_if, is_call, is_separator, is_listed, byte_slot, skipped, joined, operands, call_args, arguments, arguments_in, contents, members, terms, read_shape, form_shape, within, place_of, nowhere, checked, item_shape, listed_shape, types_shape, is_type, are_types, is_type_or_list, are_all_types}
-use Rattle.asl_shape.specs.Operators.{parameters_of, body_of}
+use Rattle.asl_words.specs.declared.operator.Parameter.{Parameter}
+use Rattle.asl_words.specs.declared.operator.Slot.{Slot}
+use Rattle.asl_words.specs.declared.operator.Slot.TheVariants as slot
+use Rattle.asl_words.specs.declared.operator.Body.{Body}
+use Rattle.asl_words.specs.declared.meaning.Meaning.{Meaning}
+use Rattle.asl_words.specs.declared.meaning.Reading.{Reading}
+use Rattle.asl_shape.specs.declared.fields.Due.{Due}
+use Rattle.asl_shape.specs.declared.fields.UnitName.{UnitName}
+use Rattle.asl_parser.specs.Written.{written, writtens, written_in}
+use Rattle.asl_shape.specs.Shapes.{Shaped, fine, takes, none_empty, has_arguments, is_comma, due_after, is_text, bare, behind_if, is_call, is_separator, is_listed, byte_slot, skipped, joined, operands, call_args, arguments, arguments_in, contents, members, terms, read_shape, form_shape, within, place_of, nowhere, checked, item_shape, listed_shape, types_shape, is_type, are_types, is_type_or_list, are_all_types, meaning_in, goes_on, is_field_list, field_slot, unit_behind, field_part, due_behind, offset_shape, elements, begin}
+use Rattle.asl_words.specs.Meanings.{item_fault, meaning_of, reading_of, slot_as}
+use Rattle.asl_words.specs.Operators.{parameters_of, body_of, offset_parameters}
 
 unfoldable pub takes_at : List Parameter → List Raw → Bool
 takes_at qs raws = takes qs (writtens raws)
@@ -73,9 +77,13 @@ terms_at inside behind raws = terms inside behind (writtens raws)
 unfoldable pub form_at : Op → Place → Bool → Option (List Raw) → Option (List Raw) → Shaped Plan
 form_at o place inside args body = form_shape o place (arguments_at (parameters_of o) place inside args) (contents_at (body_of o) (within o inside) place body)
 
+-- an Offset with its argument
+unfoldable pub offset_at : Place → Bool → Option (List Raw) → Shaped Plan
+offset_at place inside args = offset_shape (arguments_at offset_parameters place inside args)
+
 -- an item as it is read
 unfoldable pub read_at : Slot → Place → List ℕ → Reading → Bool → Option (List Raw) → Option (List Raw) → Shaped Plan
-read_at s place w reading inside args body = read_shape s place w reading (call_at inside args) (λ o. form_at o place inside args body)
+read_at s place w reading inside args body = read_shape s place w reading (call_at inside args) (offset_at place inside args) (λ o. form_at o place inside args body)
 
 abbrev pub is_some : Option (List Raw) → Bool
 is_some None = false
@@ -112,10 +120,14 @@ due_at due raw = due_after due (written raw)
 unfoldable pub member_at : Slot → Bool → Raw → Shaped Plans
 member_at s inside raw = skipped (is_separator_at raw) (place_at nowhere raw) (shape_at s inside raw) (fine no_plans)
 
+-- what the word of a part is
+unfoldable pub meaning_at : Raw → Meaning
+meaning_at raw = meaning_in (written raw)
+
 -- an argument alone: one that is given, or one that is left out
 unfoldable pub argument_at : Parameter → Place → Bool → Option Raw → Shaped Plans
 argument_at q place inside None = joined place (fine omitted) (fine no_plans)
-argument_at q place inside (Some raw) = joined (place_at place raw) (shape_at q.slot inside raw) (fine no_plans)
+argument_at q place inside (Some raw) = joined (place_at place raw) (shape_at (slot_as q.slot (meaning_at raw)) inside raw) (fine no_plans)
 
 -- a refusal tells exactly these errors, at least one
 abbrev pub Refuses : Stage → List Message → Type 0
@@ -140,3 +152,34 @@ is_type_or_list_at raw = is_type_or_list (written raw)
 
 unfoldable pub are_all_types_at : List Raw → Bool
 are_all_types_at raws = are_all_types (writtens raws)
+
+-- ---- the list of a field
+
+unfoldable pub goes_on_at : Due → Raw → Option Due
+goes_on_at due raw = goes_on due (written raw)
+
+unfoldable pub due_behind_at : Due → Raw → Due
+due_behind_at due raw = due_behind due (written raw)
+
+unfoldable pub is_field_list_at : Due → List Raw → Bool
+is_field_list_at due raws = is_field_list due (writtens raws)
+
+unfoldable pub elements_at : Due → Option UnitName → Bool → List Raw → Shaped Plans
+elements_at due unit inside raws = elements due unit inside (writtens raws)
+
+-- what a member comes to where this is due
+unfoldable pub part_at : Due → Option UnitName → Bool → Raw → Shaped Plans
+part_at due unit inside raw = field_part due unit (place_at nowhere raw) (is_separator_at raw) (shape_at (field_slot due) inside raw)
+
+-- the unit of which the number of bits is to come behind it
+unfoldable pub unit_at : Due → Option UnitName → Bool → Raw → Option UnitName
+unit_at due unit inside raw = unit_behind due unit (place_at nowhere raw) (is_separator_at raw) (shape_at (field_slot due) inside raw).made
+
+unfoldable pub begin_at : Bool → Raw → Shaped Plans
+begin_at inside raw = field_part begin None (place_at nowhere raw) (is_separator_at raw) (shape_at slot.FieldElement inside raw)
+
+unfoldable pub comma_at : Option UnitName → Raw → Shaped Plans
+comma_at unit raw = field_part Due.NameComma unit (place_at nowhere raw) (is_separator_at raw) (fine omitted)
+
+unfoldable pub bits_at : Option UnitName → Bool → Raw → Shaped Plans
+bits_at unit inside raw = field_part Due.Bits unit (place_at nowhere raw) (is_separator_at raw) (shape_at (slot.Constant 0 18446744073709551615) inside raw)

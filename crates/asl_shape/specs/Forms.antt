@@ -6,9 +6,9 @@ use Rattle.iasl_messages.specs.declared.message.Message.{Message}
 use Rattle.asl_parser.specs.declared.raw.Raw.{Raw}
 use Rattle.asl_tree.specs.declared.program.Block.{Block}
 use Rattle.asl_tree.specs.declared.program.Program.{Program}
-use Rattle.asl_shape.specs.Written.{Written, Writtens, Group, item, none, more, writtens}
+use Rattle.asl_parser.specs.Written.{Written, Writtens, Group, item, none, more, writtens}
 use Rattle.asl_shape.specs.Plans.{Plans, no_plans, plans_of, plan_at, text_of, number_of}
-use Rattle.asl_shape.specs.Operators.{block_parameters}
+use Rattle.asl_words.specs.Operators.{block_parameters}
 use Rattle.asl_shape.specs.Shapes.{Shaped, fault_at, place_of, takes, inside_of, is_given, arguments, terms}
 use Rattle.asl_shape.specs.AtRaw.{arguments_in_at, terms_at, takes_at, inside_at, is_some}
 

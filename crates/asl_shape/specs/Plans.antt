@@ -2,6 +2,7 @@
 use Rattle.std.specs.Prelude.{ℕ, zero, suc, Bool, true, false, List, [], ◌∷◌, Result, Ok, Err, Some, None}
 use Rattle.iasl_messages.specs.declared.place.Place.{Place}
 use Rattle.acpi_values.specs.Integers.{wrapped}
+use Rattle.acpi_values.specs.Paths.{NameSeg}
 use Rattle.acpi_values.specs.declared.width.Width.TheVariants.{W64}
 use Rattle.asl_tree.specs.declared.constant.NoConstant.{NoConstant}
 use Rattle.asl_tree.specs.declared.path.Path.{Path}
@@ -23,7 +24,7 @@ mutual
     debug : Plan
     omitted : Plan
     a_name : (name : Path) → Plan
-    a_unit : (name : Path) (bits : ℕ) → Plan
+    a_unit : (segment : NameSeg) (bits : ℕ) → Plan
     a_skip : (bits : ℕ) → Plan
     an_offset : (bytes : ℕ) → Plan
     a_call : (name : Path) (args : Plans) → Plan
@@ -45,7 +46,7 @@ unfoldable mutual
   plan_of D.Debug = debug
   plan_of D.Omitted = omitted
   plan_of (D.Name path) = a_name path
-  plan_of (D.Unit path bits) = a_unit path bits
+  plan_of (D.Unit segment bits) = a_unit segment bits
   plan_of (D.Skip bits) = a_skip bits
   plan_of (D.Offset bytes) = an_offset bytes
   plan_of (D.Call' path shape args) = a_call path (row_plans args)
@@ -78,10 +79,15 @@ plan_at no_plans i = omitted
 plan_at (plan place p ps) zero = p
 plan_at (plan place p ps) (suc i) = plan_at ps i
 
+-- so many of the first
+abbrev pub first_plans : ℕ → Plans → Plans
+first_plans zero ps = no_plans
+first_plans (suc n) no_plans = no_plans
+first_plans (suc n) (plan place p ps) = plan place p (first_plans n ps)
+
 -- the first alone
 abbrev pub first_alone : Plans → Plans
-first_alone no_plans = no_plans
-first_alone (plan place p ps) = plan place p no_plans
+first_alone ps = first_plans 1 ps
 
 abbrev pub is_omitted : Plan → Bool
 is_omitted omitted = true

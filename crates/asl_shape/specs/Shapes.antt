@@ -1,7 +1,5 @@
 -- What a source comes to: a program's tree, or the errors in it.
-use Rattle.std.specs.Prelude.{ℕ, suc, ◌+◌, ◌*◌, ◌%◌, nat_le, ◌==◌, Bool, true, false, not, ◌&&◌, ◌||◌, if◌then◌else◌, List, [], ◌∷◌, ◌++◌, length, codes, Option, Some, None, Result, Ok, Err}
-use Rattle.std.specs.List.{list_all}
-use Rattle.std.specs.Str.{bytes_eq}
+use Rattle.std.specs.Prelude.{ℕ, suc, ◌+◌, ◌*◌, ◌%◌, nat_le, Bool, true, false, not, ◌&&◌, ◌||◌, if◌then◌else◌, List, [], ◌∷◌, ◌++◌, Option, Some, None, Result, Ok, Err}
 use Rattle.acpi_state.specs.Outcomes.{choose}
 use Rattle.iasl_messages.specs.declared.place.Place.{Place}
 use Rattle.iasl_messages.specs.declared.message.Message.{Message}
@@ -9,33 +7,35 @@ use Rattle.acpi_values.specs.Integers.{wrapped}
 use Rattle.acpi_values.specs.declared.width.Width.TheVariants.{W64}
 use Rattle.asl_tree.specs.declared.constant.NoConstant.{NoConstant}
 use Rattle.asl_tree.specs.declared.path.Path.{Path}
+use Rattle.asl_tree.specs.Names.{is_searched, single_segment}
 use Rattle.asl_tree.specs.declared.term.Op.{Op}
 use Rattle.asl_tree.specs.declared.term.Declaration.{Declaration}
 use Rattle.asl_tree.specs.declared.term.Control.{Control}
 use Rattle.asl_tree.specs.declared.term.Special.{Special}
 use Rattle.asl_tree.specs.declared.term.Literal.{Literal}
-use Rattle.asl_shape.specs.declared.operator.Parameter.{Parameter}
-use Rattle.asl_shape.specs.declared.operator.Slot.{Slot}
-use Rattle.asl_shape.specs.declared.operator.Slot.TheVariants as slot
-use Rattle.asl_shape.specs.declared.operator.Role.{Role}
-use Rattle.asl_shape.specs.declared.operator.Role.TheVariants as role
-use Rattle.asl_shape.specs.declared.operator.Body.{Body}
-use Rattle.asl_shape.specs.declared.operator.Body.TheVariants as braces
-use Rattle.asl_shape.specs.declared.operator.StringForm.{StringForm}
-use Rattle.asl_shape.specs.declared.operator.StringForm.TheVariants as form
-use Rattle.asl_shape.specs.declared.operator.WordKind.{WordKind}
-use Rattle.asl_shape.specs.declared.operator.WordKind.TheVariants as kind
-use Rattle.asl_shape.specs.declared.operator.Known.{Known}
-use Rattle.asl_shape.specs.declared.operator.Known.TheVariants as known
-use Rattle.asl_shape.specs.declared.item.Meaning.{Meaning}
-use Rattle.asl_shape.specs.declared.item.Meaning.TheVariants as is
-use Rattle.asl_shape.specs.declared.item.Reading.{Reading}
-use Rattle.asl_shape.specs.declared.item.Reading.TheVariants as read
-use Rattle.asl_shape.specs.Written as piece
-use Rattle.asl_shape.specs.Written.{Written, Writtens, Group, item, apply, listed, comma, semicolon, empty, none, more, absent, given}
-use Rattle.asl_shape.specs.Operators.{operator_of, word_of, parameters_of, body_of, role_of}
-use Rattle.asl_shape.specs.Paths.{path_of, is_path}
-use Rattle.asl_shape.specs.Plans.{Plan, an_integer, a_text, a_local, an_arg, debug, omitted, a_name, a_call, a_form, Plans, no_plans, plan, join, number_of, plan_at, first_alone, is_omitted, constant_of}
+use Rattle.asl_words.specs.declared.operator.Parameter.{Parameter}
+use Rattle.asl_words.specs.declared.operator.Slot.{Slot}
+use Rattle.asl_words.specs.declared.operator.Slot.TheVariants as slot
+use Rattle.asl_words.specs.declared.operator.Body.{Body}
+use Rattle.asl_words.specs.declared.operator.Body.TheVariants as braces
+use Rattle.asl_words.specs.declared.operator.StringForm.{StringForm}
+use Rattle.asl_words.specs.declared.operator.StringForm.TheVariants as form
+use Rattle.asl_words.specs.declared.operator.WordKind.TheVariants as kind
+use Rattle.asl_words.specs.declared.operator.Known.{Known}
+use Rattle.asl_words.specs.declared.operator.Known.TheVariants as known
+use Rattle.asl_words.specs.declared.meaning.Meaning.{Meaning}
+use Rattle.asl_words.specs.declared.meaning.Meaning.TheVariants as is
+use Rattle.asl_words.specs.declared.meaning.Reading.{Reading}
+use Rattle.asl_words.specs.declared.meaning.Reading.TheVariants as read
+use Rattle.asl_shape.specs.declared.fields.Due.{Due}
+use Rattle.asl_shape.specs.declared.fields.UnitName.{UnitName}
+use Rattle.asl_parser.specs.Written as piece
+use Rattle.asl_parser.specs.Written.{Written, Writtens, Group, item, apply, listed, comma, semicolon, empty, none, more, absent, given}
+use Rattle.asl_words.specs.Operators.{parameters_of, body_of, offset_parameters}
+use Rattle.asl_words.specs.Meanings.{meaning_of, may_end, item_fault, takes_expression, takes_known, reading_of, slot_as}
+use Rattle.asl_words.specs.Texts.{has_form, is_all_text}
+use Rattle.asl_words.specs.Paths.{path_of}
+use Rattle.asl_shape.specs.Plans.{Plan, an_integer, a_text, a_local, an_arg, debug, omitted, a_name, a_unit, a_skip, an_offset, a_call, a_form, Plans, no_plans, plan, join, number_of, plan_at, first_plans, first_alone, is_omitted, constant_of}
 
 -- ---- what comes of a part of a source: its errors in order, and its tree, which counts where there are none
 
@@ -61,56 +61,9 @@ abbrev pub is_given : Group → Bool
 is_given absent = false
 is_given (given ws) = true
 
--- a word of at most four characters without a body is a name
-abbrev pub name_or_unknown : List ℕ → Bool → Meaning
-name_or_unknown text has_body = if is_path text then is.Path else (if nat_le (length text) 4 && not has_body then is.Name else is.Unknown)
-
-abbrev pub known_as : Known → Meaning
-known_as known.LeftOut = is.Unknown
-known_as k = is.Known k
-
--- what a word or path is: an operator, a word that stands for something, a name, or nothing that is known
-abbrev pub meaning_of : List ℕ → Bool → Meaning
-meaning_of text has_body = choose (operator_of text) (choose (word_of text) (name_or_unknown text has_body) known_as) is.Operator
-
-abbrev pub is_behind_if : Slot → Bool
-is_behind_if (slot.Term behind) = behind
-is_behind_if _ = false
-
-abbrev pub is_term : Slot → Bool
-is_term (slot.Term behind) = true
-is_term _ = false
-
--- where an operator may stand
-abbrev pub may_stand : Slot → Bool → Role → Bool
-may_stand s inside role.MethodStatement = inside
-may_stand s inside role.OuterTerm = not inside
-may_stand s inside role.Else = is_behind_if s
-may_stand s inside _ = true
-
-abbrev pub is_word : Known → Bool
-is_word (known.Word k n) = true
-is_word _ = false
-
-abbrev pub is_declared : Slot → Bool
-is_declared slot.Declared = true
-is_declared _ = false
-
--- inside a method a path that is declared is a single segment
-abbrev pub may_be : Slot → Bool → Meaning → Bool
-may_be s inside (is.Operator o) = may_stand s inside (role_of o)
-may_be s inside (is.Known k) = not (is_term s && is_word k)
-may_be s inside is.Path = not (is_declared s && inside)
-may_be s inside _ = true
-
 abbrev pub is_empty : Written → Bool
 is_empty empty = true
 is_empty _ = false
-
--- nothing is left out that has to stand
-abbrev pub may_end : List Parameter → Bool
-may_end [] = true
-may_end (q ∷ qs) = q.omittable && may_end qs
 
 abbrev pub takes : List Parameter → Writtens → Bool
 takes [] none = true
@@ -144,100 +97,8 @@ has_arguments (is.Operator o) ws = takes (parameters_of o) ws
 has_arguments (is.Known k) ws = is_none ws
 has_arguments is.Name ws = is_call ws
 has_arguments is.Path ws = is_call ws
+has_arguments is.Offset ws = takes offset_parameters ws
 has_arguments is.Unknown ws = true
-
-abbrev pub has_braces : Body → Bool
-has_braces braces.No = false
-has_braces _ = true
-
-abbrev pub wants_braces : Meaning → Bool
-wants_braces (is.Operator o) = has_braces (body_of o)
-wants_braces _ = false
-
-abbrev pub is_unknown : Meaning → Bool
-is_unknown is.Unknown = true
-is_unknown _ = false
-
-abbrev pub is_same : Bool → Bool → Bool
-is_same true b = b
-is_same false b = not b
-
--- the first of an item's errors: an unknown operator, one that may not stand here, its arguments, its body
-abbrev pub item_fault : Slot → Bool → Meaning → Bool → Bool → Option ℕ
-item_fault s inside meaning has has_body =
-    if is_unknown meaning then Some 6020 else (
-    if not (may_be s inside meaning) then Some 6025 else (
-    if not has then Some 6021 else (
-    if not (is_same (wants_braces meaning) has_body) then Some 6023 else None)))
-
--- ---- what an item is read as
-
-abbrev pub is_value : Role → Bool
-is_value role.Expression = true
-is_value role.Place = true
-is_value _ = false
-
-abbrev pub is_place : Role → Bool
-is_place role.Place = true
-is_place _ = false
-
--- where an expression is read
-abbrev pub takes_expression : Slot → Bool
-takes_expression slot.Expression = true
-takes_expression (slot.Constant least most) = true
-takes_expression slot.Element = true
-takes_expression (slot.Term behind) = true
-takes_expression _ = false
-
-abbrev pub takes_role : Slot → Role → Bool
-takes_role (slot.Term behind) r = true
-takes_role slot.Place r = is_place r
-takes_role s r = takes_expression s && is_value r
-
-abbrev pub takes_place : Slot → Bool
-takes_place slot.Place = true
-takes_place s = takes_expression s
-
-abbrev pub takes_slot : Slot → Bool
-takes_slot slot.Named = true
-takes_slot s = takes_place s
-
-abbrev pub takes_path : Slot → Bool
-takes_path slot.Declared = true
-takes_path slot.External = true
-takes_path slot.Used = true
-takes_path s = takes_slot s
-
-abbrev pub is_kind : WordKind → WordKind → Bool
-is_kind kind.Serialize kind.Serialize = true
-is_kind kind.ObjectType kind.ObjectType = true
-is_kind kind.Match kind.Match = true
-is_kind _ _ = false
-
-abbrev pub takes_word : Slot → WordKind → Bool
-takes_word (slot.Word asked) k = is_kind asked k
-takes_word (slot.Types most) k = is_kind kind.ObjectType k
-takes_word _ k = false
-
-abbrev pub takes_known : Slot → Known → Bool
-takes_known s (known.Word k n) = takes_word s k
-takes_known s known.Debug = takes_place s
-takes_known s known.LeftOut = false
-takes_known s _ = takes_slot s
-
-abbrev pub unless_wrong : Bool → Reading → Reading
-unless_wrong good reading = if good then reading else read.Wrong
-
-abbrev pub name_reading : Slot → Bool → Reading
-name_reading s true = unless_wrong (takes_expression s) read.Call
-name_reading s false = unless_wrong (takes_path s) read.Path
-
-abbrev pub reading_of : Slot → Meaning → Bool → Reading
-reading_of s (is.Operator o) called = unless_wrong (takes_role s (role_of o)) (read.Form o)
-reading_of s (is.Known k) called = unless_wrong (takes_known s k) (read.Known k)
-reading_of s is.Name called = name_reading s called
-reading_of s is.Path called = name_reading s called
-reading_of s is.Unknown called = read.Wrong
 
 -- ---- constants: an argument that has to be one stands as its value
 
@@ -255,10 +116,17 @@ is_member (a_form (Op.Special Special.Buffer) args body) = true
 is_member (a_form (Op.Special Special.Package) args body) = true
 is_member _ = false
 
+-- what an element of a field's list begins with: a single segment, or an Offset
+abbrev pub is_element : Plan → Bool
+is_element (a_name path) = is_searched path
+is_element (an_offset bytes) = true
+is_element _ = false
+
 -- an expression where a constant may be asked for; one that is left out is none
 abbrev pub evaluated : Slot → Place → Plan → Shaped Plan
 evaluated (slot.Constant least most) place p = if is_omitted p then fine p else valued least most place (constant_of p)
 evaluated slot.Element place p = if is_member p then fine p else valued 0 18446744073709551615 place (constant_of p)
+evaluated slot.FieldElement place p = if is_element p then fine p else refused 6022 place
 evaluated _ place p = fine p
 
 abbrev pub after : List Message → Shaped Plan → Shaped Plan → Shaped Plan
@@ -274,29 +142,6 @@ checked s place shape = after shape.faults shape (evaluated s place shape.made)
 abbrev pub number_shape : Slot → Place → ℕ → Shaped Plan
 number_shape (slot.Term behind) place n = refused 6025 place
 number_shape s place n = if takes_expression s then fine (an_integer (wrapped W64 n)) else refused 6022 place
-
--- bytes 01 to 7F; there are no others in a string
-abbrev pub is_text_byte : ℕ → Bool
-is_text_byte b = nat_le 1 b && nat_le b 127
-
-abbrev pub is_all_text : List ℕ → Bool
-is_all_text bytes = list_all is_text_byte bytes
-
-abbrev pub is_upper_or_digit : ℕ → Bool
-is_upper_or_digit b = (nat_le 65 b && nat_le b 90) || (nat_le 48 b && nat_le b 57)
-
--- OEM and one letter or digit
-abbrev pub is_oem_signature : List ℕ → Bool
-is_oem_signature (a ∷ b ∷ c ∷ d ∷ []) = (a == 79) && ((b == 69) && ((c == 77) && is_upper_or_digit d))
-is_oem_signature _ = false
-
-abbrev pub is_signature : List ℕ → Bool
-is_signature text = bytes_eq text (codes "DSDT") || (bytes_eq text (codes "SSDT") || (bytes_eq text (codes "PSDT") || is_oem_signature text))
-
-abbrev pub has_form : StringForm → List ℕ → Bool
-has_form form.Any bytes = true
-has_form form.Signature bytes = is_signature bytes
-has_form (form.AtMost most) bytes = nat_le (length bytes) most
 
 abbrev pub text_plan : List ℕ → Plan
 text_plan bytes = a_text bytes
@@ -331,6 +176,7 @@ known_plan s (known.Word k n) = an_integer (word_number s n)
 known_plan s (known.Local i) = a_local i
 known_plan s (known.Arg i) = an_arg i
 known_plan s known.Debug = debug
+known_plan s known.Offset = omitted
 known_plan s known.LeftOut = omitted
 
 -- ---- lists of types
@@ -404,23 +250,39 @@ external_settled place ps = join (join (first_alone ps) (one_plan place (an_inte
 abbrev pub return_settled : Place → Plans → Plans
 return_settled place ps = if is_stated (plan_at ps 0) then ps else one_plan place zero_plan
 
+-- the flags of a field: its access, whether it takes the global lock, and what its writes do to other bits; its words
+-- stand behind so many arguments
+abbrev pub field_flags : ℕ → Plans → ℕ
+field_flags n ps = number_of (plan_at ps n) % 16 + 16 * (number_of (plan_at ps (n + 1)) % 2) + 32 * (number_of (plan_at ps (n + 2)) % 4)
+
+abbrev pub field_settled : ℕ → Place → Plans → Plans
+field_settled n place ps = join (first_plans n ps) (one_plan place (an_integer (field_flags n ps)))
+
 -- the arguments of a form, from those that are written; what they come to stands at the operator
 abbrev pub settled : Op → Place → Plans → Plans
 settled (Op.Declaration Declaration.Method) place ps = method_settled place ps
 settled (Op.Declaration Declaration.Mutex) place ps = mutex_settled place ps
 settled (Op.Declaration Declaration.External) place ps = external_settled place ps
 settled (Op.Control Control.Return) place ps = return_settled place ps
+settled (Op.Declaration Declaration.Field) place ps = field_settled 1 place ps
+settled (Op.Declaration Declaration.IndexField) place ps = field_settled 2 place ps
+settled (Op.Declaration Declaration.BankField) place ps = field_settled 3 place ps
 settled _ place ps = ps
 
 abbrev pub form_shape : Op → Place → Shaped Plans → Shaped Plans → Shaped Plan
 form_shape o place args body = record { faults = args.faults ++ body.faults; made = a_form o (settled o place args.made) body.made }
 
-abbrev pub read_shape : Slot → Place → List ℕ → Reading → Shaped Plans → (Op → Shaped Plan) → Shaped Plan
-read_shape s place text read.Wrong args form = refused 6022 place
-read_shape s place text read.Path args form = path_shape place (path_of text)
-read_shape s place text read.Call args form = call_shape place (path_of text) args
-read_shape s place text (read.Known k) args form = fine (known_plan s k)
-read_shape s place text (read.Form o) args form = form o
+-- the place of the next byte
+abbrev pub offset_shape : Shaped Plans → Shaped Plan
+offset_shape args = record { faults = args.faults; made = an_offset (number_of (plan_at args.made 0)) }
+
+abbrev pub read_shape : Slot → Place → List ℕ → Reading → Shaped Plans → Shaped Plan → (Op → Shaped Plan) → Shaped Plan
+read_shape s place text read.Wrong args offset form = refused 6022 place
+read_shape s place text read.Path args offset form = path_shape place (path_of text)
+read_shape s place text read.Call args offset form = call_shape place (path_of text) args
+read_shape s place text read.Offset args offset form = offset
+read_shape s place text (read.Known k) args offset form = fine (known_plan s k)
+read_shape s place text (read.Form o) args offset form = form o
 
 abbrev pub item_shape : Place → Option ℕ → Shaped Plan → Shaped Plan
 item_shape place (Some number) shape = refused number place
@@ -495,6 +357,95 @@ behind_if behind semicolon = behind
 behind_if behind (item p w args body) = is_if (meaning_of w (is_given body))
 behind_if behind _ = false
 
+-- ---- the list of a field
+
+-- what the word of a part is, if it has one
+abbrev pub meaning_in : Written → Meaning
+meaning_in (item p w args body) = meaning_of w (is_given body)
+meaning_in _ = is.Unknown
+
+abbrev pub is_offset : Meaning → Bool
+is_offset is.Offset = true
+is_offset _ = false
+
+-- an Offset is a whole element; behind a unit's name its comma comes
+abbrev pub behind_begin : Bool → Due
+behind_begin true = Due.Comma
+behind_begin false = Due.NameComma
+
+-- what may come behind a member, by whether it is a comma, a separator, an Offset: none where it may not stand. The
+-- number of bits may stand without the comma before it, which is told of the unit alone
+abbrev pub next_due : Due → Bool → Bool → Bool → Option Due
+next_due Due.Element at_comma separator offset = if separator then (if at_comma then Some Due.Bits else None) else Some (behind_begin offset)
+next_due Due.NameComma at_comma separator offset = if separator then (if at_comma then Some Due.Bits else None) else Some Due.Comma
+next_due Due.Bits at_comma separator offset = if separator then None else Some Due.Comma
+next_due Due.Comma at_comma separator offset = if at_comma then Some Due.Element else None
+
+abbrev pub goes_on : Due → Written → Option Due
+goes_on due w = next_due due (is_comma w) (is_separator w) (is_offset (meaning_in w))
+
+abbrev pub may_stop : Due → Bool
+may_stop Due.Element = true
+may_stop Due.Comma = true
+may_stop _ = false
+
+abbrev pub begin : Due
+begin = Due.Element
+
+-- units, gaps and Offsets with commas between them, and one behind the last perhaps
+abbrev pub is_field_list : Due → Writtens → Bool
+is_field_list due none = may_stop due
+is_field_list due (more w ws) = choose (goes_on due w) false (λ next. is_field_list next ws)
+
+-- how a member is read where this is due
+abbrev pub field_slot : Due → Slot
+field_slot Due.Bits = slot.Constant 0 18446744073709551615
+field_slot _ = slot.FieldElement
+
+-- the unit that a single segment names
+abbrev pub named_by : Place → Path → Option UnitName
+named_by place path = choose (single_segment path) None (λ segment. Some (record { place = place; segment = segment }))
+
+abbrev pub named_unit : Place → Plan → Option UnitName
+named_unit place (a_name path) = named_by place path
+named_unit place _ = None
+
+-- the unit of which the number of bits is still to come
+abbrev pub unit_behind : Due → Option UnitName → Place → Bool → Plan → Option UnitName
+unit_behind Due.Element unit place false p = named_unit place p
+unit_behind Due.NameComma unit place separator p = unit
+unit_behind _ unit place separator p = None
+
+abbrev pub is_offset_plan : Plan → Bool
+is_offset_plan (an_offset bytes) = true
+is_offset_plan _ = false
+
+abbrev pub offset_alone : Place → Plan → Plans
+offset_alone place p = if is_offset_plan p then one_plan place p else no_plans
+
+-- a unit stands at its name, and a gap at its number of bits
+abbrev pub of_bits : Option UnitName → Place → ℕ → Plans
+of_bits None place bits = one_plan place (a_skip bits)
+of_bits (Some unit) place bits = one_plan unit.place (a_unit unit.segment bits)
+
+-- a unit whose name has no comma behind it
+abbrev pub no_comma : Option UnitName → List Message
+no_comma None = []
+no_comma (Some unit) = fault_at 6022 unit.place ∷ []
+
+-- what a member comes to where this is due, read as it is then
+abbrev pub field_part : Due → Option UnitName → Place → Bool → Shaped Plan → Shaped Plans
+field_part Due.Element unit place false shape = record { faults = shape.faults; made = offset_alone place shape.made }
+field_part Due.NameComma unit place false shape = record { faults = no_comma unit; made = no_plans }
+field_part Due.Bits unit place separator shape = record { faults = shape.faults; made = of_bits unit place (number_of shape.made) }
+field_part _ unit place separator shape = fine no_plans
+
+abbrev pub followed : Shaped Plans → Shaped Plans → Shaped Plans
+followed first rest = record { faults = first.faults ++ rest.faults; made = join first.made rest.made }
+
+abbrev pub due_behind : Due → Written → Due
+due_behind due w = choose (goes_on due w) Due.Comma (λ next. next)
+
 -- ---- the tree
 
 abbrev mutual
@@ -508,7 +459,7 @@ abbrev mutual
   bare s inside (item place w args body) =
       item_shape place (item_fault s inside (meaning_of w (is_given body)) (has_arguments (meaning_of w (is_given body)) (inside_of args)) (is_given body))
       (read_shape s place w (reading_of s (meaning_of w (is_given body)) (is_given args)) (call_args inside args)
-      (λ o. form_shape o place (arguments (parameters_of o) place inside args) (contents (body_of o) (within o inside) place body)))
+      (offset_shape (arguments offset_parameters place inside args)) (λ o. form_shape o place (arguments (parameters_of o) place inside args) (contents (body_of o) (within o inside) place body)))
   bare s inside _ = fine omitted
 
   -- the arguments of a call
@@ -528,7 +479,8 @@ abbrev mutual
   pub arguments_in : List Parameter → Place → Bool → Writtens → Shaped Plans
   arguments_in qs place inside none = fine (left_out place qs)
   arguments_in [] place inside (more w ws) = fine no_plans
-  arguments_in (q ∷ qs) place inside (more w ws) = joined (place_of place w) (checked q.slot (place_of nowhere w) (bare q.slot inside w)) (arguments_in qs place inside ws)
+  arguments_in (q ∷ qs) place inside (more w ws) =
+      joined (place_of place w) (checked (slot_as q.slot (meaning_in w)) (place_of nowhere w) (bare (slot_as q.slot (meaning_in w)) inside w)) (arguments_in qs place inside ws)
 
   -- what stands in braces
   pub contents : Body → Bool → Place → Group → Shaped Plans
@@ -537,10 +489,18 @@ abbrev mutual
   contents braces.Terms inside place (given ws) = terms inside false ws
   contents braces.Bytes inside place (given ws) = list_shape place (is_listed true ws) (members (byte_slot ws) inside ws)
   contents braces.Elements inside place (given ws) = list_shape place (is_listed true ws) (members slot.Element inside ws)
+  contents braces.FieldList inside place (given ws) = list_shape place (is_field_list begin ws) (elements begin None inside ws)
 
   pub members : Slot → Bool → Writtens → Shaped Plans
   members s inside none = fine no_plans
   members s inside (more w ws) = skipped (is_separator w) (place_of nowhere w) (checked s (place_of nowhere w) (bare s inside w)) (members s inside ws)
+
+  -- the elements of a field's list
+  pub elements : Due → Option UnitName → Bool → Writtens → Shaped Plans
+  elements due unit inside none = fine no_plans
+  elements due unit inside (more w ws) =
+      followed (field_part due unit (place_of nowhere w) (is_separator w) (checked (field_slot due) (place_of nowhere w) (bare (field_slot due) inside w)))
+      (elements (due_behind due w) (unit_behind due unit (place_of nowhere w) (is_separator w) (checked (field_slot due) (place_of nowhere w) (bare (field_slot due) inside w)).made) inside ws)
 
   -- the terms of a list; `behind` says that an If stands directly before
   pub terms : Bool → Bool → Writtens → Shaped Plans

@@ -1,18 +1,20 @@
 //! Numbers, strings, names, words and lists of types.
 ghost use Rattle.std.specs.Prelude.{◌≡◌, ◌++◌, ◌∷◌, [], OnOk, IfOk};
 ghost use Rattle.asl_shape.specs.Shapes as spec;
-ghost use Rattle.asl_shape.specs.Paths;
+ghost use Rattle.asl_words.specs.Paths;
 ghost use Rattle.asl_shape.specs.AtRaw as at;
 ghost use Rattle.asl_shape.specs.Plans.{plan_of};
 
-use crate::item::{Meaning, is_given, meaning_of, takes_expression, takes_known};
-use crate::operator::{Known, Slot, StringForm, WordKind};
-use crate::paths::path_of;
+use crate::item::is_given;
 use crate::work::{Work, refuse};
 use acpi_values::integer::wrap;
 use acpi_values::width::Width;
 use asl_parser::Raw;
 use asl_tree::term::Term;
+use asl_words::meaning::{Meaning, meaning_of, takes_expression, takes_known};
+use asl_words::operator::{Known, Slot, StringForm, WordKind};
+use asl_words::paths::path_of;
+use asl_words::texts::{has_form, is_text};
 use iasl_messages::place::Place;
 use iasl_ports::list::Text;
 use std::alloc::{AllocError, Global};
@@ -54,49 +56,6 @@ pub fn number(
                 Ok(refuse(alloc, work, 6022, place)?)
             }
         }
-    }
-}
-
-fn is_text_byte(byte: u8) -> bool
-    ensures { result ≡ spec.is_text_byte byte }
-{
-    1 <= byte && byte <= 127
-}
-
-fn is_text(bytes: &[u8]) -> bool
-    ensures { result ≡ spec.is_all_text bytes.now }
-{
-    bytes.iter().all(|byte| is_text_byte(*byte))
-}
-
-fn is_upper_or_digit(byte: u8) -> bool
-    ensures { result ≡ spec.is_upper_or_digit byte }
-{
-    (65 <= byte && byte <= 90) || (48 <= byte && byte <= 57)
-}
-
-fn is_oem_signature(text: &[u8]) -> bool
-    ensures { result ≡ spec.is_oem_signature text.now }
-{
-    let [first, second, third, last] = text else {
-        return false;
-    };
-    *first == b'O' && (*second == b'E' && (*third == b'M' && is_upper_or_digit(*last)))
-}
-
-fn is_signature(text: &[u8]) -> bool
-    ensures { result ≡ spec.is_signature text.now }
-{
-    matches!(text, b"DSDT" | b"SSDT" | b"PSDT") || is_oem_signature(text)
-}
-
-fn has_form(form: StringForm, text: &[u8]) -> bool
-    ensures { result ≡ spec.has_form form text.now }
-{
-    match form {
-        StringForm::Any => true,
-        StringForm::Signature => is_signature(text),
-        StringForm::AtMost(most) => text.len() <= most as usize,
     }
 }
 
@@ -173,7 +132,7 @@ pub fn known_term(slot: Slot, known: Known) -> Term
         Known::Local(index) => Term::Local(index),
         Known::Arg(index) => Term::Arg(index),
         Known::Debug => Term::Debug,
-        Known::LeftOut => Term::Omitted,
+        Known::Offset | Known::LeftOut => Term::Omitted,
     }
 }
 

@@ -3,10 +3,12 @@ ghost use Rattle.std.specs.Prelude.{◌≡◌, ◌≤◌, ◌<◌, drop, true, f
 ghost use Rattle.asl_shape.specs.Shapes as spec;
 ghost use Rattle.asl_shape.specs.AtRaw as at;
 
-use crate::item::{Meaning, is_given, meaning_of, parts};
-use crate::operator::{Slot, StringForm};
+use crate::item::is_given;
 use asl_parser::Raw;
 use asl_tree::term::{Control, Declaration, Op};
+use asl_words::meaning::{Meaning, meaning_of};
+use asl_words::operator::{Slot, StringForm};
+use asl_words::paths::parts;
 
 /// The terms of a method stand inside one.
 pub fn within(op: Op, inside: bool) -> bool
@@ -35,8 +37,9 @@ pub fn is_separator(raw: &Raw) -> bool
     }
 }
 
+/// Whether a member is a comma.
 #[tactic(auto, using(crate::proofs::Braces::comma_rules))]
-fn is_comma(raw: &Raw) -> bool
+pub fn is_comma(raw: &Raw) -> bool
     ensures { result ≡ at.is_comma_at raw.now }
 {
     match raw {

@@ -1,15 +1,16 @@
 //! The arguments of a form, from those that are written.
-ghost use Rattle.std.specs.Prelude.{◌≡◌, ◌∷◌, [], slice_get, take, OnOk, IfOk};
+ghost use Rattle.std.specs.Prelude.{◌≡◌, ◌≤◌, ◌∷◌, [], slice_get, take, OnOk, IfOk};
 ghost use Rattle.asl_shape.specs.Shapes as spec;
-ghost use Rattle.asl_shape.specs.Plans.{plan_of, plans_of, plan_at, number_of, first_alone, join};
+ghost use Rattle.asl_shape.specs.Plans.{plan_of, plans_of, plan_at, number_of, first_plans, join};
 
 use crate::work::{is_omitted, value_of};
 use asl_tree::term::{Control, Declaration, Literal, Node, Op, Special, Term};
 use iasl_messages::place::Place;
 use std::alloc::{AllocError, Global};
 
+/// The number that a term is; 0 where it is none.
 #[tactic(auto, using(crate::proofs::Settled::number_rules))]
-fn number_in(term: &Term) -> u64
+pub fn number_in(term: &Term) -> u64
     ensures { result ≡ number_of (plan_of term.now) }
 {
     match term {
@@ -51,20 +52,21 @@ fn is_given(nodes: &[Node], i: usize) -> bool
     }
 }
 
+/// Adds a node, which has no number yet.
 #[tactic(auto, using(crate::proofs::Settled::push_rules))]
-fn push(nodes: &mut Vec<Node>, place: Place, term: Term) -> Result<(), AllocError>
+pub fn push(nodes: &mut Vec<Node>, place: Place, term: Term) -> Result<(), AllocError>
     ensures { OnOk result (plans_of nodes.new.items ≡ join (plans_of nodes.old.items) (spec.one_plan place (plan_of term))) }
 {
     nodes.push(Node { id: 0, place, term })?;
     Ok(())
 }
 
-// The first alone.
-#[tactic(auto, using(crate::proofs::Settled::first_is))]
-fn keep_first(nodes: &mut Vec<Node>)
-    ensures { plans_of nodes.new.items ≡ first_alone (plans_of nodes.old.items) }
+// So many of the first.
+#[tactic(auto, using(crate::proofs::Settled::first_are))]
+fn keep_first(nodes: &mut Vec<Node>, count: usize)
+    ensures { plans_of nodes.new.items ≡ first_plans count (plans_of nodes.old.items) }
 {
-    nodes.truncate(1);
+    nodes.truncate(count);
 }
 
 fn flags_of(nodes: &[Node]) -> u64
@@ -78,7 +80,7 @@ fn method(nodes: &mut Vec<Node>, place: Place) -> Result<(), AllocError>
     ensures { OnOk result (plans_of nodes.new.items ≡ spec.method_settled place (plans_of nodes.old.items)) }
 {
     let flags = flags_of(nodes);
-    keep_first(nodes);
+    keep_first(nodes, 1);
     Ok(push(nodes, place, Term::Integer(flags))?)
 }
 
@@ -87,8 +89,29 @@ fn mutex(nodes: &mut Vec<Node>, place: Place) -> Result<(), AllocError>
     ensures { OnOk result (plans_of nodes.new.items ≡ spec.mutex_settled place (plans_of nodes.old.items)) }
 {
     let level = number_at(nodes, 1) % 16;
-    keep_first(nodes);
+    keep_first(nodes, 1);
     Ok(push(nodes, place, Term::Integer(level))?)
+}
+
+fn field_flags(nodes: &[Node], names: usize) -> u64
+    requires { names ≤ 3 }
+    ensures { result ≡ spec.field_flags names (plans_of nodes.now) }
+{
+    let access = number_at(nodes, names) % 16;
+    let lock = number_at(nodes, names + 1) % 2;
+    let update = number_at(nodes, names + 2) % 4;
+    access + 16 * lock + 32 * update
+}
+
+// The arguments of a field whose words stand behind so many others.
+#[tactic(auto, using(crate::proofs::Terms::term_rules))]
+fn field(nodes: &mut Vec<Node>, place: Place, names: usize) -> Result<(), AllocError>
+    requires { names ≤ 3 }
+    ensures { OnOk result (plans_of nodes.new.items ≡ spec.field_settled names place (plans_of nodes.old.items)) }
+{
+    let flags = field_flags(nodes, names);
+    keep_first(nodes, names);
+    Ok(push(nodes, place, Term::Integer(flags))?)
 }
 
 #[tactic(auto, using(crate::proofs::Settled::external_rules))]
@@ -98,7 +121,7 @@ fn external(nodes: &mut Vec<Node>, place: Place) -> Result<(), AllocError>
     let kind = number_at(nodes, 1);
     let states = is_given(nodes, 3);
     let count = number_at(nodes, 3);
-    keep_first(nodes);
+    keep_first(nodes, 1);
     push(nodes, place, Term::Integer(kind))?;
     if states {
         Ok(push(nodes, place, Term::Integer(count))?)
@@ -145,6 +168,9 @@ pub fn settle(alloc: Global, op: Op, place: Place, nodes: &mut Vec<Node>) -> Res
         Op::Declaration(Declaration::Method) => Ok(method(nodes, place)?),
         Op::Declaration(Declaration::Mutex) => Ok(mutex(nodes, place)?),
         Op::Declaration(Declaration::External) => Ok(external(nodes, place)?),
+        Op::Declaration(Declaration::Field) => Ok(field(nodes, place, 1)?),
+        Op::Declaration(Declaration::IndexField) => Ok(field(nodes, place, 2)?),
+        Op::Declaration(Declaration::BankField) => Ok(field(nodes, place, 3)?),
         Op::Control(Control::Return) => Ok(returned(alloc, nodes, place)?),
         _ => Ok(()),
     }

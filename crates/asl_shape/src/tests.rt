@@ -1,6 +1,8 @@
 use crate::shape;
 use asl_lexer::token::{Token, TokenKind, Tokens};
 use asl_parser::parse;
+use asl_tree::program::Program;
+use asl_tree::term::Term;
 use iasl_messages::message::Stage;
 use iasl_messages::place::Place;
 use iasl_ports::list::Text;
@@ -164,6 +166,129 @@ fn tells_each_error_at_its_place(rt: HostRuntime) -> Result<(), Fail> {
         let head = "DEFINITIONBLOCK ( \"a , \"DSDT , 2 , \"O , \"T , 1 ) {";
         let source = format!(in alloc; "{head} {text} }}")?;
         assert_eq!(rt; errors(alloc, source.as_str())?.as_str(), want);
+    }
+    Ok(())
+}
+
+const HEAD: &str = "DEFINITIONBLOCK ( \"a , \"DSDT , 2 , \"O , \"T , 1 ) {";
+
+#[test]
+fn tells_errors_of_regions_and_fields(rt: HostRuntime) -> Result<(), Fail> {
+    let alloc = rt.alloc();
+    for (text, want) in [
+        ("OPERATIONREGION ( R , SYSTEMIO , 128 , 4 )", "none"),
+        (
+            "FIELD ( R , WORDACC , NOLOCK , PRESERVE ) { A , 12 , B , 8 , C , 12 }",
+            "none",
+        ),
+        (
+            "INDEXFIELD ( IX , DT , BYTEACC , NOLOCK , PRESERVE ) { , 16 , V , 8 }",
+            "none",
+        ),
+        (
+            "BANKFIELD ( R , B , 1 , ANYACC , LOCK , WRITEASONES ) { OFFSET ( 4 ) , A , ADD ( 1 , 2 ) , }",
+            "none",
+        ),
+        // Spaces: a word for one, or a number from 0x80.
+        ("OPERATIONREGION ( R , 255 , 0 , 1 )", "none"),
+        ("OPERATIONREGION ( R , 127 , 0 , 1 )", "6024@19 "),
+        ("OPERATIONREGION ( R , BYTEACC , 0 , 1 )", "6022@19 "),
+        ("OPERATIONREGION ( R , SYSTEMIO , 0 )", "6021@15 "),
+        // The words of a field, and its list.
+        ("FIELD ( R , NOLOCK , NOLOCK , 1 ) { }", "6022@19 6022@23 "),
+        (
+            "FIELD ( R , BUFFERACC , NOLOCK , PRESERVE ) { }",
+            "6020@19 ",
+        ),
+        ("FIELD ( R , ANYACC , LOCK , PRESERVE )", "6023@15 "),
+        // A list that is not elements with commas between them is told at the field.
+        (
+            "FIELD ( R , ANYACC , LOCK , PRESERVE ) { A , 12 B , 8 }",
+            "6022@15 ",
+        ),
+        (
+            "FIELD ( R , ANYACC , LOCK , PRESERVE ) { A ; 8 }",
+            "6022@15 ",
+        ),
+        ("FIELD ( R , ANYACC , LOCK , PRESERVE ) { A }", "6022@15 "),
+        // A unit without its comma is told at its name.
+        (
+            "FIELD ( R , ANYACC , LOCK , PRESERVE ) { A 12 , B , 8 }",
+            "6022@26 ",
+        ),
+        // Names are single segments, and numbers of bits constants.
+        (
+            "FIELD ( R , ANYACC , LOCK , PRESERVE ) { \\A.B , 8 , ABCDE , 8 , 5 , 8 }",
+            "6022@26 6020@30 6022@34 ",
+        ),
+        (
+            "FIELD ( R , ANYACC , LOCK , PRESERVE ) { A , B , C , DIVIDE ( 1 , 0 ) }",
+            "6022@28 6024@32 ",
+        ),
+        // An Offset stands in a field's list alone, with one argument and no braces.
+        (
+            "FIELD ( R , ANYACC , LOCK , PRESERVE ) { OFFSET ( ) , OFFSET ( 1 ) { } }",
+            "6021@26 6023@30 ",
+        ),
+        ("OFFSET ( 1 ) NAME ( A , OFFSET ( 1 ) )", "6025@15 6025@23 "),
+    ] {
+        let source = format!(in alloc; "{HEAD} {text} }}")?;
+        assert_eq!(rt; errors(alloc, source.as_str())?.as_str(), want);
+    }
+    Ok(())
+}
+
+/// The one term of a block, where there is no error.
+fn with_term(alloc: Global, text: &str) -> Result<Option<Program>, AllocError> {
+    let source = format!(in alloc; "{HEAD} {text} }}")?;
+    let tokens = tokens(alloc, source.as_str())?;
+    if tokens.len() > 1000 {
+        return Ok(None);
+    }
+    let Ok(unit) = parse(alloc, &tokens) else {
+        return Ok(None);
+    };
+    match shape(alloc, &unit) {
+        Ok(program) => Ok(Some(program)),
+        Err(_) => Ok(None),
+    }
+}
+
+/// The last number among the arguments of the one term of a block.
+fn last_number(alloc: Global, text: &str) -> Result<Option<u64>, AllocError> {
+    let Some(program) = with_term(alloc, text)? else {
+        return Ok(None);
+    };
+    let Some(block) = program.blocks.get(0) else {
+        return Ok(None);
+    };
+    let Some(node) = block.terms.get(0) else {
+        return Ok(None);
+    };
+    let Term::Form { args, .. } = &node.term else {
+        return Ok(None);
+    };
+    match args.last() {
+        Some(last) => match &last.term {
+            Term::Integer(number) => Ok(Some(*number)),
+            _ => Ok(None),
+        },
+        None => Ok(None),
+    }
+}
+
+#[test]
+fn the_words_of_a_field_are_one_number(rt: HostRuntime) -> Result<(), Fail> {
+    let alloc = rt.alloc();
+    for (text, want) in [
+        ("FIELD ( R , WORDACC , NOLOCK , PRESERVE ) { A , 12 }", 0x02),
+        ("FIELD ( R , WORDACC , NOLOCK , WRITEASONES ) { }", 0x22),
+        (
+            "INDEXFIELD ( I , D , QWORDACC , LOCK , WRITEASZEROS ) { }",
+            0x54,
+        ),
+    ] {
+        assert!(rt; last_number(alloc, text)? == Some(want));
     }
     Ok(())
 }

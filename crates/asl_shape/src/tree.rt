@@ -1,21 +1,25 @@
 //! From the tree of the syntax to the program tree.
-ghost use Rattle.std.specs.Prelude.{◌≡◌, ◌++◌, ◌==◌, ◌&&◌, [], slice_get, length, nat_eq, OnOk, IfOk, IfErr, true, false};
+ghost use Rattle.std.specs.Prelude.{None, ◌≡◌, ◌++◌, ◌==◌, ◌&&◌, [], slice_get, length, nat_eq, OnOk, IfOk, IfErr, true, false};
 ghost use Rattle.asl_shape.specs.Shapes as spec;
 ghost use Rattle.asl_shape.specs.AtRaw as at;
-ghost use Rattle.asl_shape.specs.Operators as table;
-ghost use Rattle.asl_shape.specs.Paths;
+ghost use Rattle.asl_words.specs.Operators as table;
+ghost use Rattle.asl_words.specs.Paths;
 ghost use Rattle.asl_shape.specs.Plans.{plan_of, plans_of, join};
 
-use crate::item::{Reading, inside_of, is_given, item_fault, meaning_of, reading_of};
+use crate::fields::{
+    BITS, Due, UnitName, add_offset, add_unit, due_behind, is_field_list, meaning_in, named_unit,
+};
+use crate::item::{inside_of, is_given, item_fault};
 use crate::leaf::{known_term, listed, number, path, place_in, text};
 use crate::lists::{behind_if, byte_slot, is_listed, is_separator, within};
-use crate::operator::{Body, Parameter, Slot};
-use crate::parameters::{body_of, parameters_of};
-use crate::paths::path_of;
-use crate::settle::settle;
+use crate::settle::{number_at, number_in, settle};
 use crate::work::{NOWHERE, Work, evaluate, refuse, tell};
 use asl_parser::{Raw, Raws};
 use asl_tree::term::{Node, Op, Term};
+use asl_words::meaning::{Reading, meaning_of, reading_of, slot_as};
+use asl_words::operator::{Body, Parameter, Slot};
+use asl_words::parameters::{body_of, offset_parameters, parameters_of};
+use asl_words::paths::path_of;
 use iasl_messages::message::{Messages, Stage};
 use iasl_messages::place::Place;
 use iasl_ports::list::Text;
@@ -192,6 +196,7 @@ fn read(
         Reading::Wrong => Ok(refuse(alloc, work, 6022, place)?),
         Reading::Path => Ok(path(alloc, work, place, word.as_bytes())?),
         Reading::Call => Ok(call(alloc, work, inside, place, word, args)?),
+        Reading::Offset => Ok(offset(alloc, work, inside, place, args)?),
         Reading::Known(known) => Ok(known_term(slot, known)),
         Reading::Form(op) => Ok(form(alloc, work, op, inside, place, args, body)?),
     }
@@ -224,6 +229,32 @@ fn call(
         inside_of(args),
     )?;
     Ok(Term::Call { path, args: nodes })
+}
+
+// An Offset with its argument.
+#[cycle(shape)]
+#[tactic(auto, using(crate::proofs::Shapes::size_rules, crate::proofs::Shapes::offset_rules, crate::proofs::Settled::at_rules))]
+fn offset(
+    alloc: Global,
+    work: &mut Work,
+    inside: bool,
+    place: Place,
+    args: &Option<Raws>,
+) -> Result<Term, AllocError>
+    ensures faults { OnOk result (work.new.faults.items ≡ work.old.faults.items ++ (at.offset_at place inside args.now).faults) }
+    ensures made { IfOk result (λ term. plan_of term ≡ (at.offset_at place inside args.now).made) }
+{
+    let mut nodes = Vec::new(alloc);
+    arguments(
+        alloc,
+        work,
+        &mut nodes,
+        offset_parameters(),
+        inside,
+        place,
+        inside_of(args),
+    )?;
+    Ok(Term::Offset(number_at(&nodes, 0)))
 }
 
 // An operator with its arguments and its braces.
@@ -299,7 +330,15 @@ fn add_argument(
     ensures made { OnOk result (plans_of nodes.new.items ≡ join (plans_of nodes.old.items) (at.argument_at parameter place inside (slice_get args.now i)).made) }
 {
     match args.get(i) {
-        Some(raw) => Ok(add(alloc, work, nodes, parameter.slot, inside, place, raw)?),
+        Some(raw) => Ok(add(
+            alloc,
+            work,
+            nodes,
+            slot_as(parameter.slot, meaning_in(raw)),
+            inside,
+            place,
+            raw,
+        )?),
         None => Ok(leave_out(nodes, place)?),
     }
 }
@@ -349,7 +388,140 @@ fn contents(
         Body::Terms => Ok(terms(alloc, work, nodes, inside, raws)?),
         Body::Bytes => Ok(elements(alloc, work, nodes, byte_slot(raws), inside, place, raws)?),
         Body::Elements => Ok(elements(alloc, work, nodes, Slot::Element, inside, place, raws)?),
+        Body::FieldList => Ok(field_list(alloc, work, nodes, inside, place, raws)?),
     }
+}
+
+// The list of a field.
+#[cycle(shape)]
+#[tactic(auto, using(crate::proofs::Shapes::size_rules, crate::proofs::Shapes::content_rules))]
+fn field_list(
+    alloc: Global,
+    work: &mut Work,
+    nodes: &mut Vec<Node>,
+    inside: bool,
+    place: Place,
+    raws: &[Raw],
+) -> Result<(), AllocError>
+    ensures faults { OnOk result (work.new.faults.items ≡ work.old.faults.items ++ (spec.list_shape place (at.is_field_list_at spec.begin raws.now) (at.elements_at spec.begin None inside raws.now)).faults) }
+    ensures made { OnOk result (plans_of nodes.new.items ≡ join (plans_of nodes.old.items) (spec.list_shape place (at.is_field_list_at spec.begin raws.now) (at.elements_at spec.begin None inside raws.now)).made) }
+{
+    if !is_field_list(raws) {
+        return Ok(tell(alloc, work, 6022, place)?);
+    }
+    Ok(field_elements(alloc, work, nodes, inside, raws)?)
+}
+
+#[cycle(shape)]
+#[tactic(auto, using(crate::proofs::Shapes::size_rules, crate::proofs::FieldSteps::element_steps))]
+fn field_elements(
+    alloc: Global,
+    work: &mut Work,
+    nodes: &mut Vec<Node>,
+    inside: bool,
+    raws: &[Raw],
+) -> Result<(), AllocError>
+    ensures faults { OnOk result (work.new.faults.items ≡ work.old.faults.items ++ (at.elements_at spec.begin None inside raws.now).faults) }
+    ensures made { OnOk result (plans_of nodes.new.items ≡ join (plans_of nodes.old.items) (at.elements_at spec.begin None inside raws.now).made) }
+{
+    let mut due = Due::Element;
+    let mut unit = None;
+    for raw in raws {
+        unit = add_part(alloc, work, nodes, due, unit, inside, raw)?;
+        due = due_behind(due, raw);
+    }
+    Ok(())
+}
+
+// A member of a field's list where this is due, and the unit of which the number of bits is to come behind it.
+#[cycle(shape)]
+#[tactic(auto, using(crate::proofs::Shapes::size_rules, crate::proofs::FieldSteps::part_rules))]
+fn add_part(
+    alloc: Global,
+    work: &mut Work,
+    nodes: &mut Vec<Node>,
+    due: Due,
+    unit: Option<UnitName>,
+    inside: bool,
+    raw: &Raw,
+) -> Result<Option<UnitName>, AllocError>
+    ensures faults { OnOk result (work.new.faults.items ≡ work.old.faults.items ++ (at.part_at due unit inside raw.now).faults) }
+    ensures made { OnOk result (plans_of nodes.new.items ≡ join (plans_of nodes.old.items) (at.part_at due unit inside raw.now).made) }
+    ensures unit { IfOk result (λ next. next ≡ at.unit_at due unit inside raw.now) }
+{
+    match due {
+        Due::Element => Ok(begin_element(alloc, work, nodes, inside, raw)?),
+        Due::NameComma => {
+            miss_comma(alloc, work, unit, raw)?;
+            Ok(unit)
+        }
+        Due::Bits => {
+            add_bits(alloc, work, nodes, unit, inside, raw)?;
+            Ok(None)
+        }
+        Due::Comma => Ok(None),
+    }
+}
+
+// An Offset, or the name of a unit; a comma begins a gap.
+#[cycle(shape)]
+#[tactic(auto, using(crate::proofs::Shapes::size_rules, crate::proofs::FieldSteps::begin_rules))]
+fn begin_element(
+    alloc: Global,
+    work: &mut Work,
+    nodes: &mut Vec<Node>,
+    inside: bool,
+    raw: &Raw,
+) -> Result<Option<UnitName>, AllocError>
+    ensures faults { OnOk result (work.new.faults.items ≡ work.old.faults.items ++ (at.begin_at inside raw.now).faults) }
+    ensures made { OnOk result (plans_of nodes.new.items ≡ join (plans_of nodes.old.items) (at.begin_at inside raw.now).made) }
+    ensures unit { IfOk result (λ next. next ≡ at.unit_at spec.begin None inside raw.now) }
+{
+    if is_separator(raw) {
+        return Ok(None);
+    }
+    let term = shape(alloc, work, Slot::FieldElement, inside, raw)?;
+    let place = place_in(NOWHERE, raw);
+    let unit = named_unit(place, &term);
+    add_offset(nodes, place, term)?;
+    Ok(unit)
+}
+
+// Tells of a unit's name that has no comma behind it.
+#[tactic(auto, using(crate::proofs::FieldSteps::comma_rules))]
+fn miss_comma(
+    alloc: Global,
+    work: &mut Work,
+    unit: Option<UnitName>,
+    raw: &Raw,
+) -> Result<(), AllocError>
+    ensures { OnOk result (work.new.faults.items ≡ work.old.faults.items ++ (at.comma_at unit raw.now).faults) }
+{
+    if is_separator(raw) {
+        return Ok(());
+    }
+    match unit {
+        Some(unit) => Ok(tell(alloc, work, 6022, unit.place)?),
+        None => Ok(()),
+    }
+}
+
+// The number of bits of a unit or of a gap.
+#[cycle(shape)]
+#[tactic(auto, using(crate::proofs::Shapes::size_rules, crate::proofs::FieldSteps::bits_rules))]
+fn add_bits(
+    alloc: Global,
+    work: &mut Work,
+    nodes: &mut Vec<Node>,
+    unit: Option<UnitName>,
+    inside: bool,
+    raw: &Raw,
+) -> Result<(), AllocError>
+    ensures faults { OnOk result (work.new.faults.items ≡ work.old.faults.items ++ (at.bits_at unit inside raw.now).faults) }
+    ensures made { OnOk result (plans_of nodes.new.items ≡ join (plans_of nodes.old.items) (at.bits_at unit inside raw.now).made) }
+{
+    let term = shape(alloc, work, BITS, inside, raw)?;
+    Ok(add_unit(nodes, unit, place_in(NOWHERE, raw), number_in(&term))?)
 }
 
 // Elements with commas between them.

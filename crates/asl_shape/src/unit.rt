@@ -2,18 +2,19 @@
 ghost use Rattle.std.specs.Prelude.{◌≡◌, ◌++◌, ◌∷◌, [], length, IfOk, IfErr, OnOk};
 ghost use Rattle.asl_shape.specs.Forms as spec;
 ghost use Rattle.asl_shape.specs.AtRaw as at;
-ghost use Rattle.asl_shape.specs.Operators as table;
+ghost use Rattle.asl_words.specs.Operators as table;
 ghost use Rattle.asl_shape.specs.Plans.{plan_of, plans_of, plan_at, text_of, join};
 
-use crate::item::{inside_of, is_given, parts, takes};
+use crate::item::{inside_of, is_given, takes};
 use crate::leaf::place_in;
-use crate::parameters::block_parameters;
 use crate::settle::number_at;
 use crate::tree::{arguments, terms};
 use crate::work::Work;
 use asl_parser::{Raw, RawUnit, Raws};
 use asl_tree::program::{Block, Blocks, Program};
 use asl_tree::term::{Node, Term};
+use asl_words::parameters::block_parameters;
+use asl_words::paths::parts;
 use iasl_messages::message::{Message, Messages, Stage};
 use iasl_messages::place::Place;
 use iasl_ports::list::Text;

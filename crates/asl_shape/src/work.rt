@@ -3,11 +3,13 @@ ghost use Rattle.std.specs.Prelude.{◌≡◌, ◌++◌, OnOk, IfOk};
 ghost use Rattle.asl_shape.specs.Shapes as spec;
 ghost use Rattle.asl_shape.specs.Plans.{plan_of, constant_of};
 ghost use Rattle.asl_shape.specs.Plans.{is_omitted as is_left_out};
+ghost use Rattle.asl_tree.specs.Names.{is_searched};
 
-use crate::operator::Slot;
 use acpi_values::width::Width;
 use asl_tree::constant::{NoConstant, constant};
+use asl_tree::path::Path;
 use asl_tree::term::{Op, Special, Term};
+use asl_words::operator::Slot;
 use iasl_messages::message::Message;
 use iasl_messages::place::Place;
 use iasl_ports::list::Text;
@@ -89,6 +91,7 @@ fn is_member(term: &Term) -> bool
             Op::Declaration(_) => false,
             Op::Control(_) => false,
             Op::Plain(_) => false,
+            Op::Symbolic(_) => false,
         },
         Term::Integer(_) => false,
         Term::Fill(_) => false,
@@ -100,6 +103,34 @@ fn is_member(term: &Term) -> bool
         Term::Unit { .. } => false,
         Term::Skip(_) => false,
         Term::Offset(_) => false,
+        Term::Call { .. } => false,
+    }
+}
+
+fn is_single(path: &Path) -> bool
+    ensures { result ≡ is_searched path.now }
+{
+    !path.root && path.up == 0 && path.segs.len() == 1
+}
+
+#[tactic(auto, using(crate::proofs::Terms::element_rules))]
+fn is_element(term: &Term) -> bool
+    ensures { result ≡ spec.is_element (plan_of term.now) }
+{
+    match term {
+        Term::Name(path) => is_single(path),
+        Term::Offset(_) => true,
+        Term::Text(_) => false,
+        Term::Form { .. } => false,
+        Term::Integer(_) => false,
+        Term::Fill(_) => false,
+        Term::Word(_) => false,
+        Term::Local(_) => false,
+        Term::Arg(_) => false,
+        Term::Debug => false,
+        Term::Omitted => false,
+        Term::Unit { .. } => false,
+        Term::Skip(_) => false,
         Term::Call { .. } => false,
     }
 }
@@ -160,6 +191,13 @@ pub fn evaluate(
                 Ok(term)
             } else {
                 Ok(valued(alloc, work, 0, u64::MAX, place, value_of(&term))?)
+            }
+        }
+        Slot::FieldElement => {
+            if is_element(&term) {
+                Ok(term)
+            } else {
+                Ok(refuse(alloc, work, 6022, place)?)
             }
         }
         _ => Ok(term),

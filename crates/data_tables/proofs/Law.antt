@@ -20,7 +20,7 @@ use Rattle.data_tables.specs.Bytes.{little_bytes, little_number, filled, checksu
 use Rattle.data_tables.specs.Fields.{Value, field_bytes, number_of_value, value_of, revision_fault}
 use Rattle.data_tables.specs.Parts.{first_part}
 use Rattle.data_tables.specs.Walk.{Field, Walked, walk}
-use Rattle.data_tables.specs.Compiling.{piece_of, joined, sealed, with_texts, answer_with_texts, compiled_text, Answer, answer_by, answer_of, signature_in, compiled_table, compiled_signed, compiled_lines, compiled}
+use Rattle.data_tables.specs.Compiling.{piece_of, joined, sealed, with_texts, answer_with_texts, compiled_text, Answer, answer_by, answer_of, refused, signature_in, compiled_table, compiled_signed, compiled_lines, compiled}
 use Rattle.data_tables.specs.Entries.{Entry, entries_from, fields_of_table, fields_signed, fields_by, written_values, unsealed_bytes}
 use Rattle.data_tables.specs.Reading.{bytes_at, number_read, size_of, rest_of, first_rows, IsRest, ReadsAs}
 use Rattle.data_tables.proofs.Sums.{sum-append}
@@ -287,7 +287,11 @@ on_signature text first rest (Some s) out lines is e short = on_table text first
 
 on_lines : (text : DataText) (lines : List FieldLine) (out : Compiled) → text.lines ≡ lines → compiled_lines text lines ≡ Ok out → length (joined (map piece_of (fields_by text lines))) < 2 ^ 32 → ReadsAs (joined out.pieces) (entries_from 0 (fields_by text lines))
 on_lines text [] out is e short = let both : ◌≡◌ {A = Answer} (compiled_lines text []) (Ok out) = e in absurd cc
-on_lines text (first ∷ rest) out is e short = on_signature text first rest (signature_in first) out is refl e short
+on_lines text (first ∷ rest) out is e short =
+    elim first.colon as (λ b. cond b (compiled_signed text first (signature_in first)) (refused 6093 first.place) ≡ Ok out → ReadsAs (joined out.pieces) (entries_from 0 (fields_by text (first ∷ rest)))) [
+      | true ↦ λ g. on_signature text first rest (signature_in first) out is refl g short
+      | false ↦ λ g. absurd cc
+    ] e
 
 joined_with_texts : (lines : List Line) (pieces : List Piece) → joined (with_texts lines pieces) ≡ joined pieces
 joined_with_texts lines [] = refl

@@ -12,3 +12,5 @@ pub mod Steps
 pub mod Sums
 pub mod Unique
 pub mod Worked
+pub mod Homes
+pub mod Sizes

@@ -9,7 +9,7 @@ use Rattle.data_tables.specs.declared.decoding.Told.TheVariants as told
 use Rattle.data_tables.specs.Fields.{Value, value_of, number_of_value}
 use Rattle.data_tables.specs.Parts.{Part, Opened, next_field, begins, behind, missing}
 use Rattle.data_tables.specs.Decoding.{is_decoded, told_by}
-use Rattle.data_tables.specs.Walk.{Field, Walked, with_front, Step, Passed, Took, Halted, step_with, step_at, step_of, told_at, fault_if, after_step, walk}
+use Rattle.data_tables.specs.Walk.{Field, Walked, with_front, Step, Passed, Took, Halted, step_with, step_due, step_at, step_of, told_at, fault_if, after_step, walk}
 
 -- these are the fields from a part on, up to the end
 abbrev pub FieldsOf : Part → List Field → Type 0
@@ -37,11 +37,14 @@ at_value part rest part' line row row' value' d (Ok value) next e h =
       behind_it = sym same_part ∙ ap (λ (r : Row). behind rest r.kind (number_of_value value)) same_row ∙ ap (λ (v : Value). behind rest row'.kind (number_of_value v)) same_value;
     }
 
+at_due : (part part' : Part) (line : FieldLine) (row' : Row) (value' : Value) (d : Option Decoded) (opened : Result Opened ℕ) → next_field part ≡ opened → step_due line opened ≡ Took row' value' part' d → IsField part line row' value' part'
+at_due part part' line row' value' d (Err fault) e h = absurd cc
+at_due part part' line row' value' d (Ok field) e h = at_value part field.1 part' line field.0 row' value' d (value_of field.1.table field.0 line.value) e refl h
+
 at_next : (part part' : Part) (line : FieldLine) (row' : Row) (value' : Value) (d : Option Decoded) (opened : Result Opened ℕ) → next_field part ≡ opened → step_at line opened ≡ Took row' value' part' d → IsField part line row' value' part'
-at_next part part' line row' value' d (Err fault) e h = absurd cc
-at_next part part' line row' value' d (Ok field) e h =
-    elim line.colon as (λ b. cond b (step_with field.0 field.1 line (value_of field.1.table field.0 line.value)) (Halted 6093) ≡ Took row' value' part' d → IsField part line row' value' part') [
-      | true ↦ λ g. at_value part field.1 part' line field.0 row' value' d (value_of field.1.table field.0 line.value) e refl g
+at_next part part' line row' value' d opened e h =
+    elim line.colon as (λ b. cond b (step_due line opened) (Halted 6093) ≡ Took row' value' part' d → IsField part line row' value' part') [
+      | true ↦ λ g. at_due part part' line row' value' d opened e g
       | false ↦ λ g. absurd cc
     ] h
 
@@ -75,15 +78,18 @@ walk_fields end part decoded (line ∷ lines) f =
     by_step part decoded line (step_of part decoded line) (λ p d. walk end p d lines) refl (λ p d g. walk_fields end p d lines g) f
 
 -- the first field is on the first line
+none_passed : (line : FieldLine) (opened : Result Opened ℕ) (t : Told) → step_due line opened ≡ Passed t → ⊥
+none_passed line (Err fault) t h = cc
+none_passed line (Ok field) t h =
+    elim (value_of field.1.table field.0 line.value) as (λ v. step_with field.0 field.1 line v ≡ Passed t → ⊥) [
+      | Ok value ↦ λ i. cc
+      | Err fault ↦ λ i. cc
+    ] h
+
 not_passed : (line : FieldLine) (opened : Result Opened ℕ) (t : Told) → step_at line opened ≡ Passed t → ⊥
-not_passed line (Err fault) t h = cc
-not_passed line (Ok field) t h =
-    elim line.colon as (λ b. cond b (step_with field.0 field.1 line (value_of field.1.table field.0 line.value)) (Halted 6093) ≡ Passed t → ⊥) [
-      | true ↦ λ g.
-          elim (value_of field.1.table field.0 line.value) as (λ v. step_with field.0 field.1 line v ≡ Passed t → ⊥) [
-            | Ok value ↦ λ i. cc
-            | Err fault ↦ λ i. cc
-          ] g
+not_passed line opened t h =
+    elim line.colon as (λ b. cond b (step_due line opened) (Halted 6093) ≡ Passed t → ⊥) [
+      | true ↦ λ g. none_passed line opened t g
       | false ↦ λ g. cc
     ] h
 

@@ -81,10 +81,10 @@ abbrev pub compiled_signed : DataText → FieldLine → Option (List ℕ) → An
 compiled_signed text first None = refused 6090 first.place
 compiled_signed text first (Some signature) = compiled_table text first signature (table_of signature)
 
--- a text without a field has none of the table's (6091)
+-- a text without a field has none of the table's (6091), and a line without colon has no value (6093)
 abbrev pub compiled_lines : DataText → List FieldLine → Answer
 compiled_lines text [] = refused 6091 text.end
-compiled_lines text (first ∷ rest) = compiled_signed text first (signature_in first)
+compiled_lines text (first ∷ rest) = cond first.colon (compiled_signed text first (signature_in first)) (refused 6093 first.place)
 
 abbrev pub compiled_text : DataText → Answer
 compiled_text text = compiled_lines text text.lines

@@ -49,10 +49,14 @@ abbrev pub step_with : Row → Part → FieldLine → Result Value ℕ → Step
 step_with row rest line (Err fault) = Halted fault
 step_with row rest line (Ok value) = Took row value (behind rest row.kind (number_of_value value)) (decoded_of row (number_of_value value) line)
 
--- a line without colon has no value (6093)
+-- a line with a value, where a field is due or none is (6092, 6097)
+abbrev pub step_due : FieldLine → Result Opened ℕ → Step
+step_due line (Err fault) = Halted fault
+step_due line (Ok field) = step_with field.0 field.1 line (value_of field.1.table field.0 line.value)
+
+-- a line without colon has no value (6093), whatever is due
 abbrev pub step_at : FieldLine → Result Opened ℕ → Step
-step_at line (Err fault) = Halted fault
-step_at line (Ok field) = cond line.colon (step_with field.0 field.1 line (value_of field.1.table field.0 line.value)) (Halted 6093)
+step_at line opened = cond line.colon (step_due line opened) (Halted 6093)
 
 abbrev pub step_of : Part → Option Decoded → FieldLine → Step
 step_of part decoded line = cond (is_decoded decoded line) (Passed (told_by decoded line)) (step_at line (next_field part))

@@ -1,14 +1,15 @@
 //! A text of fields to its table.
-ghost use Rattle.std.specs.Prelude.{◌≡◌, ◌<◌, ◌^◌, IfOk, OnOk, None, length, map, List as AList};
+ghost use Rattle.std.specs.Prelude.{◌≡◌, ◌<◌, ◌^◌, ℕ, All, IfOk, OnOk, None, length, map, List as AList};
 ghost use Rattle.std.specs.Option.{option_copied};
 ghost use Rattle.data_tables.specs.Compiling.{signature_in, compiled, compiled_text, answer_of, refused, sealed, joined, piece_of, with_text, with_texts};
 ghost use Rattle.data_tables.specs.Entries.{Entry, fields_of_text, written_values, unsealed_bytes};
 ghost use Rattle.data_tables.specs.Reading.{ReadsAs};
 ghost use Rattle.data_tables.specs.Walk.{walk};
 ghost use Rattle.data_tables.specs.Parts.{first_part};
-ghost use Rattle.data_tables.specs.Promise.{Answers};
+ghost use Rattle.data_tables.specs.Promise.{Answers, TellsWithin};
 
 use crate::compiled::Compiled;
+use crate::field::BAD_VALUE;
 use crate::part::FIELD_IS_MISSING;
 use crate::seal::seal;
 use crate::walk::message_at;
@@ -88,6 +89,9 @@ fn compile_text(alloc: Global, text: &DataText) -> Result<Compiled, Stage>
     let [first, ..] = text.lines.as_slice() else {
         return Err(refuse(alloc, FIELD_IS_MISSING, text.end));
     };
+    if !first.colon {
+        return Err(refuse(alloc, BAD_VALUE, first.place));
+    }
     let Some(signature) = signature_in(first) else {
         return Err(refuse(alloc, UNKNOWN_TABLE, first.place));
     };
@@ -138,6 +142,9 @@ pub fn compile_data(alloc: Global, lines: &Lines) -> Result<Compiled, Stage>
     ensures only { IfOk result (λ table. (values : AList Entry) → ReadsAs (joined table.pieces) values → values ≡ written_values lines.now.list) }
 
     ensures within { OnOk result (length (unsealed_bytes lines.now.list) < 2 ^ 32) }
+
+    // Each message stands in one of the lines' files.
+    ensures files { (files : ℕ) → 0 < files → All (λ line. line.file < files) lines.now.list → TellsWithin files result }
 {
     let lines = lines.list.as_slice();
     let text = match data_text(alloc, lines) {

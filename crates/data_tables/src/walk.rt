@@ -117,15 +117,12 @@ fn step_with(alloc: Global, row: Row, rest: Due, line: &FieldLine) -> Result<Ste
 fn step_at(alloc: Global, due: Due, line: &FieldLine) -> Result<Step, AllocError>
     ensures { IfOk result (λ step. IsStep step (spec.step_at line.now (next_field (part_of due)))) }
 {
+    if !line.colon {
+        return Ok(Step::Halted(BAD_VALUE));
+    }
     match next_field(due) {
         Next::Fault(fault) => Ok(Step::Halted(fault)),
-        Next::Field(row, rest) => {
-            if line.colon {
-                step_with(alloc, row, rest, line)
-            } else {
-                Ok(Step::Halted(BAD_VALUE))
-            }
-        }
+        Next::Field(row, rest) => step_with(alloc, row, rest, line),
     }
 }
 

@@ -4,3 +4,4 @@ pub mod Parts
 pub mod Source
 pub mod Values
 pub mod Reading
+pub mod Kinds

@@ -4,6 +4,7 @@
 pub mod blanks;
 mod comments;
 pub mod field_line;
+pub mod kind;
 mod parts;
 pub mod source;
 #[cfg(test)]

@@ -1,3 +1,4 @@
+use crate::kind::is_data_table;
 use crate::source::data_text;
 use crate::values::{Number, bytes_in, number_in, text_in};
 use iasl_messages::place::{Line, LineList};
@@ -109,6 +110,28 @@ fn values_are_bytes(rt: HostRuntime) -> Result<(), AllocError> {
     for (value, expected) in rows {
         let found = bytes_in(rt.alloc(), value)?;
         assert!(rt; found.as_ref().map(|bytes| bytes.as_slice()) == expected);
+    }
+    Ok(())
+}
+
+#[test]
+fn the_first_line_tells_the_kind(rt: HostRuntime) -> Result<(), AllocError> {
+    let rows: [(&[u8], bool); 11] = [
+        (b"[0004] Signature : \"HPET\"", true),
+        (b"\n  \t\n  sIgNaTuRe \t: \"HPET\"", true),
+        (b"/* a\n b */ // c\n [", true),
+        (b"Signature:", true),
+        (b"", false),
+        (b"// Signature :", false),
+        (b"/* [\n", false),
+        (b"Signature \"HPET\"", false),
+        (b"Signatures : 1", false),
+        (b"Table Length : 1\n[0004]", false),
+        (b"DefinitionBlock (\"\", \"SSDT\", 2, \"\", \"\", 1)", false),
+    ];
+    for (text, expected) in rows {
+        let lines = lines_of(rt.alloc(), text)?;
+        assert_eq!(rt; is_data_table(rt.alloc(), lines.as_slice())?, expected);
     }
     Ok(())
 }

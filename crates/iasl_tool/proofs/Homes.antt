@@ -1,6 +1,6 @@
 -- Messages and tokens are in files that there are.
 use Rattle.std.proofs.Common.{◌≡◌, ℕ, ◌-◌, ◌<◌, Bool, true, false, List, [], ◌∷◌, length, get_or, Option, Some, None, Result, Ok, Err, refl, sym, subst, arith}
-use Rattle.std.specs.Prelude.{nat_le, nat_eq, ◌++◌, if◌then◌else◌, slice_get, IfOk, map}
+use Rattle.std.specs.Prelude.{nat_le, ◌++◌, if◌then◌else◌, slice_get, IfOk, map}
 use Rattle.std.specs.declared.alloc.AllocError.{AllocError}
 use Rattle.std.specs.List.{All}
 use Rattle.std.specs.Option.{option_map_or}
@@ -10,27 +10,26 @@ use Rattle.iasl_messages.specs.declared.place.Place.{Place}
 use Rattle.iasl_messages.specs.declared.message.Message.{Message}
 use Rattle.asl_lexer.specs.declared.token.Token.{Token}
 use Rattle.asl_parser.specs.declared.raw.Raw.{Raw}
-use Rattle.asl_parser.specs.Grammar.{Spells}
 use Rattle.asl_parser.specs.Place.{first_place, place_behind, place_at}
 use Rattle.asl_tree.specs.Tree.{Trees as Trees'}
-use Rattle.acpi_names.specs.Errors.{NameError, Twice, DeclaredHere, Missing, NoContainer, LeavesRoot, Differs, TooLong, WrongCount, name_errors, type_errors}
+use Rattle.acpi_names.specs.Errors.{NameError, Twice, DeclaredHere, Missing, NoContainer, LeavesRoot, Differs, TooLong, WrongCount, WrongKind, UnbuiltSpace, name_errors, type_errors}
 use Rattle.name_checks.specs.Messages.{message_of, first_errors, told_errors}
 use Rattle.named_sessions.specs.Places.{at_of, AreWithin as TreesWithin}
 use Rattle.named_sessions.proofs.Places.{errors_within as names_within}
-use Rattle.asl_shape.specs.Written.{Writtens, item, none, more, writtens}
-use Rattle.asl_shape.specs.Places.{AreWithin as PartsWithin}
+use Rattle.asl_parser.specs.Written.{Writtens, item, none, more, writtens}
+use Rattle.asl_parser.specs.Within.{AreWithin as PartsWithin}
 use Rattle.asl_shape.specs.Forms.{errors_at, block_place, terms_of}
 use Rattle.asl_shape.proofs.Places.{errors_within}
-use Rattle.asl_shape.proofs.Homes.{spelled_within}
-use Rattle.program_shapes.specs.Sources.{terms_in, statements_in, fields_in, table_in}
+use Rattle.program_shapes.specs.Sources.{terms_in, statements_in, layouts_in, fields_in, table_in}
 use Rattle.program_shapes.proofs.Places.{terms_within}
 use Rattle.program_shapes.proofs.StatementPlaces.{statement_errors_within}
+use Rattle.program_shapes.proofs.ListPlaces.{list_errors_within}
 use Rattle.program_shapes.proofs.TreePlaces.{source_within}
 use Rattle.aml_writer.specs.Written.{most_table_bytes}
 use Rattle.iasl_tool.specs.declared.compile.Compiled.{Compiled}
 use Rattle.iasl_tool.specs.declared.compile.Compiled.TheVariants.{Table, Refused}
 use Rattle.iasl_tool.specs.Syntax.{at_token}
-use Rattle.iasl_tool.specs.Compiled.{own_in, AreWithin, RefusesWithin, too_long, of_table, unless_wrong, with_statements, of_terms, of_items}
+use Rattle.iasl_tool.specs.Compiled.{own_in, others_in, AreWithin, too_long, of_table, unless_wrong, is_of_kinds, with_others, of_terms, of_items, TellsWithin}
 
 module _ (files : ℕ) where
   abbrev TokenHome : Token → Type 0
@@ -41,14 +40,14 @@ module _ (files : ℕ) where
   one_home : (message : Message) → message.place.file < files → AreWithin files (message ∷ [])
   one_home message h = All-push (λ (m : Message). m.place.file < files) [] message (λ i d lt. absurd (omega arith)) h
 
-  of_table_home : (place : Place) (signature own bytes : List ℕ) → place.file < files → RefusesWithin files (of_table place signature own bytes)
+  of_table_home : (place : Place) (signature own bytes : List ℕ) → place.file < files → TellsWithin files (of_table place signature own bytes)
   of_table_home place signature own bytes h = by_length (nat_le (length bytes) most_table_bytes)
     where
-      by_length : (c : Bool) → RefusesWithin files (if c then Table signature own bytes else Refused (too_long place ∷ []))
-      by_length true = tt
+      by_length : (c : Bool) → TellsWithin files (if c then Table signature own bytes [] else Refused (too_long place ∷ []))
+      by_length true = λ i d lt. absurd (omega arith)
       by_length false = one_home (too_long place) h
 
-  wrong_home : (errors : List Message) (it : Compiled) → AreWithin files errors → RefusesWithin files it → RefusesWithin files (unless_wrong errors it)
+  wrong_home : (errors : List Message) (it : Compiled) → AreWithin files errors → TellsWithin files it → TellsWithin files (unless_wrong errors it)
   wrong_home [] it h k = k
   wrong_home (m ∷ ms) it h k = h
 
@@ -64,6 +63,8 @@ module _ (files : ℕ) where
       one (Differs at name) h = h
       one (TooLong at name) h = h
       one (WrongCount at name) h = h
+      one (WrongKind at name) h = h
+      one (UnbuiltSpace at) h = h
 
       each : (es : List NameError) → All (λ e. (at_of e).place.file < files) es → All (λ e. (message_of e).place.file < files) es
       each es h = λ i d lt. one (get_or es i d) (h i d lt)
@@ -77,9 +78,9 @@ module _ (files : ℕ) where
       by [] ts hn ht = messages_home ts ht
       by (n ∷ ns) ts hn ht = messages_home (n ∷ ns) hn
 
-  statements_home : (errors statements : List Message) → AreWithin files errors → AreWithin files statements → AreWithin files (with_statements errors statements)
+  statements_home : (errors statements : List Message) → AreWithin files errors → AreWithin files statements → AreWithin files (with_others errors statements)
   statements_home [] statements h k = k
-  statements_home (m ∷ ms) statements h k = by (nat_eq m.number 6051)
+  statements_home (m ∷ ms) statements h k = by (is_of_kinds m.number)
     where
       by : (b : Bool) → AreWithin files (if b then (m ∷ ms) ++ statements else m ∷ ms)
       by true = All-append (λ (m : Message). m.place.file < files) (m ∷ ms) statements h k
@@ -89,14 +90,14 @@ module _ (files : ℕ) where
   block_home (more (item place word args body) none) h main = h.0.0
   block_home _ h main = main
 
-  -- the tree that the tokens spell refuses nothing outside the files
-  pub items_home : (items : List Raw) (tokens : List Token) → Spells items tokens → All (λ t. t.place.file < files) tokens → 0 < files → RefusesWithin files (of_items items)
-  items_home items tokens spelled h main =
-      let parts : PartsWithin files (writtens items) = spelled_within files items tokens spelled h in
+  -- a tree whose parts stand in the files tells nothing outside them
+  pub items_home : (items : List Raw) → PartsWithin files (writtens items) → 0 < files → TellsWithin files (of_items items)
+  items_home items parts main =
       let names = told_home (terms_in items) (source_within files 0 (writtens items) parts) in
-      let statements = statement_errors_within files (terms_of (writtens items)) (terms_within files (writtens items) parts) in
-      wrong_home (errors_at items) (of_terms (block_place (writtens items)) (own_in items) (fields_in items) (statements_in items) (terms_in items)) (errors_within files main items parts)
-      (wrong_home (with_statements (told_errors (terms_in items)) (statements_in items)) (of_table (block_place (writtens items)) (fields_in items).signature (own_in items) (table_in items)) (statements_home (told_errors (terms_in items)) (statements_in items) names statements)
+      let plans = terms_within files (writtens items) parts in
+      let statements = All-append (λ (m : Message). m.place.file < files) (statements_in items) (layouts_in items) (statement_errors_within files (terms_of (writtens items)) plans) (list_errors_within files (terms_of (writtens items)) plans) in
+      wrong_home (errors_at items) (of_terms (block_place (writtens items)) (own_in items) (fields_in items) (others_in items) (terms_in items)) (errors_within files main items parts)
+      (wrong_home (with_others (told_errors (terms_in items)) (others_in items)) (of_table (block_place (writtens items)) (fields_in items).signature (own_in items) (table_in items)) (statements_home (told_errors (terms_in items)) (others_in items) names statements)
       (of_table_home (block_place (writtens items)) (fields_in items).signature (own_in items) (table_in items) (block_home (writtens items) parts main)))
 
   -- ---- tokens that are no source
@@ -125,6 +126,6 @@ module _ (files : ℕ) where
 
   -- ---- what a call gives
 
-  pub same_home : (r : Result Compiled AllocError) (it : Compiled) → IfOk r (λ given. given ≡ it) → RefusesWithin files it → IfOk r (RefusesWithin files)
-  same_home (Ok given) it e h = subst (RefusesWithin files) (sym e) h
+  pub same_home : (r : Result Compiled AllocError) (it : Compiled) → IfOk r (λ given. given ≡ it) → TellsWithin files it → IfOk r (TellsWithin files)
+  same_home (Ok given) it e h = subst (TellsWithin files) (sym e) h
   same_home (Err error) it e h = tt

@@ -1,6 +1,6 @@
 -- What a block, a program and a source come to.
 use Rattle.std.proofs.Common.{◌≡◌, ◌<◌, ◌≤◌, ◌^◌, length, List, [], ◌∷◌, Result, Ok, Err, refl, sym, ap, ◌∙◌, subst, arith}
-use Rattle.std.specs.Prelude.{map, IfOk, nat_eq, nat_le, if◌then◌else◌, ◌++◌, Bool, true, false}
+use Rattle.std.specs.Prelude.{map, IfOk, nat_le, if◌then◌else◌, ◌++◌, Bool, true, false}
 use Rattle.statement_checks.specs.Statements.{errors_of_statements}
 use Rattle.std.specs.declared.alloc.AllocError.{AllocError}
 use Rattle.iasl_messages.specs.declared.message.Stage.{Stage}
@@ -14,25 +14,26 @@ use Rattle.asl_tree.specs.declared.program.Block.{Block}
 use Rattle.asl_tree.specs.Tree.{Trees}
 use Rattle.aml_code.specs.Header.{fields_of}
 use Rattle.acpi_names.specs.Errors.{NameError, name_errors, type_errors}
-use Rattle.named_sessions.specs.Shaped.{AreShaped}
+use Rattle.named_sessions.specs.Shaped.{AreFormed, AreNamed, AreShaped}
 use Rattle.asl_parser.specs.declared.raw.Raw.{Raw}
-use Rattle.asl_shape.specs.Written.{writtens}
-use Rattle.asl_shape.specs.Plans.{plans_of, plan_at, number_of}
+use Rattle.asl_parser.specs.Written.{writtens}
+use Rattle.asl_shape.specs.Plans.{Plans, plans_of, plan_at, number_of}
 use Rattle.asl_shape.specs.Forms.{IsBlockOf, errors_at, args_of, block_place}
 use Rattle.asl_numbers.specs.Numbers.{numbered_all}
 use Rattle.name_checks.specs.Messages.{message_of, first_errors, told_errors}
 use Rattle.program_shapes.specs.Kept.{IsKeptSource}
-use Rattle.program_shapes.specs.Sources.{terms_in, statements_in, fields_in, table_in}
+use Rattle.program_shapes.specs.Sources.{terms_in, statements_in, layouts_in, fields_in, table_in}
 use Rattle.std.specs.Str.{IsAscii}
 use Rattle.iasl_messages.specs.declared.place.Place.{Place}
 use Rattle.aml_writer.specs.Written.{most_table_bytes}
 use Rattle.program_shapes.proofs.OwnNames.{own_is_ascii}
 use Rattle.program_shapes.proofs.Blocks.{room_in}
 use Rattle.program_shapes.proofs.Headers.{HaveRoom}
-use Rattle.program_shapes.proofs.Tables.{terms_are_shaped}
+use Rattle.field_checks.specs.Lists.{all_errors}
+use Rattle.program_shapes.proofs.Tables.{terms_are_formed, terms_are_shaped}
 use Rattle.iasl_tool.specs.declared.compile.Compiled.{Compiled}
 use Rattle.iasl_tool.specs.declared.compile.Compiled.TheVariants.{Table, Refused}
-use Rattle.iasl_tool.specs.Compiled.{unless_wrong, with_statements, own_in, of_table, of_terms, of_items, too_long, HasAsciiName}
+use Rattle.iasl_tool.specs.Compiled.{unless_wrong, is_of_kinds, others_in, with_others, own_in, of_table, of_terms, of_items, too_long, HasAsciiName}
 use Rattle.iasl_tool.specs.Ready.{HasRoom}
 
 abbrev pub ok_block : Block → Result Block AllocError
@@ -61,17 +62,17 @@ none_told terms names types = by (name_errors terms) (type_errors terms) names t
     by (n ∷ ns) ts en et = absurd cc
 
 -- nor of statements
-pub none_behind : (errors statements : List Message) → errors ≡ [] → statements ≡ [] → with_statements errors statements ≡ []
-none_behind errors statements e s = ap (λ es. with_statements es statements) e ∙ s
+pub none_behind : (errors statements : List Message) → errors ≡ [] → statements ≡ [] → with_others errors statements ≡ []
+none_behind errors statements e s = ap (λ es. with_others es statements) e ∙ s
 
 -- errors of statements alone
-pub behind_none : (errors statements : List Message) → errors ≡ [] → statements ≡ with_statements errors statements
-behind_none errors statements e = sym (ap (λ es. with_statements es statements) e)
+pub behind_none : (errors statements : List Message) → errors ≡ [] → statements ≡ with_others errors statements
+behind_none errors statements e = sym (ap (λ es. with_others es statements) e)
 
 -- what is told of errors is something
-pub some_behind : (errors statements : List Message) → (errors ≡ [] → ⊥) → with_statements errors statements ≡ [] → ⊥
+pub some_behind : (errors statements : List Message) → (errors ≡ [] → ⊥) → with_others errors statements ≡ [] → ⊥
 some_behind [] statements h e = h refl
-some_behind (m ∷ ms) statements h e = by (nat_eq m.number 6051) e
+some_behind (m ∷ ms) statements h e = by (is_of_kinds m.number) e
   where
     by : (b : Bool) → (if b then (m ∷ ms) ++ statements else m ∷ ms) ≡ [] → ⊥
     by true e = absurd cc
@@ -93,17 +94,38 @@ same_terms : (items : List Raw) (block : Block) (terms : Trees) → IsBlockOf it
 unfolding IsBlockOf
 same_terms items block terms h e = e ∙ ap (numbered_all 0) h.terms
 
--- its terms, numbered, are shaped
-pub block_shaped : (items : List Raw) (block : Block) (terms : Trees) → errors_at items ≡ [] → IsBlockOf items block → IsKeptSource (writtens items) → terms ≡ numbered_all 0 (plans_of block.terms.items) → AreShaped W64 terms
-block_shaped items block terms e h k is = subst (AreShaped W64) (sym (same_terms items block terms h is)) (terms_are_shaped items e k)
+-- what is wrong with the statements of some plans, and then with their lists of fields
+abbrev pub others_of : Plans → List Message
+others_of ps = errors_of_statements ps ++ all_errors ps
+
+same_others : (items : List Raw) (block : Block) → IsBlockOf items block → others_of (plans_of block.terms.items) ≡ others_in items
+unfolding IsBlockOf
+same_others items block h = ap others_of h.terms
+
+-- its terms, numbered, are formed
+pub block_formed : (items : List Raw) (block : Block) (terms : Trees) → errors_at items ≡ [] → IsBlockOf items block → IsKeptSource (writtens items) → terms ≡ numbered_all 0 (plans_of block.terms.items) → AreFormed W64 AreNamed terms
+block_formed items block terms e h k is = subst (AreFormed W64 AreNamed) (sym (same_terms items block terms h is)) (terms_are_formed items e k)
+
+both_nil : (xs ys : List Message) → xs ++ ys ≡ [] → (xs ≡ []) × (ys ≡ [])
+both_nil [] ys e = (refl, e)
+both_nil (x ∷ xs) ys e = absurd cc
+
+-- nothing is wrong with statements and lists
+pub none_of_others : (items : List Raw) → others_in items ≡ [] → (statements_in items ≡ []) × (layouts_in items ≡ [])
+none_of_others items e = both_nil (statements_in items) (layouts_in items) e
+
+pub both_right : (items : List Raw) → statements_in items ≡ [] → layouts_in items ≡ [] → others_in items ≡ []
+both_right items s l = ap (λ ms. ms ++ layouts_in items) s ∙ l
+
+-- and shaped, where nothing else is wrong
+pub block_shaped : (items : List Raw) (block : Block) (terms : Trees) (others : List Message) → errors_at items ≡ [] → IsBlockOf items block → IsKeptSource (writtens items) → terms ≡ numbered_all 0 (plans_of block.terms.items) → others ≡ others_of (plans_of block.terms.items) → others ≡ [] → AreShaped W64 terms
+block_shaped items block terms others e h k is are none =
+    let nothing : others_in items ≡ [] = sym (same_others items block h) ∙ sym are ∙ none in
+    subst (AreShaped W64) (sym (same_terms items block terms h is)) (terms_are_shaped items e (none_of_others items nothing).1 k)
 
 same_fields : (items : List Raw) (block : Block) → IsBlockOf items block → fields_of block ≡ fields_in items
 unfolding IsBlockOf
 same_fields items block h = cc (h.signature, h.revision, h.oem_id, h.table_id, h.oem_revision)
-
-same_statements : (items : List Raw) (block : Block) → IsBlockOf items block → errors_of_statements (plans_of block.terms.items) ≡ statements_in items
-unfolding IsBlockOf
-same_statements items block h = ap errors_of_statements h.terms
 
 same_own : (items : List Raw) (block : Block) → IsBlockOf items block → block.file ≡ own_in items
 unfolding IsBlockOf
@@ -114,14 +136,14 @@ unfolding IsBlockOf
 same_place items block h = h.place
 
 -- and it comes to what its source comes to
-pub block_comes : (items : List Raw) (block : Block) (terms : Trees) (statements : List Message) (it : Compiled) → errors_at items ≡ [] → IsBlockOf items block → terms ≡ numbered_all 0 (plans_of block.terms.items) → statements ≡ errors_of_statements (plans_of block.terms.items)
+pub block_comes : (items : List Raw) (block : Block) (terms : Trees) (statements : List Message) (it : Compiled) → errors_at items ≡ [] → IsBlockOf items block → terms ≡ numbered_all 0 (plans_of block.terms.items) → statements ≡ others_of (plans_of block.terms.items)
     → it ≡ of_terms block.place block.file (fields_of block) statements terms → it ≡ of_items items
 block_comes items block terms statements it e h is are comes =
-    right_is (errors_at items) it (of_terms (block_place (writtens items)) (own_in items) (fields_in items) (statements_in items) (terms_in items)) e
+    right_is (errors_at items) it (of_terms (block_place (writtens items)) (own_in items) (fields_in items) (others_in items) (terms_in items)) e
     (comes ∙ ap (λ p. of_terms p block.file (fields_of block) statements terms) (same_place items block h) ∙ ap (λ own. of_terms (block_place (writtens items)) own (fields_of block) statements terms) (same_own items block h)
     ∙ ap (λ f. of_terms (block_place (writtens items)) (own_in items) f statements terms) (same_fields items block h)
-    ∙ ap (λ ss. of_terms (block_place (writtens items)) (own_in items) (fields_in items) ss terms) (are ∙ same_statements items block h)
-    ∙ ap (of_terms (block_place (writtens items)) (own_in items) (fields_in items) (statements_in items)) (same_terms items block terms h is))
+    ∙ ap (λ ss. of_terms (block_place (writtens items)) (own_in items) (fields_in items) ss terms) (are ∙ same_others items block h)
+    ∙ ap (of_terms (block_place (writtens items)) (own_in items) (fields_in items) (others_in items)) (same_terms items block terms h is))
 
 -- a block in whose names nothing is wrong
 pub right_comes : (r : Result Compiled AllocError) (errors : List Message) (it : Compiled) → errors ≡ [] → IfOk r (λ made. made ≡ it) → IfOk r (λ made. made ≡ unless_wrong errors it)
@@ -129,16 +151,16 @@ right_comes (Ok made) errors it e h = right_is errors made it e h
 right_comes (Err error) errors it e h = tt
 
 -- a stage that refuses, with errors of statements behind its own
-pub stage_comes : (stage : Stage) (messages errors statements all : List Message) (it : Compiled) → Refuses stage errors → stage ≡ Refused' messages → all ≡ with_statements messages statements → Refused all ≡ unless_wrong (with_statements errors statements) it
+pub stage_comes : (stage : Stage) (messages errors statements all : List Message) (it : Compiled) → Refuses stage errors → stage ≡ Refused' messages → all ≡ with_others messages statements → Refused all ≡ unless_wrong (with_others errors statements) it
 stage_comes stage messages errors statements all it h e is =
     let told = subst (λ (s : Stage). Refuses s errors) e h in
-    refused_is all (with_statements errors statements) it (is ∙ ap (λ es. with_statements es statements) told.0, some_behind errors statements told.1)
+    refused_is all (with_others errors statements) it (is ∙ ap (λ es. with_others es statements) told.0, some_behind errors statements told.1)
 
 pub shape_comes : (stage : Stage) (messages errors : List Message) (it : Compiled) → ShapeRefuses stage errors → stage ≡ Refused' messages → Refused messages ≡ unless_wrong errors it
 shape_comes stage messages errors it h e = refused_is messages errors it (subst (λ (s : Stage). ShapeRefuses s errors) e h)
 
 -- what a block that is compiled comes to is what its source comes to
-pub program_comes : (r : Result Compiled AllocError) (items : List Raw) (block : Block) (terms : Trees) (statements : List Message) → errors_at items ≡ [] → IsBlockOf items block → terms ≡ numbered_all 0 (plans_of block.terms.items) → statements ≡ errors_of_statements (plans_of block.terms.items)
+pub program_comes : (r : Result Compiled AllocError) (items : List Raw) (block : Block) (terms : Trees) (statements : List Message) → errors_at items ≡ [] → IsBlockOf items block → terms ≡ numbered_all 0 (plans_of block.terms.items) → statements ≡ others_of (plans_of block.terms.items)
     → IfOk r (λ it. it ≡ of_terms block.place block.file (fields_of block) statements terms) → IfOk r (λ it. it ≡ of_items items)
 program_comes (Ok it) items block terms statements e h is are comes = block_comes items block terms statements it e h is are comes
 program_comes (Err error) items block terms statements e h is are comes = tt
@@ -148,9 +170,9 @@ pub no_length : (messages : List Message) → length messages ≡ 0 → messages
 no_length [] e = refl
 no_length (m ∷ ms) e = absurd (omega (arith, e))
 
-pub some_length : (messages : List Message) (it : Compiled) (errors : List Message) → errors ≡ [] → (length messages ≡ 0 → ⊥) → Refused messages ≡ unless_wrong (with_statements errors messages) it
+pub some_length : (messages : List Message) (it : Compiled) (errors : List Message) → errors ≡ [] → (length messages ≡ 0 → ⊥) → Refused messages ≡ unless_wrong (with_others errors messages) it
 some_length [] it errors e h = absurd (h refl)
-some_length (m ∷ ms) it errors e h = sym (ap (λ es. unless_wrong (with_statements es (m ∷ ms)) it) e)
+some_length (m ∷ ms) it errors e h = sym (ap (λ es. unless_wrong (with_others es (m ∷ ms)) it) e)
 
 -- the name that a source states for its file
 pub named_in_ascii : (items : List Raw) → IsKeptSource (writtens items) → HasAsciiName (of_items items)
@@ -159,7 +181,7 @@ named_in_ascii items kept = by (errors_at items) refl
     place : Place
     place = block_place (writtens items)
 
-    by_length : (c : Bool) → IsAscii (own_in items) → HasAsciiName (if c then Table (fields_in items).signature (own_in items) (table_in items) else Refused (too_long place ∷ []))
+    by_length : (c : Bool) → IsAscii (own_in items) → HasAsciiName (if c then Table (fields_in items).signature (own_in items) (table_in items) [] else Refused (too_long place ∷ []))
     by_length true h = h
     by_length false h = tt
 
@@ -167,8 +189,8 @@ named_in_ascii items kept = by (errors_at items) refl
     by_names [] h = by_length (nat_le (length (table_in items)) most_table_bytes) h
     by_names (m ∷ ms) h = tt
 
-    by : (ms : List Message) → errors_at items ≡ ms → HasAsciiName (unless_wrong ms (of_terms place (own_in items) (fields_in items) (statements_in items) (terms_in items)))
-    by [] e = by_names (with_statements (told_errors (terms_in items)) (statements_in items)) (own_is_ascii items e kept)
+    by : (ms : List Message) → errors_at items ≡ ms → HasAsciiName (unless_wrong ms (of_terms place (own_in items) (fields_in items) (others_in items) (terms_in items)))
+    by [] e = by_names (with_others (told_errors (terms_in items)) (others_in items)) (own_is_ascii items e kept)
     by (m ∷ ms) e = tt
 
 pub ascii_comes : (r : Result Compiled AllocError) (it : Compiled) → HasAsciiName it → IfOk r (λ made. made ≡ it) → IfOk r HasAsciiName

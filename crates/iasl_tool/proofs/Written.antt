@@ -33,16 +33,16 @@ block_ready terms block is = record {
 }
 
 abbrev by_size : Bool → Place → List ℕ → List ℕ → List ℕ → Compiled
-by_size c place signature own bytes = if c then Table signature own bytes else Refused (too_long place ∷ [])
+by_size c place signature own bytes = if c then Table signature own bytes [] else Refused (too_long place ∷ [])
 
-pub table_written : (terms : Trees) (block : Block) (signature own bytes : List ℕ) → IsCoreOf terms block → signature ≡ block.signature → own ≡ block.file → IsTable block true bytes
-    → Table signature own bytes ≡ of_table block.place block.signature block.file (its_table terms block)
-table_written terms block signature own bytes is esig eown any =
+pub table_written : (terms : Trees) (block : Block) (signature own bytes : List ℕ) (notes : List Message) → IsCoreOf terms block → signature ≡ block.signature → own ≡ block.file → notes ≡ [] → IsTable block true bytes
+    → Table signature own bytes notes ≡ of_table block.place block.signature block.file (its_table terms block)
+table_written terms block signature own bytes notes is esig eown enotes any =
     let table : IsTableOf (known_of terms) (externals terms) block true bytes = any.table (known_of terms) (externals terms) (knows_start terms is.names) (block_ready terms block is) in
     let e : bytes ≡ its_table terms block = table.encoded ∙ ap (λ ts. table_bytes (fields_of block) (encoded_all W64 true ts)) is.core in
     let within : length (its_table terms block) ≤ most_table_bytes = subst (λ bs. length bs ≤ most_table_bytes) e table.within in
     let fits : nat_le (length (its_table terms block)) most_table_bytes ≡ true = grind (arith, nat_tests) in
-    ap (λ s. Table s own bytes) esig ∙ ap (λ o. Table block.signature o bytes) eown ∙ ap (Table block.signature block.file) e ∙ sym (ap (λ c. by_size c block.place block.signature block.file (its_table terms block)) fits)
+    ap (Table signature own bytes) enotes ∙ ap (λ s. Table s own bytes []) esig ∙ ap (λ o. Table block.signature o bytes []) eown ∙ ap (λ bs. Table block.signature block.file bs []) e ∙ sym (ap (λ c. by_size c block.place block.signature block.file (its_table terms block)) fits)
 
 abbrev made : ℕ → Place → List ℕ → Message
 made number place name = record { number = number; place = place; name = name }

@@ -1,5 +1,5 @@
 -- What a source comes to: its table, or its errors.
-use Rattle.std.specs.Prelude.{ℕ, suc, ◌-◌, nat_le, nat_eq, true, if◌then◌else◌, List, [], ◌∷◌, ◌++◌, length, All, ◌<◌, ⊤, Result, Ok, Err}
+use Rattle.std.specs.Prelude.{ℕ, suc, ◌-◌, nat_le, nat_eq, Bool, ◌||◌, true, if◌then◌else◌, List, [], ◌∷◌, ◌++◌, length, All, ◌<◌, ⊤, Result, Ok, Err, cond}
 use Rattle.iasl_messages.specs.declared.place.Place.{Place}
 use Rattle.iasl_messages.specs.declared.place.Line.{Line}
 use Rattle.iasl_messages.specs.declared.message.Message.{Message}
@@ -16,13 +16,15 @@ use Rattle.named_sessions.specs.Core.{core_of}
 use Rattle.name_checks.specs.Messages.{told_errors}
 use Rattle.asl_parser.specs.declared.raw.Raw.{Raw}
 use Rattle.asl_parser.specs.Parse.{Outcome, outcome, read, stopped, sunk, tall}
-use Rattle.asl_shape.specs.Written.{writtens}
+use Rattle.asl_parser.specs.Written.{writtens}
 use Rattle.std.specs.Str.{IsAscii}
 use Rattle.asl_shape.specs.Plans.{plan_at, text_of}
 use Rattle.asl_shape.specs.Forms.{errors_at, block_place, args_of}
-use Rattle.program_shapes.specs.Sources.{terms_in, statements_in, fields_in}
+use Rattle.program_shapes.specs.Sources.{terms_in, statements_in, layouts_in, fields_in}
 use Rattle.iasl_tool.specs.declared.compile.Compiled.{Compiled}
 use Rattle.iasl_tool.specs.declared.compile.Compiled.TheVariants.{Table, Refused}
+use Rattle.data_text.specs.Kinds.{is_data_table}
+use Rattle.data_tables.specs.Compiling.{Answer, joined, compiled}
 use Rattle.iasl_tool.specs.Syntax.{not_source, too_deep}
 
 -- a table of more than 16 MiB: 6080 at the block
@@ -31,7 +33,7 @@ too_long place = record { number = 6080; place = place; name = [] }
 
 -- a table, if it is not too long, with its signature and the name that its block states for its file
 abbrev pub of_table : Place → List ℕ → List ℕ → List ℕ → Compiled
-of_table place signature own bytes = if nat_le (length bytes) most_table_bytes then Table signature own bytes else Refused (too_long place ∷ [])
+of_table place signature own bytes = if nat_le (length bytes) most_table_bytes then Table signature own bytes [] else Refused (too_long place ∷ [])
 
 -- the table of a block of these terms
 abbrev pub its_table : Trees → Block → List ℕ
@@ -42,23 +44,32 @@ abbrev pub unless_wrong : List Message → Compiled → Compiled
 unless_wrong [] it = it
 unless_wrong (m ∷ ms) it = Refused (m ∷ ms)
 
--- the errors of statements are of the class of kinds, 6051: they come behind these, and not where names are wrong
-abbrev pub with_statements : List Message → List Message → List Message
-with_statements [] statements = statements
-with_statements (m ∷ ms) statements = if nat_eq m.number 6051 then (m ∷ ms) ++ statements else m ∷ ms
+-- the numbers of the errors of names that are of the class of kinds
+abbrev pub is_of_kinds : ℕ → Bool
+is_of_kinds number = nat_eq number 6051 || (nat_eq number 6054 || nat_eq number 6020)
 
--- a block of this form, that is refused with what is wrong with its names or its statements
+-- the errors of statements and of the lists of fields are of the class of kinds: they come behind these, and not where names are
+-- wrong
+abbrev pub with_others : List Message → List Message → List Message
+with_others [] others = others
+with_others (m ∷ ms) others = if is_of_kinds m.number then (m ∷ ms) ++ others else m ∷ ms
+
+-- a block of this form, that is refused with what is wrong with its names, its statements or the lists of its fields
 abbrev pub of_terms : Place → List ℕ → HeaderFields → List Message → Trees → Compiled
-of_terms place own fields statements terms =
-    unless_wrong (with_statements (told_errors terms) statements) (of_table place fields.signature own (table_bytes fields (encoded_all W64 true (core_of terms))))
+of_terms place own fields others terms =
+    unless_wrong (with_others (told_errors terms) others) (of_table place fields.signature own (table_bytes fields (encoded_all W64 true (core_of terms))))
 
 -- the name that a source's block states for its file
 abbrev pub own_in : List Raw → List ℕ
 own_in items = text_of (plan_at (args_of (writtens items)) 0)
 
+-- what is wrong with its statements, and then with the lists of its fields
+abbrev pub others_in : List Raw → List Message
+others_in items = statements_in items ++ layouts_in items
+
 -- the tree of a source's syntax, that is refused with what is wrong with its form
 abbrev pub of_items : List Raw → Compiled
-of_items items = unless_wrong (errors_at items) (of_terms (block_place (writtens items)) (own_in items) (fields_in items) (statements_in items) (terms_in items))
+of_items items = unless_wrong (errors_at items) (of_terms (block_place (writtens items)) (own_in items) (fields_in items) (others_in items) (terms_in items))
 
 -- tokens that are a source, or the place where they stop being one or nest too deep
 abbrev pub of_outcome : List Token → Outcome → Compiled
@@ -72,20 +83,29 @@ abbrev pub of_tokens : Result (List Token) Fault → Compiled
 of_tokens (Err fault) = Refused (message_of fault ∷ [])
 of_tokens (Ok tokens) = of_outcome tokens (outcome tokens)
 
--- what lines come to
+-- what lines of ASL come to
 abbrev pub of_lines : List Line → Compiled
 of_lines lines = of_tokens (tokens_of lines)
+
+-- a data table with its notes, or the faults of its text; it states no name for its file
+abbrev pub of_data : Answer → Compiled
+of_data (Ok table) = Table table.signature [] (joined table.pieces) table.notes
+of_data (Err faults) = Refused faults
+
+-- what lines come to: those of a data table, or those of ASL
+abbrev pub of_source : List Line → Compiled
+of_source lines = cond (is_data_table lines) (of_data (compiled lines)) (of_lines lines)
 
 -- each message stands in one of so many files
 abbrev pub AreWithin : ℕ → List Message → Type 0
 AreWithin files messages = All (λ m. m.place.file < files) messages
 
--- each refusal is told in one of so many files
-abbrev pub RefusesWithin : ℕ → Compiled → Type 0
-RefusesWithin files (Table signature own bytes) = ⊤
-RefusesWithin files (Refused messages) = AreWithin files messages
+-- each note, or each message of a refusal, is told in one of so many files
+abbrev pub TellsWithin : ℕ → Compiled → Type 0
+TellsWithin files (Table signature own bytes notes) = AreWithin files notes
+TellsWithin files (Refused messages) = AreWithin files messages
 
 -- the name that the block states for its file is ASCII
 abbrev pub HasAsciiName : Compiled → Type 0
-HasAsciiName (Table signature own bytes) = IsAscii own
+HasAsciiName (Table signature own bytes notes) = IsAscii own
 HasAsciiName (Refused messages) = ⊤

@@ -14,7 +14,7 @@ use Rattle.iasl_options.specs.Asking.{Asked, asked_by}
 use Rattle.iasl_options.specs.Names.{output_name, table_name as name_of_table}
 use Rattle.iasl_tool.specs.declared.compile.Compiled.{Compiled}
 use Rattle.iasl_tool.specs.declared.compile.Compiled.TheVariants.{Table, Refused}
-use Rattle.iasl_tool.specs.Compiled.{of_lines}
+use Rattle.iasl_tool.specs.Compiled.{of_source}
 
 -- the messages in order, a line of what was made, and how many messages there are
 abbrev pub console_text : List (List ℕ) → List Message → List ℕ → List ℕ
@@ -57,13 +57,13 @@ abbrev pub answer_to_text : Asked → List ℕ → List (List ℕ) → List Line
 answer_to_text asked file files lines notes = made_or_in_use files notes (preprocessed_line (text_name asked file)) (text_name asked file) (text_of_lines lines)
 
 abbrev pub answer_to_compiled : Asked → List ℕ → List (List ℕ) → List Message → Compiled → Answer
-answer_to_compiled asked file files notes (Table signature own bytes) =
-    made_or_in_use files notes (table_line (table_name asked file own) signature (length bytes)) (table_name asked file own) bytes
+answer_to_compiled asked file files notes (Table signature own bytes told) =
+    made_or_in_use files (notes ++ told) (table_line (table_name asked file own) signature (length bytes)) (table_name asked file own) bytes
 answer_to_compiled asked file files notes (Refused messages) = refusal files (notes ++ messages)
 
 -- of lines, with the files that they are of and the notes of the preprocessor
 abbrev pub answer_to_lines : Asked → List ℕ → List (List ℕ) → List Line → List Message → Answer
-answer_to_lines asked file files lines notes = cond asked.only (answer_to_text asked file files lines notes) (answer_to_compiled asked file files notes (of_lines lines))
+answer_to_lines asked file files lines notes = cond asked.only (answer_to_text asked file files lines notes) (answer_to_compiled asked file files notes (of_source lines))
 
 -- none where the main file is not there
 abbrev pub answer_to_preprocessed : Asked → List ℕ → Preprocessed → Option Answer

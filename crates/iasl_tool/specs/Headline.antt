@@ -1,5 +1,5 @@
 -- What a call does with a source that is read.
-use Rattle.std.specs.Prelude.{◌≡◌, ℕ, ◌≤◌, Bool, false, List, [], ◌∷◌, length, Option, Some, Result, Ok, Err}
+use Rattle.std.specs.Prelude.{◌≡◌, ◌⊎◌, ℕ, ◌≤◌, Bool, true, false, List, [], ◌∷◌, length, Option, Some, Result, Ok, Err}
 use Rattle.iasl_ports.specs.Gained.{Named, Gains}
 use Rattle.iasl_ports.specs.Delivery.{due_of, status_of}
 use Rattle.iasl_messages.specs.declared.place.Line.{Line}
@@ -13,6 +13,11 @@ use Rattle.asl_parser.specs.Grammar.{Spells}
 use Rattle.asl_parser.specs.Grow.{limit}
 use Rattle.asl_parser.specs.Marks.{marks}
 use Rattle.aml_writer.specs.Written.{most_table_bytes}
+use Rattle.data_text.specs.Kinds.{is_data_table}
+use Rattle.data_tables.specs.declared.compiled.Compiled.{Compiled as DataTable}
+use Rattle.data_tables.specs.Compiling.{compiled, joined}
+use Rattle.data_tables.specs.Entries.{Entry, written_values}
+use Rattle.data_tables.specs.Reading.{ReadsAs}
 use Rattle.iasl_options.specs.Asking.{Asked, asked_by}
 use Rattle.iasl_options.specs.CommandLine.{IsCommandLine}
 use Rattle.program_shapes.specs.Sources.{IsRight, IsTableOf, table_in}
@@ -28,25 +33,42 @@ pub record Request : Type 0 where
 abbrev pub table_of : Request → List Raw → List ℕ
 table_of request items = table_name request.asked request.file (own_in items)
 
--- The words are a command line that asks for a compilation of this file; its lines, with those of its includes, are cut into tokens that
--- spell this source, nowhere too deep; nothing is wrong with it, and its table is not too long; and the name of the table's file is not
--- that of a file that was fetched.
-pub record NamesSource (words : List (List ℕ)) (told : List Named) (request : Request) (items : List Raw) : Type 0 where
+-- that of a data table's, which states none of its own
+abbrev pub data_file_of : Request → List ℕ
+data_file_of request = table_name request.asked request.file []
+
+-- what the words name, whatever its kind: a file whose lines, with those of its includes, these are
+pub record NamesLines (words : List (List ℕ)) (told : List Named) (request : Request) : Type 0 where
   pub files : List (List ℕ)
   pub lines : List Line
   pub notes : List Message
-  pub tokens : List Token
   pub words_are : IsCommandLine words request.asked
   pub file_is : request.asked.file ≡ Some request.file
   pub compiles : request.asked.only ≡ false
   pub lines_are : preprocessed told request.file request.asked.directories request.asked.definitions request.asked.enabled ≡ Given files lines notes
-  pub tokens_are : IsCut lines tokens
+
+-- The words are a command line that asks for a compilation of this file; its lines, with those of its includes, are no data table and are
+-- cut into tokens that spell this source, nowhere too deep; nothing is wrong with it, and its table is not too long; and the name of the
+-- table's file is not that of a file that was fetched.
+pub record NamesSource (words : List (List ℕ)) (told : List Named) (request : Request) (items : List Raw) : Type 0 where
+  pub named : NamesLines words told request
+  pub tokens : List Token
+  pub is_asl : is_data_table named.lines ≡ false
+  pub tokens_are : IsCut named.lines tokens
   pub spelled : Spells items tokens
   pub shallow : IsShallow limit (marks 0 tokens)
   pub low : IsLow limit (marks 0 tokens)
   pub right : IsRight items
   pub table_within : length (table_in items) ≤ most_table_bytes
-  pub name_is_free : is_fetched files (table_of request items) ≡ false
+  pub name_is_free : is_fetched named.files (table_of request items) ≡ false
+
+-- The words are a command line that asks for a compilation of this file; its lines are a data table in whose text there is no fault, with
+-- this table; and the name of the table's file is not that of a file that was fetched.
+pub record NamesData (words : List (List ℕ)) (told : List Named) (request : Request) (table : DataTable) : Type 0 where
+  pub named : NamesLines words told request
+  pub is_data : is_data_table named.lines ≡ true
+  pub table_is : compiled named.lines ≡ Ok table
+  pub name_is_free : is_fetched named.files (data_file_of request) ≡ false
 
 -- the call puts the source's table, and nothing else; the table has the source's header and does what the source says
 pub record PutsFaithfulTable (words : List (List ℕ)) (told : List Named) (request : Request) (items : List Raw) : Type 0 where
@@ -54,7 +76,18 @@ pub record PutsFaithfulTable (words : List (List ℕ)) (told : List Named) (requ
   pub due : due_of (answer_for words told) ≡ (table_of request items, table_in items) ∷ []
   pub does : IsTableOf items (table_in items)
 
--- a file is the table of a source that the words name: it has the source's header and does what the source says
+-- bytes that read by offset as the values that some lines write, and as no others
+pub record ReadsBack (lines : List Line) (bytes : List ℕ) : Type 0 where
+  pub reads : ReadsAs bytes (written_values lines)
+  pub only : (values : List Entry) → ReadsAs bytes values → values ≡ written_values lines
+
+-- the call puts the data table, and nothing else; its bytes read as the values that the text writes
+pub record PutsDataTable (words : List (List ℕ)) (told : List Named) (request : Request) (table : DataTable) (lines : List Line) : Type 0 where
+  pub status : status_of (answer_for words told) ≡ 0
+  pub due : due_of (answer_for words told) ≡ (data_file_of request, joined table.pieces) ∷ []
+  pub reads : ReadsBack lines (joined table.pieces)
+
+-- a file is the table of an ASL source that the words name: it has the source's header and does what the source says
 pub record IsItsTable (words : List (List ℕ)) (told : List Named) (file : Named) : Type 0 where
   pub request : Request
   pub items : List Raw
@@ -63,11 +96,20 @@ pub record IsItsTable (words : List (List ℕ)) (told : List Named) (file : Name
   pub bytes : file.1 ≡ table_in items
   pub does : IsTableOf items file.1
 
+-- a file is the data table whose text the words name: its bytes read as the values that the text writes
+pub record IsItsDataTable (words : List (List ℕ)) (told : List Named) (file : Named) : Type 0 where
+  pub request : Request
+  pub table : DataTable
+  pub names : NamesData words told request table
+  pub name : file.0 ≡ data_file_of request
+  pub bytes : file.1 ≡ joined table.pieces
+  pub reads : ReadsBack names.named.lines file.1
+
 abbrev pub AreItsTables : List (List ℕ) → List Named → List Named → Type 0
 AreItsTables words told [] = Unit {0}
-AreItsTables words told (file ∷ files) = IsItsTable words told file × AreItsTables words told files
+AreItsTables words told (file ∷ files) = (IsItsTable words told file ⊎ IsItsDataTable words told file) × AreItsTables words told files
 
--- The words name a source, and the outputs gained its table and nothing else. The table has the header that the
+-- The words name an ASL source, and the outputs gained its table and nothing else. The table has the header that the
 -- source states, and every session over its bytes is the source's.
 pub record WritesItsTable (words : List (List ℕ)) (told : List Named) (old new : Option (List Named)) : Type 0 where
   pub request : Request
@@ -75,6 +117,15 @@ pub record WritesItsTable (words : List (List ℕ)) (told : List Named) (old new
   pub names : NamesSource words told request items
   pub table : Gains old new ((table_of request items, table_in items) ∷ [])
   pub does : IsTableOf items (table_in items)
+
+-- The words name the text of a data table, and the outputs gained its table and nothing else. The bytes read as the values that the text
+-- writes.
+pub record WritesItsDataTable (words : List (List ℕ)) (told : List Named) (old new : Option (List Named)) : Type 0 where
+  pub request : Request
+  pub table : DataTable
+  pub names : NamesData words told request table
+  pub gained : Gains old new ((data_file_of request, joined table.pieces) ∷ [])
+  pub reads : ReadsBack names.named.lines (joined table.pieces)
 
 -- whether words ask for preprocessed text alone
 abbrev pub only_by : Result Asked ℕ → Bool

@@ -1,4 +1,4 @@
-//! A source to its table, or its errors.
+//! An ASL source to its table, or its errors.
 ghost use Rattle.std.specs.Prelude.{◌≡◌, ℕ, ◌<◌, ◌^◌, ◌++◌, ◌∷◌, [], length, All, Ok, IfOk};
 ghost use Rattle.acpi_values.specs.declared.width.Width.TheVariants.{W64};
 ghost use Rattle.asl_tree.specs.Tree.{Trees};
@@ -9,17 +9,19 @@ ghost use Rattle.aml_writer.specs.Pieces.{joined_pieces};
 ghost use Rattle.asl_parser.specs.declared.raw.Raw.{Raw};
 ghost use Rattle.asl_parser.specs.Parse.{outcome};
 ghost use Rattle.asl_shape.specs.Forms.{Forms};
-ghost use Rattle.asl_shape.specs.Written.{writtens};
-ghost use Rattle.named_sessions.specs.Shaped.{AreShaped};
+ghost use Rattle.asl_parser.specs.Written.{writtens};
+ghost use Rattle.field_checks.specs.Lists.{all_errors};
+ghost use Rattle.statement_checks.specs.Statements.{errors_of_statements};
+ghost use Rattle.asl_shape.specs.Plans.{plans_of};
+ghost use Rattle.named_sessions.specs.Shaped.{AreFormed, AreNamed, AreShaped};
 ghost use Rattle.program_shapes.specs.Kept.{IsKeptSource};
 ghost use Rattle.program_shapes.proofs.Kept.{HaveShortTexts};
 ghost use Rattle.iasl_messages.specs.declared.message.Stage.TheVariants as stages;
 ghost use Rattle.iasl_tool.specs.Syntax.{at_token};
 ghost use Rattle.iasl_tool.specs.Ready.{HasRoom, IsCoreOf};
 ghost use Rattle.iasl_tool.specs.declared.compile.Compiled.TheVariants.{Refused};
-ghost use Rattle.iasl_tool.specs.Compiled.{its_table, of_table, of_terms, with_statements, of_items, of_lines, of_outcome, HasAsciiName, RefusesWithin};
+ghost use Rattle.iasl_tool.specs.Compiled.{its_table, of_table, of_terms, is_of_kinds as of_kinds, with_others, of_items, of_lines, of_outcome, HasAsciiName, TellsWithin};
 
-use acpi_names::spell::spell;
 use aml_writer::stop::WriteStop;
 use aml_writer::write::write;
 use asl_lexer::token::Tokens;
@@ -28,11 +30,16 @@ use asl_numbers::number::number_nodes;
 use asl_parser::{RawUnit, Syntax, parse, place_at};
 use asl_shape::shape;
 use asl_tree::program::{Block, Blocks, Core, Program};
+use asl_tree::term::Node;
+use field_checks::check::list_faults;
 use iasl_messages::message::{Message, Messages, Stage};
-use iasl_messages::number::{NESTING_TOO_DEEP, SYNTAX, WRONG_CALL_ARGUMENT_COUNT};
+use iasl_messages::number::{
+    NESTING_TOO_DEEP, SYNTAX, UNKNOWN_OPERATOR, WRONG_CALL_ARGUMENT_COUNT, WRONG_OBJECT_KIND,
+};
 use iasl_messages::place::{LineList, Lines, Piece};
 use iasl_ports::list::{List, Text, Texts};
 use name_checks::check::check;
+use name_spelling::spell::spell;
 use statement_checks::check::statement_errors;
 use std::alloc::{AllocError, Global};
 
@@ -42,11 +49,13 @@ const MOST_TOKENS: usize = 4_294_967_295;
 /// What a source comes to.
 #[derive(Drop)]
 pub(crate) enum Compiled {
-    /// Its table, with the signature, and the name that the block states for its file, which is empty where it states none.
+    /// Its table, with the signature, the name that the block states for its file, which is empty where it states none, and
+    /// the notes on its text.
     Table {
         signature: Text,
         own: Text,
         bytes: Text,
+        notes: Messages,
     },
     /// Its errors, of which there is at least one.
     Refused(Messages),
@@ -60,9 +69,9 @@ pub(crate) fn one_message(alloc: Global, message: Message) -> Result<Messages, A
     Ok(messages)
 }
 
-// The bytes of pieces, one after another.
+/// The bytes of pieces, one after another.
 #[tactic(auto, using(aml_writer::proofs::Sums::joined_more))]
-fn join(alloc: Global, pieces: &[Piece]) -> Result<Text, AllocError>
+pub(crate) fn join(alloc: Global, pieces: &[Piece]) -> Result<Text, AllocError>
     ensures { IfOk result (λ bytes. bytes ≡ joined_pieces pieces.now) }
 {
     let mut bytes = Vec::new(alloc);
@@ -72,8 +81,8 @@ fn join(alloc: Global, pieces: &[Piece]) -> Result<Text, AllocError>
     Text::from_vec(alloc, bytes)
 }
 
-// The messages of a stage's refusal.
-fn refusal(stage: Stage) -> Result<Messages, AllocError>
+/// The messages of a stage's refusal.
+pub(crate) fn refusal(stage: Stage) -> Result<Messages, AllocError>
     ensures { IfOk result (λ messages. stage ≡ stages.Refused messages) }
 {
     match stage {
@@ -109,6 +118,7 @@ fn write_block(alloc: Global, block: Block) -> Result<Compiled, AllocError>
             signature,
             own,
             bytes: join(alloc, pieces.as_slice())?,
+            notes: Messages::new(alloc),
         }),
         Err(WriteStop::TooLong(message)) => Ok(Compiled::Refused(one_message(alloc, message)?)),
         Err(WriteStop::Memory) => Err(AllocError),
@@ -124,36 +134,40 @@ pub(crate) fn both(first: Messages, second: Messages) -> Result<Messages, AllocE
     Ok(List::from_vec(all))
 }
 
-// The errors of statements behind those of kinds.
-fn with_statements(errors: Messages, statements: Messages) -> Result<Messages, AllocError>
-    ensures { IfOk result (λ all. all ≡ with_statements errors statements) }
+// Whether an error of names is of the class of kinds.
+fn is_of_kinds(number: u16) -> bool
+    ensures { result ≡ of_kinds number }
+{
+    number == WRONG_CALL_ARGUMENT_COUNT || number == WRONG_OBJECT_KIND || number == UNKNOWN_OPERATOR
+}
+
+// The errors of statements and of the lists of fields behind those of kinds.
+fn with_others(errors: Messages, others: Messages) -> Result<Messages, AllocError>
+    ensures { IfOk result (λ all. all ≡ with_others errors others) }
 {
     let number = match errors.get(0) {
         Some(first) => first.number,
-        None => return Ok(statements),
+        None => return Ok(others),
     };
-    if number == WRONG_CALL_ARGUMENT_COUNT {
-        both(errors, statements)
+    if is_of_kinds(number) {
+        both(errors, others)
     } else {
         Ok(errors)
     }
 }
 
-// A block whose nodes have their numbers: its table, with its names spelled, or what is wrong with its names and its
-// statements.
-fn compile_block(
-    alloc: Global,
-    mut block: Block,
-    statements: Messages,
-) -> Result<Compiled, AllocError>
+// A block whose nodes have their numbers: its table, with its names spelled, or what is wrong with its names, its statements
+// and the lists of its fields.
+fn compile_block(alloc: Global, mut block: Block, others: Messages) -> Result<Compiled, AllocError>
     requires room { HasRoom (fields_of block) }
-    requires shaped { AreShaped W64 (trees_of block.terms.items) }
-    ensures { IfOk result (λ it. it ≡ of_terms block.place block.file (fields_of block) statements (trees_of block.terms.items)) }
+    requires formed { AreFormed W64 AreNamed (trees_of block.terms.items) }
+    requires shaped { others ≡ [] → AreShaped W64 (trees_of block.terms.items) }
+    ensures { IfOk result (λ it. it ≡ of_terms block.place block.file (fields_of block) others (trees_of block.terms.items)) }
 {
     match check(alloc, block.terms.as_slice()) {
         Ok(mut names) => {
-            if !statements.is_empty() {
-                return Ok(Compiled::Refused(statements));
+            if !others.is_empty() {
+                return Ok(Compiled::Refused(others));
             }
             spell(
                 alloc,
@@ -163,7 +177,7 @@ fn compile_block(
             )?;
             write_block(alloc, block)
         }
-        Err(stage) => Ok(Compiled::Refused(with_statements(refusal(stage)?, statements)?)),
+        Err(stage) => Ok(Compiled::Refused(with_others(refusal(stage)?, others)?)),
     }
 }
 
@@ -177,6 +191,13 @@ fn block_of(program: Program) -> Result<Block, AllocError>
     }
 }
 
+// What is wrong with statements, and then with the lists of fields.
+fn other_errors(alloc: Global, terms: &[Node]) -> Result<Messages, AllocError>
+    ensures { IfOk result (λ ms. ms ≡ errors_of_statements (plans_of terms.now) ++ all_errors (plans_of terms.now)) }
+{
+    both(statement_errors(alloc, terms)?, list_faults(alloc, terms)?)
+}
+
 // The tree of a source's syntax.
 fn compile_unit(alloc: Global, unit: &RawUnit) -> Result<Compiled, AllocError>
     requires { IsKeptSource (writtens unit.now.items) }
@@ -186,9 +207,9 @@ fn compile_unit(alloc: Global, unit: &RawUnit) -> Result<Compiled, AllocError>
     match shape(alloc, unit) {
         Ok(program) => {
             let mut block = block_of(program)?;
-            let statements = statement_errors(alloc, block.terms.as_slice())?;
+            let others = other_errors(alloc, block.terms.as_slice())?;
             match number_nodes(&mut block.terms, 0) {
-                Some(_) => compile_block(alloc, block, statements),
+                Some(_) => compile_block(alloc, block, others),
                 None => Err(AllocError),
             }
         }
@@ -223,7 +244,7 @@ fn compile_tokens(alloc: Global, tokens: &Tokens) -> Result<Compiled, AllocError
     requires short { HaveShortTexts tokens.now }
     ensures value { IfOk result (λ compiled. compiled ≡ of_outcome tokens.now (outcome tokens.now)) }
     ensures own { IfOk result HasAsciiName }
-    ensures within { (files : ℕ) → 0 < files → All (λ token. token.place.file < files) tokens.now → IfOk result (RefusesWithin files) }
+    ensures within { (files : ℕ) → 0 < files → All (λ token. token.place.file < files) tokens.now → IfOk result (TellsWithin files) }
 {
     match parse(alloc, tokens) {
         Ok(unit) => compile_unit(alloc, &unit),
@@ -233,7 +254,7 @@ fn compile_tokens(alloc: Global, tokens: &Tokens) -> Result<Compiled, AllocError
     }
 }
 
-/// What lines come to. Each refusal stands in one of their files.
+/// What lines of ASL come to. Each refusal stands in one of their files.
 #[tactic(auto, using(crate::proofs::Outcomes::fault_is))]
 pub(crate) fn compile(alloc: Global, lines: &Lines) -> Result<Compiled, AllocError>
     requires short { All (λ line. length line.text < 2 ^ 32) lines.now.list }
@@ -241,7 +262,7 @@ pub(crate) fn compile(alloc: Global, lines: &Lines) -> Result<Compiled, AllocErr
     requires files { All (λ line. line.file < length lines.now.files) lines.now.list }
     ensures value { IfOk result (λ it. it ≡ of_lines lines.now.list) }
     ensures own { IfOk result HasAsciiName }
-    ensures within { IfOk result (RefusesWithin (length lines.now.files)) }
+    ensures within { IfOk result (TellsWithin (length lines.now.files)) }
 {
     match tokens(alloc, lines) {
         // (no more tokens have room)

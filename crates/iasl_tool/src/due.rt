@@ -4,12 +4,13 @@ ghost use Rattle.iasl_ports.specs.Delivery.{name_and_bytes, answer_of, IsSettled
 ghost use Rattle.iasl_runs.specs.Ends.{files_seen, Decides};
 ghost use Rattle.asl_preprocess.specs.Sound.{IsGoodLine, IsGoodNote};
 ghost use Rattle.iasl_options.specs.Shown.{AreTexts, asked_of};
-ghost use Rattle.iasl_tool.specs.Compiled.{AreWithin, of_lines};
+ghost use Rattle.iasl_tool.specs.Compiled.{AreWithin, of_source};
 ghost use Rattle.iasl_tool.specs.Due.{console_text, refusal, made_file, in_use, is_fetched, made_or_in_use, text_of_lines, answer_to_text, answer_to_compiled, answer_to_lines, answer_to_file, table_name, usage, answer_for};
 ghost use Rattle.iasl_messages.specs.Console.{table_line};
 ghost use Rattle.std.specs.Str.{IsAscii};
 
-use crate::compile::{Compiled, both, compile, one_message};
+use crate::compile::{Compiled, both, one_message};
+use crate::source::compile_source;
 use asl_preprocess::{PreStop, Preprocessed, preprocess};
 use iasl_messages::console::{preprocessed_line, render, summary, table_line};
 use iasl_messages::message::Messages;
@@ -202,19 +203,20 @@ fn make_compiled(
     requires main { 1 ≤ length lines.now.files }
     requires lines { All (IsGoodLine (length lines.now.files)) lines.now.list }
     requires notes { AreWithin (length lines.now.files) notes }
-    ensures due { IfOk result (λ due. answer_of due ≡ answer_to_compiled (asked_of options.now) options.now.file lines.now.files notes (of_lines lines.now.list)) }
+    ensures due { IfOk result (λ due. answer_of due ≡ answer_to_compiled (asked_of options.now) options.now.file lines.now.files notes (of_source lines.now.list)) }
     ensures settled { IfOk result IsSettled }
 {
-    match compile(alloc, lines)? {
+    match compile_source(alloc, lines)? {
         Compiled::Table {
             signature,
             own,
             bytes,
+            notes: told,
         } => make_table(
             alloc,
             options,
             &lines.files,
-            notes,
+            both(notes, told)?,
             &signature,
             &own,
             &bytes,

@@ -4,5 +4,6 @@
 mod compile;
 mod due;
 pub mod run;
+mod source;
 #[cfg(test)]
 mod tests;

@@ -1,11 +1,12 @@
-//! The top call: a source to its table.
+//! The top call: a source to its table, of ASL or of a data table.
 ghost use Rattle.std.specs.Prelude.{◌≡◌, ◌⊎◌, List, map, string_bytes, false};
 ghost use Rattle.std.specs.Option.{ForSome};
 ghost use Rattle.iasl_ports.specs.Delivery.{due_of};
 ghost use Rattle.iasl_runs.specs.Ends.{files_seen, outputs_seen, console_seen, world, IsQuiet, Ends};
 ghost use Rattle.asl_parser.specs.declared.raw.Raw.{Raw};
 ghost use Rattle.iasl_tool.specs.Due.{answer_for, fault_text, memory_text};
-ghost use Rattle.iasl_tool.specs.Headline.{Request, NamesSource, AreItsTables, WritesItsTable, asks_for_text};
+ghost use Rattle.data_tables.specs.declared.compiled.Compiled.{Compiled as DataTable};
+ghost use Rattle.iasl_tool.specs.Headline.{Request, NamesSource, NamesData, AreItsTables, WritesItsTable, WritesItsDataTable, asks_for_text};
 
 use crate::due::decide;
 use iasl_ports::files::Files;
@@ -20,7 +21,7 @@ const STOP_TEXTS: StopTexts<'static> = StopTexts {
     memory: b"iasl: out of memory\n",
 };
 
-/// Compiles the source that the words name, and puts its table, or with `-P` its preprocessed text (docs/OPTIONS.md). It
+/// Compiles the source that the words name, of ASL or of a data table, and puts its table, or with `-P` its preprocessed text (docs/OPTIONS.md). It
 /// answers 0 where that was done; 1 where the source has errors; 2 where the words are not good, or the output has the name of a file
 /// that was fetched; 3 where the file is absent, or a file could not be read, put or written; 4 where there was no memory.
 /// With 1 and 2 no file is put.
@@ -37,15 +38,22 @@ pub fn iasl<F: Files, O: Outputs, C: Sink>(
         (world (files_seen (F.contents files.new) (F.faults files.new) (F.absents files.new)) (outputs_seen (O.written outs.new) (O.faults outs.new)) (console_seen (C.told console.new) (C.faults console.new))) }
 
     // Whatever the status, each file that is due where preprocessed text alone is not asked for is the table of a source that the words
-    // name: it has the source's header, and every session over its bytes is the source's. By the clause above the files that are
-    // put are such files, whole, and perhaps a part of the next.
+    // name. That of ASL has the source's header, and every session over its bytes is the source's; that of a data table reads as the
+    // values that the text writes. By the clause above the files that are put are such files, whole, and perhaps a part of the next.
     ensures due { asks_for_text (map string_bytes words.now) ≡ false → ForSome (F.contents files.old) (λ told. AreItsTables (map string_bytes words.now) told (due_of (answer_for (map string_bytes words.now) told))) }
 
     // 0 comes, where preprocessed text alone is not asked for, only of such a source, whose table is then what the outputs gained.
-    ensures headline { result ≡ 0 → asks_for_text (map string_bytes words.now) ≡ false → ForSome (F.contents files.old) (λ told. WritesItsTable (map string_bytes words.now) told (O.written outs.old) (O.written outs.new)) }
+    ensures headline { result ≡ 0 → asks_for_text (map string_bytes words.now) ≡ false → ForSome (F.contents files.old) (λ told. WritesItsTable (map string_bytes words.now) told (O.written outs.old) (O.written outs.new) ⊎ WritesItsDataTable (map string_bytes words.now) told (O.written outs.old) (O.written outs.new)) }
 
     // And every such source gives 0, or 4, where no count rose.
     ensures complete { ForSome (F.contents files.old) (λ told. (request : Request) → (items : List Raw) → NamesSource (map string_bytes words.now) told request items
+        → IsQuiet
+        (world (files_seen (F.contents files.old) (F.faults files.old) (F.absents files.old)) (outputs_seen (O.written outs.old) (O.faults outs.old)) (console_seen (C.told console.old) (C.faults console.old)))
+        (world (files_seen (F.contents files.new) (F.faults files.new) (F.absents files.new)) (outputs_seen (O.written outs.new) (O.faults outs.new)) (console_seen (C.told console.new) (C.faults console.new)))
+        → (result ≡ 0) ⊎ (result ≡ 4)) }
+
+    // So does every text of a data table in which there is no fault.
+    ensures complete_data { ForSome (F.contents files.old) (λ told. (request : Request) → (table : DataTable) → NamesData (map string_bytes words.now) told request table
         → IsQuiet
         (world (files_seen (F.contents files.old) (F.faults files.old) (F.absents files.old)) (outputs_seen (O.written outs.old) (O.faults outs.old)) (console_seen (C.told console.old) (C.faults console.old)))
         (world (files_seen (F.contents files.new) (F.faults files.new) (F.absents files.new)) (outputs_seen (O.written outs.new) (O.faults outs.new)) (console_seen (C.told console.new) (C.faults console.new)))

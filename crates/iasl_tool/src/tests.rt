@@ -1,3 +1,5 @@
+mod data;
+
 use crate::run::iasl;
 use iasl_ports::files::MOST_BYTES;
 use iasl_ports::list::Texts;

@@ -4,16 +4,18 @@ use Rattle.std.specs.Prelude.{map, is_some, not, nat_eq, ◌&&◌, ◌||◌, if�
 use Rattle.std.specs.Option.{option_map}
 use Rattle.std.proofs.lemmas.List.{append_assoc}
 use Rattle.acpi_values.specs.Paths.{AbsolutePath, is_same_path}
-use Rattle.acpi_state.specs.Objects.{lookup}
+use Rattle.acpi_state.specs.Objects.{Object, lookup}
 use Rattle.asl_tree.specs.declared.path.Path.{Path}
 use Rattle.asl_tree.specs.Names.{denoted}
 use Rattle.asl_tree.specs.Tree.{At}
 use Rattle.asl_meaning.specs.Declarations.{Declarations, ExternalType, is_named, declared_kinds}
-use Rattle.acpi_names.specs.Errors.{NameError, Differs, Missing, NoContainer, Whole, unless, call_errors, is_container, final}
+use Rattle.acpi_names.specs.Errors.{NameError, Differs, Missing, NoContainer, Whole, unless, call_errors, is_container, final, name_end}
 use Rattle.acpi_names.specs.Mentions.{opening_errors}
 use Rattle.acpi_state.specs.Outcomes.{choose}
 use Rattle.acpi_names.specs.Parts.{Agrees}
-use Rattle.acpi_names.specs.Paths.{AreDistinct, is_flagged}
+use Rattle.acpi_names.specs.Paths.{AreDistinct, is_flagged, path_with}
+use Rattle.name_checks.specs.Facts.{ended}
+use Rattle.name_checks.specs.declared.kind.End.{End}
 use Rattle.acpi_names.proofs.Closed.{own_number}
 use Rattle.name_checks.specs.Calls.{is_open, is_first}
 use Rattle.name_checks.specs.Faults.{Before, Finds, fault_as}
@@ -42,6 +44,10 @@ declared_here paths has tables d n x distinct lt size e before =
     some_kind : (o : _) → is_some (option_map (kind_as paths) o) ≡ is_some o
     some_kind None = refl
     some_kind (Some k) = refl
+
+-- what is asked of the end of a name
+pub asked_end : (whole : Whole) (paths : List AbsolutePath) (target : Option ℕ) (end : Option End) (name : Path) (scope : AbsolutePath) (test : Option (AbsolutePath × Object) → Bool) (e : NameError) (b : Bool) → b ≡ test (ended paths end) → ended paths end ≡ choose (path_with paths target) None (final whole.known) → path_with paths target ≡ denoted (is_named whole.all) name scope → unless b e ≡ unless (test (name_end whole name scope)) e
+asked_end whole paths target end name scope test e b h k l = ap (λ b. unless b e) (h ∙ ap test (k ∙ ap (λ o. choose o None (final whole.known)) l))
 
 either : (opens first : Bool) (e : NameError) → unless (not opens || first) e ≡ (if opens then unless first e else [])
 either true first e = refl

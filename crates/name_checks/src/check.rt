@@ -20,12 +20,12 @@ use crate::facts::{Facts, blank, facts_of};
 use crate::fault::{Fault, messages};
 use crate::kind::External;
 use crate::rules::{
-    call_errors, call_types, declared_errors, external_errors, scope_errors, step_errors,
-    use_errors, use_types,
+    asked_types, call_errors, call_types, declared_errors, external_errors, scope_errors,
+    step_errors, use_errors,
 };
 use crate::tables::{Tables, denoted, note};
 use acpi_names::index::{Index, names_of};
-use acpi_names::mention::Mention;
+use acpi_names::mention::{Mention, WrittenName};
 use asl_tree::term::Node;
 use iasl_messages::message::{Message, Messages, Stage};
 use std::alloc::{AllocError, Global};
@@ -63,7 +63,7 @@ fn mention_errors<'a>(
             Ok(())
         }
         Mention::Sought { at, name, scope } => {
-            step_errors(out, facts, at, name, scope)?;
+            step_errors(out, facts, at, WrittenName::Path(name), scope)?;
             Ok(())
         }
         Mention::Called {
@@ -146,13 +146,13 @@ fn mention_types<'a>(
 {
     match mention {
         Mention::Used {
-            asked: true,
+            asked,
             at,
             name,
             scope,
         } => {
             let target = denoted(&facts.index, name, scope);
-            use_types(out, facts, at, name, scope, target)?;
+            asked_types(out, facts, asked, at, name, scope, target)?;
             Ok(())
         }
         Mention::Called {
@@ -237,7 +237,7 @@ pub(crate) fn examine(alloc: Global, terms: &[Node]) -> Result<Examined, AllocEr
 
 /// The names of the terms of a block, where all are right (ACPI Specification 6.4, 5.3 and 19.6). Otherwise it is
 /// refused with the errors of names, 6040 to 6046, in the order of the terms, or where there are none with those of
-/// kinds, 6051. A want of memory is `Stage::Memory`.
+/// kinds, 6051, 6054 and 6020. A want of memory is `Stage::Memory`.
 pub fn check(alloc: Global, terms: &[Node]) -> Result<Names, Stage>
     requires terms { are_terms (trees_of terms.now) ≡ true }
     ensures size { IfOk result (λ n. length n.index.named.items ≡ length n.index.paths) }

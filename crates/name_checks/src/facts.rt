@@ -14,10 +14,11 @@ ghost use Rattle.name_checks.specs.Tables.{AreSized, Notes};
 ghost use Rattle.name_checks.specs.Facts.{Knows, IsKnown, ended};
 
 use crate::kind::{End, External, Kind, Object, external_outside};
-use crate::tables::{Tables, is_root, note, root_at, scope_in};
+use crate::tables::{Tables, is_root, note, root_at};
 use acpi_names::index::Index;
 use acpi_names::mention::Mention;
 use acpi_names::paths::Paths;
+use acpi_names::place::scope_in;
 use std::alloc::{AllocError, Global};
 
 /// The names of a block, what it says of each, and how many segments the path with each number has.

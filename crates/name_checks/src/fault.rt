@@ -1,11 +1,12 @@
 //! Errors of names, and their messages.
 ghost use Rattle.std.specs.Prelude.{◌≡◌, ◌<◌, ◌++◌, ◌∷◌, [], length, get_or, reverse, map, IfOk, OnOk};
 ghost use Rattle.name_checks.specs.Messages.{message as message_is, message_of, dotted, segments_text, name_text, path_text, prefix_text};
+ghost use Rattle.acpi_names.specs.Shown.{written_as};
 ghost use Rattle.name_checks.specs.Faults.{fault_as};
 
-use crate::tables::scope_in;
-use acpi_names::mention::Spot;
+use acpi_names::mention::{Spot, WrittenName};
 use acpi_names::paths::Paths;
+use acpi_names::place::scope_in;
 use asl_tree::path::{NameSeg, Path};
 use iasl_messages::message::Message;
 use iasl_messages::number;
@@ -21,17 +22,21 @@ pub enum Fault<'a> {
     /// The path of an External is declared by the block.
     DeclaredHere { at: Spot, path: usize },
     /// The name denotes nothing, or its scope is not there.
-    Missing { at: Spot, name: &'a Path },
+    Missing { at: Spot, name: WrittenName<'a> },
     /// A Scope of something that has no scope.
-    NoContainer { at: Spot, name: &'a Path },
+    NoContainer { at: Spot, name: WrittenName<'a> },
     /// More steps up than scopes.
-    LeavesRoot { at: Spot, name: &'a Path },
+    LeavesRoot { at: Spot, name: WrittenName<'a> },
     /// Not as the External before or as the first call.
-    Differs { at: Spot, name: &'a Path },
+    Differs { at: Spot, name: WrittenName<'a> },
     /// A path of more than 255 segments.
-    TooLong { at: Spot, name: &'a Path },
+    TooLong { at: Spot, name: WrittenName<'a> },
     /// A use or a call with another number of arguments.
-    WrongCount { at: Spot, name: &'a Path },
+    WrongCount { at: Spot, name: WrittenName<'a> },
+    /// An object that is not of the kind that is asked for.
+    WrongKind { at: Spot, name: WrittenName<'a> },
+    /// A field over a space that is not built.
+    UnbuiltSpace { at: Spot },
 }
 
 // Segments, each behind a dot.
@@ -72,7 +77,7 @@ fn put_prefix(text: &mut Vec<u8>, root: bool, up: u32) -> Result<(), AllocError>
     Ok(())
 }
 
-/// The text of a name as it is written (ACPI Specification 6.4, 19.2.2).
+/// The text of a path as it is written (ACPI Specification 6.4, 19.2.2).
 pub fn text_of_name(alloc: Global, name: &Path) -> Result<Text, AllocError>
     ensures { IfOk result (λ text. text ≡ name_text name.now) }
 {
@@ -80,6 +85,20 @@ pub fn text_of_name(alloc: Global, name: &Path) -> Result<Text, AllocError>
     put_prefix(&mut text, name.root, name.up)?;
     put_segments(&mut text, name.segs.as_slice())?;
     Text::from_vec(alloc, text)
+}
+
+// The text of a name as it is written.
+fn written_text(alloc: Global, name: WrittenName) -> Result<Text, AllocError>
+    ensures { IfOk result (λ text. text ≡ name_text (written_as name.entry)) }
+{
+    match name {
+        WrittenName::Path(path) => Ok(text_of_name(alloc, path)?),
+        WrittenName::Segment(segment) => {
+            let mut text = Vec::new(alloc);
+            text.extend_from_slice(&segment)?;
+            Text::from_vec(alloc, text)
+        }
+    }
 }
 
 // The segments of a path, the last first.
@@ -109,10 +128,10 @@ pub fn text_of_path(alloc: Global, paths: &Paths, number: usize) -> Result<Text,
 }
 
 // A message with a name.
-fn named(alloc: Global, number: u16, at: Spot, name: &Path) -> Result<Message, AllocError>
-    ensures { IfOk result (λ m. m ≡ message_is number at.place (name_text name.now)) }
+fn named(alloc: Global, number: u16, at: Spot, name: WrittenName) -> Result<Message, AllocError>
+    ensures { IfOk result (λ m. m ≡ message_is number at.place (name_text (written_as name.entry))) }
 {
-    let text = text_of_name(alloc, name)?;
+    let text = written_text(alloc, name)?;
     Ok(Message {
         number,
         place: at.place,
@@ -178,6 +197,12 @@ pub fn message(alloc: Global, paths: &Paths, fault: Fault) -> Result<Message, Al
             at,
             name,
         )?),
+        Fault::WrongKind { at, name } => Ok(named(alloc, number::WRONG_OBJECT_KIND, at, name)?),
+        Fault::UnbuiltSpace { at } => Ok(Message {
+            number: number::UNKNOWN_OPERATOR,
+            place: at.place,
+            name: Text::new(alloc),
+        }),
     }
 }
 

@@ -4,7 +4,7 @@ ghost use Rattle.std.specs.Option.{option_map};
 ghost use Rattle.acpi_values.specs.Paths.{AbsolutePath};
 ghost use Rattle.acpi_state.specs.Objects.{root_objects, lookup, operand_count as count_of, is_method as method_is};
 ghost use Rattle.asl_meaning.specs.Declarations.{external_object, arity_from as arity_is};
-ghost use Rattle.acpi_names.specs.Errors.{is_container as container_is};
+ghost use Rattle.acpi_names.specs.Errors.{is_container as container_is, is_mutex as mutex_is, is_event as event_is, is_region as region_is, is_unit as unit_is, is_unbuilt as unbuilt_is};
 ghost use Rattle.name_checks.specs.Kinds.{object_as, outside_as, type_as};
 ghost use Rattle.name_checks.specs.declared.kind.Object.TheVariants as O;
 
@@ -118,6 +118,64 @@ fn is_container_kind(what: What) -> bool
         What::Region(_) => false,
         What::Unit => false,
         What::BufferField => false,
+    }
+}
+
+/// Whether an object is a mutex (ACPI Specification 6.4, 19.6.88).
+pub fn is_mutex(object: Object) -> bool
+    ensures { (path : AbsolutePath) → result ≡ mutex_is (Some (path, object_as object)) }
+{
+    match object {
+        Object::Declared(What::Mutex(_)) => true,
+        Object::Lock => true,
+        Object::Outside(Outside::Other(number)) => number == 9,
+        _ => false,
+    }
+}
+
+/// Whether an object is an event (ACPI Specification 6.4, 19.6.43).
+pub fn is_event(object: Object) -> bool
+    ensures { (path : AbsolutePath) → result ≡ event_is (Some (path, object_as object)) }
+{
+    match object {
+        Object::Declared(What::Event) => true,
+        Object::Outside(Outside::Other(number)) => number == 7,
+        _ => false,
+    }
+}
+
+/// Whether an object is a region (ACPI Specification 6.4, 19.6.100).
+pub fn is_region(object: Object) -> bool
+    ensures { (path : AbsolutePath) → result ≡ region_is (Some (path, object_as object)) }
+{
+    match object {
+        Object::Declared(What::Region(_)) => true,
+        Object::Outside(Outside::Other(number)) => number == 10,
+        _ => false,
+    }
+}
+
+/// Whether an object is a unit of a field (ACPI Specification 6.4, 19.6.48).
+pub fn is_unit(object: Object) -> bool
+    ensures { (path : AbsolutePath) → result ≡ unit_is (Some (path, object_as object)) }
+{
+    match object {
+        Object::Declared(What::Unit) => true,
+        Object::Outside(Outside::Data(number)) => number == 5,
+        _ => false,
+    }
+}
+
+/// Whether an object is a region of this source that no field can lie in, as its space is SMBus, IPMI,
+/// GeneralPurposeIO or GenericSerialBus.
+pub fn is_unbuilt(object: Object) -> bool
+    ensures { (path : AbsolutePath) → result ≡ unbuilt_is (Some (path, object_as object)) }
+{
+    match object {
+        Object::Declared(What::Region(space)) => {
+            space == 4 || space == 7 || space == 8 || space == 9
+        }
+        _ => false,
     }
 }
 

@@ -10,7 +10,7 @@ ghost use Rattle.acpi_names.specs.Errors as spec;
 ghost use Rattle.acpi_names.specs.Errors.{Whole, final};
 ghost use Rattle.acpi_names.specs.Mentions.{opening_errors as opening};
 ghost use Rattle.acpi_names.specs.Paths.{path_with};
-ghost use Rattle.acpi_names.specs.Shown.{spot_as};
+ghost use Rattle.acpi_names.specs.Shown.{spot_as, asked_as, written_as};
 ghost use Rattle.name_checks.specs.Calls.{is_open as open_is, is_first as first_is};
 ghost use Rattle.name_checks.specs.Faults.{Before, Finds, fault_as};
 ghost use Rattle.name_checks.specs.Facts.{Knows, ended};
@@ -19,9 +19,13 @@ ghost use Rattle.name_checks.specs.Tables.{AreSized};
 
 use crate::facts::{Facts, end};
 use crate::fault::Fault;
-use crate::kind::{End, External, is_container, is_method, operand_count};
-use crate::tables::{Tables, is_in_root, place, scope_in};
-use acpi_names::mention::Spot;
+use crate::kind::{
+    End, External, is_container, is_event, is_method, is_mutex, is_region, is_unbuilt, is_unit,
+    operand_count,
+};
+use crate::tables::{Tables, is_in_root, place};
+use acpi_names::mention::{Asked, Spot, WrittenName};
+use acpi_names::place::scope_in;
 use asl_tree::path::Path;
 use std::alloc::AllocError;
 
@@ -154,22 +158,32 @@ fn agrees_with(last: Option<External>, external: External) -> bool
     }
 }
 
+// How many scopes up a name begins.
+fn steps_up(name: WrittenName) -> u32
+    ensures { result ≡ (written_as name.entry).up }
+{
+    match name {
+        WrittenName::Path(path) => path.up,
+        WrittenName::Segment(_) => 0,
+    }
+}
+
 /// The steps up of a name.
 pub fn step_errors<'a>(
     out: &mut Vec<Fault<'a>>,
     facts: &Facts,
     at: Spot,
-    name: &'a Path,
+    name: WrittenName<'a>,
     scope: usize,
 ) -> Result<(), AllocError>
     ghost whole: { Whole }
     requires { Knows facts.now whole }
-    ensures { OnOk result (Finds facts.now.index.paths out.old.items out.new.items (spec.step_errors (spot_as at) name.now (get_or facts.now.index.paths scope []))) }
+    ensures { OnOk result (Finds facts.now.index.paths out.old.items out.new.items (spec.step_errors (spot_as at) (written_as name.entry) (get_or facts.now.index.paths scope []))) }
 {
     let depth = facts.depths[scope_in(&facts.index.paths, scope)];
     unless(
         out,
-        name.up as usize <= depth,
+        steps_up(name) as usize <= depth,
         Fault::LeavesRoot { at, name },
     )?;
     Ok(())
@@ -180,13 +194,13 @@ fn length_errors<'a>(
     out: &mut Vec<Fault<'a>>,
     facts: &Facts,
     at: Spot,
-    name: &'a Path,
+    name: WrittenName<'a>,
     number: usize,
 ) -> Result<(), AllocError>
     ghost whole: { Whole }
     requires told { Knows facts.now whole }
     requires within { number < length facts.now.index.paths }
-    ensures { OnOk result (Finds facts.now.index.paths out.old.items out.new.items (spec.length_errors (spot_as at) name.now (get_or facts.now.index.paths number []))) }
+    ensures { OnOk result (Finds facts.now.index.paths out.old.items out.new.items (spec.length_errors (spot_as at) (written_as name.entry) (get_or facts.now.index.paths number []))) }
 {
     unless(
         out,
@@ -202,14 +216,14 @@ pub fn declared_errors<'a>(
     facts: &Facts,
     before: &Tables,
     at: Spot,
-    name: &'a Path,
+    name: WrittenName<'a>,
     scope: usize,
 ) -> Result<(), AllocError>
     ghost whole: { Whole }
     requires told { Knows facts.now whole }
-    requires there { is_named whole.all (place_of name.now (get_or facts.now.index.paths scope [])) ≡ true }
+    requires there { is_named whole.all (place_of (written_as name) (get_or facts.now.index.paths scope [])) ≡ true }
     requires sized { AreSized facts.now.index.paths before.now }
-    ensures { OnOk result ((d : Declarations) → Before facts.now.index.paths (is_named whole.all) before.now d → Finds facts.now.index.paths out.old.items out.new.items (spec.declared_errors whole (spot_as at) name.now (get_or facts.now.index.paths scope []) d)) }
+    ensures { OnOk result ((d : Declarations) → Before facts.now.index.paths (is_named whole.all) before.now d → Finds facts.now.index.paths out.old.items out.new.items (spec.declared_errors whole (spot_as at) (written_as name.entry) (get_or facts.now.index.paths scope []) d)) }
 {
     let path = place(&facts.index, name, scope);
     unless(out, is_new(facts, before, path), Fault::Twice { at, path })?;
@@ -236,16 +250,20 @@ pub fn external_errors<'a>(
     requires sized { AreSized facts.now.index.paths before.now }
     ensures { OnOk result ((d : Declarations) → Before facts.now.index.paths (is_named whole.all) before.now d → Finds facts.now.index.paths out.old.items out.new.items (spec.external_errors whole (spot_as here) (spot_as at) name.now (type_as external) (get_or facts.now.index.paths scope []) d)) }
 {
-    let path = place(&facts.index, name, scope);
+    let written = WrittenName::Path(name);
+    let path = place(&facts.index, written, scope);
     let declared = is_declared(facts, &facts.tables, path);
     unless(out, !declared, Fault::DeclaredHere { at, path })?;
-    step_errors(out, facts, at, name, scope)?;
-    length_errors(out, facts, at, name, path)?;
+    step_errors(out, facts, at, written, scope)?;
+    length_errors(out, facts, at, written, path)?;
     let last = last_external(facts, before, path);
     unless(
         out,
         agrees_with(last, external),
-        Fault::Differs { at: here, name },
+        Fault::Differs {
+            at: here,
+            name: written,
+        },
     )?;
     Ok(())
 }
@@ -264,6 +282,7 @@ pub fn use_errors<'a>(
     requires denotes { path_with facts.now.index.paths target ≡ denotes_path (is_named whole.all) name.now (get_or facts.now.index.paths scope []) }
     ensures { OnOk result (Finds facts.now.index.paths out.old.items out.new.items (spec.use_errors whole (spot_as at) name.now (get_or facts.now.index.paths scope []))) }
 {
+    let name = WrittenName::Path(name);
     step_errors(out, facts, at, name, scope)?;
     unless(out, is_found(target), Fault::Missing { at, name })?;
     Ok(())
@@ -323,7 +342,10 @@ pub fn call_errors<'a>(
             unless(
                 out,
                 is_answered(external, first, args),
-                Fault::Differs { at, name },
+                Fault::Differs {
+                    at,
+                    name: WrittenName::Path(name),
+                },
             )?;
             Ok(())
         }
@@ -363,6 +385,7 @@ pub fn scope_errors<'a>(
     match target {
         None => Ok(()),
         Some(number) => {
+            let name = WrittenName::Path(name);
             unless(
                 out,
                 is_same(facts, number, inner),
@@ -411,10 +434,57 @@ fn takes(args: usize, end: Option<End>) -> bool
     }
 }
 
-/// The errors of the kind of a used name.
-pub fn use_types<'a>(
+// Whether an end is at a mutex, an event, a unit of a field, or a region, and at a region that no field can lie in.
+fn ends_at_mutex(end: Option<End>) -> bool
+    ensures { (paths : List AbsolutePath) → result ≡ spec.is_mutex (ended paths end) }
+{
+    match end {
+        None => false,
+        Some(end) => is_mutex(end.object),
+    }
+}
+
+fn ends_at_event(end: Option<End>) -> bool
+    ensures { (paths : List AbsolutePath) → result ≡ spec.is_event (ended paths end) }
+{
+    match end {
+        None => false,
+        Some(end) => is_event(end.object),
+    }
+}
+
+fn ends_at_unit(end: Option<End>) -> bool
+    ensures { (paths : List AbsolutePath) → result ≡ spec.is_unit (ended paths end) }
+{
+    match end {
+        None => false,
+        Some(end) => is_unit(end.object),
+    }
+}
+
+fn ends_at_region(end: Option<End>) -> bool
+    ensures { (paths : List AbsolutePath) → result ≡ spec.is_region (ended paths end) }
+{
+    match end {
+        None => false,
+        Some(end) => is_region(end.object),
+    }
+}
+
+fn ends_at_unbuilt(end: Option<End>) -> bool
+    ensures { (paths : List AbsolutePath) → result ≡ spec.is_unbuilt (ended paths end) }
+{
+    match end {
+        None => false,
+        Some(end) => is_unbuilt(end.object),
+    }
+}
+
+/// The errors of the kind of a used name, of which something is asked.
+pub fn asked_types<'a>(
     out: &mut Vec<Fault<'a>>,
     facts: &Facts,
+    asked: Asked,
     at: Spot,
     name: &'a Path,
     scope: usize,
@@ -424,11 +494,38 @@ pub fn use_types<'a>(
     requires told { Knows facts.now whole }
     requires denotes { path_with facts.now.index.paths target ≡ denotes_path (is_named whole.all) name.now (get_or facts.now.index.paths scope []) }
     requires within { IfSome target (λ n. n < length facts.now.index.paths) }
-    ensures { OnOk result (Finds facts.now.index.paths out.old.items out.new.items (spec.unless (spec.takes_none (spec.name_end whole name.now (get_or facts.now.index.paths scope []))) (spec.WrongCount (spot_as at) name.now))) }
+    ensures { OnOk result (Finds facts.now.index.paths out.old.items out.new.items (spec.asked_types whole (asked_as asked) (spot_as at) name.now (get_or facts.now.index.paths scope []))) }
 {
     let end = name_end(facts, target);
-    unless(out, takes_none(end), Fault::WrongCount { at, name })?;
-    Ok(())
+    let name = WrittenName::Path(name);
+    match asked {
+        Asked::Anything => Ok(()),
+        Asked::Value => {
+            unless(out, takes_none(end), Fault::WrongCount { at, name })?;
+            Ok(())
+        }
+        Asked::Mutex => {
+            unless(out, ends_at_mutex(end), Fault::WrongKind { at, name })?;
+            Ok(())
+        }
+        Asked::Event => {
+            unless(out, ends_at_event(end), Fault::WrongKind { at, name })?;
+            Ok(())
+        }
+        Asked::Unit => {
+            unless(out, ends_at_unit(end), Fault::WrongKind { at, name })?;
+            Ok(())
+        }
+        Asked::Region(field) => {
+            unless(out, ends_at_region(end), Fault::WrongKind { at, name })?;
+            unless(
+                out,
+                !ends_at_unbuilt(end),
+                Fault::UnbuiltSpace { at: field },
+            )?;
+            Ok(())
+        }
+    }
 }
 
 /// The errors of the kind of a called name.
@@ -448,6 +545,7 @@ pub fn call_types<'a>(
     ensures { OnOk result (Finds facts.now.index.paths out.old.items out.new.items (spec.unless (spec.takes args (spec.name_end whole name.now (get_or facts.now.index.paths scope []))) (spec.WrongCount (spot_as at) name.now))) }
 {
     let end = name_end(facts, target);
+    let name = WrittenName::Path(name);
     unless(out, takes(args, end), Fault::WrongCount { at, name })?;
     Ok(())
 }

@@ -4,8 +4,8 @@ ghost use Rattle.asl_tree.specs.Names.{place_of, denoted as denotes_path};
 ghost use Rattle.asl_meaning.specs.Declarations.{in_root, is_named, kind_of};
 ghost use Rattle.acpi_names.specs.Errors.{Whole};
 ghost use Rattle.acpi_names.specs.Parts.{Agrees};
-ghost use Rattle.acpi_names.specs.Paths.{path_with};
-ghost use Rattle.acpi_names.specs.Shown.{shown, declared_as};
+ghost use Rattle.acpi_names.specs.Paths.{path_with, number_in};
+ghost use Rattle.acpi_names.specs.Shown.{shown, declared_as, written_as};
 ghost use Rattle.acpi_values.specs.Paths.{is_same_path};
 ghost use Rattle.std.specs.Option.{option_map};
 ghost use Rattle.name_checks.specs.Kinds.{object_as, kind_as, at_root};
@@ -13,9 +13,9 @@ ghost use Rattle.name_checks.specs.Tables.{AreSized, IsThere, IsDeclared, IsOuts
 
 use crate::kind::{External, Kind, Object, root_object};
 use acpi_names::index::{Index, denoted_by};
-use acpi_names::mention::{Declared, Mention};
+use acpi_names::mention::{Declared, Mention, WrittenName};
 use acpi_names::paths::Paths;
-use acpi_names::place::{find, prefixed};
+use acpi_names::place::{find, prefixed, scope_in};
 use asl_tree::path::Path;
 use std::alloc::{AllocError, Global};
 
@@ -29,15 +29,6 @@ pub struct Tables {
     pub count: usize,
 }
 
-// The number of a scope's path, that of the root where it has none.
-pub(crate) fn scope_in(paths: &Paths, scope: usize) -> usize
-    ensures within { result < length paths.now }
-    ensures path { get_or paths.now result [] ≡ get_or paths.now scope [] }
-{
-    let count = paths.len();
-    if scope < count { scope } else { 0 }
-}
-
 /// What a used name denotes in a scope.
 pub fn denoted(index: &Index, name: &Path, scope: usize) -> Option<usize>
     ghost whole: { Whole }
@@ -49,16 +40,30 @@ pub fn denoted(index: &Index, name: &Path, scope: usize) -> Option<usize>
     denoted_by(index, name, scope_in(&index.paths, scope))
 }
 
+// The number of the place of a declared name, where it is there.
+fn place_in(paths: &Paths, name: WrittenName, scope: usize) -> Option<usize>
+    requires { scope < length paths.now }
+    ensures { result ≡ number_in paths.now (place_of (written_as name.entry) (get_or paths.now scope [])) }
+{
+    match name {
+        WrittenName::Path(path) => {
+            let outer = prefixed(paths, path, scope);
+            find(paths, outer, path.segs.as_slice())
+        }
+        WrittenName::Segment(segment) => paths.child(scope, segment),
+    }
+}
+
 /// The number of a place that is named.
-pub fn place(index: &Index, name: &Path, scope: usize) -> usize
+pub fn place(index: &Index, name: WrittenName, scope: usize) -> usize
     ghost whole: { Whole }
     requires agrees { Agrees index.now.paths index.now.named.items whole.all }
-    requires there { is_named whole.all (place_of name.now (get_or index.now.paths scope [])) ≡ true }
+    requires there { is_named whole.all (place_of (written_as name) (get_or index.now.paths scope [])) ≡ true }
     ensures within { result < length index.now.paths }
-    ensures path { get_or index.now.paths result [] ≡ place_of name.now (get_or index.now.paths scope []) }
+    ensures path { get_or index.now.paths result [] ≡ place_of (written_as name.entry) (get_or index.now.paths scope []) }
 {
-    let outer = prefixed(&index.paths, name, scope_in(&index.paths, scope));
-    match find(&index.paths, outer, name.segs.as_slice()) {
+    let scope = scope_in(&index.paths, scope);
+    match place_in(&index.paths, name, scope) {
         Some(number) => number,
         None => 0,
     }
@@ -195,7 +200,7 @@ pub fn note(index: &Index, tables: &mut Tables, mention: &Mention)
             ..
         } => {
             let kind = declared_kind(index, *what);
-            let number = place(index, name, *scope);
+            let number = place(index, *name, *scope);
             note_declared(index, tables, number, kind);
         }
         Mention::Outside {
@@ -205,7 +210,7 @@ pub fn note(index: &Index, tables: &mut Tables, mention: &Mention)
             scope,
             ..
         } => {
-            let number = place(index, name, *scope);
+            let number = place(index, WrittenName::Path(name), *scope);
             let external = External {
                 object: *object,
                 parameters: *parameters,

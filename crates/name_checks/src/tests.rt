@@ -1,4 +1,5 @@
 use crate::check::{check, examine};
+use acpi_values::operator::{EventOp, Plain};
 use asl_tree::path::{Path, Segs};
 use asl_tree::term::{Control, Declaration, Node, Op, Special, Term};
 use iasl_messages::message::Message;
@@ -70,6 +71,15 @@ fn operator(key: &[u8]) -> Option<Op> {
         Some(b'A') => Some(Op::Declaration(Declaration::Alias)),
         Some(b'Q') => Some(Op::Special(Special::CondRefOf)),
         Some(b'R') => Some(Op::Control(Control::Return)),
+        Some(b'X') => Some(Op::Declaration(Declaration::Mutex)),
+        Some(b'V') => Some(Op::Declaration(Declaration::Event)),
+        Some(b'G') => Some(Op::Declaration(Declaration::OperationRegion)),
+        Some(b'F') => Some(Op::Declaration(Declaration::Field)),
+        Some(b'I') => Some(Op::Declaration(Declaration::IndexField)),
+        Some(b'B') => Some(Op::Declaration(Declaration::BankField)),
+        Some(b'K') => Some(Op::Plain(Plain::Event(EventOp::Acquire))),
+        Some(b'L') => Some(Op::Plain(Plain::Event(EventOp::Release))),
+        Some(b'W') => Some(Op::Plain(Plain::Event(EventOp::Wait))),
         _ => None,
     }
 }
@@ -91,9 +101,36 @@ fn arguments(alloc: Global, line: u32, key: &[u8], names: &[u8]) -> Result<Vec<N
             }
         }
         Some(b'Q') => add(&mut args, line, 9, Term::Omitted)?,
+        Some(b'K' | b'W') => add(&mut args, line, 9, Term::Integer(1))?,
+        Some(b'G') => {
+            add(&mut args, line, 9, Term::Integer(0))?;
+            add(&mut args, line, 9, Term::Integer(8))?;
+        }
         _ => {}
     }
     Ok(args)
+}
+
+// A field: the names of what it lies in, one for F and two for I and B, and behind them those of its units.
+fn field(alloc: Global, line: u32, op: Op, key: &[u8], names: &[u8]) -> Result<Term, AllocError> {
+    let mut args = Vec::new(alloc);
+    let mut body = Vec::new(alloc);
+    let mut column: u32 = 2;
+    for name in names.split(|byte| *byte == b'=') {
+        let path = path(alloc, name)?;
+        if column == 2 || (column == 3 && key.first() != Some(&b'F')) {
+            add(&mut args, line, column, Term::Name(path))?;
+        } else if let Some(segment) = path.segs.get(0) {
+            let segment = *segment;
+            add(&mut body, line, column, Term::Unit { segment, bits: 8 })?;
+        }
+        column = column.wrapping_add(1);
+    }
+    if key.first() == Some(&b'B') {
+        add(&mut args, line, 9, Term::Integer(0))?;
+    }
+    add(&mut args, line, 9, Term::Integer(0))?;
+    Ok(Term::Form { op, args, body })
 }
 
 // A call of a name with so many arguments.
@@ -158,6 +195,10 @@ fn terms(alloc: Global, text: &str) -> Result<Vec<Node>, AllocError> {
                 let Some(op) = operator(key) else {
                     continue;
                 };
+                if matches!(first, Some(b'F' | b'I' | b'B')) {
+                    add(&mut nodes, line, 1, field(alloc, line, op, key, names)?)?;
+                    continue;
+                }
                 let args = arguments(alloc, line, key, names)?;
                 if matches!(first, Some(b'D' | b'S' | b'M')) {
                     open.push(Open {
@@ -275,6 +316,47 @@ fn tells_kinds_behind_names(rt: HostRuntime) -> Result<(), Fail> {
         ("E0:X___ C2:X___ U:X___", "6051 3.2 X___; "),
         // Kinds are told only where all names are right.
         ("N:X___ C0:X___ N:X___", "6040 3.2 \\X___; "),
+    ] {
+        assert_eq!(rt; errors(alloc, text)?.as_str(), want);
+    }
+    Ok(())
+}
+
+#[test]
+fn tells_kinds_of_objects(rt: HostRuntime) -> Result<(), Fail> {
+    let alloc = rt.alloc();
+    for (text, want) in [
+        // Mutexes and events, through aliases too, and those of other tables by their types.
+        ("X0:M___ K:M___ L:M___ K:_GL_", ""),
+        ("X0:M___ A:M___=N___ K:N___", ""),
+        ("N:X___ K:X___ L:X___", "6054 2.2 X___; 6054 3.2 X___; "),
+        (
+            "X0:M___ V:E___ K:E___ W:M___",
+            "6054 3.2 E___; 6054 4.2 M___; ",
+        ),
+        ("A:B___=A___ A:A___=B___ K:A___", "6054 3.2 A___; "),
+        ("E9:M___ E7:E___ K:M___ W:E___", ""),
+        ("E0:M___ K:M___", "6054 2.2 M___; "),
+        // What fields lie in, and their units.
+        ("G1:R___ F:R___=U___ U:U___", ""),
+        ("F:R___=U___ N:U___", "6041 1.2 R___; 6040 2.2 \\U___; "),
+        ("G1:R___ F:R___=U___=U___", "6040 2.4 \\U___; "),
+        ("N:X___ F:X___=U___", "6054 2.2 X___; "),
+        ("G1:R___ F:R___=A___=B___ I:A___=B___=C___", ""),
+        ("G1:R___ F:R___=A___ I:A___=R___=C___", "6054 3.3 R___; "),
+        ("G1:R___ F:R___=A___ B:R___=A___=C___", ""),
+        (
+            "G1:R___ F:R___=A___ B:A___=R___=C___",
+            "6054 3.2 A___; 6054 3.3 R___; ",
+        ),
+        ("E5:A___ I:A___=A___=C___", ""),
+        ("E0:A___ F:A___=C___", "6054 2.2 A___; "),
+        // Spaces that no field can lie in.
+        ("G4:R___ F:R___=A___", "6020 2.1 ; "),
+        (
+            "G8:R___ A:R___=S___ G1:T___ F:T___=A___ B:S___=A___=B___",
+            "6020 5.1 ; ",
+        ),
     ] {
         assert_eq!(rt; errors(alloc, text)?.as_str(), want);
     }

@@ -4,11 +4,10 @@ use mathlib.Core.Path.{fun_ext}
 use Rattle.acpi_values.specs.Paths.{AbsolutePath}
 use Rattle.acpi_state.specs.Objects.{lookup}
 use Rattle.asl_tree.specs.Tree.{Trees}
-use Rattle.asl_meaning.specs.Declarations.{declarations, is_named}
+use Rattle.asl_meaning.specs.Declarations.{Declarations, declarations, is_named, written_external}
 use Rattle.acpi_names.specs.Errors.{whole_of}
 use Rattle.acpi_names.specs.Parts.{Agrees}
 use Rattle.acpi_names.specs.Spelled.{spelled_all}
-use Rattle.acpi_names.specs.Spelling.{SpellsAll}
 use Rattle.acpi_names.specs.Tables.{Tabled}
 use Rattle.named_sessions.specs.Core.{says_of, core_of}
 use Rattle.named_sessions.proofs.Settles.{known_is_named}
@@ -18,5 +17,5 @@ pub spelled_core : (program : Trees) → spelled_all (is_named (declarations pro
 spelled_core program = ap (λ has. spelled_all has (says_of program) program []) (fun_ext (λ path. sym (known_is_named program path)))
 
 -- so what is spelled by the flags of the declarations and a table of the calls is the core
-pub core_spelled : (paths : List AbsolutePath) (named : List Bool) (table : List (Option ℕ)) (program spelt : Trees) → SpellsAll paths named table program spelt [] → Agrees paths named (declarations program) → Tabled paths table (lookup (whole_of program).calls) → spelt ≡ core_of program
+pub core_spelled : (paths : List AbsolutePath) (named : List Bool) (table : List (Option ℕ)) (program spelt : Trees) → ((d : Declarations) (counts : List (AbsolutePath × ℕ)) → Agrees paths named d → Tabled paths table (lookup counts) → spelt ≡ spelled_all (is_named d) (written_external counts) program []) → Agrees paths named (declarations program) → Tabled paths table (lookup (whole_of program).calls) → spelt ≡ core_of program
 core_spelled paths named table program spelt spells agrees tabled = spells (declarations program) (whole_of program).calls agrees tabled ∙ spelled_core program

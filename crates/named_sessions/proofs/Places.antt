@@ -10,12 +10,14 @@ use Rattle.acpi_state.specs.FieldActs.{region_letters, field_letters}
 use Rattle.acpi_state.specs.Objects.{MethodObject, ContainerObject, lookup}
 use Rattle.acpi_state.specs.Outcomes.{choose}
 use Rattle.asl_tree.specs.declared.path.Path.{Path}
+use Rattle.acpi_values.specs.declared.operator.EventOp.TheVariants as EventOp
+use Rattle.acpi_values.specs.declared.operator.Plain.{Plain}
 use Rattle.asl_tree.specs.FieldItems.{FieldItem, UnitItem, SkipItem, OffsetItem}
 use Rattle.asl_tree.specs.Names.{place_of, denoted}
-use Rattle.asl_tree.specs.Tree.{At, Tree, Use, Call, Apply, Buffer, Package, VarPackage, CondRefOf, Return, Name, Alias, External, Method, Mutex, Event, Container', Scope, Trees, no_trees, tree, count, OperationRegion, Field, IndexField, BankField, CreateField, UnitName, If, Else, While}
+use Rattle.asl_tree.specs.Tree.{At, Tree, Use, Call, Apply, Buffer, Package, VarPackage, CondRefOf, Return, Name, Alias, External, Method, Mutex, Event, Container', Scope, Trees, no_trees, tree, count, OperationRegion, Field, IndexField, BankField, CreateField, UnitName, If, ElseIf, Else, While, Operated, Assigned, AssignedBy}
 use Rattle.asl_meaning.specs.Declarations.{As, ExternalType, Declarations, nothing_declared, is_named, scope_path, with_declared, declare, declare_item}
 use Rattle.asl_meaning.specs.Meaning.{SpotForm, OfResult, OfInside, NoSpot, spot_form}
-use Rattle.acpi_names.specs.Errors.{NameError, Twice, DeclaredHere, Missing, NoContainer, LeavesRoot, Differs, TooLong, WrongCount, unless, Whole, whole_of, step_errors, length_errors, is_new, has_parent, agrees_with, final, is_container, takes_none, takes, unit_path, declared_errors, external_errors, use_errors, call_errors, scope_errors, item_errors, items_errors, cond_errors, names, names_all, name_end, letter_types, spot_form_types, element_types, types, spot_types, first_types, operand_types, spot_types_all, element_types_all, types_all, name_errors, type_errors}
+use Rattle.acpi_names.specs.Errors.{NameError, Twice, DeclaredHere, Missing, NoContainer, LeavesRoot, Differs, TooLong, WrongCount, WrongKind, UnbuiltSpace, Asked, Anything, AValue, AMutex, AnEvent, AUnit, ARegion, asked_by, unless, Whole, whole_of, step_errors, length_errors, is_new, has_parent, agrees_with, final, is_container, takes_none, takes, is_mutex, is_event, is_unit, is_region, is_unbuilt, unit_path, declared_errors, external_errors, use_errors, call_errors, scope_errors, item_errors, items_errors, cond_errors, names, names_all, name_end, asked_types, used_types, letter_types, spot_form_types, element_types, types, spot_types, first_types, operand_types, spot_types_all, element_types_all, types_all, name_errors, type_errors}
 use Rattle.named_sessions.specs.Places.{IsIn, IsItemWithin, AreItemsWithin, IsWithin, AreWithin, at_of}
 
 -- an External that may be called and does not say how many arguments it takes
@@ -33,6 +35,11 @@ module _ (files : ℕ) where
   abbrev AreTold : List NameError → Type 0
   AreTold [] = Unit {0}
   AreTold (e ∷ es) = IsIn files (at_of e) × AreTold es
+
+  -- a field that asks for a region stands in one of the files
+  abbrev IsAskedIn : Asked → Type 0
+  IsAskedIn (ARegion field) = IsIn files field
+  IsAskedIn _ = Unit {0}
 
   both : (xs ys : List NameError) → AreTold xs → AreTold ys → AreTold (xs ++ ys)
   both [] ys h k = k
@@ -99,6 +106,9 @@ module _ (files : ℕ) where
       names_told (Use at name) scope d h = use_told at name scope h
       names_told (Call at name args) scope d h = both _ _ (both _ _ (use_told at name scope h.0) (call_told at name (count args) scope h.0)) (names_all_told args scope d h.1)
       names_told (Apply op args targets) scope d h = both _ _ (names_all_told args scope d h.0) (names_all_told targets scope d h.1)
+      names_told (Operated op args) scope d h = names_all_told args scope d h
+      names_told (Assigned target value) scope d h = both _ _ (names_told value scope d h.1) (names_told target scope d h.0)
+      names_told (AssignedBy op target value) scope d h = both _ _ (names_told target scope d h.0) (names_told value scope d h.1)
       names_told (Buffer size bytes) scope d h = names_told size scope d h
       names_told (Package n elements) scope d h = names_all_told elements scope d h
       names_told (VarPackage size elements) scope d h = both _ _ (names_told size scope d h.0) (names_all_told elements scope d h.1)
@@ -111,6 +121,7 @@ module _ (files : ℕ) where
       names_told (Mutex at name level) scope d h = declared_told at name scope d h
       names_told (Event at name) scope d h = declared_told at name scope d h
       names_told (If test body) scope d h = both _ _ (names_told test scope d h.0) (names_all_told body scope d h.1)
+      names_told (ElseIf test body) scope d h = both _ _ (names_told test scope d h.0) (names_all_told body scope d h.1)
       names_told (Else body) scope d h = names_all_told body scope d h
       names_told (While test body) scope d h = both _ _ (names_told test scope d h.0) (names_all_told body scope d h.1)
       names_told (OperationRegion at name space args) scope d h = both _ _ (declared_told at name scope d h.0) (names_all_told args scope d h.1)
@@ -129,12 +140,33 @@ module _ (files : ℕ) where
       names_all_told no_trees scope d h = tt
       names_all_told (tree t ts) scope d h = both _ _ (names_told t scope d h.0) (names_all_told ts scope (declare t scope d) h.1)
 
-    letter_told : (letter : Letter) (value place : List NameError) → AreTold value → AreTold place → AreTold (letter_types whole letter value place)
-    letter_told Valued value place h k = h
-    letter_told Kept value place h k = h
-    letter_told Placed value place h k = k
-    letter_told Used value place h k = tt
-    letter_told (L.Raw size) value place h k = tt
+    asked_told : (asked : Asked) (at : At) (name : Path) (scope : AbsolutePath) → IsIn files at → IsAskedIn asked → AreTold (asked_types whole asked at name scope)
+    asked_told Anything at name scope h k = tt
+    asked_told AValue at name scope h k = unless_told (takes_none (name_end whole name scope)) (WrongCount at name) h
+    asked_told AMutex at name scope h k = unless_told (is_mutex (name_end whole name scope)) (WrongKind at name) h
+    asked_told AnEvent at name scope h k = unless_told (is_event (name_end whole name scope)) (WrongKind at name) h
+    asked_told AUnit at name scope h k = unless_told (is_unit (name_end whole name scope)) (WrongKind at name) h
+    asked_told (ARegion field) at name scope h k =
+        both _ _ (unless_told (is_region (name_end whole name scope)) (WrongKind at name) h) (unless_told (not (is_unbuilt (name_end whole name scope))) (UnbuiltSpace field) k)
+
+    operator_asks : (op : Plain) → IsAskedIn (asked_by op)
+    operator_asks (Plain.Event EventOp.Acquire) = tt
+    operator_asks (Plain.Event EventOp.Release) = tt
+    operator_asks (Plain.Event EventOp.Wait) = tt
+    operator_asks (Plain.Event EventOp.Signal) = tt
+    operator_asks (Plain.Event EventOp.Reset) = tt
+    operator_asks op = tt
+
+    used_told : (asked : Asked) (t : Tree) (scope : AbsolutePath) → IsAskedIn asked → IsWithin files t → AreTold (used_types whole asked t scope)
+    used_told asked (Use at name) scope k h = asked_told asked at name scope h k
+    used_told asked t scope k h = tt
+
+    letter_told : (letter : Letter) (value place used : List NameError) → AreTold value → AreTold place → AreTold used → AreTold (letter_types whole letter value place used)
+    letter_told Valued value place used h k l = h
+    letter_told Kept value place used h k l = h
+    letter_told Placed value place used h k l = k
+    letter_told Used value place used h k l = l
+    letter_told (L.Raw size) value place used h k l = tt
 
     spot_form_told : (form : SpotForm) (result inside : List NameError) → AreTold result → AreTold inside → AreTold (spot_form_types whole form result inside)
     spot_form_told OfResult result inside h k = h
@@ -149,17 +181,24 @@ module _ (files : ℕ) where
       types_told : (t : Tree) (scope : AbsolutePath) → IsWithin files t → AreTold (types whole t scope)
       types_told (Use at name) scope h = unless_told (takes_none (name_end whole name scope)) (WrongCount at name) h
       types_told (Call at name args) scope h = both _ _ (unless_told (takes (count args) (name_end whole name scope)) (WrongCount at name) h.0) (types_all_told args scope h.1)
-      types_told (Apply op args targets) scope h = both _ _ (operand_types_told (row_of op).operands args scope h.0) (spot_types_all_told targets scope h.1)
+      types_told (Apply op args targets) scope h = both _ _ (operand_types_told (asked_by op) (operator_asks op) (row_of op).operands args scope h.0) (spot_types_all_told targets scope h.1)
+      types_told (Operated op args) scope h = operand_types_told (asked_by op) (operator_asks op) (row_of op).operands args scope h
+      types_told (Assigned target value) scope h = both _ _ (types_told value scope h.1) (spot_types_told target scope h.0)
+      types_told (AssignedBy op target value) scope h = both _ _ (types_told target scope h.0) (types_told value scope h.1)
       types_told (Buffer size bytes) scope h = types_told size scope h
       types_told (Package n elements) scope h = element_types_all_told elements scope h
       types_told (VarPackage size elements) scope h = both _ _ (types_told size scope h.0) (element_types_all_told elements scope h.1)
       types_told (CondRefOf place target) scope h = both _ _ (spot_types_told place scope h.0) (spot_types_told target scope h.1)
       types_told (If test body) scope h = both _ _ (types_told test scope h.0) (types_all_told body scope h.1)
+      types_told (ElseIf test body) scope h = both _ _ (types_told test scope h.0) (types_all_told body scope h.1)
       types_told (Else body) scope h = types_all_told body scope h
       types_told (While test body) scope h = both _ _ (types_told test scope h.0) (types_all_told body scope h.1)
-      types_told (OperationRegion at name space args) scope h = operand_types_told region_letters args scope h.1
-      types_told (BankField here from region to bank value flags items) scope h = types_told value scope h.3
-      types_told (CreateField form args at name) scope h = operand_types_told (field_letters form) args scope h.0
+      types_told (OperationRegion at name space args) scope h = operand_types_told Anything tt region_letters args scope h.1
+      types_told (Field here from region flags items) scope h = asked_told (ARegion here) from region scope h.1 h.0
+      types_told (IndexField here from index to register flags items) scope h = both _ _ (asked_told AUnit from index scope h.1 tt) (asked_told AUnit to register scope h.2 tt)
+      types_told (BankField here from region to bank value flags items) scope h =
+          both _ _ (asked_told (ARegion here) from region scope h.1 h.0) (both _ _ (asked_told AUnit to bank scope h.2 tt) (types_told value scope h.3))
+      types_told (CreateField form args at name) scope h = operand_types_told Anything tt (field_letters form) args scope h.0
       types_told (Return value) scope h = types_told value scope h
       types_told (Name at name value) scope h = types_told value scope h.1
       types_told (Method at name flags body) scope h = types_all_told body (place_of name scope) h.1
@@ -169,19 +208,21 @@ module _ (files : ℕ) where
 
       spot_types_told : (t : Tree) (scope : AbsolutePath) → IsWithin files t → AreTold (spot_types whole t scope)
       spot_types_told (Apply op args targets) scope h =
-          spot_form_told (spot_form op) (operand_types whole (row_of op).operands args scope ++ spot_types_all whole targets scope) (first_types whole args scope)
-          (both _ _ (operand_types_told (row_of op).operands args scope h.0) (spot_types_all_told targets scope h.1)) (first_types_told args scope h.0)
+          spot_form_told (spot_form op) (operand_types whole (asked_by op) (row_of op).operands args scope ++ spot_types_all whole targets scope) (first_types whole args scope)
+          (both _ _ (operand_types_told (asked_by op) (operator_asks op) (row_of op).operands args scope h.0) (spot_types_all_told targets scope h.1)) (first_types_told args scope h.0)
+      spot_types_told (Operated op args) scope h =
+          spot_form_told (spot_form op) (operand_types whole (asked_by op) (row_of op).operands args scope) (first_types whole args scope) (operand_types_told (asked_by op) (operator_asks op) (row_of op).operands args scope h) (first_types_told args scope h)
       spot_types_told _ scope h = tt
 
       first_types_told : (ts : Trees) (scope : AbsolutePath) → AreWithin files ts → AreTold (first_types whole ts scope)
       first_types_told no_trees scope h = tt
       first_types_told (tree t ts) scope h = types_told t scope h.0
 
-      operand_types_told : (letters : List Letter) (ts : Trees) (scope : AbsolutePath) → AreWithin files ts → AreTold (operand_types whole letters ts scope)
-      operand_types_told [] ts scope h = tt
-      operand_types_told (letter ∷ letters) no_trees scope h = tt
-      operand_types_told (letter ∷ letters) (tree t ts) scope h =
-          both _ _ (letter_told letter (types whole t scope) (spot_types whole t scope) (types_told t scope h.0) (spot_types_told t scope h.0)) (operand_types_told letters ts scope h.1)
+      operand_types_told : (asked : Asked) → IsAskedIn asked → (letters : List Letter) (ts : Trees) (scope : AbsolutePath) → AreWithin files ts → AreTold (operand_types whole asked letters ts scope)
+      operand_types_told asked k [] ts scope h = tt
+      operand_types_told asked k (letter ∷ letters) no_trees scope h = tt
+      operand_types_told asked k (letter ∷ letters) (tree t ts) scope h =
+          both _ _ (letter_told letter (types whole t scope) (spot_types whole t scope) (used_types whole asked t scope) (types_told t scope h.0) (spot_types_told t scope h.0) (used_told asked t scope k h.0)) (operand_types_told asked k letters ts scope h.1)
 
       spot_types_all_told : (ts : Trees) (scope : AbsolutePath) → AreWithin files ts → AreTold (spot_types_all whole ts scope)
       spot_types_all_told no_trees scope h = tt

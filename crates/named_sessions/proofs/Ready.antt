@@ -17,11 +17,11 @@ use Rattle.asl_meaning.specs.Declarations.{Declared, As, AliasOf, ExternalType, 
 use Rattle.asl_meaning.specs.Meaning.{SpotForm, OfResult, OfInside, NoSpot, spot_form}
 use Rattle.acpi_state.specs.FieldActs.{region_letters, field_letters}
 use Rattle.asl_tree.specs.FieldItems.{FieldItem, UnitItem, SkipItem, OffsetItem}
-use Rattle.asl_tree.specs.Tree.{At, Tree, Integer, Constant, String, InSlot, Debug, Omitted, Raw, Use, Call, Apply, Buffer, Package, VarPackage, CondRefOf, Return, Name, Alias, External, Method, Mutex, Event, Container', Scope, Fill, Misshapen, Trees, no_trees, tree, count, OperationRegion, Field, IndexField, BankField, CreateField, UnitName, If, Else, While, Break, Continue, Item}
+use Rattle.asl_tree.specs.Tree.{At, Tree, Integer, Constant, String, InSlot, Debug, Omitted, Raw, Use, Call, Apply, Buffer, Package, VarPackage, CondRefOf, Return, Name, Alias, External, Method, Mutex, Event, Container', Scope, Fill, Misshapen, Operated, Assigned, AssignedBy, Trees, no_trees, tree, count, OperationRegion, Field, IndexField, BankField, CreateField, UnitName, If, ElseIf, Else, While, Break, Continue, Item}
 use Rattle.asl_meaning.proofs.Searches.{first_is_known, absolute_candidates}
 use Rattle.aml_code.specs.Fronts.{is_segment, AreSegments, IsName, IsUsedName}
 use Rattle.aml_sessions.specs.Ready.{is_expression, AtMostOne, Denotes, IsSought, Declares, IsElementName, CondReady, SpotReady, LetterReady, ElementReady, IsReady, IsSpot, IsAlone, AreOperands, AreSpots, AreValues, AreElements, AreReady, AreItems, AreUnits, IsFound}
-use Rattle.acpi_names.specs.Errors.{NameError, Twice, Missing, NoContainer, WrongCount, unless, Whole, step_errors, is_new, final, is_container, takes_none, takes, declared_errors, use_errors, call_errors, scope_errors, names, names_all, name_end, types, types_all, cond_errors, letter_types, spot_form_types, element_types, spot_types, first_types, operand_types, spot_types_all, element_types_all, unit_path, items_errors}
+use Rattle.acpi_names.specs.Errors.{NameError, Twice, Missing, NoContainer, WrongCount, Asked, Anything, AUnit, ARegion, asked_by, unless, Whole, step_errors, is_new, final, is_container, takes_none, takes, declared_errors, use_errors, call_errors, scope_errors, names, names_all, name_end, types, types_all, cond_errors, asked_types, used_types, letter_types, spot_form_types, element_types, spot_types, first_types, operand_types, spot_types_all, element_types_all, unit_path, items_errors}
 use Rattle.acpi_names.specs.Spelled.{spelled, spelled_all, element_spelled, spelled_elements}
 use Rattle.named_sessions.specs.Shaped.{LetterShaped, ElementShaped, IsShaped, IsShapedSpot, IsShapedAlone, AreShapedOperands, AreShapedSpots, AreShapedValues, AreShapedElements, AreShaped}
 
@@ -171,6 +171,7 @@ module _ (whole : Whole) where
     within (Mutex at name level) scope d e = within_new d (place_of name scope) (As (MutexObject level)) (new_of at name scope d e)
     within (Event at name) scope d e = within_new d (place_of name scope) (As EventObject) (new_of at name scope d e)
     within (If test body) scope d e = within_all body scope d (right_none (names whole test scope d) _ e)
+    within (ElseIf test body) scope d e = within_all body scope d (right_none (names whole test scope d) _ e)
     within (Else body) scope d e = within_all body scope d e
     within (While test body) scope d e = within_all body scope d (right_none (names whole test scope d) _ e)
     within (OperationRegion at name space args) scope d e = within_new d (place_of name scope) (As (RegionObject space 0 0)) (new_of at name scope d (left_none _ (names_all whole args scope d) e))
@@ -294,15 +295,15 @@ module _ (width : Width) (whole : Whole) (says : AbsolutePath → ExternalType �
       record { written = written; is = settled.kinds path x (neither (in_root path) (is_some (lookup d.declared path)) (new_of whole at name scope d e)).0 (w.by path x (there_now d path x)) }
 
   -- an operand by its letter
-  ready_letter : (letter : Letter) (t : Tree) (scope : AbsolutePath) (d : Declarations) (V' S' : Type 0) → LetterShaped letter t ((is_expression t ≡ true) × IsShaped width t) (IsShapedSpot width t) → AreSegments scope → names whole t scope d ≡ [] → letter_types whole letter (types whole t scope) (spot_types whole t scope) ≡ [] →
+  ready_letter : (letter : Letter) (asked : Asked) (t : Tree) (scope : AbsolutePath) (d : Declarations) (V' S' : Type 0) → LetterShaped letter t ((is_expression t ≡ true) × IsShaped width t) (IsShapedSpot width t) → AreSegments scope → names whole t scope d ≡ [] → letter_types whole letter (types whole t scope) (spot_types whole t scope) (used_types whole asked t scope) ≡ [] →
       ((is_expression t ≡ true) × IsShaped width t → types whole t scope ≡ [] → V') → (IsShapedSpot width t → spot_types whole t scope ≡ [] → S') → LetterReady width known letter (spelled has says t scope) V' S' scope
-  ready_letter Valued t scope d V' S' shaped valid e y hv hs = hv shaped y
-  ready_letter Kept t scope d V' S' shaped valid e y hv hs = hv shaped y
-  ready_letter Placed t scope d V' S' shaped valid e y hv hs = hs shaped y
-  ready_letter Used (Use at name) scope d V' S' shaped valid e y hv hs = let f = found at name scope shaped valid e in (f.path, f.spells)
-  ready_letter Used _ scope d V' S' shaped valid e y hv hs = absurd shaped
-  ready_letter (L.Raw size) (Raw other number) scope d V' S' shaped valid e y hv hs = shaped
-  ready_letter (L.Raw size) _ scope d V' S' shaped valid e y hv hs = absurd shaped
+  ready_letter Valued asked t scope d V' S' shaped valid e y hv hs = hv shaped y
+  ready_letter Kept asked t scope d V' S' shaped valid e y hv hs = hv shaped y
+  ready_letter Placed asked t scope d V' S' shaped valid e y hv hs = hs shaped y
+  ready_letter Used asked (Use at name) scope d V' S' shaped valid e y hv hs = let f = found at name scope shaped valid e in (f.path, f.spells)
+  ready_letter Used asked _ scope d V' S' shaped valid e y hv hs = absurd shaped
+  ready_letter (L.Raw size) asked (Raw other number) scope d V' S' shaped valid e y hv hs = shaped
+  ready_letter (L.Raw size) asked _ scope d V' S' shaped valid e y hv hs = absurd shaped
 
   -- an element of a Package
   ready_element : (t : Tree) (scope : AbsolutePath) (d : Declarations) → ElementShaped t (IsShaped width t) → AreSegments scope → names whole t scope d ≡ [] → element_types whole t (types whole t scope) ≡ [] →
@@ -344,7 +345,7 @@ module _ (width : Width) (whole : Whole) (says : AbsolutePath → ExternalType �
           ready_values args scope d shaped.1 valid (right_none (use_errors whole at name scope ++ call_errors whole at name (count args) scope) _ e) (right_none (unless (takes (count args) (name_end whole name scope)) (WrongCount at name)) _ y),
         )
     ready_value (Apply op args targets) scope d x shaped valid e y =
-        (shaped.0, ready_operands (row_of op).operands args scope d shaped.1 valid (left_none _ (names_all whole targets scope d) e) (left_none _ (spot_types_all whole targets scope) y), count_same has says targets scope ∙ shaped.2, ready_spots targets scope d shaped.3 valid (right_none (names_all whole args scope d) _ e) (right_none (operand_types whole (row_of op).operands args scope) _ y))
+        (shaped.0, ready_operands (asked_by op) (row_of op).operands args scope d shaped.1 valid (left_none _ (names_all whole targets scope d) e) (left_none _ (spot_types_all whole targets scope) y), count_same has says targets scope ∙ shaped.2, ready_spots targets scope d shaped.3 valid (right_none (names_all whole args scope d) _ e) (right_none (operand_types whole (asked_by op) (row_of op).operands args scope) _ y))
     ready_value (Buffer size bytes) scope d x shaped valid e y = (same_expression has says size scope ∙ shaped.0, ready_value size scope d shaped.0 shaped.1 valid e y)
     ready_value (Package n elements) scope d x shaped valid e y = (shaped.0, ready_elements elements scope d shaped.1 valid e y)
     ready_value (VarPackage size elements) scope d x shaped valid e y =
@@ -360,7 +361,7 @@ module _ (width : Width) (whole : Whole) (says : AbsolutePath → ExternalType �
     ready_spot (InSlot slot) scope d shaped valid e y = shaped
     ready_spot (Use at name) scope d shaped valid e y = let f = found at name scope shaped valid e in (f.path, f.spells)
     ready_spot (Apply op args targets) scope d shaped valid e y =
-        (shaped.0, by_spot_form whole (spot_form op) _ _ _ _ _ _ shaped.1 y (λ h y. (ready_operands (row_of op).operands args scope d h.0 valid (left_none _ (names_all whole targets scope d) e) (left_none _ (spot_types_all whole targets scope) y), count_same has says targets scope ∙ h.1, ready_spots targets scope d h.2 valid (right_none (names_all whole args scope d) _ e) (right_none (operand_types whole (row_of op).operands args scope) _ y))) (λ h y. ready_alone args targets scope d h valid (left_none _ (names_all whole targets scope d) e) y))
+        (shaped.0, by_spot_form whole (spot_form op) _ _ _ _ _ _ shaped.1 y (λ h y. (ready_operands (asked_by op) (row_of op).operands args scope d h.0 valid (left_none _ (names_all whole targets scope d) e) (left_none _ (spot_types_all whole targets scope) y), count_same has says targets scope ∙ h.1, ready_spots targets scope d h.2 valid (right_none (names_all whole args scope d) _ e) (right_none (operand_types whole (asked_by op) (row_of op).operands args scope) _ y))) (λ h y. ready_alone args targets scope d h valid (left_none _ (names_all whole targets scope d) e) y))
     ready_spot t scope d shaped valid e y = absurd shaped
 
     ready_cond : (t : Tree) (scope : AbsolutePath) (d : Declarations) → IsShapedSpot width t → AreSegments scope → cond_errors whole t (names whole t scope d) scope ≡ [] → spot_types whole t scope ≡ [] → CondReady known (spelled has says t scope) (IsSpot width known (spelled has says t scope) scope) scope
@@ -369,7 +370,7 @@ module _ (width : Width) (whole : Whole) (says : AbsolutePath → ExternalType �
     ready_cond Debug scope d shaped valid e y = tt
     ready_cond (InSlot slot) scope d shaped valid e y = shaped
     ready_cond (Apply op args targets) scope d shaped valid e y =
-        (shaped.0, by_spot_form whole (spot_form op) _ _ _ _ _ _ shaped.1 y (λ h y. (ready_operands (row_of op).operands args scope d h.0 valid (left_none _ (names_all whole targets scope d) e) (left_none _ (spot_types_all whole targets scope) y), count_same has says targets scope ∙ h.1, ready_spots targets scope d h.2 valid (right_none (names_all whole args scope d) _ e) (right_none (operand_types whole (row_of op).operands args scope) _ y))) (λ h y. ready_alone args targets scope d h valid (left_none _ (names_all whole targets scope d) e) y))
+        (shaped.0, by_spot_form whole (spot_form op) _ _ _ _ _ _ shaped.1 y (λ h y. (ready_operands (asked_by op) (row_of op).operands args scope d h.0 valid (left_none _ (names_all whole targets scope d) e) (left_none _ (spot_types_all whole targets scope) y), count_same has says targets scope ∙ h.1, ready_spots targets scope d h.2 valid (right_none (names_all whole args scope d) _ e) (right_none (operand_types whole (asked_by op) (row_of op).operands args scope) _ y))) (λ h y. ready_alone args targets scope d h valid (left_none _ (names_all whole targets scope d) e) y))
     ready_cond t scope d shaped valid e y = absurd shaped
 
     ready_alone : (args targets : Trees) (scope : AbsolutePath) (d : Declarations) → IsShapedAlone width args targets → AreSegments scope → names_all whole args scope d ≡ [] → first_types whole args scope ≡ [] → IsAlone width known (spelled_all has says args scope) (spelled_all has says targets scope) scope
@@ -379,14 +380,14 @@ module _ (width : Width) (whole : Whole) (says : AbsolutePath → ExternalType �
     ready_alone (tree t (tree u us)) targets scope d shaped valid e y = absurd shaped
     ready_alone no_trees targets scope d shaped valid e y = absurd shaped
 
-    ready_operands : (letters : List Letter) (ts : Trees) (scope : AbsolutePath) (d : Declarations) → AreShapedOperands width letters ts → AreSegments scope → names_all whole ts scope d ≡ [] → operand_types whole letters ts scope ≡ [] → AreOperands width known letters (spelled_all has says ts scope) scope
-    ready_operands [] no_trees scope d shaped valid e y = tt
-    ready_operands [] (tree t ts) scope d shaped valid e y = absurd shaped
-    ready_operands (letter ∷ letters) no_trees scope d shaped valid e y = absurd shaped
-    ready_operands (letter ∷ letters) (tree t ts) scope d shaped valid e y =
+    ready_operands : (asked : Asked) (letters : List Letter) (ts : Trees) (scope : AbsolutePath) (d : Declarations) → AreShapedOperands width letters ts → AreSegments scope → names_all whole ts scope d ≡ [] → operand_types whole asked letters ts scope ≡ [] → AreOperands width known letters (spelled_all has says ts scope) scope
+    ready_operands asked [] no_trees scope d shaped valid e y = tt
+    ready_operands asked [] (tree t ts) scope d shaped valid e y = absurd shaped
+    ready_operands asked (letter ∷ letters) no_trees scope d shaped valid e y = absurd shaped
+    ready_operands asked (letter ∷ letters) (tree t ts) scope d shaped valid e y =
         let e0 = left_none _ (names_all whole ts scope (declare t scope d)) e in (
-          ready_letter letter t scope d _ _ shaped.0 valid e0 (left_none _ (operand_types whole letters ts scope) y) (λ h y. (same_expression has says t scope ∙ h.0, ready_value t scope d h.0 h.1 valid e0 y)) (λ h y. ready_spot t scope d h valid e0 y),
-          ready_operands letters ts scope (declare t scope d) shaped.1 valid (right_none (names whole t scope d) _ e) (right_none (letter_types whole letter (types whole t scope) (spot_types whole t scope)) _ y),
+          ready_letter letter asked t scope d _ _ shaped.0 valid e0 (left_none _ (operand_types whole asked letters ts scope) y) (λ h y. (same_expression has says t scope ∙ h.0, ready_value t scope d h.0 h.1 valid e0 y)) (λ h y. ready_spot t scope d h valid e0 y),
+          ready_operands asked letters ts scope (declare t scope d) shaped.1 valid (right_none (names whole t scope d) _ e) (right_none (letter_types whole letter (types whole t scope) (spot_types whole t scope) (used_types whole asked t scope)) _ y),
         )
 
     ready_spots : (ts : Trees) (scope : AbsolutePath) (d : Declarations) → AreShapedSpots width ts → AreSegments scope → names_all whole ts scope d ≡ [] → spot_types_all whole ts scope ≡ [] → AreSpots width known (spelled_all has says ts scope) scope
@@ -479,7 +480,7 @@ module _ (width : Width) (whole : Whole) (says : AbsolutePath → ExternalType �
     ready Break scope d shaped valid e y w = tt
     ready Continue scope d shaped valid e y w = tt
     ready (OperationRegion at name space args) scope d shaped valid e y w =
-        (declared_known at name scope d (As (RegionObject space 0 0)) (left_none _ (names_all whole args scope d) e) w shaped.0, shaped.1, ready_operands region_letters args scope d shaped.2 valid (right_none (declared_errors whole at name scope d) _ e) y)
+        (declared_known at name scope d (As (RegionObject space 0 0)) (left_none _ (names_all whole args scope d) e) w shaped.0, shaped.1, ready_operands Anything region_letters args scope d shaped.2 valid (right_none (declared_errors whole at name scope d) _ e) y)
     ready (Field here from region flags items) scope d shaped valid e y w =
         (is_found from region scope shaped.0 valid (left_none _ (items_errors whole items scope d) e), shaped.1, shaped.2, ready_units items scope d 0 shaped.2 (right_none (use_errors whole from region scope) _ e) w)
     ready (IndexField here from index to register flags items) scope d shaped valid e y w =
@@ -488,11 +489,16 @@ module _ (width : Width) (whole : Whole) (says : AbsolutePath → ExternalType �
     ready (BankField here from region to bank value flags items) scope d shaped valid e y w =
         let e' = right_none (use_errors whole from region scope) _ e in
         let e'' = right_none (use_errors whole to bank scope) _ e' in
-        (is_found from region scope shaped.0 valid (left_none _ (use_errors whole to bank scope ++ (names whole value scope d ++ items_errors whole items scope d)) e), is_found to bank scope shaped.1 valid (left_none _ (names whole value scope d ++ items_errors whole items scope d) e'), same_expression has says value scope ∙ shaped.2, ready_value value scope d shaped.2 shaped.3 valid (left_none _ (items_errors whole items scope d) e'') y, shaped.4, shaped.5, ready_units items scope d 0 shaped.5 (right_none (names whole value scope d) _ e'') w)
+        let y' = right_none (asked_types whole AUnit to bank scope) (types whole value scope) (right_none (asked_types whole (ARegion here) from region scope) _ y) in
+        (is_found from region scope shaped.0 valid (left_none _ (use_errors whole to bank scope ++ (names whole value scope d ++ items_errors whole items scope d)) e), is_found to bank scope shaped.1 valid (left_none _ (names whole value scope d ++ items_errors whole items scope d) e'), same_expression has says value scope ∙ shaped.2, ready_value value scope d shaped.2 shaped.3 valid (left_none _ (items_errors whole items scope d) e'') y', shaped.4, shaped.5, ready_units items scope d 0 shaped.5 (right_none (names whole value scope d) _ e'') w)
     ready (CreateField form args at name) scope d shaped valid e y w =
-        (ready_operands (field_letters form) args scope d shaped.0 valid (left_none _ (declared_errors whole at name scope d) e) y, declared_known at name scope d as_buffer_field (right_none (names_all whole args scope d) _ e) w shaped.1)
+        (ready_operands Anything (field_letters form) args scope d shaped.0 valid (left_none _ (declared_errors whole at name scope d) e) y, declared_known at name scope d as_buffer_field (right_none (names_all whole args scope d) _ e) w shaped.1)
     ready (Item item) scope d shaped valid e y w = absurd shaped
     ready (Fill bytes) scope d shaped valid e y w = absurd shaped
+    ready (Operated op args) scope d shaped valid e y w = absurd shaped
+    ready (Assigned target value) scope d shaped valid e y w = absurd shaped
+    ready (AssignedBy op target value) scope d shaped valid e y w = absurd shaped
+    ready (ElseIf test body) scope d shaped valid e y w = absurd shaped
     ready Misshapen scope d shaped valid e y w = absurd shaped
 
     pub ready_all : (ts : Trees) (scope : AbsolutePath) (d : Declarations) → AreShaped width ts → AreSegments scope → names_all whole ts scope d ≡ [] → types_all whole ts scope ≡ [] → Within (declare_all ts scope d) whole.all → AreReady width known (spelled_all has says ts scope) scope

@@ -32,7 +32,7 @@ use Rattle.asl_tree.specs.declared.path.Path.{Path}
 use Rattle.asl_tree.specs.Literals.{literal_number}
 use Rattle.asl_tree.specs.Names.{Known, is_known, place_of, denoted, spelled_name, is_searched, absolute, element_path, spelled_element}
 use Rattle.asl_meaning.specs.Declarations.{ExternalType}
-use Rattle.asl_tree.specs.Tree.{Tree, Integer, Constant, String, InSlot, Debug, Omitted, Raw, Use, Call, Apply, Buffer, Package, VarPackage, CondRefOf, Return, Name, Alias, External, Method, Mutex, Event, Container', Scope, Fill, Misshapen, Trees, no_trees, tree, OperationRegion, Field, IndexField, BankField, CreateField, UnitName, If, Else, While, Break, Continue, Item}
+use Rattle.asl_tree.specs.Tree.{Tree, Integer, Constant, String, InSlot, Debug, Omitted, Raw, Use, Call, Apply, Buffer, Package, VarPackage, CondRefOf, Return, Name, Alias, External, Method, Mutex, Event, Container', Scope, Fill, Misshapen, Operated, Assigned, AssignedBy, Trees, no_trees, tree, OperationRegion, Field, IndexField, BankField, CreateField, UnitName, If, ElseIf, Else, While, Break, Continue, Item}
 use Rattle.asl_meaning.specs.Meaning as S
 use Rattle.asl_meaning.specs.Meaning.{SourceRun, SpotForm, OfResult, OfInside, NoSpot, spot_form}
 use Rattle.asl_meaning.specs.SourceSession.{source_session}
@@ -275,6 +275,10 @@ module _ (width : Width) (says : AbsolutePath → ExternalType → ExternalType)
         agree_then G Any (λ f. f) _ (alike_operands (field_letters form) args scope h.0) (λ os any. agree_buffer_field G width form (place_of name scope) os (λ field. tt))
     alike (Item item) scope due h = absurd h
     alike (Fill bytes) scope due h = absurd h
+    alike (Operated op args) scope due h = absurd h
+    alike (Assigned target value) scope due h = absurd h
+    alike (AssignedBy op target value) scope due h = absurd h
+    alike (ElseIf test body) scope due h = absurd h
     alike Misshapen scope due h = absurd h
 
     alike_spot : (t : Tree) (scope : AbsolutePath) → IsShapedSpot width t → Alike width says known Any (λ p. p) (P t scope) (P' t scope)

@@ -1,8 +1,8 @@
 -- Where the nodes of trees and the errors of names stand.
 use Rattle.std.specs.Prelude.{ℕ, ◌<◌, List, [], ◌∷◌}
 use Rattle.asl_tree.specs.FieldItems.{FieldItem, UnitItem, SkipItem, OffsetItem}
-use Rattle.asl_tree.specs.Tree.{At, Tree, Use, Call, Apply, Buffer, Package, VarPackage, CondRefOf, Return, Name, Alias, External, Method, Mutex, Event, Container', Scope, Trees, no_trees, tree, OperationRegion, Field, IndexField, BankField, CreateField, UnitName, If, Else, While, Item}
-use Rattle.acpi_names.specs.Errors.{NameError, Twice, DeclaredHere, Missing, NoContainer, LeavesRoot, Differs, TooLong, WrongCount}
+use Rattle.asl_tree.specs.Tree.{At, Tree, Use, Call, Apply, Buffer, Package, VarPackage, CondRefOf, Return, Name, Alias, External, Method, Mutex, Event, Container', Scope, Trees, no_trees, tree, OperationRegion, Field, IndexField, BankField, CreateField, UnitName, If, Else, While, Item, ElseIf, Operated, Assigned, AssignedBy}
+use Rattle.acpi_names.specs.Errors.{NameError, Twice, DeclaredHere, Missing, NoContainer, LeavesRoot, Differs, TooLong, WrongCount, WrongKind, UnbuiltSpace}
 
 -- a node in one of so many files
 abbrev pub IsIn : ℕ → At → Type 0
@@ -23,6 +23,9 @@ abbrev mutual
   IsWithin files (Use at name) = IsIn files at
   IsWithin files (Call at name args) = IsIn files at × AreWithin files args
   IsWithin files (Apply op args targets) = AreWithin files args × AreWithin files targets
+  IsWithin files (Operated op args) = AreWithin files args
+  IsWithin files (Assigned target value) = IsWithin files target × IsWithin files value
+  IsWithin files (AssignedBy op target value) = IsWithin files target × IsWithin files value
   IsWithin files (Buffer size bytes) = IsWithin files size
   IsWithin files (Package n elements) = AreWithin files elements
   IsWithin files (VarPackage size elements) = IsWithin files size × AreWithin files elements
@@ -37,6 +40,7 @@ abbrev mutual
   IsWithin files (Container' kind at name body) = IsIn files at × AreWithin files body
   IsWithin files (Scope here at name body) = IsIn files here × IsIn files at × AreWithin files body
   IsWithin files (If test body) = IsWithin files test × AreWithin files body
+  IsWithin files (ElseIf test body) = IsWithin files test × AreWithin files body
   IsWithin files (Else body) = AreWithin files body
   IsWithin files (While test body) = IsWithin files test × AreWithin files body
   IsWithin files (OperationRegion at name space args) = IsIn files at × AreWithin files args
@@ -61,3 +65,5 @@ at_of (LeavesRoot at name) = at
 at_of (Differs at name) = at
 at_of (TooLong at name) = at
 at_of (WrongCount at name) = at
+at_of (WrongKind at name) = at
+at_of (UnbuiltSpace at) = at

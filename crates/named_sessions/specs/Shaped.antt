@@ -6,8 +6,9 @@ use Rattle.acpi_values.specs.Operators.{Letter, Valued, Kept, Placed, Used, Row,
 use Rattle.acpi_values.specs.Operators as L
 use Rattle.acpi_state.specs.FieldActs.{region_letters, field_letters}
 use Rattle.asl_meaning.specs.Meaning.{spot_form}
-use Rattle.asl_tree.specs.Tree.{Tree, Integer, Constant, String, InSlot, Debug, Omitted, Raw, Use, Call, Apply, Buffer, Package, VarPackage, CondRefOf, Return, Name, Alias, External, Method, Mutex, Event, Container', Scope, Fill, Misshapen, Trees, no_trees, tree, count, OperationRegion, Field, IndexField, BankField, CreateField, If, Else, While, Break, Continue, Item}
-use Rattle.aml_code.specs.Fronts.{IsName, IsUsedName}
+use Rattle.asl_tree.specs.Tree.{Tree, Integer, Constant, String, InSlot, Debug, Omitted, Raw, Use, Call, Apply, Buffer, Package, VarPackage, CondRefOf, Return, Name, Alias, External, Method, Mutex, Event, Container', Scope, Fill, Misshapen, Operated, Assigned, AssignedBy, Trees, no_trees, tree, count, OperationRegion, Field, IndexField, BankField, CreateField, UnitName, If, ElseIf, Else, While, Break, Continue, Item}
+use Rattle.asl_tree.specs.FieldItems.{FieldItem, UnitItem, SkipItem, OffsetItem}
+use Rattle.aml_code.specs.Fronts.{IsName, IsUsedName, is_segment}
 use Rattle.aml_meaning.specs.Codes.{HasOwnCode, IsSlot}
 use Rattle.aml_sessions.specs.Ready.{IsText, is_expression, is_constant, FitsContainer, RawReady, SpotReady, AreItems}
 
@@ -26,80 +27,117 @@ abbrev pub ElementShaped : Tree → Type 0 → Type 0
 ElementShaped (Use at name) shaped = IsUsedName name
 ElementShaped t shaped = (is_constant t ≡ true) × shaped
 
-module _ (width : Width) where
+-- each unit of a field's list has a segment as its name
+abbrev pub AreNamed : List (FieldItem UnitName) → Type 0
+AreNamed [] = Unit {0}
+AreNamed (UnitItem name bits ∷ items) = (is_segment name.segment ≡ true) × AreNamed items
+AreNamed (SkipItem bits ∷ items) = AreNamed items
+AreNamed (OffsetItem bytes ∷ items) = AreNamed items
+
+-- a tree whose lists of fields are `Listed`
+module _ (width : Width) (Listed : List (FieldItem UnitName) → Type 0) where
   abbrev mutual
-    pub IsShaped : Tree → Type 0
-    IsShaped (Integer number) = number ≤ ones_of width
-    IsShaped (Constant literal) = Unit {0}
-    IsShaped (String text) = IsText text
-    IsShaped (InSlot slot) = IsSlot slot
-    IsShaped Debug = Unit {0}
-    IsShaped Omitted = ⊥
-    IsShaped (Raw size number) = ⊥
-    IsShaped (Use at name) = IsUsedName name
-    IsShaped (Call at name args) = IsUsedName name × AreShapedValues args
-    IsShaped (Apply op args targets) =
-        HasOwnCode op × AreShapedOperands (row_of op).operands args × (count targets ≡ (row_of op).targets) × AreShapedSpots targets
-    IsShaped (Buffer size bytes) = (is_expression size ≡ true) × IsShaped size
-    IsShaped (Package n elements) = (n < 256) × AreShapedElements elements
-    IsShaped (VarPackage size elements) = (is_expression size ≡ true) × IsShaped size × AreShapedElements elements
-    IsShaped (CondRefOf place target) = IsShapedSpot place × IsShapedSpot target
-    IsShaped (Return value) = (is_expression value ≡ true) × IsShaped value
-    IsShaped (Name at name value) = IsName name × (is_expression value ≡ true) × IsShaped value
-    IsShaped (Alias from source at name) = IsUsedName source × IsName name
-    IsShaped (External here at name type parameters) = IsName name
-    IsShaped (Method at name flags body) = IsName name × (flags < 256) × AreShaped body
-    IsShaped (Mutex at name level) = IsName name × (level < 256)
-    IsShaped (Event at name) = IsName name
-    IsShaped (Container' kind at name body) = IsName name × FitsContainer kind × AreShaped body
-    IsShaped (Scope here at name body) = IsUsedName name × AreShaped body
-    IsShaped (If test body) = (is_expression test ≡ true) × IsShaped test × AreShaped body
-    IsShaped (Else body) = AreShaped body
-    IsShaped (While test body) = (is_expression test ≡ true) × IsShaped test × AreShaped body
-    IsShaped Break = Unit {0}
-    IsShaped Continue = Unit {0}
-    IsShaped (OperationRegion at name space args) = IsName name × (space < 256) × AreShapedOperands region_letters args
-    IsShaped (Field here from region flags items) = IsUsedName region × (flags < 256) × AreItems 0 items
-    IsShaped (IndexField here from index to register flags items) = IsUsedName index × IsUsedName register × (flags < 256) × AreItems 0 items
-    IsShaped (BankField here from region to bank value flags items) =
-        IsUsedName region × IsUsedName bank × (is_expression value ≡ true) × IsShaped value × (flags < 256) × AreItems 0 items
-    IsShaped (CreateField form args at name) = AreShapedOperands (field_letters form) args × IsName name
-    IsShaped (Item item) = ⊥
-    IsShaped (Fill bytes) = ⊥
-    IsShaped Misshapen = ⊥
+    pub IsFormed : Tree → Type 0
+    IsFormed (Integer number) = number ≤ ones_of width
+    IsFormed (Constant literal) = Unit {0}
+    IsFormed (String text) = IsText text
+    IsFormed (InSlot slot) = IsSlot slot
+    IsFormed Debug = Unit {0}
+    IsFormed Omitted = ⊥
+    IsFormed (Raw size number) = ⊥
+    IsFormed (Use at name) = IsUsedName name
+    IsFormed (Call at name args) = IsUsedName name × AreFormedValues args
+    IsFormed (Apply op args targets) =
+        HasOwnCode op × AreFormedOperands (row_of op).operands args × (count targets ≡ (row_of op).targets) × AreFormedSpots targets
+    IsFormed (Buffer size bytes) = (is_expression size ≡ true) × IsFormed size
+    IsFormed (Package n elements) = (n < 256) × AreFormedElements elements
+    IsFormed (VarPackage size elements) = (is_expression size ≡ true) × IsFormed size × AreFormedElements elements
+    IsFormed (CondRefOf place target) = IsFormedSpot place × IsFormedSpot target
+    IsFormed (Return value) = (is_expression value ≡ true) × IsFormed value
+    IsFormed (Name at name value) = IsName name × (is_expression value ≡ true) × IsFormed value
+    IsFormed (Alias from source at name) = IsUsedName source × IsName name
+    IsFormed (External here at name type parameters) = IsName name
+    IsFormed (Method at name flags body) = IsName name × (flags < 256) × AreFormed body
+    IsFormed (Mutex at name level) = IsName name × (level < 256)
+    IsFormed (Event at name) = IsName name
+    IsFormed (Container' kind at name body) = IsName name × FitsContainer kind × AreFormed body
+    IsFormed (Scope here at name body) = IsUsedName name × AreFormed body
+    IsFormed (If test body) = (is_expression test ≡ true) × IsFormed test × AreFormed body
+    IsFormed (Else body) = AreFormed body
+    IsFormed (While test body) = (is_expression test ≡ true) × IsFormed test × AreFormed body
+    IsFormed Break = Unit {0}
+    IsFormed Continue = Unit {0}
+    IsFormed (OperationRegion at name space args) = IsName name × (space < 256) × AreFormedOperands region_letters args
+    IsFormed (Field here from region flags items) = IsUsedName region × (flags < 256) × Listed items
+    IsFormed (IndexField here from index to register flags items) = IsUsedName index × IsUsedName register × (flags < 256) × Listed items
+    IsFormed (BankField here from region to bank value flags items) =
+        IsUsedName region × IsUsedName bank × (is_expression value ≡ true) × IsFormed value × (flags < 256) × Listed items
+    IsFormed (CreateField form args at name) = AreFormedOperands (field_letters form) args × IsName name
+    IsFormed (Item item) = ⊥
+    IsFormed (Fill bytes) = ⊥
+    IsFormed (Operated op args) = ⊥
+    IsFormed (Assigned target value) = ⊥
+    IsFormed (AssignedBy op target value) = ⊥
+    IsFormed (ElseIf test body) = ⊥
+    IsFormed Misshapen = ⊥
 
     -- a term that stands for a place, or a target that is left out
-    pub IsShapedSpot : Tree → Type 0
-    IsShapedSpot Omitted = Unit {0}
-    IsShapedSpot Debug = Unit {0}
-    IsShapedSpot (InSlot slot) = IsSlot slot
-    IsShapedSpot (Use at name) = IsUsedName name
-    IsShapedSpot (Apply op args targets) =
-        HasOwnCode op × SpotReady (spot_form op) (AreShapedOperands (row_of op).operands args × (count targets ≡ (row_of op).targets) × AreShapedSpots targets) (IsShapedAlone args targets)
-    IsShapedSpot _ = ⊥
+    pub IsFormedSpot : Tree → Type 0
+    IsFormedSpot Omitted = Unit {0}
+    IsFormedSpot Debug = Unit {0}
+    IsFormedSpot (InSlot slot) = IsSlot slot
+    IsFormedSpot (Use at name) = IsUsedName name
+    IsFormedSpot (Apply op args targets) =
+        HasOwnCode op × SpotReady (spot_form op) (AreFormedOperands (row_of op).operands args × (count targets ≡ (row_of op).targets) × AreFormedSpots targets) (IsFormedAlone args targets)
+    IsFormedSpot _ = ⊥
 
-    pub IsShapedAlone : Trees → Trees → Type 0
-    IsShapedAlone (tree t no_trees) no_trees = (is_expression t ≡ true) × IsShaped t
-    IsShapedAlone _ _ = ⊥
+    pub IsFormedAlone : Trees → Trees → Type 0
+    IsFormedAlone (tree t no_trees) no_trees = (is_expression t ≡ true) × IsFormed t
+    IsFormedAlone _ _ = ⊥
 
-    pub AreShapedOperands : List Letter → Trees → Type 0
-    AreShapedOperands [] no_trees = Unit {0}
-    AreShapedOperands (letter ∷ letters) (tree t ts) =
-        LetterShaped letter t ((is_expression t ≡ true) × IsShaped t) (IsShapedSpot t) × AreShapedOperands letters ts
-    AreShapedOperands _ _ = ⊥
+    pub AreFormedOperands : List Letter → Trees → Type 0
+    AreFormedOperands [] no_trees = Unit {0}
+    AreFormedOperands (letter ∷ letters) (tree t ts) =
+        LetterShaped letter t ((is_expression t ≡ true) × IsFormed t) (IsFormedSpot t) × AreFormedOperands letters ts
+    AreFormedOperands _ _ = ⊥
 
-    pub AreShapedSpots : Trees → Type 0
-    AreShapedSpots no_trees = Unit {0}
-    AreShapedSpots (tree t ts) = IsShapedSpot t × AreShapedSpots ts
+    pub AreFormedSpots : Trees → Type 0
+    AreFormedSpots no_trees = Unit {0}
+    AreFormedSpots (tree t ts) = IsFormedSpot t × AreFormedSpots ts
 
-    pub AreShapedValues : Trees → Type 0
-    AreShapedValues no_trees = Unit {0}
-    AreShapedValues (tree t ts) = (is_expression t ≡ true) × IsShaped t × AreShapedValues ts
+    pub AreFormedValues : Trees → Type 0
+    AreFormedValues no_trees = Unit {0}
+    AreFormedValues (tree t ts) = (is_expression t ≡ true) × IsFormed t × AreFormedValues ts
 
-    pub AreShapedElements : Trees → Type 0
-    AreShapedElements no_trees = Unit {0}
-    AreShapedElements (tree t ts) = ElementShaped t (IsShaped t) × AreShapedElements ts
+    pub AreFormedElements : Trees → Type 0
+    AreFormedElements no_trees = Unit {0}
+    AreFormedElements (tree t ts) = ElementShaped t (IsFormed t) × AreFormedElements ts
 
-    pub AreShaped : Trees → Type 0
-    AreShaped no_trees = Unit {0}
-    AreShaped (tree term terms) = IsShaped term × AreShaped terms
+    pub AreFormed : Trees → Type 0
+    AreFormed no_trees = Unit {0}
+    AreFormed (tree term terms) = IsFormed term × AreFormed terms
+
+-- a tree in whose lists no Offset goes back and each count of bits can be written
+abbrev pub IsShaped : Width → Tree → Type 0
+IsShaped width = IsFormed width (AreItems 0)
+
+abbrev pub IsShapedSpot : Width → Tree → Type 0
+IsShapedSpot width = IsFormedSpot width (AreItems 0)
+
+abbrev pub IsShapedAlone : Width → Trees → Trees → Type 0
+IsShapedAlone width = IsFormedAlone width (AreItems 0)
+
+abbrev pub AreShapedOperands : Width → List Letter → Trees → Type 0
+AreShapedOperands width = AreFormedOperands width (AreItems 0)
+
+abbrev pub AreShapedSpots : Width → Trees → Type 0
+AreShapedSpots width = AreFormedSpots width (AreItems 0)
+
+abbrev pub AreShapedValues : Width → Trees → Type 0
+AreShapedValues width = AreFormedValues width (AreItems 0)
+
+abbrev pub AreShapedElements : Width → Trees → Type 0
+AreShapedElements width = AreFormedElements width (AreItems 0)
+
+abbrev pub AreShaped : Width → Trees → Type 0
+AreShaped width = AreFormed width (AreItems 0)

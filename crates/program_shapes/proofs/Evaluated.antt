@@ -10,10 +10,10 @@ use Rattle.asl_tree.specs.declared.term.Special.TheVariants as Special
 use Rattle.asl_tree.specs.Tree.{At, Tree, Integer, Omitted, Use, Package, VarPackage, Trees, no_trees, tree, count}
 use Rattle.asl_tree.specs.View.{form, counted}
 use Rattle.aml_sessions.specs.Ready.{is_expression, is_constant}
-use Rattle.asl_shape.specs.declared.operator.Slot.{Slot}
-use Rattle.asl_shape.specs.declared.operator.Slot.TheVariants as slot
+use Rattle.asl_words.specs.declared.operator.Slot.{Slot}
+use Rattle.asl_words.specs.declared.operator.Slot.TheVariants as slot
 use Rattle.asl_shape.specs.Plans.{Plan, an_integer, a_text, omitted, a_name, a_form, Plans, is_omitted, constant_of}
-use Rattle.asl_shape.specs.Shapes.{Shaped, fine, refused, nowhere, valued, is_member, evaluated, after, checked}
+use Rattle.asl_shape.specs.Shapes.{Shaped, fine, refused, nowhere, valued, is_member, is_element, evaluated, after, checked}
 use Rattle.program_shapes.proofs.Fits.{Fits, IsAtMost}
 use Rattle.asl_numbers.specs.Numbers.{numbered, numbered_all}
 use Rattle.program_shapes.proofs.Plans.{PlanAs, integer_as, text_as, name_as, form_as}
@@ -110,9 +110,17 @@ element_fit place p h e = by (is_member p) refl e
     by true m e = member_fit p m h
     by false m e = valued_fit (Fits slot.Element) 0 18446744073709551615 place (constant_of p) (λ n le. (refl, le)) e
 
+begun_fit : (place : Place) (p : Plan) → PlanAs (Fits slot.FieldElement) p → (evaluated slot.FieldElement place p).faults ≡ [] → PlanAs (Fits slot.FieldElement) (evaluated slot.FieldElement place p).made
+begun_fit place p h e = by (is_element p) e
+  where
+    by : (b : Bool) → (if b then fine p else refused 6022 place).faults ≡ [] → PlanAs (Fits slot.FieldElement) (if b then fine p else refused 6022 place).made
+    by true e = h
+    by false e = absurd cc
+
 pub evaluated_fit : (s : Slot) (place : Place) (p : Plan) → PlanAs (Fits (loose s)) p → (evaluated s place p).faults ≡ [] → PlanAs (Fits s) (evaluated s place p).made
 evaluated_fit (slot.Constant least most) place p h e = constant_fit least most place p h e
 evaluated_fit slot.Element place p h e = element_fit place p h e
+evaluated_fit slot.FieldElement place p h e = begun_fit place p h e
 evaluated_fit _ place p h e = h
 
 pub checked_fit : (s : Slot) (place : Place) (shape : Shaped Plan) → (shape.faults ≡ [] → PlanAs (Fits (loose s)) shape.made) → (checked s place shape).faults ≡ [] → PlanAs (Fits s) (checked s place shape).made

@@ -6,18 +6,20 @@ use Rattle.std.proofs.lemmas.Bool.{leb-true}
 use Rattle.std.proofs.lemmas.Slice.Eq.{bytes_eq-Decides}
 use Rattle.iasl_messages.specs.declared.place.Place.{Place}
 use Rattle.asl_tree.specs.declared.term.Op.{Op}
-use Rattle.asl_shape.specs.declared.operator.Parameter.{Parameter}
-use Rattle.asl_shape.specs.declared.operator.Slot.{Slot}
-use Rattle.asl_shape.specs.declared.operator.Slot.TheVariants as slot
-use Rattle.asl_shape.specs.declared.operator.StringForm.{StringForm}
-use Rattle.asl_shape.specs.declared.operator.Known.TheVariants as known
-use Rattle.asl_shape.specs.declared.item.Meaning.{Meaning}
-use Rattle.asl_shape.specs.declared.item.Meaning.TheVariants as is
-use Rattle.asl_shape.specs.Written as piece
-use Rattle.asl_shape.specs.Written.{Written, Writtens, Group, item, apply, listed, comma, semicolon, empty, none, more, absent, given}
-use Rattle.asl_shape.specs.Operators.{parameters_of, body_of, block_parameters}
+use Rattle.asl_words.specs.declared.operator.Parameter.{Parameter}
+use Rattle.asl_words.specs.declared.operator.Slot.{Slot}
+use Rattle.asl_words.specs.declared.operator.Slot.TheVariants as slot
+use Rattle.asl_words.specs.declared.operator.StringForm.{StringForm}
+use Rattle.asl_words.specs.declared.operator.Known.TheVariants as known
+use Rattle.asl_words.specs.declared.meaning.Meaning.{Meaning}
+use Rattle.asl_words.specs.declared.meaning.Meaning.TheVariants as is
+use Rattle.asl_parser.specs.Written as piece
+use Rattle.asl_parser.specs.Written.{Written, Writtens, Group, item, apply, listed, comma, semicolon, empty, none, more, absent, given}
+use Rattle.asl_words.specs.Operators.{parameters_of, body_of, block_parameters, offset_parameters}
 use Rattle.asl_shape.specs.Plans.{Plan, a_text, omitted, Plans, no_plans, plan, text_of, plan_at}
-use Rattle.asl_shape.specs.Shapes.{Shaped, fine, nowhere, meaning_of, is_given, is_empty, is_separator, inside_of, has_arguments, takes, may_end, left_out, checked, place_of, bare, call_args, arguments, arguments_in, contents, within, form_shape, reading_of, read_shape, has_form, is_all_text, is_signature, is_oem_signature, after}
+use Rattle.asl_shape.specs.Shapes.{Shaped, fine, nowhere, is_given, is_empty, is_separator, inside_of, has_arguments, takes, left_out, checked, place_of, bare, call_args, arguments, arguments_in, contents, within, form_shape, read_shape, after, offset_shape, meaning_in}
+use Rattle.asl_words.specs.Meanings.{meaning_of, may_end, reading_of, slot_as}
+use Rattle.asl_words.specs.Texts.{has_form, is_all_text, is_signature, is_oem_signature}
 use Rattle.program_shapes.proofs.Words.{both_true}
 use Rattle.program_shapes.proofs.Parts.{none_in, good_of, item_fit}
 use Rattle.program_shapes.specs.Kept.{AreArguments, EachArgument}
@@ -38,18 +40,20 @@ HaveForms (q ∷ qs) (plan place p ps) = HasForm q.omittable q.slot p × HaveFor
 HaveForms _ _ = ⊥
 
 -- nothing but a string is read where a string is asked for
-no_string : (f : StringForm) (at : Place) (word : List ℕ) (m : Meaning) (called : Bool) (calls : Shaped Plans) (form : Op → Shaped Plan) → (read_shape (slot.String f) at word (reading_of (slot.String f) m called) calls form).faults ≡ [] → ⊥
-no_string f at word (is.Operator op) called calls form e = absurd cc
-no_string f at word (is.Known (known.Word kind n)) called calls form e = absurd cc
-no_string f at word (is.Known known.Debug) called calls form e = absurd cc
-no_string f at word (is.Known known.LeftOut) called calls form e = absurd cc
-no_string f at word (is.Known (known.Local i)) called calls form e = absurd cc
-no_string f at word (is.Known (known.Arg i)) called calls form e = absurd cc
-no_string f at word is.Name true calls form e = absurd cc
-no_string f at word is.Name false calls form e = absurd cc
-no_string f at word is.Path true calls form e = absurd cc
-no_string f at word is.Path false calls form e = absurd cc
-no_string f at word is.Unknown called calls form e = absurd cc
+no_string : (f : StringForm) (at : Place) (word : List ℕ) (m : Meaning) (called : Bool) (calls : Shaped Plans) (offset : Shaped Plan) (form : Op → Shaped Plan) → (read_shape (slot.String f) at word (reading_of (slot.String f) m called) calls offset form).faults ≡ [] → ⊥
+no_string f at word (is.Operator op) called calls offset form e = absurd cc
+no_string f at word (is.Known (known.Word kind n)) called calls offset form e = absurd cc
+no_string f at word (is.Known known.Debug) called calls offset form e = absurd cc
+no_string f at word (is.Known known.Offset) called calls offset form e = absurd cc
+no_string f at word (is.Known known.LeftOut) called calls offset form e = absurd cc
+no_string f at word (is.Known (known.Local i)) called calls offset form e = absurd cc
+no_string f at word (is.Known (known.Arg i)) called calls offset form e = absurd cc
+no_string f at word is.Name true calls offset form e = absurd cc
+no_string f at word is.Name false calls offset form e = absurd cc
+no_string f at word is.Path true calls offset form e = absurd cc
+no_string f at word is.Path false calls offset form e = absurd cc
+no_string f at word is.Offset called calls offset form e = absurd cc
+no_string f at word is.Unknown called calls offset form e = absurd cc
 
 string_form : (f : StringForm) (inside : Bool) (w : Written) → is_separator w ≡ false → is_empty w ≡ false → (bare (slot.String f) inside w).faults ≡ [] → IsTextOf f (text_of (bare (slot.String f) inside w).made)
 string_form f inside (piece.text at bytes) sep emp e =
@@ -58,8 +62,9 @@ string_form f inside (piece.text at bytes) sep emp e =
 string_form f inside (item at w args body) sep emp e =
     let m : Meaning = meaning_of w (is_given body) in
     let form : Op → Shaped Plan = λ o. form_shape o at (arguments (parameters_of o) at inside args) (contents (body_of o) (within o inside) at body) in
-    item_fit (λ p. IsTextOf f (text_of p)) (slot.String f) inside m (has_arguments m (inside_of args)) (is_given body) at (read_shape (slot.String f) at w (reading_of (slot.String f) m (is_given args)) (call_args inside args) form)
-    (λ has g. absurd (no_string f at w m (is_given args) (call_args inside args) form g)) e
+    let offset : Shaped Plan = offset_shape (arguments offset_parameters at inside args) in
+    item_fit (λ p. IsTextOf f (text_of p)) (slot.String f) inside m (has_arguments m (inside_of args)) (is_given body) at (read_shape (slot.String f) at w (reading_of (slot.String f) m (is_given args)) (call_args inside args) offset form)
+    (λ has g. absurd (no_string f at w m (is_given args) (call_args inside args) offset form g)) e
 string_form f inside (piece.number at n) sep emp e = absurd cc
 string_form f inside (listed at ws) sep emp e = absurd cc
 string_form f inside (apply at o ws) sep emp e = absurd cc
@@ -84,6 +89,12 @@ argument_form false (slot.String f) inside w sep t e = checked_form f (place_of 
 argument_form false _ inside w sep t e = tt
 argument_form true s inside w sep t e = tt
 
+-- an argument has its form, however it is read
+form_asked : (b : Bool) (s : Slot) (m : Meaning) (p : Plan) → HasForm b (slot_as s m) p → HasForm b s p
+form_asked true slot.Space m p h = tt
+form_asked false slot.Space m p h = tt
+form_asked b _ m p h = h
+
 left_form : (b : Bool) (s : Slot) → b ≡ true → HasForm b s omitted
 left_form true s e = tt
 left_form false s e = absurd cc
@@ -97,9 +108,11 @@ each_form [] at inside none k t e = tt
 each_form (q ∷ qs) at inside none k t e = left_forms (q ∷ qs) at t
 each_form [] at inside (more w ws) k t e = absurd cc
 each_form (q ∷ qs) at inside (more w ws) k t e =
-    let f = none_in (checked q.slot (place_of nowhere w) (bare q.slot inside w)).faults (arguments_in qs at inside ws).faults e in
+    let s : Slot = slot_as q.slot (meaning_in w) in
+    let first : Shaped Plan = checked s (place_of nowhere w) (bare s inside w) in
+    let f = none_in first.faults (arguments_in qs at inside ws).faults e in
     let g = both_true (q.omittable || not (is_empty w)) (takes qs ws) t in
-    (argument_form q.omittable q.slot inside w k.1 g.0 f.0, each_form qs at inside ws k.2 g.1 f.1)
+    (form_asked q.omittable q.slot (meaning_in w) first.made (argument_form q.omittable s inside w k.1 g.0 f.0), each_form qs at inside ws k.2 g.1 f.1)
 
 pub arguments_form : (qs : List Parameter) (at : Place) (inside : Bool) (args : Group) → AreArguments args → takes qs (inside_of args) ≡ true → (arguments qs at inside args).faults ≡ [] → HaveForms qs (arguments qs at inside args).made
 arguments_form [] at inside absent k t e = tt

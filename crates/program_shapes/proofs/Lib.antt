@@ -17,4 +17,7 @@ pub mod StatementPlaces
 pub mod Blocks
 pub mod Headers
 pub mod OwnNames
+pub mod Lists
+pub mod Laid
 pub mod Tables
+pub mod ListPlaces

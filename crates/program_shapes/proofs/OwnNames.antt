@@ -5,10 +5,10 @@ use Rattle.std.specs.Str.{IsAscii}
 use Rattle.std.proofs.lemmas.Bool.{leb-true}
 use Rattle.std.proofs.lemmas.Str.Ascii.{IsAscii-nil, IsAscii-cons}
 use Rattle.asl_parser.specs.declared.raw.Raw.{Raw}
-use Rattle.asl_shape.specs.Written.{writtens}
-use Rattle.asl_shape.specs.Operators.{block_parameters}
+use Rattle.asl_parser.specs.Written.{writtens}
+use Rattle.asl_words.specs.Operators.{block_parameters}
 use Rattle.asl_shape.specs.Plans.{Plans, no_plans, plan, text_of, plan_at}
-use Rattle.asl_shape.specs.Shapes.{is_all_text, is_text_byte}
+use Rattle.asl_words.specs.Texts.{is_all_text, is_text_byte}
 use Rattle.asl_shape.specs.Forms.{errors_at, args_of}
 use Rattle.program_shapes.specs.Kept.{IsKeptSource}
 use Rattle.program_shapes.proofs.Words.{both_true}

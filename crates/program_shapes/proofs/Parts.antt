@@ -21,23 +21,25 @@ use Rattle.asl_tree.specs.Tree.{At, Tree, Integer, String, Omitted, Package, Var
 use Rattle.asl_tree.specs.View.{form, counted}
 use Rattle.aml_code.specs.Fronts.{IsUsedName}
 use Rattle.aml_sessions.specs.Ready.{is_expression, IsText}
-use Rattle.named_sessions.specs.Shaped.{IsShaped, IsShapedSpot, AreShapedValues}
-use Rattle.asl_shape.specs.declared.operator.Slot.{Slot}
-use Rattle.asl_shape.specs.declared.operator.Slot.TheVariants as slot
-use Rattle.asl_shape.specs.declared.operator.StringForm.{StringForm}
-use Rattle.asl_shape.specs.declared.operator.StringForm.TheVariants as texts
-use Rattle.asl_shape.specs.declared.operator.Known.{Known}
-use Rattle.asl_shape.specs.declared.operator.Known.TheVariants as known
-use Rattle.asl_shape.specs.declared.item.Meaning.{Meaning}
-use Rattle.asl_shape.specs.declared.item.Meaning.TheVariants as is
-use Rattle.asl_shape.specs.declared.item.Reading.TheVariants as read
-use Rattle.asl_shape.specs.Paths.{path_of}
-use Rattle.asl_shape.specs.Operators.{parameters_of, body_of, role_of, event_role, place, target}
-use Rattle.asl_shape.specs.Written.{Writtens}
+use Rattle.named_sessions.specs.Shaped.{IsFormed, IsFormedSpot, AreFormedValues, AreNamed}
+use Rattle.asl_words.specs.declared.operator.Slot.{Slot}
+use Rattle.asl_words.specs.declared.operator.Slot.TheVariants as slot
+use Rattle.asl_words.specs.declared.operator.StringForm.{StringForm}
+use Rattle.asl_words.specs.declared.operator.StringForm.TheVariants as texts
+use Rattle.asl_words.specs.declared.operator.Known.{Known}
+use Rattle.asl_words.specs.declared.operator.Known.TheVariants as known
+use Rattle.asl_words.specs.declared.meaning.Meaning.{Meaning}
+use Rattle.asl_words.specs.declared.meaning.Meaning.TheVariants as is
+use Rattle.asl_words.specs.declared.meaning.Reading.TheVariants as read
+use Rattle.asl_words.specs.Paths.{path_of}
+use Rattle.asl_words.specs.Operators.{parameters_of, body_of, role_of, event_role, place, target}
+use Rattle.asl_parser.specs.Written.{Writtens}
 use Rattle.asl_shape.specs.Plans.{Plan, an_integer, a_text, Plans}
-use Rattle.asl_shape.specs.Shapes.{Shaped, fine, refused, number_shape, text_shape, string_shape, has_form, is_all_text, is_text_byte, listed_shape, types_shape, are_all_types, takes_role, takes_known, takes_expression, takes_path, is_value, is_place, known_plan, path_shape, call_shape, form_shape, settled, item_fault, item_shape, read_shape, reading_of, name_reading, unless_wrong, may_be, is_unknown, wants_braces, is_same}
+use Rattle.asl_shape.specs.Shapes.{Shaped, fine, refused, number_shape, text_shape, string_shape, listed_shape, types_shape, are_all_types, known_plan, path_shape, call_shape, form_shape, settled, item_shape, read_shape}
+use Rattle.asl_words.specs.Meanings.{takes_role, takes_known, takes_expression, takes_path, is_value, is_place, item_fault, reading_of, name_reading, unless_wrong, may_be, is_unknown, wants_braces, is_same, is_field_element}
+use Rattle.asl_words.specs.Texts.{has_form, is_all_text, is_text_byte}
 use Rattle.asl_shape.specs.Shapes as shapes
-use Rattle.program_shapes.proofs.Fits.{Fits, IsAtMost, IsNumber}
+use Rattle.program_shapes.proofs.Fits.{Fits, IsAtMost, IsNumber, IsElement}
 use Rattle.program_shapes.proofs.Plains.{plain_made, index_spot, deref_spot}
 use Rattle.program_shapes.proofs.Forms.{Two, two, two_of}
 use Rattle.program_shapes.proofs.Operators.{SettledFit, BodyFit, IsBuilt, form_made}
@@ -104,16 +106,17 @@ path_fit slot.Named at (Some path) h t e = name_as (Fits slot.Named) path (λ at
 path_fit slot.Declared at (Some path) h t e = name_as (Fits slot.Declared) path (λ at. h.is_name)
 path_fit slot.External at (Some path) h t e = name_as (Fits slot.External) path (λ at. h.is_name)
 path_fit slot.Used at (Some path) h t e = name_as (Fits slot.Used) path (λ at. h)
-path_fit (slot.Term behind) at (Some path) h t e = name_as (IsShaped W64) path (λ at. h)
+path_fit slot.FieldElement at (Some path) h t e = name_as (Fits slot.FieldElement) path (λ at. h)
+path_fit (slot.Term behind) at (Some path) h t e = name_as (IsFormed W64 AreNamed) path (λ at. h)
 path_fit _ at (Some path) h t e = absurd cc
 
-pub call_fit : (s : Slot) (at : Place) (o : Option Path) (args : Shaped Plans) → IfSome o IsUsedName → takes_expression s ≡ true → (args.faults ≡ [] → PlansAs (AreShapedValues W64) args.made) → (call_shape at o args).faults ≡ []
+pub call_fit : (s : Slot) (at : Place) (o : Option Path) (args : Shaped Plans) → IfSome o IsUsedName → takes_expression s ≡ true → (args.faults ≡ [] → PlansAs (AreFormedValues W64 AreNamed) args.made) → (call_shape at o args).faults ≡ []
     → PlanAs (Fits (loose s)) (call_shape at o args).made
 call_fit s at None args h t k e = absurd cc
 call_fit slot.Expression at (Some path) args h t k e = call_as (Fits slot.Expression) path args.made (λ at m. (refl, (h, k e m)))
 call_fit (slot.Constant least most) at (Some path) args h t k e = call_as (Fits slot.Expression) path args.made (λ at m. (refl, (h, k e m)))
 call_fit slot.Element at (Some path) args h t k e = call_as (Fits slot.Expression) path args.made (λ at m. (refl, (h, k e m)))
-call_fit (slot.Term behind) at (Some path) args h t k e = call_as (IsShaped W64) path args.made (λ at m. (h, k e m))
+call_fit (slot.Term behind) at (Some path) args h t k e = call_as (IsFormed W64 AreNamed) path args.made (λ at m. (h, k e m))
 call_fit _ at (Some path) args h t k e = absurd cc
 
 pub known_fit : (s : Slot) (k : Known) → IsRightKnown k → takes_known s k ≡ true → PlanAs (Fits (loose s)) (known_plan s k)
@@ -125,30 +128,31 @@ known_fit (slot.Constant least most) (known.Local i) h t = local_as (Fits slot.E
 known_fit slot.Element (known.Local i) h t = local_as (Fits slot.Expression) i (refl, h)
 known_fit slot.Place (known.Local i) h t = local_as (Fits slot.Place) i h
 known_fit slot.Named (known.Local i) h t = local_as (Fits slot.Named) i h
-known_fit (slot.Term behind) (known.Local i) h t = local_as (IsShaped W64) i h
+known_fit (slot.Term behind) (known.Local i) h t = local_as (IsFormed W64 AreNamed) i h
 known_fit _ (known.Local i) h t = absurd cc
 known_fit slot.Expression (known.Arg i) h t = arg_as (Fits slot.Expression) i (refl, h)
 known_fit (slot.Constant least most) (known.Arg i) h t = arg_as (Fits slot.Expression) i (refl, h)
 known_fit slot.Element (known.Arg i) h t = arg_as (Fits slot.Expression) i (refl, h)
 known_fit slot.Place (known.Arg i) h t = arg_as (Fits slot.Place) i h
 known_fit slot.Named (known.Arg i) h t = arg_as (Fits slot.Named) i h
-known_fit (slot.Term behind) (known.Arg i) h t = arg_as (IsShaped W64) i h
+known_fit (slot.Term behind) (known.Arg i) h t = arg_as (IsFormed W64 AreNamed) i h
 known_fit _ (known.Arg i) h t = absurd cc
 known_fit slot.Expression known.Debug h t = debug_as (Fits slot.Expression) (refl, tt)
 known_fit (slot.Constant least most) known.Debug h t = debug_as (Fits slot.Expression) (refl, tt)
 known_fit slot.Element known.Debug h t = debug_as (Fits slot.Expression) (refl, tt)
 known_fit slot.Place known.Debug h t = debug_as (Fits slot.Place) tt
-known_fit (slot.Term behind) known.Debug h t = debug_as (IsShaped W64) tt
+known_fit (slot.Term behind) known.Debug h t = debug_as (IsFormed W64 AreNamed) tt
 known_fit _ known.Debug h t = absurd cc
 known_fit _ known.LeftOut h t = absurd cc
+known_fit _ known.Offset h t = absurd cc
 
 -- ---- forms
 
 -- what an operator's role says of its tree
 pub record OpFits (op : Op) (t : Tree) : Type 0 where
   pub value : is_value (role_of op) ≡ true → is_expression t ≡ true
-  pub spot : is_place (role_of op) ≡ true → IsShapedSpot W64 t
-  pub shaped : IsShaped W64 t
+  pub spot : is_place (role_of op) ≡ true → IsFormedSpot W64 AreNamed t
+  pub shaped : IsFormed W64 AreNamed t
 
 event_spot : (op : EventOp) → is_place (event_role op) ≡ true → ⊥
 event_spot EventOp.Acquire e = absurd cc
@@ -173,17 +177,17 @@ control_value : (op : Control) → is_value (role_of (Op.Control op)) ≡ true �
 control_value Control.Return e = absurd cc
 control_value _ e = absurd cc
 
-spot_made : (at : At) (op : Op) (ts body : Trees) → SettledFit op ts → BodyFit (body_of op) body → is_place (role_of op) ≡ true → IsShapedSpot W64 (form at op ts body)
+spot_made : (at : At) (op : Op) (ts body : Trees) → SettledFit op ts → BodyFit (body_of op) body → is_place (role_of op) ≡ true → IsFormedSpot W64 AreNamed (form at op ts body)
 unfolding parameters_of
-spot_made at (Op.Plain (Plain.Data DataOp.Index)) ts body h b e = subst (λ body. IsShapedSpot W64 (form at (Op.Plain (Plain.Data DataOp.Index)) ts body)) (sym b) (index_spot ts h)
-spot_made at (Op.Plain (Plain.Data DataOp.DerefOf)) ts body h b e = subst (λ body. IsShapedSpot W64 (form at (Op.Plain (Plain.Data DataOp.DerefOf)) ts body)) (sym b) (deref_spot ts h)
+spot_made at (Op.Plain (Plain.Data DataOp.Index)) ts body h b e = subst (λ body. IsFormedSpot W64 AreNamed (form at (Op.Plain (Plain.Data DataOp.Index)) ts body)) (sym b) (index_spot ts h)
+spot_made at (Op.Plain (Plain.Data DataOp.DerefOf)) ts body h b e = subst (λ body. IsFormedSpot W64 AreNamed (form at (Op.Plain (Plain.Data DataOp.DerefOf)) ts body)) (sym b) (deref_spot ts h)
 spot_made at (Op.Plain (Plain.Event op)) ts body h b e = absurd (event_spot op e)
 spot_made at (Op.Plain (Plain.Number op)) ts body h b e = absurd cc
 spot_made at (Op.Declaration op) ts body h b e = absurd (declaration_spot op e)
 spot_made at (Op.Control op) ts body h b e = absurd (control_spot op e)
 spot_made at _ ts body h b e = absurd cc
 
-buffer_value : (at : At) (ts body : Trees) → IsShaped W64 (form at (Op.Special Special.Buffer) ts body) → is_expression (form at (Op.Special Special.Buffer) ts body) ≡ true
+buffer_value : (at : At) (ts body : Trees) → IsFormed W64 AreNamed (form at (Op.Special Special.Buffer) ts body) → is_expression (form at (Op.Special Special.Buffer) ts body) ≡ true
 buffer_value at no_trees body h = absurd h
 buffer_value at (tree Omitted no_trees) body h = refl
 buffer_value at (tree _ no_trees) body h = refl
@@ -196,7 +200,7 @@ counted_value n bs = by (nat_le n 255)
     by true = refl
     by false = refl
 
-package_value : (at : At) (ts body : Trees) → IsShaped W64 (form at (Op.Special Special.Package) ts body) → is_expression (form at (Op.Special Special.Package) ts body) ≡ true
+package_value : (at : At) (ts body : Trees) → IsFormed W64 AreNamed (form at (Op.Special Special.Package) ts body) → is_expression (form at (Op.Special Special.Package) ts body) ≡ true
 package_value at no_trees body h = absurd h
 package_value at (tree Omitted no_trees) body h = counted_value (count body) body
 package_value at (tree (Integer n) no_trees) body h = counted_value n body
@@ -206,7 +210,7 @@ package_value at (tree t (tree u us)) body h = absurd h
 condition_value : (at : At) (ts : Trees) → Two place target ts → is_expression (form at (Op.Special Special.CondRefOf) ts no_trees) ≡ true
 condition_value at _ (two t u h i) = refl
 
-literal_value : (at : At) (l : _) (ts body : Trees) → IsShaped W64 (form at (Op.Literal l) ts body) → is_expression (form at (Op.Literal l) ts body) ≡ true
+literal_value : (at : At) (l : _) (ts body : Trees) → IsFormed W64 AreNamed (form at (Op.Literal l) ts body) → is_expression (form at (Op.Literal l) ts body) ≡ true
 literal_value at l no_trees no_trees h = refl
 literal_value at l no_trees (tree t ts) h = absurd h
 literal_value at l (tree t ts) bs h = absurd h
@@ -218,6 +222,7 @@ value_made at (Op.Literal l) ts body i h b e = literal_value at l ts body (form_
 value_made at (Op.Special Special.CondRefOf) ts body i h b e = subst (λ body. is_expression (form at (Op.Special Special.CondRefOf) ts body) ≡ true) (sym b) (condition_value at ts (two_of place target ts h))
 value_made at (Op.Special Special.Buffer) ts body i h b e = buffer_value at ts body (form_made at (Op.Special Special.Buffer) ts body i h b)
 value_made at (Op.Special Special.Package) ts body i h b e = package_value at ts body (form_made at (Op.Special Special.Package) ts body i h b)
+value_made at (Op.Symbolic symbol) ts body i h b e = absurd i
 value_made at (Op.Declaration op) ts body i h b e = absurd (declaration_value op e)
 value_made at (Op.Control op) ts body i h b e = absurd (control_value op e)
 
@@ -243,39 +248,50 @@ has_call is.Name = true
 has_call is.Path = true
 has_call _ = false
 
-named_fit : (s : Slot) (at : Place) (text : List ℕ) (called : Bool) (calls : Shaped Plans) (form : Op → Shaped Plan) → IfSome (path_of text) IsUsedName → (calls.faults ≡ [] → PlansAs (AreShapedValues W64) calls.made)
-    → (read_shape s at text (name_reading s called) calls form).faults ≡ [] → PlanAs (Fits (loose s)) (read_shape s at text (name_reading s called) calls form).made
-named_fit s at text true calls form path h e = by (takes_expression s) refl e
+named_fit : (s : Slot) (at : Place) (text : List ℕ) (called : Bool) (calls : Shaped Plans) (offset : Shaped Plan) (form : Op → Shaped Plan) → IfSome (path_of text) IsUsedName → (calls.faults ≡ [] → PlansAs (AreFormedValues W64 AreNamed) calls.made)
+    → (read_shape s at text (name_reading s called) calls offset form).faults ≡ [] → PlanAs (Fits (loose s)) (read_shape s at text (name_reading s called) calls offset form).made
+named_fit s at text true calls offset form path h e = by (takes_expression s) refl e
   where
-    by : (b : Bool) → takes_expression s ≡ b → (read_shape s at text (unless_wrong b read.Call) calls form).faults ≡ [] → PlanAs (Fits (loose s)) (read_shape s at text (unless_wrong b read.Call) calls form).made
+    by : (b : Bool) → takes_expression s ≡ b → (read_shape s at text (unless_wrong b read.Call) calls offset form).faults ≡ [] → PlanAs (Fits (loose s)) (read_shape s at text (unless_wrong b read.Call) calls offset form).made
     by true t e = call_fit s at (path_of text) calls path t h e
     by false t e = absurd cc
-named_fit s at text false calls form path h e = by (takes_path s) refl e
+named_fit s at text false calls offset form path h e = by (takes_path s) refl e
   where
-    by : (b : Bool) → takes_path s ≡ b → (read_shape s at text (unless_wrong b read.Path) calls form).faults ≡ [] → PlanAs (Fits (loose s)) (read_shape s at text (unless_wrong b read.Path) calls form).made
+    by : (b : Bool) → takes_path s ≡ b → (read_shape s at text (unless_wrong b read.Path) calls offset form).faults ≡ [] → PlanAs (Fits (loose s)) (read_shape s at text (unless_wrong b read.Path) calls offset form).made
     by true t e = path_fit s at (path_of text) path t e
     by false t e = absurd cc
 
 -- ---- an item as it is read
 
-pub read_fit : (s : Slot) (at : Place) (text : List ℕ) (m : Meaning) (called : Bool) (calls : Shaped Plans) (form : Op → Shaped Plan) → IsRightMeaning m → IfSome (path_of text) IsUsedName
-    → (has_call m ≡ true → calls.faults ≡ [] → PlansAs (AreShapedValues W64) calls.made)
+-- an Offset stands where elements begin
+begun : (s : Slot) (p : Plan) → is_field_element s ≡ true → PlanAs IsElement p → PlanAs (Fits (loose s)) p
+begun slot.FieldElement p e h = h
+begun _ p e h = absurd cc
+
+pub read_fit : (s : Slot) (at : Place) (text : List ℕ) (m : Meaning) (called : Bool) (calls : Shaped Plans) (offset : Shaped Plan) (form : Op → Shaped Plan) → IsRightMeaning m → IfSome (path_of text) IsUsedName
+    → (has_call m ≡ true → calls.faults ≡ [] → PlansAs (AreFormedValues W64 AreNamed) calls.made)
     → ((op : Op) → m ≡ is.Operator op → (form op).faults ≡ [] → PlanAs (OpFits op) (form op).made)
-    → (read_shape s at text (reading_of s m called) calls form).faults ≡ []
-    → PlanAs (Fits (loose s)) (read_shape s at text (reading_of s m called) calls form).made
-read_fit s at text (is.Operator op) called calls form right path h k e = by (takes_role s (role_of op)) refl e
+    → (offset.faults ≡ [] → PlanAs IsElement offset.made)
+    → (read_shape s at text (reading_of s m called) calls offset form).faults ≡ []
+    → PlanAs (Fits (loose s)) (read_shape s at text (reading_of s m called) calls offset form).made
+read_fit s at text (is.Operator op) called calls offset form right path h k o e = by (takes_role s (role_of op)) refl e
   where
-    by : (b : Bool) → takes_role s (role_of op) ≡ b → (read_shape s at text (unless_wrong b (read.Form op)) calls form).faults ≡ [] → PlanAs (Fits (loose s)) (read_shape s at text (unless_wrong b (read.Form op)) calls form).made
+    by : (b : Bool) → takes_role s (role_of op) ≡ b → (read_shape s at text (unless_wrong b (read.Form op)) calls offset form).faults ≡ [] → PlanAs (Fits (loose s)) (read_shape s at text (unless_wrong b (read.Form op)) calls offset form).made
     by true t e = λ here n. role_fit s op t (numbered here n (form op).made) (k op refl e here n)
     by false t e = absurd cc
-read_fit s at text (is.Known known) called calls form right path h k e = by (takes_known s known) refl e
+read_fit s at text (is.Known known) called calls offset form right path h k o e = by (takes_known s known) refl e
   where
-    by : (b : Bool) → takes_known s known ≡ b → (read_shape s at text (unless_wrong b (read.Known known)) calls form).faults ≡ [] → PlanAs (Fits (loose s)) (read_shape s at text (unless_wrong b (read.Known known)) calls form).made
+    by : (b : Bool) → takes_known s known ≡ b → (read_shape s at text (unless_wrong b (read.Known known)) calls offset form).faults ≡ [] → PlanAs (Fits (loose s)) (read_shape s at text (unless_wrong b (read.Known known)) calls offset form).made
     by true t e = known_fit s known right t
     by false t e = absurd cc
-read_fit s at text is.Name called calls form right path h k e = named_fit s at text called calls form path (h refl) e
-read_fit s at text is.Path called calls form right path h k e = named_fit s at text called calls form path (h refl) e
-read_fit s at text is.Unknown called calls form right path h k e = absurd cc
+read_fit s at text is.Name called calls offset form right path h k o e = named_fit s at text called calls offset form path (h refl) e
+read_fit s at text is.Path called calls offset form right path h k o e = named_fit s at text called calls offset form path (h refl) e
+read_fit s at text is.Offset called calls offset form right path h k o e = by (is_field_element s) refl e
+  where
+    by : (b : Bool) → is_field_element s ≡ b → (read_shape s at text (unless_wrong b read.Offset) calls offset form).faults ≡ [] → PlanAs (Fits (loose s)) (read_shape s at text (unless_wrong b read.Offset) calls offset form).made
+    by true t e = begun s offset.made t (o e)
+    by false t e = absurd cc
+read_fit s at text is.Unknown called calls offset form right path h k o e = absurd cc
 
 pub item_fit : (P : Plan → Type 0) (s : Slot) (inside : Bool) (m : Meaning) (has has_body : Bool) (at : Place) (shape : Shaped Plan) → (has ≡ true → shape.faults ≡ [] → P shape.made)
     → (item_shape at (item_fault s inside m has has_body) shape).faults ≡ [] → P (item_shape at (item_fault s inside m has has_body) shape).made

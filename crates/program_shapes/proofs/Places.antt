@@ -1,5 +1,5 @@
 -- The plans that a source makes stand in the files in which its parts stand.
-use Rattle.std.proofs.Common.{ℕ, ◌<◌, Bool, true, false, List, [], ◌∷◌, Option, Some, None, Result, Ok, Err, sym, subst, arith}
+use Rattle.std.proofs.Common.{ℕ, zero, suc, ◌<◌, Bool, true, false, List, [], ◌∷◌, Option, Some, None, Result, Ok, Err, sym, subst, arith}
 use Rattle.std.specs.Prelude.{if◌then◌else◌, nat_le, ◌&&◌, ◌%◌}
 use Rattle.iasl_messages.specs.declared.place.Place.{Place}
 use Rattle.iasl_messages.specs.declared.message.Message.{Message}
@@ -12,25 +12,32 @@ use Rattle.asl_tree.specs.declared.term.Op.{Op}
 use Rattle.asl_tree.specs.declared.term.Declaration.{Declaration}
 use Rattle.asl_tree.specs.declared.term.Control.{Control}
 use Rattle.asl_parser.specs.declared.raw.Raw.{Raw}
-use Rattle.asl_shape.specs.declared.operator.Parameter.{Parameter}
-use Rattle.asl_shape.specs.declared.operator.Slot.{Slot}
-use Rattle.asl_shape.specs.declared.operator.Slot.TheVariants as slot
-use Rattle.asl_shape.specs.declared.operator.Body.{Body}
-use Rattle.asl_shape.specs.declared.operator.Body.TheVariants as braces
-use Rattle.asl_shape.specs.declared.operator.StringForm.{StringForm}
-use Rattle.asl_shape.specs.declared.operator.StringForm.TheVariants as texts
-use Rattle.asl_shape.specs.declared.operator.Known.{Known}
-use Rattle.asl_shape.specs.declared.operator.Known.TheVariants as known
-use Rattle.asl_shape.specs.declared.item.Reading.{Reading}
-use Rattle.asl_shape.specs.declared.item.Reading.TheVariants as read
-use Rattle.asl_shape.specs.Written as piece
-use Rattle.asl_shape.specs.Written.{Written, Writtens, Group, item, apply, listed, comma, semicolon, empty, none, more, absent, given, writtens}
-use Rattle.asl_shape.specs.Plans.{Plan, an_integer, a_text, Plans, no_plans, plan, plan_at, join, first_alone, number_of, is_omitted, constant_of, plans_of}
-use Rattle.asl_shape.specs.Paths.{path_of}
-use Rattle.asl_shape.specs.Operators.{parameters_of, body_of}
-use Rattle.asl_shape.specs.Shapes.{Shaped, fine, refused, nowhere, valued, evaluated, after, checked, is_member, is_given, count, has_arguments, item_fault, meaning_of, reading_of, are_all_types, is_all_text, number_shape, takes_expression, has_form, string_shape, text_shape, path_shape, call_shape, known_plan, listed_shape, read_shape, item_shape, form_shape, method_flags, one_plan, zero_plan, is_stated, stated_parameters, settled, within, place_of, left_out, is_separator, is_listed, byte_slot, list_shape, skipped, behind_if, bare, operands, call_args, arguments, arguments_in, contents, members, terms, inside_of}
+use Rattle.asl_words.specs.declared.operator.Parameter.{Parameter}
+use Rattle.asl_words.specs.declared.operator.Slot.{Slot}
+use Rattle.asl_words.specs.declared.operator.Slot.TheVariants as slot
+use Rattle.asl_words.specs.declared.operator.Body.{Body}
+use Rattle.asl_words.specs.declared.operator.Body.TheVariants as braces
+use Rattle.asl_words.specs.declared.operator.StringForm.{StringForm}
+use Rattle.asl_words.specs.declared.operator.StringForm.TheVariants as texts
+use Rattle.asl_words.specs.declared.operator.Known.{Known}
+use Rattle.asl_words.specs.declared.operator.Known.TheVariants as known
+use Rattle.asl_words.specs.declared.meaning.Reading.{Reading}
+use Rattle.asl_words.specs.declared.meaning.Reading.TheVariants as read
+use Rattle.asl_parser.specs.Written as piece
+use Rattle.asl_parser.specs.Written.{Written, Writtens, Group, item, apply, listed, comma, semicolon, empty, none, more, absent, given, writtens}
+use Rattle.acpi_state.specs.Outcomes.{choose}
+use Rattle.acpi_values.specs.Paths.{NameSeg}
+use Rattle.asl_tree.specs.Names.{single_segment}
+use Rattle.asl_shape.specs.declared.fields.Due.{Due}
+use Rattle.asl_shape.specs.declared.fields.UnitName.{UnitName}
+use Rattle.asl_shape.specs.Plans.{Plan, an_integer, a_text, a_name, Plans, no_plans, plan, plan_at, join, first_plans, first_alone, number_of, is_omitted, constant_of, plans_of}
+use Rattle.asl_words.specs.Paths.{path_of}
+use Rattle.asl_words.specs.Operators.{parameters_of, body_of, offset_parameters}
+use Rattle.asl_shape.specs.Shapes.{Shaped, fine, refused, nowhere, valued, evaluated, after, checked, is_member, is_given, count, has_arguments, are_all_types, number_shape, string_shape, text_shape, path_shape, call_shape, known_plan, listed_shape, read_shape, item_shape, form_shape, method_flags, one_plan, zero_plan, is_stated, stated_parameters, settled, within, place_of, left_out, is_separator, is_listed, byte_slot, list_shape, skipped, behind_if, bare, operands, call_args, arguments, arguments_in, contents, members, terms, inside_of, is_element, field_flags, field_settled, offset_shape, meaning_in, is_field_list, begin, field_slot, named_unit, unit_behind, is_offset_plan, offset_alone, of_bits, field_part, due_behind, elements}
+use Rattle.asl_words.specs.Meanings.{item_fault, meaning_of, reading_of, takes_expression, slot_as}
+use Rattle.asl_words.specs.Texts.{is_all_text, has_form}
 use Rattle.asl_shape.specs.Forms.{block_terms, terms_of, IsBlockOf}
-use Rattle.asl_shape.specs.Places.{IsIn, IsWithin, AreWithin, IsGroupWithin}
+use Rattle.asl_parser.specs.Within.{IsIn, IsWithin, AreWithin, IsGroupWithin}
 use Rattle.program_shapes.specs.Places.{PlanWithin, PlansWithin}
 
 module _ (files : ℕ) where
@@ -64,6 +71,7 @@ module _ (files : ℕ) where
   evaluated_in : (s : Slot) (place : Place) (p : Plan) → PlanWithin files p → PlanWithin files (evaluated s place p).made
   evaluated_in (slot.Constant least most) place p h = either (is_omitted p) (fine p) (valued least most place (constant_of p)) h (valued_in least most place (constant_of p))
   evaluated_in slot.Element place p h = either (is_member p) (fine p) (valued 0 18446744073709551615 place (constant_of p)) h (valued_in 0 18446744073709551615 place (constant_of p))
+  evaluated_in slot.FieldElement place p h = either (is_element p) (fine p) (refused 6022 place) h tt
   evaluated_in _ place p h = h
 
   after_in : (faults : List Message) (old new : Shaped Plan) → PlanWithin files old.made → PlanWithin files new.made → PlanWithin files (after faults old new).made
@@ -86,15 +94,17 @@ module _ (files : ℕ) where
   known_in s (known.Local i) = tt
   known_in s (known.Arg i) = tt
   known_in s known.Debug = tt
+  known_in s known.Offset = tt
   known_in s known.LeftOut = tt
 
-  read_in : (s : Slot) (place : Place) (text : List ℕ) (reading : Reading) (args : Shaped Plans) (form : Op → Shaped Plan) → PlansWithin files args.made → ((o : Op) → PlanWithin files (form o).made)
-      → PlanWithin files (read_shape s place text reading args form).made
-  read_in s place text read.Wrong args form h go = tt
-  read_in s place text read.Path args form h go = path_in place (path_of text)
-  read_in s place text read.Call args form h go = call_in place (path_of text) args h
-  read_in s place text (read.Known k) args form h go = known_in s k
-  read_in s place text (read.Form o) args form h go = go o
+  read_in : (s : Slot) (place : Place) (text : List ℕ) (reading : Reading) (args : Shaped Plans) (offset : Shaped Plan) (form : Op → Shaped Plan) → PlansWithin files args.made → PlanWithin files offset.made → ((o : Op) → PlanWithin files (form o).made)
+      → PlanWithin files (read_shape s place text reading args offset form).made
+  read_in s place text read.Wrong args offset form h k go = tt
+  read_in s place text read.Path args offset form h k go = path_in place (path_of text)
+  read_in s place text read.Offset args offset form h k go = k
+  read_in s place text read.Call args offset form h k go = call_in place (path_of text) args h
+  read_in s place text (read.Known known) args offset form h k go = known_in s known
+  read_in s place text (read.Form o) args offset form h k go = go o
 
   item_in : (place : Place) (fault : Option ℕ) (shape : Shaped Plan) → PlanWithin files shape.made → PlanWithin files (item_shape place fault shape).made
   item_in place (Some n) shape h = tt
@@ -113,6 +123,14 @@ module _ (files : ℕ) where
   behind_first : (place : Place) (ps : Plans) (n : ℕ) → IsIn files place → PlansWithin files ps → PlansWithin files (join (first_alone ps) (one_plan place (an_integer n)))
   behind_first place ps n h k = join_in (first_alone ps) (one_plan place (an_integer n)) (first_in ps k) (h, tt, tt)
 
+  firsts_in : (n : ℕ) (ps : Plans) → PlansWithin files ps → PlansWithin files (first_plans n ps)
+  firsts_in zero ps h = tt
+  firsts_in (suc n) no_plans h = tt
+  firsts_in (suc n) (plan place p ps) h = (h.0, h.1, firsts_in n ps h.2)
+
+  field_in : (n : ℕ) (place : Place) (ps : Plans) → IsIn files place → PlansWithin files ps → PlansWithin files (field_settled n place ps)
+  field_in n place ps h k = join_in (first_plans n ps) (one_plan place (an_integer (field_flags n ps))) (firsts_in n ps k) (h, tt, tt)
+
   stated_in : (c : Bool) (place : Place) (p : Plan) → IsIn files place → PlansWithin files (if c then one_plan place (an_integer (number_of p)) else no_plans)
   stated_in true place p h = (h, tt, tt)
   stated_in false place p h = tt
@@ -126,6 +144,9 @@ module _ (files : ℕ) where
   settled_in (Op.Declaration Declaration.Mutex) place ps h k = behind_first place ps (number_of (plan_at ps 1) % 16) h k
   settled_in (Op.Declaration Declaration.External) place ps h k =
       join_in (join (first_alone ps) (one_plan place (an_integer (number_of (plan_at ps 1))))) (stated_parameters place (plan_at ps 3)) (behind_first place ps (number_of (plan_at ps 1)) h k) (stated_in (is_stated (plan_at ps 3)) place (plan_at ps 3) h)
+  settled_in (Op.Declaration Declaration.Field) place ps h k = field_in 1 place ps h k
+  settled_in (Op.Declaration Declaration.IndexField) place ps h k = field_in 2 place ps h k
+  settled_in (Op.Declaration Declaration.BankField) place ps h k = field_in 3 place ps h k
   settled_in (Op.Control Control.Return) place ps h k = return_in (is_stated (plan_at ps 0)) place ps h k
   settled_in _ place ps h k = k
 
@@ -151,6 +172,46 @@ module _ (files : ℕ) where
   list_in place true all h = h
   list_in place false all h = tt
 
+  -- ---- the list of a field
+
+  abbrev UnitIn : Option UnitName → Type 0
+  UnitIn None = Unit {0}
+  UnitIn (Some unit) = IsIn files unit.place
+
+  named_in : (place : Place) (p : Plan) → IsIn files place → UnitIn (named_unit place p)
+  named_in place (a_name path) h = by (single_segment path)
+    where
+      by : (o : Option NameSeg) → UnitIn (choose o None (λ segment. Some (record { place = place; segment = segment })))
+      by None = tt
+      by (Some segment) = h
+  named_in place _ h = tt
+
+  unit_in : (due : Due) (unit : Option UnitName) (place : Place) (separator : Bool) (p : Plan) → UnitIn unit → IsIn files place → UnitIn (unit_behind due unit place separator p)
+  unit_in Due.Element unit place true p u h = tt
+  unit_in Due.Element unit place false p u h = named_in place p h
+  unit_in Due.NameComma unit place separator p u h = u
+  unit_in Due.Bits unit place separator p u h = tt
+  unit_in Due.Comma unit place separator p u h = tt
+
+  alone_in : (place : Place) (p : Plan) → IsIn files place → PlanWithin files p → PlansWithin files (offset_alone place p)
+  alone_in place p h k = by (is_offset_plan p)
+    where
+      by : (c : Bool) → PlansWithin files (if c then one_plan place p else no_plans)
+      by true = (h, k, tt)
+      by false = tt
+
+  bits_in : (unit : Option UnitName) (place : Place) (n : ℕ) → UnitIn unit → IsIn files place → PlansWithin files (of_bits unit place n)
+  bits_in None place n u h = (h, tt, tt)
+  bits_in (Some unit) place n u h = (u, tt, tt)
+
+  part_in : (due : Due) (unit : Option UnitName) (place : Place) (separator : Bool) (shape : Shaped Plan) → UnitIn unit → IsIn files place → PlanWithin files shape.made → PlansWithin files (field_part due unit place separator shape).made
+  part_in Due.Element unit place true shape u h k = tt
+  part_in Due.Element unit place false shape u h k = alone_in place shape.made h k
+  part_in Due.NameComma unit place true shape u h k = tt
+  part_in Due.NameComma unit place false shape u h k = tt
+  part_in Due.Bits unit place separator shape u h k = bits_in unit place (number_of shape.made) u h
+  part_in Due.Comma unit place separator shape u h k = tt
+
   -- ---- the tree
 
   module _ (main : 0 < files) where
@@ -163,8 +224,9 @@ module _ (files : ℕ) where
       bare_in s inside (item place w args body) h =
           let meaning = meaning_of w (is_given body) in
           let form : Op → Shaped Plan = λ o. form_shape o place (arguments (parameters_of o) place inside args) (contents (body_of o) (within o inside) place body) in
-          item_in place (item_fault s inside meaning (has_arguments meaning (inside_of args)) (is_given body)) (read_shape s place w (reading_of s meaning (is_given args)) (call_args inside args) form)
-          (read_in s place w (reading_of s meaning (is_given args)) (call_args inside args) form (call_args_in inside args h.1)
+          let offset : Shaped Plan = offset_shape (arguments offset_parameters place inside args) in
+          item_in place (item_fault s inside meaning (has_arguments meaning (inside_of args)) (is_given body)) (read_shape s place w (reading_of s meaning (is_given args)) (call_args inside args) offset form)
+          (read_in s place w (reading_of s meaning (is_given args)) (call_args inside args) offset form (call_args_in inside args h.1) tt
           (λ o. (settled_in o place (arguments (parameters_of o) place inside args).made h.0 (arguments_within (parameters_of o) place inside args h.0 h.1), contents_in (body_of o) (within o inside) place body h.2)))
       bare_in s inside comma h = tt
       bare_in s inside semicolon h = tt
@@ -186,7 +248,8 @@ module _ (files : ℕ) where
       arguments_in_within qs place inside none p h = left_out_in place qs p
       arguments_in_within [] place inside (more w ws) p h = tt
       arguments_in_within (q ∷ qs) place inside (more w ws) p h =
-          (place_in place w p h.0, checked_in q.slot (place_of nowhere w) (bare q.slot inside w) (bare_in q.slot inside w h.0), arguments_in_within qs place inside ws p h.1)
+          let s : Slot = slot_as q.slot (meaning_in w) in
+          (place_in place w p h.0, checked_in s (place_of nowhere w) (bare s inside w) (bare_in s inside w h.0), arguments_in_within qs place inside ws p h.1)
 
       contents_in : (b : Body) (inside : Bool) (place : Place) (body : Group) → IsGroupWithin files body → PlansWithin files (contents b inside place body).made
       contents_in b inside place absent h = tt
@@ -194,6 +257,18 @@ module _ (files : ℕ) where
       contents_in braces.Terms inside place (given ws) h = terms_in inside false ws h
       contents_in braces.Bytes inside place (given ws) h = list_in place (is_listed true ws) (members (byte_slot ws) inside ws) (members_in (byte_slot ws) inside ws h)
       contents_in braces.Elements inside place (given ws) h = list_in place (is_listed true ws) (members slot.Element inside ws) (members_in slot.Element inside ws h)
+      contents_in braces.FieldList inside place (given ws) h = list_in place (is_field_list begin ws) (elements begin None inside ws) (elements_in begin None inside ws tt h)
+
+      elements_in : (due : Due) (unit : Option UnitName) (inside : Bool) (ws : Writtens) → UnitIn unit → AreWithin files ws → PlansWithin files (elements due unit inside ws).made
+      elements_in due unit inside none u h = tt
+      elements_in due unit inside (more w ws) u h =
+          let place : Place = place_of nowhere w in
+          let shape : Shaped Plan = checked (field_slot due) place (bare (field_slot due) inside w) in
+          let next : Option UnitName = unit_behind due unit place (is_separator w) shape.made in
+          let at : IsIn files place = place_in nowhere w main h.0 in
+          join_in (field_part due unit place (is_separator w) shape).made (elements (due_behind due w) next inside ws).made
+          (part_in due unit place (is_separator w) shape u at (checked_in (field_slot due) place (bare (field_slot due) inside w) (bare_in (field_slot due) inside w h.0)))
+          (elements_in (due_behind due w) next inside ws (unit_in due unit place (is_separator w) shape.made u at) h.1)
 
       members_in : (s : Slot) (inside : Bool) (ws : Writtens) → AreWithin files ws → PlansWithin files (members s inside ws).made
       members_in s inside none h = tt

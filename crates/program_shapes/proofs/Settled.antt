@@ -9,11 +9,11 @@ use Rattle.asl_tree.specs.declared.term.Control.TheVariants as Control
 use Rattle.asl_tree.specs.declared.term.Literal.TheVariants as Literal
 use Rattle.asl_tree.specs.Tree.{At, Tree, Trees, no_trees}
 use Rattle.asl_tree.specs.View.{form}
-use Rattle.asl_shape.specs.declared.operator.Parameter.{Parameter}
-use Rattle.asl_shape.specs.declared.operator.Slot.TheVariants as slot
-use Rattle.asl_shape.specs.Operators.{asked, expression, declared, external, constant, parameters_of}
+use Rattle.asl_words.specs.declared.operator.Parameter.{Parameter}
+use Rattle.asl_words.specs.declared.operator.Slot.TheVariants as slot
+use Rattle.asl_words.specs.Operators.{asked, expression, declared, used, external, constant, parameters_of}
 use Rattle.asl_shape.specs.Plans.{Plan, an_integer, omitted, a_form, Plans, no_plans, plan, number_of, plan_at}
-use Rattle.asl_shape.specs.Shapes.{settled, method_flags, is_stated, one_plan, zero_plan, stated_parameters}
+use Rattle.asl_shape.specs.Shapes.{settled, method_flags, field_flags, is_stated, one_plan, zero_plan, stated_parameters}
 use Rattle.program_shapes.proofs.Fits.{Fits, TreesFit, IsAtMost, IsNumber}
 use Rattle.program_shapes.proofs.Forms.{Two, two, two_of, Three, three, three_of}
 use Rattle.program_shapes.proofs.Operators.{SettledFit, ExternalFit}
@@ -25,6 +25,13 @@ flags_fit a b c =
     let x : a % 8 < 8 = mod_below a 8 (omega arith) in
     let y : b % 2 < 2 = mod_below b 2 (omega arith) in
     let z : c % 16 < 16 = mod_below c 16 (omega arith) in
+    omega (arith, x, y, z)
+
+field_flags_fit : (a b c : ℕ) → a % 16 + 16 * (b % 2) + 32 * (c % 4) ≤ 255
+field_flags_fit a b c =
+    let x : a % 16 < 16 = mod_below a 16 (omega arith) in
+    let y : b % 2 < 2 = mod_below b 2 (omega arith) in
+    let z : c % 4 < 4 = mod_below c 4 (omega arith) in
     omega (arith, x, y, z)
 
 abbrev byte : Parameter
@@ -86,4 +93,25 @@ settled_fit (Op.Declaration Declaration.External) place (plan at p rest) h = ext
 settled_fit (Op.Control Control.Return) place no_plans h = absurd h
 settled_fit (Op.Control Control.Return) place (plan at p no_plans) h = return_fit place at p h.0
 settled_fit (Op.Control Control.Return) place (plan at p (plan b q rest)) h = absurd h.1
+settled_fit (Op.Declaration Declaration.Field) place no_plans h = absurd h
+settled_fit (Op.Declaration Declaration.Field) place (plan at p rest) h =
+    let ps : Plans = plan at p rest in
+    let flags : ℕ = field_flags 1 ps in
+    let few : flags ≤ 255 = field_flags_fit (number_of (plan_at ps 1)) (number_of (plan_at ps 2)) (number_of (plan_at ps 3)) in
+    fits_as (used ∷ byte ∷ []) (plan at p (plan place (an_integer flags) no_plans)) (h.0, (integer_as (IsAtMost 255) flags few, tt))
+settled_fit (Op.Declaration Declaration.IndexField) place no_plans h = absurd h
+settled_fit (Op.Declaration Declaration.IndexField) place (plan at p no_plans) h = absurd h.1
+settled_fit (Op.Declaration Declaration.IndexField) place (plan at p (plan b q rest)) h =
+    let ps : Plans = plan at p (plan b q rest) in
+    let flags : ℕ = field_flags 2 ps in
+    let few : flags ≤ 255 = field_flags_fit (number_of (plan_at ps 2)) (number_of (plan_at ps 3)) (number_of (plan_at ps 4)) in
+    fits_as (used ∷ used ∷ byte ∷ []) (plan at p (plan b q (plan place (an_integer flags) no_plans))) (h.0, (h.1.0, (integer_as (IsAtMost 255) flags few, tt)))
+settled_fit (Op.Declaration Declaration.BankField) place no_plans h = absurd h
+settled_fit (Op.Declaration Declaration.BankField) place (plan at p no_plans) h = absurd h.1
+settled_fit (Op.Declaration Declaration.BankField) place (plan at p (plan b q no_plans)) h = absurd h.1.1
+settled_fit (Op.Declaration Declaration.BankField) place (plan at p (plan b q (plan c r rest))) h =
+    let ps : Plans = plan at p (plan b q (plan c r rest)) in
+    let flags : ℕ = field_flags 3 ps in
+    let few : flags ≤ 255 = field_flags_fit (number_of (plan_at ps 3)) (number_of (plan_at ps 4)) (number_of (plan_at ps 5)) in
+    fits_as (used ∷ used ∷ expression ∷ byte ∷ []) (plan at p (plan b q (plan c r (plan place (an_integer flags) no_plans)))) (h.0, (h.1.0, (h.1.1.0, (integer_as (IsAtMost 255) flags few, tt))))
 settled_fit op place ps h = fits_as (parameters_of op) ps h

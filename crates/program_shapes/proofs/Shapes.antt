@@ -1,33 +1,43 @@
 -- A source without errors has a shape: each part of it fits where it stands.
-use Rattle.std.proofs.Common.{◌≡◌, inl, inr, ℕ, suc, ◌+◌, ◌<◌, ◌≤◌, Bool, true, false, List, [], ◌∷◌, ◌++◌, length, refl, ap, subst, arith}
-use Rattle.std.specs.Prelude.{nat_le, not, ◌||◌}
+use Rattle.std.proofs.Common.{◌≡◌, inl, inr, ℕ, suc, ◌+◌, ◌<◌, ◌≤◌, Bool, true, false, List, [], ◌∷◌, ◌++◌, length, zero, Option, Some, None, refl, ap, subst, arith}
+use Rattle.std.specs.Prelude.{nat_le, not, ◌||◌, if◌then◌else◌}
 use Rattle.std.proofs.lemmas.List.{length-append}
 use Rattle.iasl_messages.specs.declared.place.Place.{Place}
 use Rattle.acpi_values.specs.Widths.{ones_of}
 use Rattle.acpi_values.specs.declared.width.Width.TheVariants.{W64}
 use Rattle.asl_tree.specs.declared.term.Op.{Op}
-use Rattle.asl_tree.specs.Tree.{Tree, Integer, String, Trees, no_trees, tree, count}
-use Rattle.asl_tree.specs.View.{body_bytes, listed as bytes_listed}
-use Rattle.named_sessions.specs.Shaped.{IsShaped, AreShaped, AreShapedElements, AreShapedValues}
-use Rattle.asl_shape.specs.declared.operator.Parameter.{Parameter}
-use Rattle.asl_shape.specs.declared.operator.Slot.{Slot}
-use Rattle.asl_shape.specs.declared.operator.Slot.TheVariants as slot
-use Rattle.asl_shape.specs.declared.operator.StringForm.TheVariants as texts
-use Rattle.asl_shape.specs.declared.operator.Body.{Body}
-use Rattle.asl_shape.specs.declared.operator.Body.TheVariants as braces
-use Rattle.asl_shape.specs.declared.item.Meaning.{Meaning}
-use Rattle.asl_shape.specs.declared.item.Meaning.TheVariants as is
-use Rattle.asl_shape.specs.Operators.{parameters_of, body_of}
-use Rattle.asl_shape.specs.Written as piece
-use Rattle.asl_shape.specs.Written.{Written, Writtens, Group, item, apply, listed, comma, semicolon, empty, none, more, absent, given}
-use Rattle.asl_shape.specs.Plans.{Plan, omitted, Plans, no_plans, how_many}
-use Rattle.asl_shape.specs.Shapes.{Shaped, fine, refused, nowhere, meaning_of, is_given, is_empty, is_separator, inside_of, has_arguments, takes, may_end, none_empty, is_call, left_out, evaluated, checked, place_of, joined, skipped, list_shape, is_listed, byte_slot, behind_if, within, form_shape, bare, operands, call_args, arguments, arguments_in, contents, members, terms, reading_of, read_shape, string_shape, fault_at}
+use Rattle.acpi_state.specs.Outcomes.{choose}
+use Rattle.acpi_values.specs.Paths.{NameSeg}
+use Rattle.asl_tree.specs.FieldItems.{FieldItem, UnitItem, SkipItem, OffsetItem}
+use Rattle.asl_tree.specs.Names.{single_in}
+use Rattle.asl_tree.specs.Tree.{Tree, Integer, String, Item, UnitName as FieldName, Trees, no_trees, tree, count}
+use Rattle.asl_tree.specs.View.{body_bytes, items_in, listed as bytes_listed}
+use Rattle.aml_code.specs.Fronts.{IsUsedName, AreSegments, is_segment}
+use Rattle.named_sessions.specs.Shaped.{IsFormed, AreFormed, AreFormedElements, AreFormedValues, AreNamed}
+use Rattle.asl_words.specs.declared.operator.Parameter.{Parameter}
+use Rattle.asl_words.specs.declared.operator.Slot.{Slot}
+use Rattle.asl_words.specs.declared.operator.Slot.TheVariants as slot
+use Rattle.asl_words.specs.declared.operator.StringForm.TheVariants as texts
+use Rattle.asl_words.specs.declared.operator.Body.{Body}
+use Rattle.asl_words.specs.declared.operator.Body.TheVariants as braces
+use Rattle.asl_words.specs.declared.meaning.Meaning.{Meaning}
+use Rattle.asl_words.specs.declared.meaning.Meaning.TheVariants as is
+use Rattle.asl_words.specs.Operators.{parameters_of, body_of, offset_parameters}
+use Rattle.asl_words.specs.declared.operator.WordKind.TheVariants as kind
+use Rattle.asl_shape.specs.declared.fields.Due.{Due}
+use Rattle.asl_shape.specs.declared.fields.UnitName.{UnitName}
+use Rattle.asl_parser.specs.Written as piece
+use Rattle.asl_parser.specs.Written.{Written, Writtens, Group, item, apply, listed, comma, semicolon, empty, none, more, absent, given}
+use Rattle.asl_shape.specs.Plans.{Plan, omitted, a_name, a_unit, a_skip, an_offset, Plans, no_plans, plan, join, number_of, how_many}
+use Rattle.asl_shape.specs.Shapes.{Shaped, fine, refused, nowhere, is_given, is_empty, is_separator, inside_of, has_arguments, takes, none_empty, is_call, left_out, evaluated, checked, place_of, joined, skipped, list_shape, is_listed, byte_slot, behind_if, within, form_shape, bare, operands, call_args, arguments, arguments_in, contents, members, terms, read_shape, string_shape, fault_at, offset_shape, meaning_in, is_field_list, begin, field_slot, named_unit, unit_behind, offset_alone, of_bits, field_part, due_behind, elements}
+use Rattle.asl_words.specs.Meanings.{meaning_of, may_end, reading_of, slot_as, is_space_word}
 use Rattle.asl_shape.specs.Shapes as shapes
 use Rattle.program_shapes.specs.Kept.{IsKept, AreArguments, EachArgument, AreMembers, EachMember}
-use Rattle.program_shapes.proofs.Fits.{Fits, IsAtMost, IsNumber}
+use Rattle.program_shapes.proofs.Fits.{Fits, IsAtMost, IsNumber, IsElement}
+use Rattle.program_shapes.proofs.Forms.{ListFit}
 use Rattle.program_shapes.proofs.Operators.{BodyFit}
 use Rattle.program_shapes.proofs.Words.{path_ok, meaning_ok, both_true, IsRightMeaning}
-use Rattle.asl_numbers.specs.Numbers.{numbered_all}
+use Rattle.asl_numbers.specs.Numbers.{numbered, numbered_all}
 use Rattle.program_shapes.proofs.Plans.{PlanAs, PlansAs, PlanTakes, PlansFit, none_as, more_as, count_as}
 use Rattle.program_shapes.proofs.Evaluated.{loose, checked_fit}
 use Rattle.program_shapes.proofs.Parts.{none_in, number_fit, text_fit, string_fit, listed_fit, form_fit, read_fit, item_fit, has_call}
@@ -163,6 +173,95 @@ is_called _ ws h e = absurd cc
 takes_of : (m : Meaning) (op : Op) (ws : Writtens) → m ≡ is.Operator op → has_arguments m ws ≡ true → takes (parameters_of op) ws ≡ true
 takes_of m op ws e h = subst (λ m. has_arguments m ws ≡ true) e h
 
+-- an argument fits as it is asked for, however it is read
+as_asked : (b : Bool) (s : Slot) (m : Meaning) (p : Plan) → PlanTakes b (slot_as s m) p → PlanTakes b s p
+as_asked b slot.Space m p h = by (is_space_word m) b h
+  where
+    by : (t b : Bool) → PlanTakes b (if t then slot.Word kind.Space else slot.Constant 128 255) p → PlanTakes b slot.Space p
+    by true true h = h
+    by true false h = h
+    by false true h = h
+    by false false h = h
+as_asked b _ m p h = h
+
+offset_fit : (args : Shaped Plans) → PlanAs IsElement (offset_shape args).made
+unfolding numbered
+offset_fit args = λ at next. tt
+
+-- ---- the list of a field
+
+abbrev AreListed : Trees → Type 0
+AreListed ts = ListFit (items_in ts)
+
+abbrev UnitFits : Option UnitName → Type 0
+UnitFits None = Unit {0}
+UnitFits (Some unit) = is_segment unit.segment ≡ true
+
+abbrev IsNamedItem : Tree → Type 0
+IsNamedItem (Item part) = AreNamed (part ∷ [])
+IsNamedItem _ = ⊥
+
+item_listed : (t : Tree) (ts : Trees) → IsNamedItem t → AreListed ts → AreListed (tree t ts)
+item_listed (Item part) ts h k = by (items_in ts) k
+  where
+    both : (part : FieldItem FieldName) (items : List (FieldItem FieldName)) → AreNamed (part ∷ []) → AreNamed items → AreNamed (part ∷ items)
+    both (UnitItem name bits) items h k = (h.0, k)
+    both (SkipItem bits) items h k = k
+    both (OffsetItem bytes) items h k = k
+
+    by : (o : Option (List (FieldItem FieldName))) → ListFit o → ListFit (choose o None (λ items. Some (part ∷ items)))
+    by None k = absurd k
+    by (Some items) k = both part items h k
+item_listed _ ts h k = absurd h
+
+item_more : (place : Place) (p : Plan) (rest : Plans) → PlanAs IsNamedItem p → PlansAs AreListed rest → PlansAs AreListed (plan place p rest)
+item_more place p rest h k = more_as AreListed AreListed IsNamedItem place p rest item_listed h k
+
+unit_as : (segment : NameSeg) (bits : ℕ) → is_segment segment ≡ true → PlanAs IsNamedItem (a_unit segment bits)
+unfolding numbered
+unit_as segment bits h = λ at next. (h, tt)
+
+skip_as : (bits : ℕ) → PlanAs IsNamedItem (a_skip bits)
+unfolding numbered
+skip_as bits = λ at next. tt
+
+offset_as : (bytes : ℕ) → PlanAs IsNamedItem (an_offset bytes)
+unfolding numbered
+offset_as bytes = λ at next. tt
+
+alone_fit : (place : Place) (p : Plan) (rest : Plans) → PlansAs AreListed rest → PlansAs AreListed (join (offset_alone place p) rest)
+alone_fit place (an_offset bytes) rest k = item_more place (an_offset bytes) rest (offset_as bytes) k
+alone_fit place _ rest k = k
+
+bits_fit : (unit : Option UnitName) (place : Place) (n : ℕ) (rest : Plans) → UnitFits unit → PlansAs AreListed rest → PlansAs AreListed (join (of_bits unit place n) rest)
+bits_fit None place n rest u k = item_more place (a_skip n) rest (skip_as n) k
+bits_fit (Some unit) place n rest u k = item_more unit.place (a_unit unit.segment n) rest (unit_as unit.segment n u) k
+
+part_fit : (due : Due) (unit : Option UnitName) (place : Place) (separator : Bool) (shape : Shaped Plan) (rest : Plans) → UnitFits unit → PlansAs AreListed rest → PlansAs AreListed (join (field_part due unit place separator shape).made rest)
+part_fit Due.Element unit place true shape rest u k = k
+part_fit Due.Element unit place false shape rest u k = alone_fit place shape.made rest k
+part_fit Due.NameComma unit place true shape rest u k = k
+part_fit Due.NameComma unit place false shape rest u k = k
+part_fit Due.Bits unit place separator shape rest u k = bits_fit unit place (number_of shape.made) rest u k
+part_fit Due.Comma unit place separator shape rest u k = k
+
+single_fits : (place : Place) (root : Bool) (up : ℕ) (segs : List NameSeg) → AreSegments segs → UnitFits (choose (single_in root up segs) None (λ segment. Some (record { place = place; segment = segment })))
+single_fits place false zero (seg ∷ []) h = h.0
+single_fits place _ _ _ h = tt
+
+named_fits : (place : Place) (p : Plan) → PlanAs IsElement p → UnitFits (named_unit place p)
+unfolding numbered
+named_fits place (a_name path) h = let used : IsUsedName path = h (record { id = 0; place = place }) 0 in single_fits place path.root path.up path.segs used.is_name.segments
+named_fits place _ h = tt
+
+next_fits : (due : Due) (unit : Option UnitName) (place : Place) (separator : Bool) (shape : Shaped Plan) → UnitFits unit → (separator ≡ false → shape.faults ≡ [] → PlanAs (Fits (field_slot due)) shape.made)
+    → (field_part due unit place separator shape).faults ≡ [] → UnitFits (unit_behind due unit place separator shape.made)
+next_fits Due.Element unit place true shape u h e = tt
+next_fits Due.Element unit place false shape u h e = named_fits place shape.made (h refl e)
+next_fits Due.NameComma unit place separator shape u h e = u
+next_fits Due.Bits unit place separator shape u h e = tt
+next_fits Due.Comma unit place separator shape u h e = tt
+
 right_of : (m : Meaning) (op : Op) → m ≡ is.Operator op → IsRightMeaning m → IsRightMeaning (is.Operator op)
 right_of m op e h = subst IsRightMeaning e h
 
@@ -177,30 +276,32 @@ mutual
   bare_fit s inside (item at w args body) k sep emp e =
       let m : Meaning = meaning_of w (is_given body) in
       let form : Op → Shaped Plan = λ o. form_shape o at (arguments (parameters_of o) at inside args) (contents (body_of o) (within o inside) at body) in
-      item_fit (PlanAs (Fits (loose s))) s inside m (has_arguments m (inside_of args)) (is_given body) at (read_shape s at w (reading_of s m (is_given args)) (call_args inside args) form)
-      (λ has f. read_fit s at w m (is_given args) (call_args inside args) form (meaning_ok w (is_given body)) (path_ok w)
+      let offset : Shaped Plan = offset_shape (arguments offset_parameters at inside args) in
+      item_fit (PlanAs (Fits (loose s))) s inside m (has_arguments m (inside_of args)) (is_given body) at (read_shape s at w (reading_of s m (is_given args)) (call_args inside args) offset form)
+      (λ has f. read_fit s at w m (is_given args) (call_args inside args) offset form (meaning_ok w (is_given body)) (path_ok w)
       (λ c g. calls_fit inside args k.0 (is_called m (inside_of args) has c) g)
       (λ op is g. form_fit op at (arguments (parameters_of op) at inside args) (contents (body_of op) (within op inside) at body) (right_of m op is (meaning_ok w (is_given body)))
       (λ f. arguments_fit (parameters_of op) at inside args k.0 (takes_of m op (inside_of args) is has) f)
       (λ f. contents_fit (body_of op) (within op inside) at body k.1 f) g)
+      (λ g. offset_fit (arguments offset_parameters at inside args))
       f)
       e
   bare_fit s inside comma k sep emp e = absurd cc
   bare_fit s inside semicolon k sep emp e = absurd cc
   bare_fit s inside empty k sep emp e = absurd cc
 
-  calls_fit : (inside : Bool) (args : Group) → AreArguments args → none_empty (inside_of args) ≡ true → (call_args inside args).faults ≡ [] → PlansAs (AreShapedValues W64) (call_args inside args).made
-  calls_fit inside absent k t e = none_as (AreShapedValues W64) tt
+  calls_fit : (inside : Bool) (args : Group) → AreArguments args → none_empty (inside_of args) ≡ true → (call_args inside args).faults ≡ [] → PlansAs (AreFormedValues W64 AreNamed) (call_args inside args).made
+  calls_fit inside absent k t e = none_as (AreFormedValues W64 AreNamed) tt
   calls_fit inside (given ws) k t e = values_fit inside ws k t e
 
-  values_fit : (inside : Bool) (ws : Writtens) → EachArgument ws → none_empty ws ≡ true → (operands slot.Expression inside ws).faults ≡ [] → PlansAs (AreShapedValues W64) (operands slot.Expression inside ws).made
-  values_fit inside none k t e = none_as (AreShapedValues W64) tt
+  values_fit : (inside : Bool) (ws : Writtens) → EachArgument ws → none_empty ws ≡ true → (operands slot.Expression inside ws).faults ≡ [] → PlansAs (AreFormedValues W64 AreNamed) (operands slot.Expression inside ws).made
+  values_fit inside none k t e = none_as (AreFormedValues W64 AreNamed) tt
   values_fit inside (more w ws) k t e =
       let first : Shaped Plan = checked slot.Expression (place_of nowhere w) (bare slot.Expression inside w) in
       let rest : Shaped Plans = operands slot.Expression inside ws in
       let f = none_in first.faults rest.faults e in
       let g = both_true (not (is_empty w)) (none_empty ws) t in
-      more_as (AreShapedValues W64) (AreShapedValues W64) (Fits slot.Expression) (place_of nowhere w) first.made rest.made (λ t ts h i. (h.0, h.1, i))
+      more_as (AreFormedValues W64 AreNamed) (AreFormedValues W64 AreNamed) (Fits slot.Expression) (place_of nowhere w) first.made rest.made (λ t ts h i. (h.0, h.1, i))
       (checked_fit slot.Expression (place_of nowhere w) (bare slot.Expression inside w) (λ h. bare_fit slot.Expression inside w k.0 k.1 (not_true (is_empty w) g.0) h) f.0) (values_fit inside ws k.2 g.1 f.1)
 
   arguments_fit : (qs : List Parameter) (at : Place) (inside : Bool) (args : Group) → AreArguments args → takes qs (inside_of args) ≡ true → (arguments qs at inside args).faults ≡ [] → PlansFit qs (arguments qs at inside args).made
@@ -211,19 +312,22 @@ mutual
   each_fit qs at inside none k t e = left_fit qs at (ends qs t)
   each_fit [] at inside (more w ws) k t e = absurd cc
   each_fit (q ∷ qs) at inside (more w ws) k t e =
-      let first : Shaped Plan = checked q.slot (place_of nowhere w) (bare q.slot inside w) in
+      let s : Slot = slot_as q.slot (meaning_in w) in
+      let first : Shaped Plan = checked s (place_of nowhere w) (bare s inside w) in
       let f = none_in first.faults (arguments_in qs at inside ws).faults e in
       let g = both_true (q.omittable || not (is_empty w)) (takes qs ws) t in
-      (argument_fit q.omittable q.slot inside w (λ emp h. bare_fit q.slot inside w k.0 k.1 emp h) g.0 f.0, each_fit qs at inside ws k.2 g.1 f.1)
+      (as_asked q.omittable q.slot (meaning_in w) first.made (argument_fit q.omittable s inside w (λ emp h. bare_fit s inside w k.0 k.1 emp h) g.0 f.0), each_fit qs at inside ws k.2 g.1 f.1)
 
   contents_fit : (b : Body) (inside : Bool) (at : Place) (body : Group) → AreMembers body → (contents b inside at body).faults ≡ [] → PlansAs (BodyFit b) (contents b inside at body).made
   contents_fit braces.No inside at absent k e = none_as (BodyFit braces.No) refl
   contents_fit braces.Terms inside at absent k e = none_as (BodyFit braces.Terms) tt
   contents_fit braces.Bytes inside at absent k e = none_as (BodyFit braces.Bytes) (omega arith)
+  contents_fit braces.FieldList inside at absent k e = none_as AreListed tt
   contents_fit braces.Elements inside at absent k e = none_as (BodyFit braces.Elements) (tt, omega arith)
   contents_fit braces.No inside at (given ws) k e = none_as (BodyFit braces.No) refl
   contents_fit braces.Terms inside at (given ws) k e = terms_fit inside false ws k.0 e
   contents_fit braces.Bytes inside at (given ws) k e = list_fit (BodyFit braces.Bytes) (is_listed true ws) at (members (byte_slot ws) inside ws) (λ f. bytes_fit inside ws k.0 k.1 (λ g. octets_fit inside ws k.0 g) f) e
+  contents_fit braces.FieldList inside at (given ws) k e = list_fit AreListed (is_field_list begin ws) at (elements begin None inside ws) (λ f. parts_fit begin None inside ws tt k.0 f) e
   contents_fit braces.Elements inside at (given ws) k e =
       list_fit (BodyFit braces.Elements) (is_listed true ws) at (members slot.Element inside ws)
       (λ f. λ m. (
@@ -234,10 +338,22 @@ mutual
             omega (arith, all, some, lt)),
       )) e
 
-  elements_fit : (inside : Bool) (ws : Writtens) → EachMember ws → (members slot.Element inside ws).faults ≡ [] → PlansAs (AreShapedElements W64) (members slot.Element inside ws).made
-  elements_fit inside none k e = none_as (AreShapedElements W64) tt
+  parts_fit : (due : Due) (unit : Option UnitName) (inside : Bool) (ws : Writtens) → UnitFits unit → EachMember ws → (elements due unit inside ws).faults ≡ [] → PlansAs AreListed (elements due unit inside ws).made
+  parts_fit due unit inside none u k e = none_as AreListed tt
+  parts_fit due unit inside (more w ws) u k e =
+      let at : Place = place_of nowhere w in
+      let shape : Shaped Plan = checked (field_slot due) at (bare (field_slot due) inside w) in
+      let part : Shaped Plans = field_part due unit at (is_separator w) shape in
+      let next : Option UnitName = unit_behind due unit at (is_separator w) shape.made in
+      let rest : Shaped Plans = elements (due_behind due w) next inside ws in
+      let f = none_in part.faults rest.faults e in
+      let fits : UnitFits next = next_fits due unit at (is_separator w) shape u (λ sep g. checked_fit (field_slot due) at (bare (field_slot due) inside w) (λ h. bare_fit (field_slot due) inside w k.0 sep k.1 h) g) f.0 in
+      part_fit due unit at (is_separator w) shape rest.made u (parts_fit (due_behind due w) next inside ws fits k.2 f.1)
+
+  elements_fit : (inside : Bool) (ws : Writtens) → EachMember ws → (members slot.Element inside ws).faults ≡ [] → PlansAs (AreFormedElements W64 AreNamed) (members slot.Element inside ws).made
+  elements_fit inside none k e = none_as (AreFormedElements W64 AreNamed) tt
   elements_fit inside (more w ws) k e =
-      skipped_fit (AreShapedElements W64) (Fits slot.Element) (is_separator w) (place_of nowhere w) (checked slot.Element (place_of nowhere w) (bare slot.Element inside w)) (members slot.Element inside ws) (λ t ts h i. (h, i))
+      skipped_fit (AreFormedElements W64 AreNamed) (Fits slot.Element) (is_separator w) (place_of nowhere w) (checked slot.Element (place_of nowhere w) (bare slot.Element inside w)) (members slot.Element inside ws) (λ t ts h i. (h, i))
       (λ sep f. checked_fit slot.Element (place_of nowhere w) (bare slot.Element inside w) (λ h. bare_fit slot.Element inside w k.0 sep k.1 h) f) (λ f. elements_fit inside ws k.2 f) e
 
   octets_fit : (inside : Bool) (ws : Writtens) → EachMember ws → (members (slot.Constant 0 255) inside ws).faults ≡ [] → PlansAs AreNumbers (members (slot.Constant 0 255) inside ws).made
@@ -247,13 +363,13 @@ mutual
       (λ t ts h i. (is_number 255 t h, i))
       (λ sep f. checked_fit (slot.Constant 0 255) (place_of nowhere w) (bare (slot.Constant 0 255) inside w) (λ h. bare_fit (slot.Constant 0 255) inside w k.0 sep k.1 h) f) (λ f. octets_fit inside ws k.2 f) e
 
-  pub terms_fit : (inside behind : Bool) (ws : Writtens) → EachMember ws → (terms inside behind ws).faults ≡ [] → PlansAs (AreShaped W64) (terms inside behind ws).made
-  terms_fit inside behind none k e = none_as (AreShaped W64) tt
+  pub terms_fit : (inside behind : Bool) (ws : Writtens) → EachMember ws → (terms inside behind ws).faults ≡ [] → PlansAs (AreFormed W64 AreNamed) (terms inside behind ws).made
+  terms_fit inside behind none k e = none_as (AreFormed W64 AreNamed) tt
   terms_fit inside behind (more w ws) k e =
-      skipped_fit (AreShaped W64) (IsShaped W64) (is_separator w) (place_of nowhere w) (checked (slot.Term behind) (place_of nowhere w) (bare (slot.Term behind) inside w)) (terms inside (behind_if behind w) ws) (λ t ts h i. (h, i))
+      skipped_fit (AreFormed W64 AreNamed) (IsFormed W64 AreNamed) (is_separator w) (place_of nowhere w) (checked (slot.Term behind) (place_of nowhere w) (bare (slot.Term behind) inside w)) (terms inside (behind_if behind w) ws) (λ t ts h i. (h, i))
       (λ sep f. checked_fit (slot.Term behind) (place_of nowhere w) (bare (slot.Term behind) inside w) (λ h. bare_fit (slot.Term behind) inside w k.0 sep k.1 h) f) (λ f. terms_fit inside (behind_if behind w) ws k.2 f) e
 
 -- the terms of a block
-pub in_braces : (body : Group) → AreMembers body → (terms false false (inside_of body)).faults ≡ [] → PlansAs (AreShaped W64) (terms false false (inside_of body)).made
-in_braces absent k e = none_as (AreShaped W64) tt
+pub in_braces : (body : Group) → AreMembers body → (terms false false (inside_of body)).faults ≡ [] → PlansAs (AreFormed W64 AreNamed) (terms false false (inside_of body)).made
+in_braces absent k e = none_as (AreFormed W64 AreNamed) tt
 in_braces (given ws) k e = terms_fit false false ws k.0 e

@@ -11,12 +11,13 @@ use Rattle.asl_tree.specs.declared.term.Op.{Op}
 use Rattle.asl_tree.specs.declared.term.Declaration.TheVariants as Declaration
 use Rattle.asl_tree.specs.declared.term.Control.TheVariants as Control
 use Rattle.asl_tree.specs.declared.term.Special.TheVariants as Special
+use Rattle.asl_tree.specs.declared.term.Symbolic.TheVariants as Symbolic
 use Rattle.asl_tree.specs.Tree.{At, Tree, Integer, Omitted, Use, Package, VarPackage, Field, IndexField, BankField, Item, Misshapen, UnitName, Trees, no_trees, tree, count}
-use Rattle.asl_tree.specs.View.{form, operands_as, targets_of, plain_of, not_of, apply_of, buffer, body_bytes, counted, packaged, items_in}
-use Rattle.asl_shape.specs.Written.{Writtens}
+use Rattle.asl_tree.specs.View.{fits, operated, symbol_of, form, operands_as, targets_of, plain_of, not_of, apply_of, buffer, body_bytes, counted, packaged, items_in}
+use Rattle.asl_parser.specs.Written.{Writtens}
 use Rattle.asl_shape.specs.Plans.{Plan, an_integer, a_text, a_fill, a_word, a_local, an_arg, debug, omitted, a_name, a_unit, a_skip, an_offset, a_call, a_form, Plans, no_plans, plan}
 use Rattle.asl_shape.specs.Forms.{terms_of}
-use Rattle.asl_shape.specs.Places as source
+use Rattle.asl_parser.specs.Within as source
 use Rattle.asl_numbers.specs.Numbers.{inside, nodes, numbered, numbered_all}
 use Rattle.named_sessions.specs.Places.{IsIn, IsWithin, AreWithin, AreItemsWithin}
 use Rattle.program_shapes.specs.Places.{PlanWithin, PlansWithin}
@@ -49,6 +50,19 @@ module _ (files : ℕ) where
   apply_within (Plain.Number IntOp.LLessEqual) args h = not_within IntOp.LGreater args h
   apply_within (Plain.Number IntOp.LGreaterEqual) args h = not_within IntOp.LLess args h
   apply_within op args h = plain_within op args h
+
+  operated_within : (op : Plain) (args : Trees) → AreWithin files args → IsWithin files (operated op args)
+  operated_within (Plain.Number IntOp.LNotEqual) args h = (h, tt)
+  operated_within (Plain.Number IntOp.LLessEqual) args h = (h, tt)
+  operated_within (Plain.Number IntOp.LGreaterEqual) args h = (h, tt)
+  operated_within op args h = h
+
+  symbol_within : (op : Plain) (args : Trees) → AreWithin files args → IsWithin files (symbol_of op args)
+  symbol_within op args h = by_fit (fits (row_of op).operands args)
+    where
+      by_fit : (c : Bool) → IsWithin files (if c then operated op (operands_as (row_of op).operands args) else Misshapen)
+      by_fit true = operated_within op (operands_as (row_of op).operands args) (operands_within (row_of op).operands args h)
+      by_fit false = tt
 
   -- ---- buffers, packages and fields
 
@@ -116,6 +130,7 @@ module _ (files : ℕ) where
   form_within here (Op.Declaration Declaration.CreateQWordField) (tree source (tree index (tree (Use at name) no_trees))) no_trees h a b = ((a.0, (a.1.0, tt)), a.1.1.0)
   form_within here (Op.Control Control.Return) (tree value no_trees) no_trees h a b = a.0
   form_within here (Op.Control Control.If) (tree test no_trees) body h a b = (a.0, b)
+  form_within here (Op.Control Control.ElseIf) (tree test no_trees) body h a b = (a.0, b)
   form_within here (Op.Control Control.Else) no_trees body h a b = b
   form_within here (Op.Control Control.While) (tree test no_trees) body h a b = (a.0, b)
   form_within here (Op.Control Control.Break) no_trees no_trees h a b = tt
@@ -125,6 +140,9 @@ module _ (files : ℕ) where
   form_within here (Op.Special Special.CondRefOf) (tree place (tree target no_trees)) no_trees h a b = (a.0, a.1.0)
   form_within here (Op.Special Special.Buffer) (tree size no_trees) body h a b = buffer_within size (body_bytes body) a.0
   form_within here (Op.Special Special.Package) (tree size no_trees) body h a b = packaged_within size body a.0 b
+  form_within here (Op.Symbolic (Symbolic.Operator op)) args no_trees h a b = symbol_within op args a
+  form_within here (Op.Symbolic Symbolic.Assign) (tree target (tree value no_trees)) no_trees h a b = (a.0, a.1.0)
+  form_within here (Op.Symbolic (Symbolic.AssignBy op)) (tree target (tree value no_trees)) no_trees h a b = (a.0, a.1.0)
   form_within here _ _ _ h a b = tt
 
   -- ---- numbered trees
@@ -142,7 +160,7 @@ module _ (files : ℕ) where
     numbered_in at next debug h k = tt
     numbered_in at next omitted h k = tt
     numbered_in at next (a_name name) h k = h
-    numbered_in at next (a_unit name bits) h k = h
+    numbered_in at next (a_unit segment bits) h k = h
     numbered_in at next (a_skip bits) h k = tt
     numbered_in at next (an_offset bytes) h k = tt
     numbered_in at next (a_call name args) h k = (h, all_in next args k)

@@ -4,21 +4,21 @@ use Rattle.std.specs.Prelude.{◌==◌, ◌&&◌, nat_lt, nat_le, if◌then◌el
 use Rattle.std.specs.Option.{IfSome}
 use Rattle.std.specs.List.{find, list_all}
 use Rattle.std.proofs.lemmas.Bool.{leb-true}
-use Rattle.asl_tree.specs.declared.term.Declaration.TheVariants as Declaration
 use Rattle.acpi_state.specs.Outcomes.{choose}
 use Rattle.acpi_values.specs.Paths.{NameSeg}
 use Rattle.asl_tree.specs.declared.term.Op.{Op}
 use Rattle.aml_code.specs.Fronts.{IsUsedName, AreSegments, is_segment, HasStart}
-use Rattle.asl_shape.specs.declared.operator.Operator.{Operator}
-use Rattle.asl_shape.specs.declared.operator.Named.{Named}
-use Rattle.asl_shape.specs.declared.operator.Known.{Known}
-use Rattle.asl_shape.specs.declared.operator.Known.TheVariants as known
-use Rattle.asl_shape.specs.declared.item.Meaning.{Meaning}
-use Rattle.asl_shape.specs.declared.item.Meaning.TheVariants as is
-use Rattle.asl_shape.specs.Operators.{operators, words, row_in, named_in, op_in, known_in, operator_of, word_of, is_filled}
-use Rattle.asl_shape.specs.Paths.{is_lead, is_name_byte, is_dot, is_path, segment_with, segment_of, with_first, words_of, behind_segment, segments_of, segments_in, rest_segments, path_with, carets, relative_path, path_of}
-use Rattle.asl_shape.specs.Shapes.{meaning_of, name_or_unknown, known_as}
+use Rattle.asl_words.specs.declared.operator.Named.{Named}
+use Rattle.asl_words.specs.declared.operator.Known.{Known}
+use Rattle.asl_words.specs.declared.operator.Known.TheVariants as known
+use Rattle.asl_words.specs.declared.meaning.Meaning.{Meaning}
+use Rattle.asl_words.specs.declared.meaning.Meaning.TheVariants as is
+use Rattle.asl_words.specs.Operators.{operators, words, row_in, named_in, op_in, known_in, operator_of, word_of, is_filled}
+use Rattle.asl_words.specs.declared.operator.Operator.{Operator}
+use Rattle.asl_tree.specs.declared.term.Control.TheVariants as Control
 use Rattle.program_shapes.proofs.Operators.{IsBuilt}
+use Rattle.asl_words.specs.Paths.{is_lead, is_name_byte, is_dot, is_path, segment_with, segment_of, with_first, words_of, behind_segment, segments_of, segments_in, rest_segments, path_with, carets, relative_path, path_of}
+use Rattle.asl_words.specs.Meanings.{meaning_of, name_or_unknown, known_as}
 
 -- ---- paths
 
@@ -142,17 +142,13 @@ IsRightMeaning _ = Unit {0}
 
 -- the same, computed
 abbrev is_built : Op → Bool
-is_built (Op.Declaration Declaration.OperationRegion) = false
-is_built (Op.Declaration Declaration.Field) = false
-is_built (Op.Declaration Declaration.IndexField) = false
-is_built (Op.Declaration Declaration.BankField) = false
+is_built (Op.Control Control.ElseIf) = false
+is_built (Op.Symbolic symbol) = false
 is_built op = true
 
 built : (op : Op) → is_built op ≡ true → IsBuilt op
-built (Op.Declaration Declaration.OperationRegion) e = absurd cc
-built (Op.Declaration Declaration.Field) e = absurd cc
-built (Op.Declaration Declaration.IndexField) e = absurd cc
-built (Op.Declaration Declaration.BankField) e = absurd cc
+built (Op.Control Control.ElseIf) e = absurd cc
+built (Op.Symbolic symbol) e = absurd cc
 built op e = tt
 
 abbrev is_right : Known → Bool
@@ -166,6 +162,7 @@ right (known.Local i) e = leb-true (suc i) 8 e
 right (known.Arg i) e = leb-true (suc i) 7 e
 right (known.Word kind n) e = leb-true n 255 e
 right known.Debug e = tt
+right known.Offset e = tt
 right known.LeftOut e = tt
 
 all_built : list_all (λ row. is_built row.op) operators ≡ true
@@ -194,6 +191,7 @@ words_ok text = known_ok (named_in words text) (found_ok (λ row. is_right row.k
 
 known_means : (k : Known) → IsRightKnown k → IsRightMeaning (known_as k)
 known_means known.LeftOut h = tt
+known_means known.Offset h = tt
 known_means _ h = h
 
 name_means : (text : List ℕ) (has_body : Bool) → IsRightMeaning (name_or_unknown text has_body)

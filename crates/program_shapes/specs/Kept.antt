@@ -2,8 +2,8 @@
 use Rattle.std.specs.Prelude.{◌≡◌, ◌<◌, ◌≤◌, false, length}
 use Rattle.acpi_values.specs.Widths.{ones_of}
 use Rattle.acpi_values.specs.declared.width.Width.TheVariants.{W64}
-use Rattle.asl_shape.specs.Written as piece
-use Rattle.asl_shape.specs.Written.{Written, Writtens, Group, item, none, more, absent, given}
+use Rattle.asl_parser.specs.Written as piece
+use Rattle.asl_parser.specs.Written.{Written, Writtens, Group, item, none, more, absent, given}
 use Rattle.asl_shape.specs.Shapes.{is_empty, is_separator}
 use Rattle.asl_shape.specs.Shapes as shapes
 

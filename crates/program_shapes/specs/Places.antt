@@ -1,7 +1,7 @@
 -- Where the parts of a plan stand.
 use Rattle.std.specs.Prelude.{ℕ}
 use Rattle.asl_shape.specs.Plans.{Plan, a_call, a_form, Plans, no_plans, plan}
-use Rattle.asl_shape.specs.Places.{IsIn}
+use Rattle.asl_parser.specs.Within.{IsIn}
 
 -- each part of the plan, at any depth, stands in one of so many files
 abbrev mutual

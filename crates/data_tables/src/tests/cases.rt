@@ -235,7 +235,7 @@ pub static CASES: [Case; 55] = [
         Part::Nothing,
         b"64K Page Protect : 0\n",
         b"64K Page Protect : 0\n[0001] Space ID\n",
-        b"6092@22 "
+        b"6093@22 "
     ),
     // no number
     case!(

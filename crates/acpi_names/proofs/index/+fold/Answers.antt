@@ -154,3 +154,7 @@ fold_term-returns-in_ok-value-in_default-clause-told t c =
     let flat : is_form_shape (term_shape c.args.node.now.term) ≡ false = ap is_form_shape (sym c.shape_of.ensures.shape) ∙ not_formed c.shape_of.result c.in_default.not-Form in
     told_as c.args.index.now.paths c.args.index.now.paths c.args.index.now.named.items c.args.out.now.items c.value.new.out.items _ _ (λ d agrees. sym (plain_mentions (at_of c.args.node.now) c.args.node.now.term (get_or c.args.index.now.paths c.args.scope []) d flat))
     (told_value c.args.index.now.paths c.args.index.now.named.items c.args.out.now.items c.value.new.out.items c.args.scope (λ s. mentions true (node_tree c.args.node.now) s) c.requires.scope_in c.in_ok-value-in_default.ensures)
+
+pub fold_form-returns-in_ok-fold_field-in-Units-clause-told : goal.fold_form-returns-in_ok-fold_field-in-Units-clause-told
+fold_form-returns-in_ok-fold_field-in-Units-clause-told t c =
+    told_by c.args.index.now.paths c.fold_field.new.index.paths c.args.index.now.named.items c.args.out.now.items c.fold_field.new.out.items (P.Units c.in-Units.over) _ c.args.here c.args.op (trees_of c.args.args.now) (trees_of c.args.body.now) (get_or c.args.index.now.paths c.args.scope []) c.in-Units.ensures (c.in_ok-fold_field-in-Units.ensures.told c.args.op)

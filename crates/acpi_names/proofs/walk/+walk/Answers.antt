@@ -1,10 +1,11 @@
-use Rattle.std.proofs.Common.{[], ◌++◌, ◌+◌, get_or, drop, refl, sym, ap, ◌∙◌, arith}
+use Rattle.std.proofs.Common.{[], ◌∷◌, ◌++◌, ◌+◌, get_or, drop, refl, sym, ap, ◌∙◌, arith}
 use Rattle.asl_tree.specs.View.{trees_of}
 use Rattle.asl_operators.specs.Letters.{letters_as}
-use Rattle.acpi_names.specs.Mentions.{mentions, mentions_all, element_mentions}
+use Rattle.acpi_names.specs.Mentions.{Used', mentions, mentions_all, element_mentions}
 use Rattle.acpi_names.specs.Walked.{value_mentions, optional_mentions, argument_mentions, node_tree, OfName, OfCall, OfForm, Another}
+use Rattle.acpi_names.specs.Shown.{asked_as, spot_as}
 use Rattle.acpi_names.proofs.Trees.{node_smaller}
-use Rattle.acpi_names.proofs.Telling.{cond_two, cond_few, cond_many, cond_name, cond_other, not_named, argument_next, tells_none, tells_one, tells_then, tells_as, tells_shape, tells_call, remains_next, remains_none}
+use Rattle.acpi_names.proofs.Telling.{cond_two, cond_few, cond_many, cond_name, cond_other, used_name, used_other, not_named, argument_next, tells_none, tells_one, tells_then, tells_as, tells_shape, tells_call, remains_next, remains_none, assign_two, assign_few, assign_many}
 use Rattle.acpi_names.proofs.walk.+walk.Goals as goal
 
 pub values-value-requires : goal.values-value-requires
@@ -35,7 +36,8 @@ spot-returns t c =
 
 pub value-returns-in_ok-push-in-Name : goal.value-returns-in_ok-push-in-Name
 value-returns-in_ok-push-in-Name t c =
-    tells_shape c.args.asked c.args.node.now c.spot_of-at.result c.args.scope (OfName c.in-Name.name.now) c.args.out.now.items c.push.new.self.items c.spot_of-at.ensures c.in-Name.ensures.shape (tells_one c.args.out.now.items c.push.new.self.items _ c.in_ok-push-in-Name.ensures.items)
+    tells_shape c.args.asked c.args.node.now c.spot_of-at.result c.args.scope (OfName c.in-Name.name.now) c.args.out.now.items c.push.new.self.items c.spot_of-at.ensures c.in-Name.ensures.shape
+    (tells_as c.args.out.now.items c.push.new.self.items _ _ (λ ps. ap (λ asked. Used' asked (spot_as c.spot_of-at.result) c.in-Name.name.now (get_or ps c.args.scope []) ∷ []) c.asked_value.ensures) (tells_one c.args.out.now.items c.push.new.self.items _ c.in_ok-push-in-Name.ensures.items))
 
 pub value-returns-in_ok-values-in-Call : goal.value-returns-in_ok-values-in-Call
 value-returns-in_ok-values-in-Call t c =
@@ -77,18 +79,38 @@ form-returns-in_default-2 t c =
     ∙ ap (λ f. value_mentions f c.args.asked (trees_of c.args.args.now) (trees_of c.args.body.now) (get_or ps c.args.scope [])) (sym c.in-CondRefOf.is ∙ c.value_form_for.ensures))
     (tells_none c.args.out.now.items)
 
+pub assignment-value-requires : goal.assignment-value-requires
+assignment-value-requires t c = omega (arith, c.decreases, node_smaller c.args.args.now 1 c.given-item.result (omega (arith, c.in-len2.len_at_least)) c.given-item.is)
+
+pub assignment-spot-requires : goal.assignment-spot-requires
+assignment-spot-requires t c = omega (arith, c.decreases, node_smaller c.args.args.now 0 c.target-item.result (omega (arith, c.in-len2.len_at_least)) c.target-item.is)
+
+pub assignment-returns-in_ok-spot-in-len2 : goal.assignment-returns-in_ok-spot-in-len2
+assignment-returns-in_ok-spot-in-len2 t c =
+    tells_as c.args.out.now.items c.spot.new.out.items _ _ (λ ps.
+    sym (assign_two c.args.asked c.args.args.now c.target-item.result c.given-item.result (get_or ps c.args.scope []) c.in-len2.len_at_least c.in-len2.len_below c.target-item.is c.given-item.is))
+    (tells_then c.args.out.now.items c.value.new.out.items c.spot.new.out.items _ _ c.in_ok-value-in-len2.ensures c.in_ok-spot-in-len2.ensures)
+
+pub assignment-returns-in_default : goal.assignment-returns-in_default
+assignment-returns-in_default t c =
+    tells_as c.args.out.now.items c.args.out.now.items _ _ (λ ps. sym (assign_few c.args.asked c.args.args.now (get_or ps c.args.scope []) c.in_default.len_below)) (tells_none c.args.out.now.items)
+
+pub assignment-returns-in_default-2 : goal.assignment-returns-in_default-2
+assignment-returns-in_default-2 t c =
+    tells_as c.args.out.now.items c.args.out.now.items _ _ (λ ps. sym (assign_many c.args.asked c.args.args.now (get_or ps c.args.scope []) c.in_default.len_at_least)) (tells_none c.args.out.now.items)
+
 pub operands-argument-requires : goal.operands-argument-requires
 operands-argument-requires t c = omega (arith, c.decreases, node_smaller c.args.nodes.now c.loop-index.index c.index-nodes-index.result c.loop-index-test.true c.index-nodes-index.is)
 
 pub operands-loop-index-preserved : goal.operands-loop-index-preserved
 operands-loop-index-preserved t c =
-    remains_next c.args.nodes.now c.loop-index.index c.index-nodes-index.result c.args.out.now.items c.loop-index.out.items c.argument.new.out.items (λ ps. optional_mentions c.args.asked c.letter_at.result (node_tree c.index-nodes-index.result) (get_or ps c.args.scope [])) (λ ps ts. argument_mentions c.args.asked (drop c.loop-index.index (letters_as c.args.letters.now)) ts (get_or ps c.args.scope [])) (λ ps ts. argument_mentions c.args.asked (drop (c.loop-index.index + 1) (letters_as c.args.letters.now)) ts (get_or ps c.args.scope [])) (λ ps. argument_mentions c.args.asked (letters_as c.args.letters.now) (trees_of c.args.nodes.now) (get_or ps c.args.scope [])) c.loop-index-test.true c.index-nodes-index.is
-    (λ ps ts. argument_next c.args.asked c.args.letters.now c.loop-index.index (node_tree c.index-nodes-index.result) ts (get_or ps c.args.scope [])
-    ∙ ap (λ o. optional_mentions c.args.asked o (node_tree c.index-nodes-index.result) (get_or ps c.args.scope []) ++ argument_mentions c.args.asked (drop (c.loop-index.index + 1) (letters_as c.args.letters.now)) ts (get_or ps c.args.scope [])) (sym c.letter_at.ensures)) c.loop-index.invariant c.in_ok-argument.ensures
+    remains_next c.args.nodes.now c.loop-index.index c.index-nodes-index.result c.args.out.now.items c.loop-index.out.items c.argument.new.out.items (λ ps. optional_mentions c.args.asked (asked_as c.args.uses) c.letter_at.result (node_tree c.index-nodes-index.result) (get_or ps c.args.scope [])) (λ ps ts. argument_mentions c.args.asked (asked_as c.args.uses) (drop c.loop-index.index (letters_as c.args.letters.now)) ts (get_or ps c.args.scope [])) (λ ps ts. argument_mentions c.args.asked (asked_as c.args.uses) (drop (c.loop-index.index + 1) (letters_as c.args.letters.now)) ts (get_or ps c.args.scope [])) (λ ps. argument_mentions c.args.asked (asked_as c.args.uses) (letters_as c.args.letters.now) (trees_of c.args.nodes.now) (get_or ps c.args.scope [])) c.loop-index-test.true c.index-nodes-index.is
+    (λ ps ts. argument_next c.args.asked (asked_as c.args.uses) c.args.letters.now c.loop-index.index (node_tree c.index-nodes-index.result) ts (get_or ps c.args.scope [])
+    ∙ ap (λ o. optional_mentions c.args.asked (asked_as c.args.uses) o (node_tree c.index-nodes-index.result) (get_or ps c.args.scope []) ++ argument_mentions c.args.asked (asked_as c.args.uses) (drop (c.loop-index.index + 1) (letters_as c.args.letters.now)) ts (get_or ps c.args.scope [])) (sym c.letter_at.ensures)) c.loop-index.invariant c.in_ok-argument.ensures
 
 pub operands-returns : goal.operands-returns
 operands-returns t c =
-    remains_none c.args.nodes.now c.loop-index.index c.args.out.now.items c.loop-index.out.items (λ ps ts. argument_mentions c.args.asked (drop c.loop-index.index (letters_as c.args.letters.now)) ts (get_or ps c.args.scope [])) (λ ps. argument_mentions c.args.asked (letters_as c.args.letters.now) (trees_of c.args.nodes.now) (get_or ps c.args.scope [])) c.loop-index-test.false (λ ps. refl) c.loop-index.invariant
+    remains_none c.args.nodes.now c.loop-index.index c.args.out.now.items c.loop-index.out.items (λ ps ts. argument_mentions c.args.asked (asked_as c.args.uses) (drop c.loop-index.index (letters_as c.args.letters.now)) ts (get_or ps c.args.scope [])) (λ ps. argument_mentions c.args.asked (asked_as c.args.uses) (letters_as c.args.letters.now) (trees_of c.args.nodes.now) (get_or ps c.args.scope [])) c.loop-index-test.false (λ ps. refl) c.loop-index.invariant
 
 pub sought-returns-in_ok-push-in-Name : goal.sought-returns-in_ok-push-in-Name
 sought-returns-in_ok-push-in-Name t c =
@@ -97,3 +119,11 @@ sought-returns-in_ok-push-in-Name t c =
 pub sought-returns-in_ok-spot-in_default : goal.sought-returns-in_ok-spot-in_default
 sought-returns-in_ok-spot-in_default t c =
     tells_as c.args.out.now.items c.spot.new.out.items _ _ (λ ps. cond_other c.args.asked c.args.node.now (get_or ps c.args.scope []) (λ name e. not_named c.shape_of.result name c.in_default.not-Name (c.shape_of.ensures.shape ∙ e))) c.in_ok-spot-in_default.ensures
+
+pub used-returns-in_ok-push-in-Name : goal.used-returns-in_ok-push-in-Name
+used-returns-in_ok-push-in-Name t c =
+    tells_as c.args.out.now.items c.push.new.self.items _ _ (λ ps. used_name (asked_as c.args.uses) c.args.node.now c.spot_of-at.result c.in-Name.name.now (get_or ps c.args.scope []) c.spot_of-at.ensures c.in-Name.ensures.shape) (tells_one c.args.out.now.items c.push.new.self.items _ c.in_ok-push-in-Name.ensures.items)
+
+pub used-returns-in_ok-value-in_default : goal.used-returns-in_ok-value-in_default
+used-returns-in_ok-value-in_default t c =
+    tells_as c.args.out.now.items c.value.new.out.items _ _ (λ ps. used_other (asked_as c.args.uses) c.args.node.now (get_or ps c.args.scope []) (λ name e. not_named c.shape_of.result name c.in_default.not-Name (c.shape_of.ensures.shape ∙ e))) c.in_ok-value-in_default.ensures

@@ -2,6 +2,7 @@ use Rattle.std.proofs.Common.{◌+◌, ◌*◌, [], get_or, drop}
 use Rattle.asl_tree.specs.View.{trees_of}
 use Rattle.asl_operators.specs.Letters.{letters_as}
 use Rattle.acpi_names.specs.Mentions.{mentions_all, element_mentions}
+use Rattle.acpi_names.specs.Shown.{asked_as}
 use Rattle.acpi_names.specs.Walked.{argument_mentions}
 use Rattle.acpi_names.specs.Parts.{term_size, nodes_size}
 use Rattle.acpi_names.proofs.Telling.{Remains}
@@ -17,7 +18,7 @@ invariant-elements-loop-node l =
 
 abbrev pub invariant-operands-loop-index : goal.invariant-operands-loop-index
 invariant-operands-loop-index l =
-    Remains l.initial.out.items l.out.items (λ paths. argument_mentions l.asked (drop l.index (letters_as l.letters)) (trees_of (drop l.index l.nodes)) (get_or paths l.scope [])) (λ paths. argument_mentions l.asked (letters_as l.letters) (trees_of l.nodes) (get_or paths l.scope []))
+    Remains l.initial.out.items l.out.items (λ paths. argument_mentions l.asked (asked_as l.uses) (drop l.index (letters_as l.letters)) (trees_of (drop l.index l.nodes)) (get_or paths l.scope [])) (λ paths. argument_mentions l.asked (asked_as l.uses) (letters_as l.letters) (trees_of l.nodes) (get_or paths l.scope []))
 
 abbrev pub decreases-value : goal.decreases-value
 decreases-value l = 8 * (term_size l.node.now.term)
@@ -27,6 +28,9 @@ decreases-values l = 8 * (nodes_size l.nodes.now) + 1
 
 abbrev pub decreases-form : goal.decreases-form
 decreases-form l = 8 * (nodes_size l.args.now + nodes_size l.body.now) + 5
+
+abbrev pub decreases-assignment : goal.decreases-assignment
+decreases-assignment l = 8 * (nodes_size l.args.now) + 4
 
 abbrev pub decreases-operands : goal.decreases-operands
 decreases-operands l = 8 * (nodes_size l.nodes.now) + 3
@@ -39,6 +43,9 @@ decreases-spot l = 8 * (term_size l.node.now.term) + 1
 
 abbrev pub decreases-sought : goal.decreases-sought
 decreases-sought l = 8 * (term_size l.node.now.term) + 2
+
+abbrev pub decreases-used : goal.decreases-used
+decreases-used l = 8 * (term_size l.node.now.term) + 1
 
 abbrev pub decreases-elements : goal.decreases-elements
 decreases-elements l = 8 * (nodes_size l.nodes.now) + 1

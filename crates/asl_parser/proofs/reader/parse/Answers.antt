@@ -1,8 +1,14 @@
-use Rattle.std.proofs.Common.{◌≡◌, List, Result, subst}
+use Rattle.std.proofs.Common.{◌≡◌, ℕ, ◌<◌, List, Result, Ok, Err, subst}
+use Rattle.std.specs.Prelude.{IfOk}
+use Rattle.std.specs.List.{All}
 use Rattle.asl_lexer.specs.declared.token.Token.{Token}
 use Rattle.asl_parser.specs.declared.raw.RawUnit.{RawUnit}
 use Rattle.asl_parser.specs.declared.reader.Syntax.{Syntax}
 use Rattle.asl_parser.specs.Parse.{Answers, outcome}
+use Rattle.asl_parser.specs.Within.{AreWithin}
+use Rattle.asl_parser.specs.Written.{writtens}
+use Rattle.asl_parser.specs.Grammar.{Spells}
+use Rattle.asl_parser.proofs.Homes.{spelled_within}
 use Rattle.asl_parser.proofs.Told.{is_spelled, is_one, is_not_deep, is_fault}
 use Rattle.asl_parser.proofs.reader.parse.Goals as goal
 
@@ -20,3 +26,10 @@ returns-clause-not_deep c = is_not_deep c.args.tokens.now c.whole.result (answer
 
 pub returns-clause-fails : goal.returns-clause-fails
 returns-clause-fails c = is_fault c.args.tokens.now c.whole.result (answers_at c.whole.result c.as_slice.result.now c.args.tokens.now c.as_slice.ensures c.whole.ensures)
+
+is_within : (tokens : List Token) (files : ℕ) (r : Result RawUnit Syntax) → All (λ token. token.place.file < files) tokens → IfOk r (λ unit. Spells unit.items tokens) → IfOk r (λ unit. AreWithin files (writtens unit.items))
+is_within tokens files (Ok unit) h spelled = spelled_within files unit.items tokens spelled h
+is_within tokens files (Err e) h spelled = tt
+
+pub returns-clause-within : goal.returns-clause-within
+returns-clause-within c = λ files h. is_within c.args.tokens.now files c.whole.result h (returns-clause-spelled c)

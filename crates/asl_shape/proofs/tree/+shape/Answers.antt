@@ -1,9 +1,11 @@
 use Rattle.std.proofs.Common.{◌≡◌, ◌++◌, append-nil, slice_get, Some, ◌+◌, arith, drop, get_or, ap, sym, ◌∙◌}
 use Rattle.asl_shape.specs.Shapes.{nowhere}
-use Rattle.asl_shape.specs.AtRaw.{shape_at, bare_at, member_at, one_at, behind_if_at, terms_at}
+use Rattle.asl_shape.specs.AtRaw.{shape_at, bare_at, member_at, one_at, behind_if_at, terms_at, part_at, unit_at, due_behind_at}
 use Rattle.asl_shape.specs.Plans.{plans_of, join}
-use Rattle.asl_shape.specs.declared.operator.Slot.TheVariants as slot
+use Rattle.asl_words.specs.declared.operator.Slot.TheVariants as slot
+use Rattle.asl_words.specs.Meanings.{slot_as}
 use Rattle.asl_shape.proofs.Shapes.{bare_item, operand_faults, operand_made, list_faults, list_made, run_faults, run_made, item_smaller, argument_some_faults, argument_some_made, left_faults, left_made, argument_faults, argument_made, got_some, got_none}
+use Rattle.asl_shape.proofs.FieldSteps.{element_faults, element_made}
 use Rattle.asl_shape.proofs.tree.+shape.Goals as goal
 
 pub bare-returns-in_ok-item-in-Item-clause-faults : goal.bare-returns-in_ok-item-in-Item-clause-faults
@@ -48,11 +50,13 @@ bare-item-requires t c = (grind (arith, c.decreases, item_smaller c.args.raw.now
 
 pub add_argument-returns-in_ok-add-in-Some-clause-faults : goal.add_argument-returns-in_ok-add-in-Some-clause-faults
 add_argument-returns-in_ok-add-in-Some-clause-faults t c =
-    c.in_ok-add-in-Some.ensures.faults ∙ ap (λ ms. c.args.work.now.faults.items ++ ms) (sym (argument_some_faults c.args.parameter c.args.place c.args.inside (slice_get c.args.args.now c.args.i) c.in-Some.raw.now (got_some c.args.args.now c.args.i c.in-Some.raw.now c.in-Some.ensures.lookup.3.0 ∙ ap Some (sym c.in-Some.ensures.lookup.1))))
+    c.in_ok-add-in-Some.ensures.faults ∙ ap (λ q. c.args.work.now.faults.items ++ (shape_at q c.args.inside c.in-Some.raw.now).faults) (c.slot_as.ensures ∙ ap (slot_as c.args.parameter.slot) c.meaning_in.ensures)
+    ∙ ap (λ ms. c.args.work.now.faults.items ++ ms) (sym (argument_some_faults c.args.parameter c.args.place c.args.inside (slice_get c.args.args.now c.args.i) c.in-Some.raw.now (got_some c.args.args.now c.args.i c.in-Some.raw.now c.in-Some.ensures.lookup.3.0 ∙ ap Some (sym c.in-Some.ensures.lookup.1))))
 
 pub add_argument-returns-in_ok-add-in-Some-clause-made : goal.add_argument-returns-in_ok-add-in-Some-clause-made
 add_argument-returns-in_ok-add-in-Some-clause-made t c =
-    c.in_ok-add-in-Some.ensures.made ∙ ap (λ ps. join (plans_of c.args.nodes.now.items) ps) (sym (argument_some_made c.args.parameter c.args.place c.args.inside (slice_get c.args.args.now c.args.i) c.in-Some.raw.now (got_some c.args.args.now c.args.i c.in-Some.raw.now c.in-Some.ensures.lookup.3.0 ∙ ap Some (sym c.in-Some.ensures.lookup.1))))
+    c.in_ok-add-in-Some.ensures.made ∙ ap (λ q. join (plans_of c.args.nodes.now.items) (one_at c.args.place c.in-Some.raw.now (shape_at q c.args.inside c.in-Some.raw.now).made)) (c.slot_as.ensures ∙ ap (slot_as c.args.parameter.slot) c.meaning_in.ensures)
+    ∙ ap (λ ps. join (plans_of c.args.nodes.now.items) ps) (sym (argument_some_made c.args.parameter c.args.place c.args.inside (slice_get c.args.args.now c.args.i) c.in-Some.raw.now (got_some c.args.args.now c.args.i c.in-Some.raw.now c.in-Some.ensures.lookup.3.0 ∙ ap Some (sym c.in-Some.ensures.lookup.1))))
 
 pub add_argument-returns-in_ok-leave_out-in-None-clause-faults : goal.add_argument-returns-in_ok-leave_out-in-None-clause-faults
 add_argument-returns-in_ok-leave_out-in-None-clause-faults t c =
@@ -67,3 +71,15 @@ arguments-loop-i-preserved t c = record {
   faults = argument_faults c.args.parameters.now c.args.place c.args.inside c.args.args.now c.loop-i.i _ c.loop-i.work.faults.items c.add_argument.new.work.faults.items _ c.loop-i-test.true c.loop-i.invariant.faults c.in_ok-add_argument.ensures.faults;
   made = argument_made c.args.parameters.now c.args.place c.args.inside c.args.args.now c.loop-i.i _ (plans_of c.loop-i.nodes.items) (plans_of c.add_argument.new.nodes.items) _ c.loop-i-test.true c.loop-i.invariant.made c.in_ok-add_argument.ensures.made;
 }
+
+pub field_elements-loop-raw-preserved : goal.field_elements-loop-raw-preserved
+field_elements-loop-raw-preserved t c =
+    let r = c.raw-item.result in
+    let next : c.due_behind-due.result ≡ due_behind_at c.loop-raw.due (get_or c.args.raws.now c.loop-raw.raw-index r) = c.due_behind-due.ensures ∙ ap (due_behind_at c.loop-raw.due) c.raw-item.is in
+    let later : c.in_ok-unit.unit ≡ unit_at c.loop-raw.due c.loop-raw.unit c.args.inside (get_or c.args.raws.now c.loop-raw.raw-index r) = c.in_ok-unit.ensures.unit ∙ ap (unit_at c.loop-raw.due c.loop-raw.unit c.args.inside) c.raw-item.is in
+    record {
+      faults = element_faults c.loop-raw.due c.due_behind-due.result c.loop-raw.unit c.in_ok-unit.unit c.args.inside c.args.raws.now c.loop-raw.raw-index r c.loop-raw.work.faults.items c.add_part.new.work.faults.items _ c.loop-raw-test.true next later c.loop-raw.invariant.faults
+          (c.in_ok-unit.ensures.faults ∙ ap (λ r. c.loop-raw.work.faults.items ++ (part_at c.loop-raw.due c.loop-raw.unit c.args.inside r).faults) c.raw-item.is);
+      made = element_made c.loop-raw.due c.due_behind-due.result c.loop-raw.unit c.in_ok-unit.unit c.args.inside c.args.raws.now c.loop-raw.raw-index r (plans_of c.loop-raw.nodes.items) (plans_of c.add_part.new.nodes.items) _ c.loop-raw-test.true next later c.loop-raw.invariant.made
+          (c.in_ok-unit.ensures.made ∙ ap (λ r. join (plans_of c.loop-raw.nodes.items) (part_at c.loop-raw.due c.loop-raw.unit c.args.inside r).made) c.raw-item.is);
+    }

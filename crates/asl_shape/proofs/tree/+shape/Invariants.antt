@@ -1,7 +1,8 @@
-use Rattle.std.proofs.Common.{◌≡◌, ◌+◌, ◌*◌, ◌++◌, drop, false}
+use Rattle.std.proofs.Common.{◌≡◌, ◌+◌, ◌*◌, ◌++◌, drop, false, None}
 use Rattle.asl_shape.specs.Plans.{plans_of, join}
-use Rattle.asl_shape.specs.Written.{size_at, sizes_at, size_in_at}
-use Rattle.asl_shape.specs.AtRaw.{operands_at, arguments_in_at, members_at, terms_at}
+use Rattle.asl_shape.specs.Sizes.{size_at, sizes_at, size_in_at}
+use Rattle.asl_shape.specs.Shapes.{begin}
+use Rattle.asl_shape.specs.AtRaw.{operands_at, arguments_in_at, members_at, terms_at, elements_at}
 use Rattle.asl_shape.proofs.tree.+shape.Given as goal
 
 abbrev pub decreases-shape : goal.decreases-shape
@@ -72,3 +73,27 @@ decreases-add_argument l = 16 * sizes_at l.args.now + 4
 
 abbrev pub decreases-add_member : goal.decreases-add_member
 decreases-add_member l = 16 * size_at l.raw.now + 4
+
+abbrev pub decreases-offset : goal.decreases-offset
+decreases-offset l = 16 * (size_in_at l.args.now) + 8
+
+abbrev pub decreases-field_list : goal.decreases-field_list
+decreases-field_list l = 16 * (sizes_at l.raws.now) + 6
+
+abbrev pub decreases-field_elements : goal.decreases-field_elements
+decreases-field_elements l = 16 * (sizes_at l.raws.now) + 5
+
+abbrev pub decreases-add_part : goal.decreases-add_part
+decreases-add_part l = 16 * size_at l.raw.now + 4
+
+abbrev pub decreases-begin_element : goal.decreases-begin_element
+decreases-begin_element l = 16 * size_at l.raw.now + 3
+
+abbrev pub decreases-add_bits : goal.decreases-add_bits
+decreases-add_bits l = 16 * size_at l.raw.now + 3
+
+abbrev pub invariant-field_elements-loop-raw : goal.invariant-field_elements-loop-raw
+invariant-field_elements-loop-raw l = record {
+  faults : l.work.faults.items ++ (elements_at l.due l.unit l.inside (drop l.raw-index l.raws)).faults ≡ l.fn.work.faults.items ++ (elements_at begin None l.inside l.raws).faults;
+  made : join (plans_of l.nodes.items) (elements_at l.due l.unit l.inside (drop l.raw-index l.raws)).made ≡ join (plans_of l.fn.nodes.items) (elements_at begin None l.inside l.raws).made;
+}

@@ -1,6 +1,23 @@
+use Rattle.std.proofs.Common.{◌≡◌, Ok, Err, sym, subst, ap, ◌∙◌}
+use Rattle.std.proofs.lemmas.Result.{err_from_is_err_and}
+use Rattle.data_text.specs.Source.{text_of}
+use Rattle.data_tables.specs.declared.compiled.Compiled.{Compiled}
+use Rattle.data_tables.specs.Promise.{AreWithin}
+use Rattle.data_tables.proofs.Homes.{tells_within}
 use Rattle.data_tables.proofs.Unique.{only_compiled}
 use Rattle.data_tables.proofs.compile.compile_data.Goals as goal
 
 pub returns-in-Ok-with_texts-clause-only : goal.returns-in-Ok-with_texts-clause-only
 returns-in-Ok-with_texts-clause-only c =
     only_compiled c.args.lines.now.list c.as_slice-lines.result.now c.in-Ok.text c.in_ok-table.table c.in-Ok-with_texts.table c.as_slice-lines.ensures c.in-Ok.ensures c.in_ok-table.ensures.exact c.in_ok-table.ensures.within c.in-Ok-with_texts.ensures
+
+pub returns-in-Ok-with_texts-clause-files : goal.returns-in-Ok-with_texts-clause-files
+returns-in-Ok-with_texts-clause-files c = λ files main h.
+    let text : c.in-Ok.text ≡ text_of c.args.lines.now.list = c.in-Ok.ensures ∙ ap text_of c.as_slice-lines.ensures in
+    subst (AreWithin files) (sym (ap (λ (table : Compiled). table.notes) c.in-Ok-with_texts.ensures)) (tells_within files c.args.lines.now.list c.in-Ok.text (Ok c.in_ok-table.table) text c.in_ok-table.ensures.exact main h)
+
+pub returns-in_err-table-clause-files : goal.returns-in_err-table-clause-files
+returns-in_err-table-clause-files c = λ files main h.
+    let text : c.in-Ok.text ≡ text_of c.args.lines.now.list = c.in-Ok.ensures ∙ ap text_of c.as_slice-lines.ensures in
+    let p = err_from_is_err_and c.from_residual.result c.from_residual.ensures.1 in
+    rw (p.1, p.2) (tells_within files c.args.lines.now.list c.in-Ok.text (Err c.in_err-table.field-0.0) text c.in_err-table.ensures.exact main h)

@@ -11,13 +11,14 @@ use Rattle.acpi_names.specs.Terms.{are_terms}
 use Rattle.name_checks.specs.Messages.{told_errors}
 use Rattle.name_checks.specs.Refusals.{Refuses}
 use Rattle.named_sessions.proofs.Core.{spelled_core}
-use Rattle.named_sessions.proofs.Terms.{shaped_terms}
-use Rattle.iasl_tool.specs.Compiled.{its_table, of_table, with_statements}
+use Rattle.named_sessions.specs.Shaped.{AreNamed}
+use Rattle.named_sessions.proofs.Terms.{formed_terms}
+use Rattle.iasl_tool.specs.Compiled.{its_table, of_table, with_others}
 use Rattle.iasl_tool.proofs.Programs.{none_told, none_behind, no_length, some_length, right_comes, stage_comes}
 use Rattle.iasl_tool.proofs.compile.compile_block.Goals as goal
 
 pub check-requires : goal.check-requires
-check-requires c = record { terms = subst (λ ns. are_terms (trees_of ns) ≡ true) (sym c.as_slice.ensures.value) (shaped_terms W64 (trees_of c.args.block.terms.items) c.requires.shaped) }
+check-requires c = record { terms = subst (λ ns. are_terms (trees_of ns) ≡ true) (sym c.as_slice.ensures.value) (formed_terms W64 AreNamed (trees_of c.args.block.terms.items) c.requires.formed) }
 
 pub returns-in_ok-spell-in-Ok : goal.returns-in_ok-spell-in-Ok
 returns-in_ok-spell-in-Ok c =
@@ -29,8 +30,9 @@ returns-in_ok-spell-in-Ok c =
     let agrees = subst (λ ts. Agrees c.in-Ok.names.index.paths c.in-Ok.names.index.named.items (declarations ts)) same c.in-Ok.ensures.names in
     let tabled = subst (λ ts. Tabled c.in-Ok.names.index.paths c.in-Ok.names.calls.items (lookup (whole_of ts).calls)) same c.in-Ok.ensures.calls in
     let core = c.in_ok-spell-in-Ok.ensures (declarations terms) (whole_of terms).calls agrees (subst (λ table. Tabled c.in-Ok.names.index.paths table (lookup (whole_of terms).calls)) (sym c.as_slice-in-Ok.ensures.value) tabled) ∙ spelled_core terms in
-    right_comes c.write_block.result (with_statements (told_errors terms) c.args.statements) (of_table block.place block.signature block.file (its_table terms block)) (none_behind (told_errors terms) c.args.statements (none_told terms names counts) (no_length c.args.statements (let none : length c.args.statements ≡ 0 = grind (arith, c.is_empty.ensures, c.if-not-is_empty.false, c.statements.view_is) in none)))
-    (c.write_block.ensures terms (record { room = c.requires.room; shaped = c.requires.shaped; names = names; counts = counts; core = core }))
+    let none : c.args.others ≡ [] = no_length c.args.others (let zero : length c.args.others ≡ 0 = grind (arith, c.is_empty.ensures, c.if-not-is_empty.false, c.others.view_is) in zero) in
+    right_comes c.write_block.result (with_others (told_errors terms) c.args.others) (of_table block.place block.signature block.file (its_table terms block)) (none_behind (told_errors terms) c.args.others (none_told terms names counts) none)
+    (c.write_block.ensures terms (record { room = c.requires.room; shaped = c.requires.shaped none; names = names; counts = counts; core = core }))
 
 pub returns-then-not-is_empty : goal.returns-then-not-is_empty
 returns-then-not-is_empty c =
@@ -39,13 +41,13 @@ returns-then-not-is_empty c =
     let same : trees_of c.as_slice.result.now ≡ terms = ap trees_of c.as_slice.ensures.value in
     let names : name_errors terms ≡ [] = sym (ap name_errors same) ∙ c.in-Ok.ensures.right.0 in
     let counts : type_errors terms ≡ [] = sym (ap type_errors same) ∙ c.in-Ok.ensures.right.1 in
-    some_length c.args.statements (of_table block.place block.signature block.file (its_table terms block)) (told_errors terms) (none_told terms names counts)
-    (λ e. let never : ⊥ = grind (arith, e, c.is_empty.ensures, c.if-not-is_empty.true, c.statements.view_is) in never)
+    some_length c.args.others (of_table block.place block.signature block.file (its_table terms block)) (told_errors terms) (none_told terms names counts)
+    (λ e. let never : ⊥ = grind (arith, e, c.is_empty.ensures, c.if-not-is_empty.true, c.others.view_is) in never)
 
-pub returns-in_ok-with_statements-in-Err : goal.returns-in_ok-with_statements-in-Err
-returns-in_ok-with_statements-in-Err c =
+pub returns-in_ok-with_others-in-Err : goal.returns-in_ok-with_others-in-Err
+returns-in_ok-with_others-in-Err c =
     let block = c.args.block in
     let terms : Trees = trees_of block.terms.items in
     let same : trees_of c.as_slice.result.now ≡ terms = ap trees_of c.as_slice.ensures.value in
-    stage_comes c.in-Err.stage c.in_ok-refusal-in-Err.field-0 (told_errors terms) c.args.statements c.in_ok-with_statements-in-Err.field-0 (of_table block.place block.signature block.file (its_table terms block))
-    (subst (λ ts. Refuses c.in-Err.stage (told_errors ts)) same c.in-Err.ensures.refused) c.in_ok-refusal-in-Err.ensures c.in_ok-with_statements-in-Err.ensures
+    stage_comes c.in-Err.stage c.in_ok-refusal-in-Err.field-0 (told_errors terms) c.args.others c.in_ok-with_others-in-Err.field-0 (of_table block.place block.signature block.file (its_table terms block))
+    (subst (λ ts. Refuses c.in-Err.stage (told_errors ts)) same c.in-Err.ensures.refused) c.in_ok-refusal-in-Err.ensures c.in_ok-with_others-in-Err.ensures

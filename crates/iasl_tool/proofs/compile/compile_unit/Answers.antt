@@ -5,8 +5,7 @@ use Rattle.asl_parser.specs.declared.raw.Raw.{Raw}
 use Rattle.asl_tree.specs.View.{trees_of}
 use Rattle.asl_shape.specs.Forms.{Forms, IsBlockOf}
 use Rattle.asl_shape.specs.Plans.{plans_of}
-use Rattle.statement_checks.specs.Statements.{errors_of_statements}
-use Rattle.iasl_tool.proofs.Programs.{ok_block, found_block, block_room, block_shaped, program_comes, named_in_ascii, ascii_comes}
+use Rattle.iasl_tool.proofs.Programs.{ok_block, found_block, block_room, block_formed, others_of, block_shaped, program_comes, named_in_ascii, ascii_comes}
 use Rattle.iasl_tool.specs.Compiled.{of_items}
 use Rattle.iasl_tool.proofs.compile.compile_unit.Goals as goal
 
@@ -18,12 +17,15 @@ is_block items program found forms is =
 pub compile_block-requires-clause-room : goal.compile_block-requires-clause-room
 compile_block-requires-clause-room c = block_room c.args.unit.now.items c.in_ok-block-in-Ok.block c.in-Ok.ensures.formed.no_errors (is_block c.args.unit.now.items c.in-Ok.program c.in_ok-block-in-Ok.block c.in-Ok.ensures.formed c.in_ok-block-in-Ok.ensures) c.requires
 
+pub compile_block-requires-clause-formed : goal.compile_block-requires-clause-formed
+compile_block-requires-clause-formed c = block_formed c.args.unit.now.items c.in_ok-block-in-Ok.block (trees_of c.number_nodes.new.nodes.items) c.in-Ok.ensures.formed.no_errors (is_block c.args.unit.now.items c.in-Ok.program c.in_ok-block-in-Ok.block c.in-Ok.ensures.formed c.in_ok-block-in-Ok.ensures) c.requires c.in-Some.ensures.trees
+
 pub compile_block-requires-clause-shaped : goal.compile_block-requires-clause-shaped
-compile_block-requires-clause-shaped c = block_shaped c.args.unit.now.items c.in_ok-block-in-Ok.block (trees_of c.number_nodes.new.nodes.items) c.in-Ok.ensures.formed.no_errors (is_block c.args.unit.now.items c.in-Ok.program c.in_ok-block-in-Ok.block c.in-Ok.ensures.formed c.in_ok-block-in-Ok.ensures) c.requires c.in-Some.ensures.trees
+compile_block-requires-clause-shaped c = block_shaped c.args.unit.now.items c.in_ok-block-in-Ok.block (trees_of c.number_nodes.new.nodes.items) c.in_ok-others-in-Ok.others c.in-Ok.ensures.formed.no_errors (is_block c.args.unit.now.items c.in-Ok.program c.in_ok-block-in-Ok.block c.in-Ok.ensures.formed c.in_ok-block-in-Ok.ensures) c.requires c.in-Some.ensures.trees (c.in_ok-others-in-Ok.ensures ∙ ap (λ ns. others_of (plans_of ns)) c.as_slice.ensures.value)
 
 pub returns-in-Some-clause-value : goal.returns-in-Some-clause-value
 returns-in-Some-clause-value c =
-    program_comes c.compile_block.result c.args.unit.now.items c.in_ok-block-in-Ok.block (trees_of c.number_nodes.new.nodes.items) c.in_ok-statements-in-Ok.statements c.in-Ok.ensures.formed.no_errors (is_block c.args.unit.now.items c.in-Ok.program c.in_ok-block-in-Ok.block c.in-Ok.ensures.formed c.in_ok-block-in-Ok.ensures) c.in-Some.ensures.trees (c.in_ok-statements-in-Ok.ensures ∙ ap (λ ns. errors_of_statements (plans_of ns)) c.as_slice.ensures.value) c.compile_block.ensures
+    program_comes c.compile_block.result c.args.unit.now.items c.in_ok-block-in-Ok.block (trees_of c.number_nodes.new.nodes.items) c.in_ok-others-in-Ok.others c.in-Ok.ensures.formed.no_errors (is_block c.args.unit.now.items c.in-Ok.program c.in_ok-block-in-Ok.block c.in-Ok.ensures.formed c.in_ok-block-in-Ok.ensures) c.in-Some.ensures.trees (c.in_ok-others-in-Ok.ensures ∙ ap (λ ns. others_of (plans_of ns)) c.as_slice.ensures.value) c.compile_block.ensures
 
 pub returns-in-Some-clause-own : goal.returns-in-Some-clause-own
 returns-in-Some-clause-own c = ascii_comes c.compile_block.result (of_items c.args.unit.now.items) (named_in_ascii c.args.unit.now.items c.requires) (returns-in-Some-clause-value c)

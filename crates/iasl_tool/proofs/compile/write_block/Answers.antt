@@ -17,4 +17,4 @@ returns-in-Ok c = λ terms is.
     let block = c.args.block in
     let at : slice_get c.in_ok-core.core.program.blocks 0 ≡ Some block = ap (λ blocks. slice_get blocks 0) c.in_ok-core.ensures in
     let table : IsTable block true (joined_pieces c.in-Ok.pieces) = c.in-Ok.ensures.table block at in
-    table_written terms block _ _ _ is (c.signature.view_is ∙ c.in_ok-signature.ensures ∙ c.as_bytes.ensures) (c.own.view_is ∙ c.in_ok-own.ensures ∙ c.as_bytes-2.ensures) (subst (IsTable block true) (sym (c.in_ok-join-in-Ok.ensures ∙ ap joined_pieces c.as_slice.ensures)) table)
+    table_written terms block _ _ _ _ is (c.signature.view_is ∙ c.in_ok-signature.ensures ∙ c.as_bytes.ensures) (c.own.view_is ∙ c.in_ok-own.ensures ∙ c.as_bytes-2.ensures) c.new-in-Ok.ensures (subst (IsTable block true) (sym (c.in_ok-join-in-Ok.ensures ∙ ap joined_pieces c.as_slice.ensures)) table)

@@ -1,7 +1,7 @@
 use Rattle.std.proofs.Common.{map, string_bytes, ◌∙◌, arith}
 use Rattle.iasl_runs.specs.EndLaws.{ends}
 use Rattle.iasl_tool.specs.Due.{answer_for, fault_text, memory_text}
-use Rattle.iasl_tool.proofs.Headline.{writes_its_table, status_of_source, are_its_tables}
+use Rattle.iasl_tool.proofs.Headline.{writes_its_table, status_of_source, status_of_data, are_its_tables}
 use Rattle.iasl_tool.proofs.run.iasl.Goals as goal
 
 pub returns-clause-ends : goal.returns-clause-ends
@@ -19,3 +19,8 @@ pub returns-clause-complete : goal.returns-clause-complete
 returns-clause-complete g c = λ told is request source names quiet.
     let end = returns-clause-ends g c in
     status_of_source (map string_bytes c.args.words.now) told request source c.finish.result names (end.quiet told is quiet)
+
+pub returns-clause-complete_data : goal.returns-clause-complete_data
+returns-clause-complete_data g c = λ told is request table names quiet.
+    let end = returns-clause-ends g c in
+    status_of_data (map string_bytes c.args.words.now) told request table c.finish.result names (end.quiet told is quiet)

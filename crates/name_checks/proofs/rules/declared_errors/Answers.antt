@@ -1,6 +1,6 @@
 use Rattle.std.proofs.Common.{[], get_or, ap, ◌∙◌}
 use Rattle.acpi_names.specs.Errors as spec
-use Rattle.acpi_names.specs.Shown.{spot_as}
+use Rattle.acpi_names.specs.Shown.{spot_as, written_as}
 use Rattle.name_checks.proofs.Finding.{finds_as, finds_then}
 use Rattle.name_checks.proofs.rules.declared_errors.Goals as goal
 
@@ -8,7 +8,7 @@ pub returns : goal.returns
 returns g c d before =
     let paths = c.args.facts.now.index.paths in
     let at = spot_as c.args.at in
-    let name = c.args.name.now in
+    let name = written_as c.args.name in
     let here = get_or paths c.place-path.result [] in
     let e = c.place-path.ensures.path in
     let w0 = c.args.out.now.items in

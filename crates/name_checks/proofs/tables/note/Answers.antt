@@ -1,7 +1,7 @@
 use Rattle.std.proofs.Common.{[], ◌∷◌, ◌++◌, get_or, sym, subst}
 use Rattle.asl_meaning.specs.Declarations.{is_named, called, with_declared, with_external, in_root, ExternalType}
 use Rattle.acpi_names.specs.Mentions.{call_in, after}
-use Rattle.acpi_names.specs.Shown.{shown, declared_as}
+use Rattle.acpi_names.specs.Shown.{shown, declared_as, written_as}
 use Rattle.asl_tree.specs.Names.{place_of}
 use Rattle.name_checks.proofs.Noting.{noted_plain}
 use Rattle.name_checks.specs.Tables.{Notes}
@@ -20,7 +20,7 @@ returns-in-Declares-clause-noted g c calls d notes =
     let has = is_named g.whole.all in
     let what = declared_as paths c.in-Declares.what in
     subst (λ m. Notes paths has c.note_declared.new.tables (calls ++ called (call_in has (shown paths m))) (after (shown paths m) d)) (sym c.in-Declares.is)
-    (noted_plain paths has c.note_declared.new.tables calls (with_declared (place_of c.in-Declares.name.now (get_or paths c.in-Declares.scope [])) what d)
+    (noted_plain paths has c.note_declared.new.tables calls (with_declared (place_of (written_as c.in-Declares.name) (get_or paths c.in-Declares.scope [])) what d)
     (subst (λ p. Notes paths has c.note_declared.new.tables calls (with_declared p what d)) c.place-number.ensures.path (c.note_declared.ensures.noted has calls d what c.declared_kind-kind.ensures notes)))
 
 pub returns-in-Outside-clause-noted : goal.returns-in-Outside-clause-noted

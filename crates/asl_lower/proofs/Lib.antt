@@ -1,0 +1,12 @@
+pub mod Alike
+pub mod Runs
+pub mod Named
+pub mod Declared
+pub mod Errors
+pub mod Forms
+pub mod KindRows
+pub mod Backwards
+pub mod Copies
+pub mod Givens
+pub mod Lowered
+mod Rows

@@ -1,0 +1,322 @@
+-- Terms that are made in the place of others.
+use Rattle.std.proofs.Common.{◌≡◌, ℕ, zero, suc, ◌+◌, ◌<◌, Bool, true, false, List, [], ◌∷◌, ◌++◌, length, get_or, Vec, Global, None, refl, sym, ap, ◌∙◌, arith}
+use Rattle.std.specs.Prelude.{if◌then◌else◌}
+use Rattle.std.specs.List.{remove}
+use Rattle.acpi_values.specs.declared.operator.Plain.{Plain}
+use Rattle.acpi_values.specs.declared.operator.DataOp.TheVariants as DataOp
+use Rattle.acpi_values.specs.Operators.{row_of}
+use Rattle.asl_tree.specs.declared.path.Path.{Path}
+use Rattle.asl_tree.specs.declared.term.Compound.{Compound}
+use Rattle.asl_tree.specs.declared.term.Op.{Op}
+use Rattle.asl_tree.specs.declared.term.Control.TheVariants as Control
+use Rattle.asl_tree.specs.declared.term.Symbolic.{Symbolic}
+use Rattle.asl_tree.specs.declared.term.Symbolic.TheVariants as S
+use Rattle.asl_tree.specs.declared.term.Node.{Node}
+use Rattle.asl_tree.specs.declared.term.Term.{Term}
+use Rattle.asl_tree.specs.declared.term.Term as D
+use Rattle.asl_tree.specs.declared.term.Term.TheVariants as V
+use Rattle.asl_tree.specs.Symbols.{compound_operator, takes_target}
+use Rattle.asl_tree.specs.Tree.{At, Tree, Call, Omitted, Misshapen, Trees, no_trees, tree}
+use Rattle.asl_tree.specs.View.{fits, form, operands_as, operated, tree_of, row_trees, trees_of}
+use Rattle.acpi_names.specs.Parts.{term_size, nodes_size}
+use Rattle.acpi_names.specs.Walked.{OfForm, term_shape, node_tree}
+use Rattle.acpi_names.proofs.Trees.{form_tree, call_tree, form_rows}
+use Rattle.asl_lower.specs.Kinds.{flagged, shape_kind, shape_args}
+use Rattle.asl_lower.specs.Nests.{joined, backwards}
+use Rattle.asl_lower.specs.Nodes.{given, last_target, named, named_args, named_body, is_symbolic}
+use Rattle.asl_lower.specs.declared.kind.Kind.{Kind}
+use Rattle.asl_lower.proofs.Backwards.{pushed, behind_all, joined_none}
+use Rattle.asl_lower.proofs.Forms.{kept_form, symbol_named, store_named, operator_named, compound_named}
+use Rattle.asl_lower.proofs.KindRows.{kind_is, kind_operator, operator_of_kind}
+use Rattle.asl_lower.proofs.Givens.{form_given}
+
+none : trees_of [] ≡ no_trees
+unfolding trees_of
+none = refl
+
+no_size : nodes_size [] ≡ 0
+unfolding nodes_size
+no_size = refl
+
+pub two_trees : (nodes : List Node) (first second : Node) → nodes ≡ first ∷ second ∷ [] → trees_of nodes ≡ tree (node_tree first) (tree (node_tree second) no_trees)
+unfolding trees_of
+two_trees nodes first second e = ap trees_of e
+
+-- a list of two, taken apart from its end
+pub two_removed : (nodes rest : List Node) (first second : Node) → length nodes ≡ 2 → second ≡ get_or nodes 1 second → rest ≡ remove nodes 1 → first ≡ get_or rest 0 first → nodes ≡ first ∷ second ∷ []
+two_removed [] rest first second l s r f = absurd (omega (arith, l))
+two_removed (a ∷ []) rest first second l s r f = absurd (omega (arith, l))
+two_removed (a ∷ b ∷ []) rest first second l s r f = ap (λ x. x ∷ b ∷ []) (sym (f ∙ ap (λ ns. get_or ns 0 first) r)) ∙ ap (λ x. first ∷ x ∷ []) (sym s)
+two_removed (a ∷ b ∷ c ∷ nodes) rest first second l s r f = absurd (omega (arith, l))
+
+-- ---- forms
+
+pub bare_form : (at : At) (op : Op) (args body : Vec Node Global) → body.items ≡ [] → tree_of at (D.Form op args body) ≡ form at op (trees_of args.items) no_trees
+bare_form at op args body e = form_tree at op args body ∙ ap (λ ns. form at op (trees_of args.items) (trees_of ns)) e ∙ ap (form at op (trees_of args.items)) none
+
+pub given_omitted : (at : At) (args : Vec Node Global) → args.items ≡ [] → form at (Op.Symbolic S.Assign) (trees_of args.items) no_trees ≡ given (tree_of at D.Omitted)
+unfolding tree_of
+given_omitted at args e = ap (λ ts. form at (Op.Symbolic S.Assign) ts no_trees) (ap trees_of e ∙ none)
+
+pub given_other : (at : At) (t : Term) → (t ≡ D.Omitted → ⊥) → tree_of at t ≡ given (tree_of at t)
+unfolding tree_of
+given_other at D.Omitted never = absurd (never refl)
+given_other at (D.Form' op shape args shape' body) never = sym (form_given at op (row_trees args) (row_trees body))
+given_other at t never = refl
+
+-- the arguments of a form
+pub args_are : (t : Term) (op : Op) (args body : Vec Node Global) → t ≡ D.Form op args body → trees_of args.items ≡ shape_args (term_shape t)
+args_are t op args body e = sym (ap (λ t. shape_args (term_shape t)) e ∙ ap shape_args (form_rows op args body))
+
+-- ---- targets behind operands
+
+joined_behind : (nodes : List Node) (node : Node) (us : Trees) → joined (trees_of (nodes ++ node ∷ [])) us ≡ joined (trees_of nodes) (tree (node_tree node) us)
+unfolding trees_of
+joined_behind [] node us = refl
+joined_behind (n ∷ nodes) node us = ap (tree (node_tree n)) (joined_behind nodes node us)
+
+omitted_node : (node : Node) → node.term ≡ D.Omitted → node_tree node ≡ Omitted
+unfolding tree_of
+omitted_node node e = ap (tree_of (record { id = node.id; place = node.place })) e
+
+pub target_next : (all new : List Node) (omitted target : Node) (left next : ℕ) (us : Trees) → 1 < left → next + 1 ≡ left → new ≡ all ++ omitted ∷ [] → omitted.term ≡ D.Omitted
+    → joined (trees_of all) (last_target left (node_tree target)) ≡ us → joined (trees_of new) (last_target next (node_tree target)) ≡ us
+target_next all new omitted target zero next us lt e f o h = absurd (omega (arith, lt))
+target_next all new omitted target (suc zero) next us lt e f o h = absurd (omega (arith, lt))
+target_next all new omitted target (suc (suc n)) next us lt e f o h =
+    let is : next ≡ suc n = omega (arith, e) in
+    ap (λ k. joined (trees_of new) (last_target k (node_tree target))) is ∙ ap (λ ns. joined (trees_of ns) (last_target (suc n) (node_tree target))) f
+    ∙ joined_behind all omitted (last_target (suc n) (node_tree target)) ∙ ap (λ t. joined (trees_of all) (tree t (last_target (suc n) (node_tree target)))) (omitted_node omitted o) ∙ h
+
+pub target_last : (all new : List Node) (target : Node) (left : ℕ) (us : Trees) → left ≡ 1 → new ≡ all ++ target ∷ [] → joined (trees_of all) (last_target left (node_tree target)) ≡ us → trees_of new ≡ us
+target_last all new target left us e f h = ap trees_of f ∙ behind_all all target ∙ ap (λ n. joined (trees_of all) (last_target n (node_tree target))) (sym e) ∙ h
+
+pub target_none : (all : List Node) (target : Node) (left : ℕ) → left ≡ 0 → trees_of all ≡ joined (trees_of all) (last_target left (node_tree target))
+target_none all target left e = sym (ap (λ n. joined (trees_of all) (last_target n (node_tree target))) e ∙ joined_none (trees_of all))
+
+-- ---- terms each by itself, from the last on
+
+args_last : (nodes : List Node) (node : Node) (ts : Trees) → joined (named_args (trees_of (nodes ++ node ∷ []))) ts ≡ joined (named_args (trees_of nodes)) (tree (named (node_tree node)) ts)
+unfolding trees_of
+args_last [] node ts = refl
+args_last (n ∷ nodes) node ts = ap (tree (named (node_tree n))) (args_last nodes node ts)
+
+pub lowered_none : (nodes made : List Node) → made ≡ [] → joined (named_args (trees_of nodes)) (backwards made) ≡ named_args (trees_of nodes)
+lowered_none nodes made e = ap (λ ns. joined (named_args (trees_of nodes)) (backwards ns)) e ∙ ap (joined (named_args (trees_of nodes))) none ∙ joined_none (named_args (trees_of nodes))
+
+pub lowered_next : (all left more made new : List Node) (node low : Node) → left ≡ more ++ node ∷ [] → new ≡ made ++ low ∷ [] → node_tree low ≡ named (node_tree node)
+    → joined (named_args (trees_of left)) (backwards made) ≡ named_args (trees_of all) → joined (named_args (trees_of more)) (backwards new) ≡ named_args (trees_of all)
+lowered_next all left more made new node low e f same h =
+    ap (joined (named_args (trees_of more))) (pushed made new low f ∙ ap (λ t. tree t (backwards made)) same) ∙ sym (args_last more node (backwards made))
+    ∙ ap (λ ns. joined (named_args (trees_of ns)) (backwards made)) (sym e) ∙ h
+
+pub lowered_all : (left made : List Node) → length left ≡ 0 → backwards made ≡ joined (named_args (trees_of left)) (backwards made)
+unfolding trees_of
+lowered_all [] made e = refl
+lowered_all (node ∷ left) made e = absurd (omega (arith, e))
+
+last_size : (nodes : List Node) (node : Node) → nodes_size (nodes ++ node ∷ []) ≡ nodes_size nodes + suc (term_size node.term)
+unfolding nodes_size
+last_size [] node = omega arith
+last_size (n ∷ nodes) node = let h = last_size nodes node in omega (arith, h)
+
+pub popped_size : (left more : List Node) (node : Node) → left ≡ more ++ node ∷ [] → nodes_size left ≡ nodes_size more + suc (term_size node.term)
+popped_size left more node e = ap nodes_size e ∙ last_size more node
+
+pub two_sizes : (nodes : List Node) (first second : Node) → nodes ≡ first ∷ second ∷ [] → nodes_size nodes ≡ suc (term_size first.term + suc (term_size second.term))
+unfolding nodes_size
+two_sizes nodes first second e = let h = ap nodes_size e in omega (arith, h)
+
+-- ---- a term
+
+abbrev is_flat : Term → Bool
+is_flat (D.Call' path shape args) = false
+is_flat (D.Form' op shape args shape' body) = false
+is_flat _ = true
+
+flat_named : (at : At) (t : Term) → is_flat t ≡ true → tree_of at t ≡ named (tree_of at t)
+unfolding tree_of
+flat_named at (D.Call' path shape args) e = absurd (grind arith)
+flat_named at (D.Form' op shape args shape' body) e = absurd (grind arith)
+flat_named at t e = refl
+
+pub other_named : (at : At) (t : Term) → ((p : Path) (v : Vec Node Global) → t ≡ D.Call p v → ⊥) → ((o : Op) (v w : Vec Node Global) → t ≡ D.Form o v w → ⊥) → tree_of at t ≡ named (tree_of at t)
+other_named at t not_call not_form = flat_named at t (by_layer (D.out-Term t) (sym (D.roll-out-Term t)))
+  where
+    by_layer : (f : D.Term-F Term Node) → t ≡ D.roll-Term f → is_flat t ≡ true
+    by_layer (D.Term-F.Call p v) e = absurd (not_call p v (e ∙ V.rolls-Call p v))
+    by_layer (D.Term-F.Form o v w) e = absurd (not_form o v w (e ∙ V.rolls-Form o v w))
+    by_layer (D.Term-F.Name p) e = ap is_flat (e ∙ V.rolls-Name p)
+    by_layer (D.Term-F.Integer n) e = ap is_flat (e ∙ V.rolls-Integer n)
+    by_layer (D.Term-F.Text text) e = ap is_flat (e ∙ V.rolls-Text text)
+    by_layer (D.Term-F.Fill bytes) e = ap is_flat (e ∙ V.rolls-Fill bytes)
+    by_layer (D.Term-F.Word word) e = ap is_flat (e ∙ V.rolls-Word word)
+    by_layer (D.Term-F.Local n) e = ap is_flat (e ∙ V.rolls-Local n)
+    by_layer (D.Term-F.Arg n) e = ap is_flat (e ∙ V.rolls-Arg n)
+    by_layer (D.Term-F.Debug) e = ap is_flat (e ∙ V.rolls-Debug)
+    by_layer (D.Term-F.Omitted) e = ap is_flat (e ∙ V.rolls-Omitted)
+    by_layer (D.Term-F.Unit segment bits) e = ap is_flat (e ∙ V.rolls-Unit segment bits)
+    by_layer (D.Term-F.Skip n) e = ap is_flat (e ∙ V.rolls-Skip n)
+    by_layer (D.Term-F.Offset n) e = ap is_flat (e ∙ V.rolls-Offset n)
+
+-- a term that is no form has no arguments
+pub no_args : (made : List Node) (t : Term) → made ≡ [] → ((o : Op) (v w : Vec Node Global) → t ≡ D.Form o v w → ⊥) → (trees_of made ≡ shape_args (term_shape t)) × (nodes_size made ≡ 0)
+no_args made t e not_form = (ap trees_of e ∙ none ∙ sym (by_layer (D.out-Term t) (sym (D.roll-out-Term t))), ap nodes_size e ∙ no_size)
+  where
+    by_layer : (f : D.Term-F Term Node) → t ≡ D.roll-Term f → shape_args (term_shape t) ≡ no_trees
+    by_layer (D.Term-F.Form o v w) e = absurd (not_form o v w (e ∙ V.rolls-Form o v w))
+    by_layer (D.Term-F.Call p v) e = ap (λ t. shape_args (term_shape t)) (e ∙ V.rolls-Call p v)
+    by_layer (D.Term-F.Name p) e = ap (λ t. shape_args (term_shape t)) (e ∙ V.rolls-Name p)
+    by_layer (D.Term-F.Integer n) e = ap (λ t. shape_args (term_shape t)) (e ∙ V.rolls-Integer n)
+    by_layer (D.Term-F.Text text) e = ap (λ t. shape_args (term_shape t)) (e ∙ V.rolls-Text text)
+    by_layer (D.Term-F.Fill bytes) e = ap (λ t. shape_args (term_shape t)) (e ∙ V.rolls-Fill bytes)
+    by_layer (D.Term-F.Word word) e = ap (λ t. shape_args (term_shape t)) (e ∙ V.rolls-Word word)
+    by_layer (D.Term-F.Local n) e = ap (λ t. shape_args (term_shape t)) (e ∙ V.rolls-Local n)
+    by_layer (D.Term-F.Arg n) e = ap (λ t. shape_args (term_shape t)) (e ∙ V.rolls-Arg n)
+    by_layer (D.Term-F.Debug) e = ap (λ t. shape_args (term_shape t)) (e ∙ V.rolls-Debug)
+    by_layer (D.Term-F.Omitted) e = ap (λ t. shape_args (term_shape t)) (e ∙ V.rolls-Omitted)
+    by_layer (D.Term-F.Unit segment bits) e = ap (λ t. shape_args (term_shape t)) (e ∙ V.rolls-Unit segment bits)
+    by_layer (D.Term-F.Skip n) e = ap (λ t. shape_args (term_shape t)) (e ∙ V.rolls-Skip n)
+    by_layer (D.Term-F.Offset n) e = ap (λ t. shape_args (term_shape t)) (e ∙ V.rolls-Offset n)
+
+pub call_named : (at : At) (t : Term) (path : Path) (args made : Vec Node Global) → t ≡ D.Call path args → trees_of made.items ≡ named_args (trees_of args.items) → tree_of at (D.Call path made) ≡ named (tree_of at t)
+call_named at t path args made e h = call_tree at path made ∙ ap (Call at path) h ∙ ap named (sym (call_tree at path args)) ∙ ap (λ t. named (tree_of at t)) (sym e)
+
+pub form_named : (at : At) (t made : Term) (op : Op) (args body : Vec Node Global) → t ≡ D.Form op args body → tree_of at made ≡ named (form at op (trees_of args.items) (trees_of body.items)) → tree_of at made ≡ named (tree_of at t)
+form_named at t made op args body e h = h ∙ ap named (sym (form_tree at op args body)) ∙ ap (λ t. named (tree_of at t)) (sym e)
+
+not_symbolic : (op : Op) → ((symbol : Symbolic) → op ≡ Op.Symbolic symbol → ⊥) → is_symbolic op ≡ false
+not_symbolic (Op.Symbolic symbol) never = absurd (never symbol refl)
+not_symbolic op never = refl
+
+pub kept_named : (at : At) (op : Op) (args body made more : Vec Node Global) → ((symbol : Symbolic) → op ≡ Op.Symbolic symbol → ⊥) → trees_of made.items ≡ named_args (trees_of args.items)
+    → trees_of more.items ≡ named_body op (trees_of body.items) → tree_of at (D.Form op made more) ≡ named (form at op (trees_of args.items) (trees_of body.items))
+kept_named at op args body made more never ha hb =
+    form_tree at op made more ∙ ap (λ ts. form at op ts (trees_of more.items)) ha ∙ ap (form at op (named_args (trees_of args.items))) hb
+    ∙ sym (kept_form at op (trees_of args.items) (trees_of body.items) (not_symbolic op never))
+
+-- ---- symbols that do not fit
+
+symbol_with_body : (at : At) (symbol : Symbolic) (args : Trees) (first : Tree) (rest : Trees) → form at (Op.Symbolic symbol) args (tree first rest) ≡ Misshapen
+symbol_with_body at (S.Operator op) args first rest = refl
+symbol_with_body at S.Assign no_trees first rest = refl
+symbol_with_body at S.Assign (tree t no_trees) first rest = refl
+symbol_with_body at S.Assign (tree t (tree u no_trees)) first rest = refl
+symbol_with_body at S.Assign (tree t (tree u (tree v vs))) first rest = refl
+symbol_with_body at (S.AssignBy op) no_trees first rest = refl
+symbol_with_body at (S.AssignBy op) (tree t no_trees) first rest = refl
+symbol_with_body at (S.AssignBy op) (tree t (tree u no_trees)) first rest = refl
+symbol_with_body at (S.AssignBy op) (tree t (tree u (tree v vs))) first rest = refl
+
+misshapen_named : (t : Tree) → t ≡ Misshapen → t ≡ named t
+misshapen_named t e = e ∙ ap named (sym e)
+
+body_misfits : (at : At) (symbol : Symbolic) (args : Trees) (body : List Node) → (length body ≡ 0 → ⊥) → form at (Op.Symbolic symbol) args (trees_of body) ≡ Misshapen
+unfolding trees_of
+body_misfits at symbol args [] never = absurd (never refl)
+body_misfits at symbol args (node ∷ body) never = symbol_with_body at symbol args (node_tree node) (trees_of body)
+
+pub symbol_misfits : (at : At) (symbol : Symbolic) (args body : Vec Node Global) → (length body.items ≡ 0 → ⊥) → tree_of at (D.Form (Op.Symbolic symbol) args body) ≡ named (form at (Op.Symbolic symbol) (trees_of args.items) (trees_of body.items))
+symbol_misfits at symbol args body never = form_tree at (Op.Symbolic symbol) args body ∙ misshapen_named (form at (Op.Symbolic symbol) (trees_of args.items) (trees_of body.items)) (body_misfits at symbol (trees_of args.items) body.items never)
+
+no_node : (nodes : List Node) → length nodes ≡ 0 → trees_of nodes ≡ no_trees
+unfolding trees_of
+no_node [] e = refl
+no_node (node ∷ nodes) e = absurd (omega (arith, e))
+
+pub symbol_bare : (at : At) (symbol : Symbolic) (made : Term) (args body : Vec Node Global) → length body.items ≡ 0 → tree_of at made ≡ named (form at (Op.Symbolic symbol) (trees_of args.items) no_trees)
+    → tree_of at made ≡ named (form at (Op.Symbolic symbol) (trees_of args.items) (trees_of body.items))
+symbol_bare at symbol made args body e h = h ∙ ap (λ ts. named (form at (Op.Symbolic symbol) (trees_of args.items) ts)) (sym (no_node body.items e))
+
+pub operator_misfits : (at : At) (op : Plain) (args : Trees) → fits (row_of op).operands args ≡ false → form at (Op.Symbolic (S.Operator op)) args no_trees ≡ named (form at (Op.Symbolic (S.Operator op)) args no_trees)
+operator_misfits at op args e = misshapen_named (form at (Op.Symbolic (S.Operator op)) args no_trees) (ap (λ c. if c then operated op (operands_as (row_of op).operands args) else Misshapen) e)
+
+pub assign_misfits : (at : At) (args : List Node) → (length args ≡ 2 → ⊥) → form at (Op.Symbolic S.Assign) (trees_of args) no_trees ≡ named (form at (Op.Symbolic S.Assign) (trees_of args) no_trees)
+unfolding trees_of
+assign_misfits at [] never = refl
+assign_misfits at (a ∷ []) never = refl
+assign_misfits at (a ∷ b ∷ []) never = absurd (never refl)
+assign_misfits at (a ∷ b ∷ c ∷ args) never = refl
+
+pub assign_by_misfits : (at : At) (op : Compound) (args : List Node) → (length args ≡ 2 → ⊥) → form at (Op.Symbolic (S.AssignBy op)) (trees_of args) no_trees ≡ named (form at (Op.Symbolic (S.AssignBy op)) (trees_of args) no_trees)
+unfolding trees_of
+assign_by_misfits at op [] never = refl
+assign_by_misfits at op (a ∷ []) never = refl
+assign_by_misfits at op (a ∷ b ∷ []) never = absurd (never refl)
+assign_by_misfits at op (a ∷ b ∷ c ∷ args) never = refl
+
+-- ---- symbols that fit
+
+pub operator_lowered : (at : At) (op : Plain) (args : Trees) (operands all : Trees) (omitted : Node) → fits (row_of op).operands args ≡ true → operands ≡ named_args args → omitted.term ≡ D.Omitted
+    → all ≡ joined operands (last_target (row_of op).targets (node_tree omitted)) → form at (Op.Plain op) all no_trees ≡ named (form at (Op.Symbolic (S.Operator op)) args no_trees)
+operator_lowered at op args operands all omitted e ho o ha =
+    ap (λ ts. form at (Op.Plain op) ts no_trees) (ha ∙ ap (λ ts. joined ts (last_target (row_of op).targets (node_tree omitted))) ho ∙ ap (λ t. joined (named_args args) (last_target (row_of op).targets t)) (omitted_node omitted o))
+    ∙ sym (symbol_named at op args e)
+
+-- a term that is an operator which is given a target
+record IsOperator (op : Plain) (args : Trees) (form_at : At → Tree) : Type 0 where
+  is : (at : At) → form_at at ≡ form at (Op.Symbolic (S.Operator op)) args no_trees
+  fit : fits (row_of op).operands args ≡ true
+  takes : takes_target op ≡ true
+
+operator_form : (o : Op) (args body : Trees) (op : Plain) → shape_kind (OfForm o args body) ≡ Kind.Operated op → IsOperator op args (λ at. form at o args body)
+operator_form (Op.Control Control.ElseIf) no_trees body op e = absurd cc
+operator_form (Op.Control Control.ElseIf) (tree t no_trees) body op e = absurd cc
+operator_form (Op.Control Control.ElseIf) (tree t (tree u us)) body op e = absurd cc
+operator_form (Op.Control Control.Else) no_trees body op e = absurd cc
+operator_form (Op.Control Control.Else) (tree t ts) body op e = absurd cc
+operator_form (Op.Symbolic (S.Operator o)) args (tree t ts) op e = absurd cc
+operator_form (Op.Symbolic (S.Operator o)) args no_trees op e = by_flags (fits (row_of o).operands args) (takes_target o) refl refl e
+  where
+    by_flags : (a b : Bool) → fits (row_of o).operands args ≡ a → takes_target o ≡ b → flagged a (flagged b (Kind.Operated o)) ≡ Kind.Operated op → IsOperator op args (λ at. form at (Op.Symbolic (S.Operator o)) args no_trees)
+    by_flags true true f g e = let same : o ≡ op = cc in record {
+      is = λ at. ap (λ o. form at (Op.Symbolic (S.Operator o)) args no_trees) same;
+      fit = ap (λ o. fits (row_of o).operands args) (sym same) ∙ f;
+      takes = ap takes_target (sym same) ∙ g;
+    }
+    by_flags true false f g e = absurd cc
+    by_flags false b f g e = absurd cc
+operator_form _ args body op e = absurd cc
+
+operator_term : (t : Term) (op : Plain) → shape_kind (term_shape t) ≡ Kind.Operated op → IsOperator op (shape_args (term_shape t)) (λ at. tree_of at t)
+unfolding tree_of
+operator_term (D.Form' o shape args shape' body) op e = operator_form o (row_trees args) (row_trees body) op e
+operator_term _ op e = absurd cc
+
+pub assign_lowered : (at : At) (args : List Node) (target value low : Node) (op : Plain) (inner operands all : Trees) → args ≡ target ∷ value ∷ [] → node_tree low ≡ named (node_tree target) → Kind.Operated op ≡ shape_kind (term_shape value.term)
+    → inner ≡ shape_args (term_shape value.term) → operands ≡ named_args inner → all ≡ joined operands (last_target (row_of op).targets (node_tree low))
+    → form at (Op.Plain op) all no_trees ≡ named (form at (Op.Symbolic S.Assign) (trees_of args) no_trees)
+assign_lowered at args target value low op inner operands all two low_is k hi ho ha =
+    let o = operator_term value.term op (sym k) in
+    let here : At = record { id = value.id; place = value.place } in
+    ap (λ ts. form at (Op.Plain op) ts no_trees)
+    (ha ∙ ap (λ ts. joined ts (last_target (row_of op).targets (node_tree low))) (ho ∙ ap named_args hi) ∙ ap (λ t. joined (named_args (shape_args (term_shape value.term))) (last_target (row_of op).targets t)) low_is)
+    ∙ sym (operator_named at here op (shape_args (term_shape value.term)) (node_tree target) o.fit o.takes)
+    ∙ ap (λ t. named (form at (Op.Symbolic S.Assign) (tree (node_tree target) (tree t no_trees)) no_trees)) (sym (o.is here))
+    ∙ ap (λ ts. named (form at (Op.Symbolic S.Assign) ts no_trees)) (sym (two_trees args target value two))
+
+not_operated : (k : Kind) → ((op : Plain) → k ≡ Kind.Operated op → ⊥) → kind_operator k ≡ None
+not_operated (Kind.Operated op) never = absurd (never op refl)
+not_operated k never = refl
+
+pub store_lowered : (at : At) (args all : List Node) (target value low made there : Node) (k : Kind) → args ≡ target ∷ value ∷ [] → node_tree low ≡ named (node_tree target) → node_tree made ≡ named (node_tree value) → node_tree there ≡ given (node_tree made)
+    → k ≡ shape_kind (term_shape value.term) → ((op : Plain) → k ≡ Kind.Operated op → ⊥) → all ≡ there ∷ low ∷ []
+    → form at (Op.Plain (Plain.Data DataOp.Store)) (trees_of all) no_trees ≡ named (form at (Op.Symbolic S.Assign) (trees_of args) no_trees)
+store_lowered at args all target value low made there k two low_is made_is there_is k_is never all_are =
+    let here : At = record { id = value.id; place = value.place } in
+    ap (λ ts. form at (Op.Plain (Plain.Data DataOp.Store)) ts no_trees)
+    (two_trees all there low all_are ∙ ap (λ t. tree t (tree (node_tree low) no_trees)) (there_is ∙ ap given made_is) ∙ ap (λ t. tree (given (named (node_tree value))) (tree t no_trees)) low_is)
+    ∙ sym (store_named at (node_tree target) (node_tree value) (operator_of_kind (node_tree value) ∙ ap kind_operator (kind_is here value.term ∙ sym k_is) ∙ not_operated k never))
+    ∙ ap (λ ts. named (form at (Op.Symbolic S.Assign) ts no_trees)) (sym (two_trees args target value two))
+
+pub compound_lowered : (at : At) (op : Compound) (plain : Plain) (args operands : List Node) (all : Trees) (target value low made first second copy : Node) → plain ≡ compound_operator op → args ≡ target ∷ value ∷ [] → node_tree low ≡ named (node_tree target)
+    → node_tree made ≡ named (node_tree value) → node_tree copy ≡ node_tree low → node_tree first ≡ given (node_tree low) → node_tree second ≡ given (node_tree made) → operands ≡ first ∷ second ∷ []
+    → all ≡ joined (trees_of operands) (last_target (row_of plain).targets (node_tree copy)) → form at (Op.Plain plain) all no_trees ≡ named (form at (Op.Symbolic (S.AssignBy op)) (trees_of args) no_trees)
+compound_lowered at op plain args operands all target value low made first second copy op_is two low_is made_is copy_is first_is second_is operands_are all_are =
+    ap (λ ts. form at (Op.Plain plain) ts no_trees)
+    (all_are ∙ ap (λ t. joined (trees_of operands) (last_target (row_of plain).targets t)) (copy_is ∙ low_is)
+    ∙ ap (λ ts. joined ts (last_target (row_of plain).targets (named (node_tree target))))
+    (two_trees operands first second operands_are ∙ ap (λ t. tree t (tree (node_tree second) no_trees)) (first_is ∙ ap given low_is) ∙ ap (λ t. tree (given (named (node_tree target))) (tree t no_trees)) (second_is ∙ ap given made_is)))
+    ∙ ap (λ o. form at (Op.Plain o) (tree (given (named (node_tree target))) (tree (given (named (node_tree value))) (last_target (row_of o).targets (named (node_tree target))))) no_trees) op_is
+    ∙ sym (compound_named at op (node_tree target) (node_tree value))
+    ∙ ap (λ ts. named (form at (Op.Symbolic (S.AssignBy op)) ts no_trees)) (sym (two_trees args target value two))

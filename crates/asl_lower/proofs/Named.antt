@@ -1,0 +1,359 @@
+-- A program does the same with its symbolic operators named and its ElseIfs nested.
+use Rattle.std.proofs.Common.{◌≡◌, ℕ, zero, suc, Bool, true, false, List, [], ◌∷◌, Option, Some, None, refl, ap, ◌∙◌}
+use Rattle.std.proofs.Math.Path.{fun_ext}
+use Rattle.std.specs.Prelude.{if◌then◌else◌}
+use Rattle.acpi_values.specs.declared.width.Width.{Width}
+use Rattle.acpi_values.specs.declared.operator.Plain.{Plain}
+use Rattle.acpi_values.specs.declared.operator.DataOp.TheVariants as DataOp
+use Rattle.acpi_values.specs.declared.fault.Fault.TheVariants.{WrongType}
+use Rattle.acpi_values.specs.Paths.{AbsolutePath}
+use Rattle.acpi_values.specs.Values as V
+use Rattle.acpi_values.specs.Values.{Value, Data, Reference, Elements, no_elements, element, Place, Named}
+use Rattle.acpi_values.specs.Operators.{Letter, Valued, Kept, Placed, Used, Row, row_of}
+use Rattle.acpi_values.specs.Operators as L
+use Rattle.acpi_values.specs.Integers.{wrapped}
+use Rattle.acpi_state.specs.Objects.{Object, DataObject, MethodObject, ContainerObject, MutexObject, EventObject, AliasObject, Names, UnitObject}
+use Rattle.acpi_state.specs.Finds.{first_there, reached}
+use Rattle.acpi_state.specs.Sessions.{Request, initial}
+use Rattle.acpi_state.specs.State.{State}
+use Rattle.acpi_state.specs.Outcomes.{Flow, Normal, Gives, Unfinished, Broken, Result, Done, Stopped, done, stop, fault, next, then_run, act, choose, value_of}
+use Rattle.acpi_state.specs.Outcomes as O
+use Rattle.acpi_state.specs.Loops.{is_true}
+use Rattle.acpi_state.specs.Actions.{computed, write_named}
+use Rattle.acpi_state.specs.Activations.{create}
+use Rattle.acpi_state.specs.Stores.{Spot, Nowhere, DebugObject, At, read, store}
+use Rattle.acpi_state.specs.Acts.{Operand, OfValue, OfKept, OfSpot, OfNumber, number_of, act_of, last_of}
+use Rattle.acpi_state.specs.FieldUnits.{Extent, FieldUnit, InRegion, InBank, BehindIndex}
+use Rattle.acpi_state.specs.Registers.{register_of}
+use Rattle.acpi_state.specs.FieldActs.{region_letters, field_letters}
+use Rattle.acpi_state.specs.Forms.{buffer_of, package_of, slot_here, if_data, spot_in, cond_ref_of}
+use Rattle.asl_tree.specs.FieldItems.{Placed as PlacedUnit, placed_from}
+use Rattle.asl_tree.specs.declared.path.Path.{Path}
+use Rattle.asl_tree.specs.declared.term.Compound.{Compound}
+use Rattle.asl_tree.specs.Symbols.{compound_operator, takes_target}
+use Rattle.asl_tree.specs.Literals.{literal_number}
+use Rattle.asl_tree.specs.Names.{Known, is_known, place_of, denoted, element_path}
+use Rattle.asl_tree.specs.Tree.{Tree, Integer, Constant, String, InSlot, Debug, Omitted, Raw, Use, Call, Apply, Buffer, Package, VarPackage, CondRefOf, Return, Name, Alias, External, Method, Mutex, Event, Container', Scope, Fill, Misshapen, Trees, no_trees, tree, OperationRegion, Field, IndexField, BankField, CreateField, UnitName, If, ElseIf, Else, While, Break, Continue, Item, Operated, Assigned, AssignedBy}
+use Rattle.asl_meaning.specs.FieldTerms.{create_units}
+use Rattle.asl_meaning.specs.Meaning as S
+use Rattle.asl_meaning.specs.Meaning.{SourceRun, SpotForm, OfResult, OfInside, NoSpot, spot_form, store_last, operate, two_values, store_with, assign_with, target_operator}
+use Rattle.asl_meaning.specs.SourceSession.{source_session}
+use Rattle.asl_lower.specs.Nodes.{given, last_target, applied, assigned, assigned_by, named, inner_args, named_args, named_all}
+use Rattle.asl_lower.proofs.Alike.{Alike, alike_done, alike_stop, alike_fault, alike_then, alike_to, alike_act, alike_existing, alike_look, alike_if, alike_valued, alike_on_flow, alike_loop, alike_create, alike_keep, alike_body, alike_activation, alike_use, alike_written, alike_region, alike_buffer_field, same_session}
+use Rattle.asl_lower.proofs.Runs.{before_same, named_ok, then_unit}
+
+-- two operands one after another
+two_operands : {A C : Type 0} (first : SourceRun A) (f : A → Operand) (second : SourceRun C) (g : C → Operand) →
+    then_run (then_run first (λ a. done (f a))) (λ o. then_run (then_run (then_run second (λ c. done (g c))) (λ o. then_run (done []) (λ os. done (o ∷ os)))) (λ os. done (o ∷ os))) ≡ then_run first (λ a. then_run second (λ c. done (f a ∷ g c ∷ [])))
+two_operands {A} {C} first f second g = fun_ext (λ s. by_first (first s).result (first s).state)
+  where
+    by_second : (o : Operand) (r : Result C) (t : State Trees) →
+        next (next (next r t (λ c. done (g c))).result (next r t (λ c. done (g c))).state (λ o. then_run (done []) (λ os. done (o ∷ os)))).result (next (next r t (λ c. done (g c))).result (next r t (λ c. done (g c))).state (λ o. then_run (done []) (λ os. done (o ∷ os)))).state (λ os. done (o ∷ os))
+        ≡ next r t (λ c. done (o ∷ g c ∷ []))
+    by_second o (Done c) t = refl
+    by_second o (Stopped x) t = refl
+
+    by_first : (r : Result A) (t : State Trees) →
+        next (next r t (λ a. done (f a))).result (next r t (λ a. done (f a))).state (λ o. then_run (then_run (then_run second (λ c. done (g c))) (λ o. then_run (done []) (λ os. done (o ∷ os)))) (λ os. done (o ∷ os)))
+        ≡ next r t (λ a. then_run second (λ c. done (f a ∷ g c ∷ [])))
+    by_first (Done a) t = by_second (f a) (second t).result (second t).state
+    by_first (Stopped x) t = refl
+
+pub compound_letters : (op : Compound) → (row_of (compound_operator op)).operands ≡ Valued ∷ Valued ∷ []
+compound_letters Compound.Add = refl
+compound_letters Compound.Subtract = refl
+compound_letters Compound.Multiply = refl
+compound_letters Compound.Divide = refl
+compound_letters Compound.Mod = refl
+compound_letters Compound.ShiftLeft = refl
+compound_letters Compound.ShiftRight = refl
+compound_letters Compound.And = refl
+compound_letters Compound.Or = refl
+compound_letters Compound.Xor = refl
+
+pub compound_spot : (op : Compound) → spot_form (compound_operator op) ≡ NoSpot
+compound_spot Compound.Add = refl
+compound_spot Compound.Subtract = refl
+compound_spot Compound.Multiply = refl
+compound_spot Compound.Divide = refl
+compound_spot Compound.Mod = refl
+compound_spot Compound.ShiftLeft = refl
+compound_spot Compound.ShiftRight = refl
+compound_spot Compound.And = refl
+compound_spot Compound.Or = refl
+compound_spot Compound.Xor = refl
+
+module _ (width : Width) (known : Known) where
+  alike_find : (name : Path) (scope : AbsolutePath) → Alike (S.find known name scope) (S.find known name scope)
+  alike_find name scope = alike_existing (λ names. choose (denoted (is_known known) name scope) None (λ path. first_there names (path ∷ [])))
+
+  alike_found : (name : Path) (scope : AbsolutePath) → Alike (S.found known name scope) (S.found known name scope)
+  alike_found name scope = alike_then (alike_find name scope) (λ path. alike_existing (λ names. reached names path))
+
+  alike_sought : (name : Path) (scope : AbsolutePath) → Alike (S.sought known name scope) (S.sought known name scope)
+  alike_sought name scope = alike_look (λ names. choose (choose (denoted (is_known known) name scope) None (λ path. first_there names (path ∷ []))) None (reached names))
+
+  alike_region_at : (name : Path) (scope : AbsolutePath) → Alike (S.region_at known name scope) (S.region_at known name scope)
+  alike_region_at name scope = alike_then (alike_found name scope) (λ e. alike_done e.0)
+
+  alike_register_at : (name : Path) (scope : AbsolutePath) → Alike (S.register_at known name scope) (S.register_at known name scope)
+  alike_register_at name scope = alike_then (alike_found name scope) (λ e. alike_act (register_of e))
+
+  alike_units : (unit : Extent → FieldUnit) (flags : ℕ) (scope : AbsolutePath) (units : List (PlacedUnit UnitName)) → Alike (create_units unit flags scope units) (create_units unit flags scope units)
+  alike_units unit flags scope [] = alike_done (Normal false)
+  alike_units unit flags scope (placed ∷ later) =
+      alike_then (alike_create (placed.name.segment ∷ scope) (UnitObject (unit (record { at = placed.at; bits = placed.bits; flags = flags })))) (λ u. alike_units unit flags scope later)
+
+  alike_size : {m m' : SourceRun Flow} → Alike m m' → Alike (S.size_by width known m) (S.size_by width known m')
+  alike_size h = alike_then (alike_valued h) (λ v. alike_act (number_of width v))
+
+  alike_named_place : (name : Path) (scope : AbsolutePath) → Alike (S.place_of_name width known name scope) (S.place_of_name width known name scope)
+  alike_named_place name scope = alike_then (alike_found name scope) (λ e. alike_done (if_data e.1 (Some (Named e.0)) None))
+
+  -- the place of an expression's data
+  alike_place : (t : Tree) (scope : AbsolutePath) → Alike (S.place_by width known t scope) (S.place_by width known (named t) scope)
+  alike_place (InSlot slot) scope = alike_then (alike_act (slot_here slot)) (λ place. alike_done (Some place))
+  alike_place (Use at name) scope = alike_named_place name scope
+  alike_place (Call at name args) scope = alike_named_place name scope
+  alike_place _ scope = alike_done None
+
+  alike_used : (t : Tree) (scope : AbsolutePath) → Alike (S.used_by width known t scope) (S.used_by width known (named t) scope)
+  alike_used (Use at name) scope = alike_then (alike_found name scope) (λ e. alike_done (OfSpot (At (Named e.0))))
+  alike_used _ scope = alike_stop Broken
+
+  alike_raw : (t : Tree) → Alike (S.raw_by width known t) (S.raw_by width known (named t))
+  alike_raw (Raw size number) = alike_done (OfNumber number)
+  alike_raw _ = alike_stop Broken
+
+  -- an operand as its letter asks
+  alike_letter : (letter : Letter) (t : Tree) (scope : AbsolutePath) {m m' : SourceRun Flow} {spot spot' : SourceRun Spot} → Alike m m' → Alike spot spot' → Alike (S.operand_by width known letter t m spot scope) (S.operand_by width known letter (named t) m' spot' scope)
+  alike_letter Valued t scope hm hs = alike_then (alike_valued hm) (λ v. alike_done (OfValue v))
+  alike_letter Kept t scope hm hs = alike_then (alike_place t scope) (λ place. alike_then (alike_valued hm) (λ v. alike_done (OfKept place v)))
+  alike_letter Placed t scope hm hs = alike_then hs (λ p. alike_done (OfSpot p))
+  alike_letter Used t scope hm hs = alike_used t scope
+  alike_letter (L.Raw size) t scope hm hs = alike_raw t
+
+  alike_spot_form : (form : SpotForm) {result result' : SourceRun Flow} {inside inside' : SourceRun Value} → Alike result result' → Alike inside inside' → Alike (S.spot_by width known form result inside) (S.spot_by width known form result' inside')
+  alike_spot_form OfResult hr hi = alike_then (alike_valued hr) (λ v. alike_act (spot_in v))
+  alike_spot_form OfInside hr hi = alike_then hi (λ v. alike_act (spot_in v))
+  alike_spot_form NoSpot hr hi = alike_stop Broken
+
+  -- the place of CondRefOf
+  alike_cond : (t : Tree) (scope : AbsolutePath) {spot spot' : SourceRun Spot} → Alike spot spot' → Alike (S.cond_by width known t spot scope) (S.cond_by width known (named t) spot' scope)
+  alike_cond (Use at name) scope h = alike_then (alike_sought name scope) (λ o. alike_done (choose o None (λ e. Some (At (Named e.0)))))
+  alike_cond _ scope h = alike_then h (λ p. alike_done (Some p))
+
+  -- an element of a Package
+  alike_element : (t : Tree) (scope : AbsolutePath) {m m' : SourceRun Flow} → Alike m m' → Alike (S.element_by width known t m scope) (S.element_by width known (named t) m' scope)
+  alike_element (Use at name) scope h = alike_done (Reference (Named (element_path (is_known known) name scope)))
+  alike_element _ scope h = alike_valued h
+
+  alike_plain : (op : Plain) {ops ops' : SourceRun (List Operand)} {into into' : List Value → SourceRun (Unit {0})} → Alike ops ops' → ((rs : List Value) → Alike (into rs) (into' rs)) → Alike (S.apply_with width op ops into) (S.apply_with width op ops' into')
+  alike_plain op ho ht = alike_then ho (λ os. alike_then (alike_act (act_of op width os)) (λ rs. alike_then (ht rs) (λ u. alike_done (last_of rs))))
+
+  alike_last : (n : ℕ) {spot spot' : SourceRun Spot} → Alike spot spot' → (rs : List Value) → Alike (store_last width n spot rs) (store_last width n spot' rs)
+  alike_last zero h rs = alike_done tt
+  alike_last (suc n) h [] = alike_fault WrongType
+  alike_last (suc zero) h (v ∷ rs) = alike_then h (λ p. alike_act (store width p v))
+  alike_last (suc (suc n)) h (v ∷ rs) = alike_last (suc n) h rs
+
+  alike_operate : (op : Plain) {ops ops' : SourceRun (List Operand)} {spot spot' : SourceRun Spot} → Alike ops ops' → Alike spot spot' →
+      Alike (S.apply_with width op ops (store_last width (row_of op).targets spot)) (S.apply_with width op ops' (store_last width (row_of op).targets spot'))
+  alike_operate op ho hs = alike_plain op ho (λ rs. alike_last (row_of op).targets hs rs)
+
+module _ (width : Width) (known : Known) (turns : ℕ) (call : AbsolutePath → List Value → SourceRun Flow) where
+  abbrev value_at : Tree → AbsolutePath → SourceRun Value
+  value_at t scope = then_run (S.run width known turns call t scope false) value_of
+
+  abbrev spot_at : Tree → AbsolutePath → SourceRun Spot
+  spot_at t scope = S.spot width known turns call t scope
+
+  -- targets of which the last one is given take the last result
+  last_stores : (n : ℕ) (t : Tree) (rs : List Value) (scope : AbsolutePath) → S.store_all width known turns call (last_target n t) rs scope ≡ store_last width n (spot_at t scope) rs
+  last_stores zero t rs scope = refl
+  last_stores (suc zero) t [] scope = refl
+  last_stores (suc (suc n)) t [] scope = refl
+  last_stores (suc zero) t (v ∷ rs) scope = ap (λ (k : Spot → SourceRun (Unit {0})). then_run (spot_at t scope) k) (fun_ext (λ p. then_unit (act (store width p v))))
+  last_stores (suc (suc n)) t (v ∷ rs) scope = last_stores (suc n) t rs scope
+
+  applied_runs : (op : Plain) (args : Trees) (target : Tree) (scope : AbsolutePath) (due : Bool) →
+      S.run width known turns call (applied op args target) scope due ≡ operate width op (λ letters. S.operands width known turns call letters args scope) (spot_at target scope)
+  applied_runs op args target scope due =
+      ap (λ (into : List Value → SourceRun (Unit {0})). S.apply_with width op (S.operands width known turns call (row_of op).operands args scope) into) (fun_ext (λ rs. last_stores (row_of op).targets target rs scope))
+
+  given_value : (t : Tree) (scope : AbsolutePath) → value_at (given t) scope ≡ value_at t scope
+  given_value Omitted scope = refl
+  given_value t scope = refl
+
+  stored_runs : (args : Trees) (target value : Tree) (scope : AbsolutePath) (due : Bool) → S.run width known turns call (assigned None args target value) scope due ≡ store_with width (value_at value scope) (spot_at target scope)
+  stored_runs args target value scope due =
+      ap (λ (ops : SourceRun (List Operand)). S.apply_with width (Plain.Data DataOp.Store) ops (λ rs. done tt)) (two_operands (value_at (given value) scope) (λ v. OfValue v) (spot_at target scope) (λ p. OfSpot p))
+      ∙ ap (λ m. store_with width m (spot_at target scope)) (given_value value scope)
+
+  compound_runs : (op : Compound) (target value : Tree) (scope : AbsolutePath) (due : Bool) →
+      S.run width known turns call (assigned_by op target value) scope due ≡ operate width (compound_operator op) (λ letters. two_values (value_at target scope) (value_at value scope)) (spot_at target scope)
+  compound_runs op target value scope due =
+      applied_runs (compound_operator op) (tree (given target) (tree (given value) no_trees)) target scope due
+      ∙ ap (λ (ops : SourceRun (List Operand)). S.apply_with width (compound_operator op) ops (store_last width (row_of (compound_operator op)).targets (spot_at target scope)))
+      (ap (λ letters. S.operands width known turns call letters (tree (given target) (tree (given value) no_trees)) scope) (compound_letters op)
+      ∙ two_operands (value_at (given target) scope) (λ v. OfValue v) (value_at (given value) scope) (λ v. OfValue v)
+      ∙ ap (λ m. two_values m (value_at (given value) scope)) (given_value target scope) ∙ ap (two_values (value_at target scope)) (given_value value scope))
+
+  -- an assignment stands for no place
+  abbrev NoSpotIn : Option Plain → Type 0
+  NoSpotIn None = Unit {0}
+  NoSpotIn (Some op) = spot_form op ≡ NoSpot
+
+  target_spot : (value : Tree) → NoSpotIn (target_operator value)
+  target_spot (Operated (Plain.Number op) args) = by_takes (takes_target (Plain.Number op))
+    where
+      by_takes : (c : Bool) → NoSpotIn (if c then Some (Plain.Number op) else None)
+      by_takes true = refl
+      by_takes false = tt
+  target_spot (Operated (Plain.Data op) args) = tt
+  target_spot (Operated (Plain.Event op) args) = tt
+  target_spot _ = tt
+
+  applied_spot : (op : Plain) (args : Trees) (target : Tree) (scope : AbsolutePath) → spot_form op ≡ NoSpot → spot_at (applied op args target) scope ≡ stop Broken
+  applied_spot op args target scope e = ap (λ form. S.spot_by width known form (S.run width known turns call (applied op args target) scope false) (S.first_value width known turns call args scope)) e
+
+  assigned_spot : (o : Option Plain) (args : Trees) (target value : Tree) (scope : AbsolutePath) → NoSpotIn o → spot_at (assigned o args target value) scope ≡ stop Broken
+  assigned_spot (Some op) args target value scope e = applied_spot op args target scope e
+  assigned_spot None args target value scope e = refl
+
+  assigned_by_spot : (op : Compound) (target value : Tree) (scope : AbsolutePath) → spot_at (assigned_by op target value) scope ≡ stop Broken
+  assigned_by_spot op target value scope = applied_spot (compound_operator op) (tree (given target) (tree (given value) no_trees)) target scope (compound_spot op)
+
+module _ (width : Width) (known : Known) (turns : ℕ) (call : AbsolutePath → List Value → SourceRun Flow) (calls : (path : AbsolutePath) (args : List Value) → Alike (call path args) (call path args)) where
+  alike_assigned : (o : Option Plain) (target value : Tree) (scope : AbsolutePath) (due : Bool) → target_operator value ≡ o →
+      Alike (value_at width known turns call value scope) (value_at width known turns call (named value) scope) → Alike (spot_at width known turns call target scope) (spot_at width known turns call (named target) scope) →
+      ((op : Plain) → target_operator value ≡ Some op → Alike (S.inner_operands width known turns call (row_of op).operands value scope) (S.operands width known turns call (row_of op).operands (inner_args value) scope)) →
+      Alike (assign_with width o (λ letters. S.inner_operands width known turns call letters value scope) (value_at width known turns call value scope) (spot_at width known turns call target scope)) (S.run width known turns call (assigned o (inner_args value) (named target) (named value)) scope due)
+  alike_assigned (Some op) target value scope due e hv hs ho =
+      alike_to (applied_runs width known turns call op (inner_args value) (named target) scope due) (alike_operate width known op (ho op e) hs)
+  alike_assigned None target value scope due e hv hs ho =
+      alike_to (stored_runs width known turns call (inner_args value) (named target) (named value) scope due)
+      (alike_plain width known (Plain.Data DataOp.Store) (alike_then hv (λ v. alike_then hs (λ p. alike_done (OfValue v ∷ OfSpot p ∷ [])))) (λ rs. alike_done tt))
+
+  alike_created : (path : AbsolutePath) (object : Object) → Alike (then_run (create path object) (λ u. done (Normal false))) (then_run (create path object) (λ u. done (Normal false)))
+  alike_created path object = alike_then (alike_create path object) (λ u. alike_done (Normal false))
+
+  mutual
+    alike : (t : Tree) (scope : AbsolutePath) (due : Bool) → Alike (S.run width known turns call t scope due) (S.run width known turns call (named t) scope due)
+    alike (Integer number) scope due = alike_done (Gives (Data (V.Integer (wrapped width number))))
+    alike (Constant literal) scope due = alike_done (Gives (Data (V.Integer (literal_number width literal))))
+    alike (String text) scope due = alike_done (Gives (Data (V.String text)))
+    alike (InSlot slot) scope due = alike_then (alike_act (slot_here slot)) (λ place. alike_then (alike_act (read width place)) (λ v. alike_done (Gives v)))
+    alike Debug scope due = alike_fault WrongType
+    alike Omitted scope due = alike_stop Broken
+    alike (Raw size number) scope due = alike_stop Broken
+    alike (Use at name) scope due = alike_then (alike_found width known name scope) (λ e. alike_use width call calls e.0 e.1 [])
+    alike (Call at name args) scope due =
+        alike_then (alike_found width known name scope) (λ e. alike_then (alike_values args scope) (λ vs. alike_written width call calls e.0 e.1 vs))
+    alike (Apply op args targets) scope due = alike_plain width known op (alike_operands (row_of op).operands args scope) (λ rs. alike_stores targets rs scope)
+    alike (Operated op args) scope due =
+        alike_to (applied_runs width known turns call op (named_args args) Omitted scope due) (alike_operate width known op (alike_operands (row_of op).operands args scope) (alike_done Nowhere))
+    alike (Assigned target value) scope due =
+        alike_assigned (target_operator value) target value scope due refl (alike_valued (alike value scope false)) (alike_spot target scope) (λ op e. alike_inner op value scope e)
+    alike (AssignedBy op target value) scope due =
+        alike_to (compound_runs width known turns call op (named target) (named value) scope due)
+        (alike_operate width known (compound_operator op)
+        (alike_then (alike_valued (alike target scope false)) (λ v. alike_then (alike_valued (alike value scope false)) (λ w. alike_done (OfValue v ∷ OfValue w ∷ []))))
+        (alike_spot target scope))
+    alike (Buffer size bytes) scope due =
+        alike_then (alike_size width known (alike size scope false)) (λ n. alike_then (alike_act (computed (buffer_of n bytes))) (λ v. alike_done (Gives v)))
+    alike (Package count items) scope due =
+        alike_then (alike_elements items scope) (λ es. alike_then (alike_act (computed (package_of count es))) (λ v. alike_done (Gives v)))
+    alike (VarPackage count items) scope due =
+        alike_then (alike_size width known (alike count scope false)) (λ n. alike_then (alike_elements items scope) (λ es. alike_then (alike_act (computed (package_of n es))) (λ v. alike_done (Gives v))))
+    alike (CondRefOf place target) scope due =
+        alike_then (alike_cond width known place scope (alike_spot place scope)) (λ o. alike_then (alike_spot target scope) (λ p. alike_then (alike_act (cond_ref_of width o p)) (λ v. alike_done (Gives v))))
+    alike (Return value) scope due = alike_then (alike_valued (alike value scope false)) (λ v. alike_done (O.Return v))
+    alike (Name at name value) scope due =
+        alike_then (alike_valued (alike value scope false)) (λ v. alike_then (alike_create (place_of name scope) DataObject) (λ u. alike_then (alike_act (write_named (place_of name scope) v)) (λ u. alike_done (Normal false))))
+    alike (Alias from source at name) scope due = alike_then (alike_found width known source scope) (λ e. alike_created (place_of name scope) (AliasObject e.0))
+    alike (External here at name type parameters) scope due = alike_done (Normal false)
+    alike (Method at name flags body) scope due =
+        alike_then (alike_create (place_of name scope) (MethodObject flags)) (λ u. alike_then (alike_keep (place_of name scope) body) (λ u. alike_done (Normal false)))
+    alike (Mutex at name level) scope due = alike_created (place_of name scope) (MutexObject level)
+    alike (Event at name) scope due = alike_created (place_of name scope) EventObject
+    alike (Container' kind at name body) scope due = alike_then (alike_create (place_of name scope) (ContainerObject kind)) (λ u. alike_all body (place_of name scope) false)
+    alike (Scope here at name body) scope due = alike_then (alike_find width known name scope) (λ path. alike_all body path false)
+    alike (If test body) scope due =
+        alike_then (alike_size width known (alike test scope false)) (λ n. alike_if (is_true n) (alike_all body scope false) (alike_done (Normal true)))
+    alike (ElseIf test body) scope due =
+        alike_if due (alike_then (alike_size width known (alike test scope false)) (λ n. alike_if (is_true n) (alike_all body scope false) (alike_done (Normal true)))) (alike_done (Normal false))
+    alike (Else body) scope due = alike_if due (alike_all body scope false) (alike_done (Normal false))
+    alike (While test body) scope due =
+        alike_loop {X = Unit {0}} turns (alike_then (alike_size width known (alike test scope false)) (λ n. alike_done (is_true n, tt))) (λ u. alike_all body scope false)
+    alike Break scope due = alike_done O.Break
+    alike Continue scope due = alike_done O.Continue
+    alike (OperationRegion at name space args) scope due = alike_then (alike_operands region_letters args scope) (λ os. alike_region width (place_of name scope) space os)
+    alike (Field here from region flags items) scope due = alike_then (alike_region_at width known region scope) (λ r. alike_units width known (InRegion r) flags scope (placed_from 0 items))
+    alike (IndexField here from index to register flags items) scope due =
+        alike_then (alike_register_at width known index scope) (λ i. alike_then (alike_register_at width known register scope) (λ r. alike_units width known (BehindIndex i r) flags scope (placed_from 0 items)))
+    alike (BankField here from region to bank value flags items) scope due =
+        alike_then (alike_region_at width known region scope) (λ r. alike_then (alike_register_at width known bank scope)
+        (λ b. alike_then (alike_size width known (alike value scope false)) (λ n. alike_units width known (InBank r b n) flags scope (placed_from 0 items))))
+    alike (CreateField form args at name) scope due = alike_then (alike_operands (field_letters form) args scope) (λ os. alike_buffer_field width form (place_of name scope) os)
+    alike (Item item) scope due = alike_stop Broken
+    alike (Fill bytes) scope due = alike_stop Broken
+    alike Misshapen scope due = alike_stop Broken
+
+    alike_spot : (t : Tree) (scope : AbsolutePath) → Alike (spot_at width known turns call t scope) (spot_at width known turns call (named t) scope)
+    alike_spot Omitted scope = alike_done Nowhere
+    alike_spot Debug scope = alike_done DebugObject
+    alike_spot (InSlot slot) scope = alike_then (alike_act (slot_here slot)) (λ place. alike_done (At place))
+    alike_spot (Use at name) scope = alike_then (alike_found width known name scope) (λ e. alike_done (At (Named e.0)))
+    alike_spot (Apply op args targets) scope =
+        alike_spot_form width known (spot_form op) (alike_plain width known op (alike_operands (row_of op).operands args scope) (λ rs. alike_stores targets rs scope)) (alike_first args scope)
+    alike_spot (Operated op args) scope =
+        alike_spot_form width known (spot_form op)
+        (alike_to (applied_runs width known turns call op (named_args args) Omitted scope false) (alike_operate width known op (alike_operands (row_of op).operands args scope) (alike_done Nowhere))) (alike_first args scope)
+    alike_spot (Assigned target value) scope =
+        alike_to (assigned_spot width known turns call (target_operator value) (inner_args value) (named target) (named value) scope (target_spot width known turns call value)) (alike_stop Broken)
+    alike_spot (AssignedBy op target value) scope = alike_to (assigned_by_spot width known turns call op (named target) (named value) scope) (alike_stop Broken)
+    alike_spot _ scope = alike_stop Broken
+
+    alike_inner : (op : Plain) (value : Tree) (scope : AbsolutePath) → target_operator value ≡ Some op → Alike (S.inner_operands width known turns call (row_of op).operands value scope) (S.operands width known turns call (row_of op).operands (inner_args value) scope)
+    alike_inner op (Operated symbol args) scope e = alike_operands (row_of op).operands args scope
+    alike_inner op _ scope e = absurd cc
+
+    alike_operands : (letters : List Letter) (ts : Trees) (scope : AbsolutePath) → Alike (S.operands width known turns call letters ts scope) (S.operands width known turns call letters (named_args ts) scope)
+    alike_operands [] no_trees scope = alike_done []
+    alike_operands [] (tree t ts) scope = alike_stop Broken
+    alike_operands (letter ∷ letters) no_trees scope = alike_stop Broken
+    alike_operands (letter ∷ letters) (tree t ts) scope =
+        alike_then (alike_letter width known letter t scope (alike t scope false) (alike_spot t scope)) (λ o. alike_then (alike_operands letters ts scope) (λ os. alike_done (o ∷ os)))
+
+    alike_stores : (ts : Trees) (rs : List Value) (scope : AbsolutePath) → Alike (S.store_all width known turns call ts rs scope) (S.store_all width known turns call (named_args ts) rs scope)
+    alike_stores no_trees rs scope = alike_done tt
+    alike_stores (tree t ts) [] scope = alike_fault WrongType
+    alike_stores (tree t ts) (r ∷ rs) scope = alike_then (alike_spot t scope) (λ p. alike_then (alike_act (store width p r)) (λ u. alike_stores ts rs scope))
+
+    alike_first : (ts : Trees) (scope : AbsolutePath) → Alike (S.first_value width known turns call ts scope) (S.first_value width known turns call (named_args ts) scope)
+    alike_first no_trees scope = alike_stop Broken
+    alike_first (tree t ts) scope = alike_valued (alike t scope false)
+
+    alike_values : (ts : Trees) (scope : AbsolutePath) → Alike (S.values width known turns call ts scope) (S.values width known turns call (named_args ts) scope)
+    alike_values no_trees scope = alike_done []
+    alike_values (tree t ts) scope = alike_then (alike_valued (alike t scope false)) (λ v. alike_then (alike_values ts scope) (λ vs. alike_done (v ∷ vs)))
+
+    alike_elements : (ts : Trees) (scope : AbsolutePath) → Alike (S.elements width known turns call ts scope) (S.elements width known turns call (named_args ts) scope)
+    alike_elements no_trees scope = alike_done no_elements
+    alike_elements (tree t ts) scope = alike_then (alike_element width known t scope (alike t scope false)) (λ v. alike_then (alike_elements ts scope) (λ es. alike_done (element v es)))
+
+    pub alike_all : (ts : Trees) (scope : AbsolutePath) (due : Bool) → Alike (S.run_all width known turns call ts scope due) (S.run_all width known turns call (named_all ts) scope due)
+    alike_all no_trees scope due = alike_done (Normal false)
+    alike_all (tree t ts) scope due =
+        alike_to (before_same width known turns call (named t) (named_all ts) scope due (named_ok ts)) (alike_then (alike t scope due) (λ f. alike_on_flow f (λ d. alike_all ts scope d)))
+
+module _ (width : Width) (known : Known) (turns : ℕ) where
+  alike_call : (depth : ℕ) (path : AbsolutePath) (args : List Value) → Alike (S.call_method width known turns depth path args) (S.call_method width known turns depth path args)
+  alike_call zero path args = alike_stop Unfinished
+  alike_call (suc depth) path args = alike_body (λ body. alike_activation args (alike_all width known turns (S.call_method width known turns depth) (alike_call depth) body path false)) path
+
+-- the session of a program is that of the program with its operators named and its ElseIfs nested
+pub same_named : (width : Width) (known : Known) (terms : Trees) (there : Names) (n : ℕ) (answers : List Value) (requests : List Request) → source_session width known (named_all terms) there n answers requests ≡ source_session width known terms there n answers requests
+same_named width known terms there n answers requests =
+    same_session (S.call_method width known n n) (alike_call width known n n) _ _ (alike_all width known n (S.call_method width known n n) (alike_call width known n n) terms [] false) (initial there answers) refl requests

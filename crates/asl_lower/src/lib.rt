@@ -1,0 +1,7 @@
+//! Symbolic operators to named ones, and each run of ElseIfs to nested Elses.
+#![tactic(auto)]
+
+mod copy;
+pub mod kind;
+pub mod lower;
+mod nest;

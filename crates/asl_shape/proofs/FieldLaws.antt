@@ -1,0 +1,121 @@
+-- The list of a field, member by member.
+use Rattle.std.proofs.Common.{◌≡◌, ℕ, ◌+◌, ◌<◌, ◌≤◌, length, get_or, drop, List, [], ◌∷◌, refl, ap, ◌∙◌, Option, Some, None, true, false, Vec, Global}
+use Rattle.std.specs.Prelude.{if◌then◌else◌}
+use Rattle.std.proofs.lemmas.List.{drop_all}
+use Rattle.acpi_state.specs.Outcomes.{choose}
+use Rattle.iasl_messages.specs.declared.place.Place.{Place}
+use Rattle.asl_parser.specs.declared.raw.Infix.{Infix}
+use Rattle.asl_parser.specs.declared.raw.Raw.{Raw}
+use Rattle.asl_parser.specs.declared.raw.Raw.TheVariants as raw
+use Rattle.asl_tree.specs.declared.path.Path.{Path}
+use Rattle.asl_tree.specs.declared.term.Op.{Op}
+use Rattle.asl_tree.specs.declared.term.Node.{Node}
+use Rattle.asl_tree.specs.declared.term.Term as D
+use Rattle.asl_words.specs.declared.meaning.Meaning.TheVariants as is
+use Rattle.asl_words.specs.Meanings.{meaning_of}
+use Rattle.asl_shape.specs.declared.fields.Due.{Due}
+use Rattle.asl_parser.specs.Written.{writtens}
+use Rattle.asl_shape.specs.Plans.{Plan, plan_of, no_plans}
+use Rattle.asl_shape.specs.Shapes.{meaning_in, is_offset, next_due, may_stop, named_unit, is_offset_plan, offset_alone, one_plan}
+use Rattle.asl_shape.specs.AtRaw.{is_some, is_comma_at, is_separator_at, meaning_at, goes_on_at, due_behind_at, is_field_list_at}
+use Rattle.asl_parser.proofs.Views.{written_number, written_text, written_item, written_apply, written_list, written_comma, written_semicolon, written_empty}
+use Rattle.asl_shape.proofs.Plans.{plan_form, plan_call}
+use Rattle.asl_shape.proofs.Terms.{term_rules}
+use Rattle.asl_shape.proofs.Settled.{join_nothing}
+use Rattle.asl_shape.proofs.Braces.{given_some, from_item}
+
+-- ---- what a member is
+
+pub meaning_number : (place : Place) (n : ℕ) → meaning_at (raw.Number place n) ≡ is.Unknown
+unfolding meaning_at
+meaning_number place n = ap meaning_in (written_number place n)
+
+pub meaning_text : (place : Place) (bytes : List ℕ) → meaning_at (raw.Text place bytes) ≡ is.Unknown
+unfolding meaning_at
+meaning_text place bytes = ap meaning_in (written_text place bytes)
+
+pub meaning_item : (place : Place) (word : List ℕ) (args body : Option (List Raw)) → meaning_at (raw.Item place word args body) ≡ meaning_of word (is_some body)
+unfolding meaning_at
+meaning_item place word args body = ap meaning_in (written_item place word args body) ∙ ap (meaning_of word) (given_some body)
+
+pub meaning_apply : (place : Place) (op : Infix) (args : List Raw) → meaning_at (raw.Apply place op args) ≡ is.Unknown
+unfolding meaning_at
+meaning_apply place op args = ap meaning_in (written_apply place op args)
+
+pub meaning_list : (place : Place) (items : List Raw) → meaning_at (raw.List place items) ≡ is.Unknown
+unfolding meaning_at
+meaning_list place items = ap meaning_in (written_list place items)
+
+pub meaning_comma : meaning_at (raw.Comma) ≡ is.Unknown
+unfolding meaning_at
+meaning_comma = ap meaning_in (written_comma)
+
+pub meaning_semicolon : meaning_at (raw.Semicolon) ≡ is.Unknown
+unfolding meaning_at
+meaning_semicolon = ap meaning_in (written_semicolon)
+
+pub meaning_empty : meaning_at (raw.Empty) ≡ is.Unknown
+unfolding meaning_at
+meaning_empty = ap meaning_in (written_empty)
+
+pub ruleset meaning_rules = (meaning_number, meaning_text, meaning_item, meaning_apply, meaning_list, meaning_comma, meaning_semicolon, meaning_empty)
+
+-- ---- what may come behind it
+
+pub goes_on_is : (due : Due) (r : Raw) → goes_on_at due r ≡ next_due due (is_comma_at r) (is_separator_at r) (is_offset (meaning_at r))
+unfolding goes_on_at is_comma_at is_separator_at meaning_at
+goes_on_is due r = refl
+
+pub due_behind_is : (due : Due) (r : Raw) → due_behind_at due r ≡ choose (goes_on_at due r) Due.Comma (λ next. next)
+unfolding due_behind_at goes_on_at
+due_behind_is due r = refl
+
+pub ruleset next_rules = (goes_on_is, due_behind_is)
+
+pub list_end : (due : Due) → is_field_list_at due [] ≡ may_stop due
+unfolding is_field_list_at writtens
+list_end due = refl
+
+pub list_more : (due : Due) (r : Raw) (rs : List Raw) → is_field_list_at due (r ∷ rs) ≡ choose (goes_on_at due r) false (λ next. is_field_list_at next rs)
+unfolding is_field_list_at writtens goes_on_at
+list_more due r rs = refl
+
+pub list_step : (due : Due) (raws : List Raw) (i : ℕ) (d : Raw) → i < length raws → is_field_list_at due (drop i raws) ≡ choose (goes_on_at due (get_or raws i d)) false (λ next. is_field_list_at next (drop (i + 1) raws))
+list_step due raws i d lt = ap (is_field_list_at due) (from_item raws i d lt) ∙ list_more due (get_or raws i d) (drop (i + 1) raws)
+
+pub list_over : (due : Due) (raws : List Raw) (i : ℕ) → length raws ≤ i → is_field_list_at due (drop i raws) ≡ may_stop due
+list_over due raws i le = ap (is_field_list_at due) (drop_all i raws le) ∙ list_end due
+
+pub list_stop : (due : Due) (raws : List Raw) (i : ℕ) (d : Raw) → i < length raws → goes_on_at due (get_or raws i d) ≡ None → is_field_list_at due (drop i raws) ≡ false
+list_stop due raws i d lt e = list_step due raws i d lt ∙ ap (λ o. choose o false (λ next. is_field_list_at next (drop (i + 1) raws))) e
+
+pub list_go : (due next : Due) (raws : List Raw) (i : ℕ) (d : Raw) → i < length raws → goes_on_at due (get_or raws i d) ≡ Some next → is_field_list_at due (drop i raws) ≡ is_field_list_at next (drop (i + 1) raws)
+list_go due next raws i d lt e = list_step due raws i d lt ∙ ap (λ o. choose o false (λ next. is_field_list_at next (drop (i + 1) raws))) e
+
+pub ruleset list_steps = (list_end, list_stop, list_go, list_over)
+
+-- ---- terms
+
+pub named_form : (place : Place) (o : Op) (args body : Vec Node Global) → named_unit place (plan_of (D.Form o args body)) ≡ None
+named_form place o args body = ap (named_unit place) (plan_form o args body)
+
+pub named_call : (place : Place) (path : Path) (args : Vec Node Global) → named_unit place (plan_of (D.Call path args)) ≡ None
+named_call place path args = ap (named_unit place) (plan_call path args)
+
+pub ruleset named_rules = (term_rules, named_form, named_call)
+
+pub offset_form : (o : Op) (args body : Vec Node Global) → is_offset_plan (plan_of (D.Form o args body)) ≡ false
+offset_form o args body = ap is_offset_plan (plan_form o args body)
+
+pub offset_call : (path : Path) (args : Vec Node Global) → is_offset_plan (plan_of (D.Call path args)) ≡ false
+offset_call path args = ap is_offset_plan (plan_call path args)
+
+pub ruleset offset_rules = (term_rules, offset_form, offset_call)
+
+pub alone_some : (place : Place) (p : Plan) → is_offset_plan p ≡ true → offset_alone place p ≡ one_plan place p
+alone_some place p e = ap (λ b. if b then one_plan place p else no_plans) e
+
+pub alone_none : (place : Place) (p : Plan) → is_offset_plan p ≡ false → offset_alone place p ≡ no_plans
+alone_none place p e = ap (λ b. if b then one_plan place p else no_plans) e
+
+pub ruleset alone_rules = (alone_some, alone_none, join_nothing)

@@ -1,0 +1,155 @@
+-- The elements of a field's list, one at a time.
+use Rattle.std.proofs.Common.{◌≡◌, ℕ, ◌+◌, ◌<◌, ◌≤◌, length, get_or, drop, List, [], ◌++◌, append_assoc, refl, ap, ◌∙◌, sym, Option, None, Bool, true, false}
+use Rattle.std.proofs.lemmas.List.{drop_all}
+use Rattle.iasl_messages.specs.declared.message.Message.{Message}
+use Rattle.asl_parser.specs.declared.raw.Raw.{Raw}
+use Rattle.asl_words.specs.declared.operator.Slot.TheVariants as slot
+use Rattle.asl_shape.specs.declared.fields.Due.{Due}
+use Rattle.asl_shape.specs.declared.fields.UnitName.{UnitName}
+use Rattle.asl_parser.specs.Written.{writtens}
+use Rattle.asl_shape.specs.Plans.{omitted, Plans, no_plans, join, number_of}
+use Rattle.asl_shape.specs.Shapes
+use Rattle.asl_shape.specs.Shapes.{Shaped, fine, nowhere, begin, followed, field_part, field_slot, no_comma, offset_alone, of_bits, named_unit, unit_behind}
+use Rattle.asl_shape.specs.AtRaw.{place_at, shape_at, bare_at, is_separator_at, elements_at, part_at, unit_at, due_behind_at, begin_at, comma_at, bits_at}
+use Rattle.asl_shape.proofs.Terms.{nothing_more}
+use Rattle.asl_shape.proofs.Braces.{from_item}
+use Rattle.asl_shape.proofs.Shapes.{join_assoc, nothing_behind}
+
+-- ---- a member, by what is due
+
+pub part_begin : (unit : Option UnitName) (inside : Bool) (r : Raw) → part_at Due.Element unit inside r ≡ begin_at inside r
+unfolding part_at begin_at
+part_begin unit inside r = by (is_separator_at r)
+  where
+    by : (b : Bool) → field_part Due.Element unit (place_at nowhere r) b (shape_at slot.FieldElement inside r) ≡ field_part Due.Element None (place_at nowhere r) b (shape_at slot.FieldElement inside r)
+    by true = refl
+    by false = refl
+
+pub part_comma : (unit : Option UnitName) (inside : Bool) (r : Raw) → part_at Due.NameComma unit inside r ≡ comma_at unit r
+unfolding part_at comma_at
+part_comma unit inside r = by (is_separator_at r)
+  where
+    by : (b : Bool) → field_part Due.NameComma unit (place_at nowhere r) b (shape_at slot.FieldElement inside r) ≡ field_part Due.NameComma unit (place_at nowhere r) b (fine omitted)
+    by true = refl
+    by false = refl
+
+pub part_bits : (unit : Option UnitName) (inside : Bool) (r : Raw) → part_at Due.Bits unit inside r ≡ bits_at unit inside r
+unfolding part_at bits_at
+part_bits unit inside r = refl
+
+pub part_none : (unit : Option UnitName) (inside : Bool) (r : Raw) → part_at Due.Comma unit inside r ≡ fine no_plans
+unfolding part_at
+part_none unit inside r = refl
+
+pub unit_begin : (unit : Option UnitName) (inside : Bool) (r : Raw) → unit_at Due.Element unit inside r ≡ unit_at begin None inside r
+unfolding unit_at
+unit_begin unit inside r = by (is_separator_at r)
+  where
+    by : (b : Bool) → unit_behind Due.Element unit (place_at nowhere r) b (shape_at slot.FieldElement inside r).made ≡ unit_behind Due.Element None (place_at nowhere r) b (shape_at slot.FieldElement inside r).made
+    by true = refl
+    by false = refl
+
+pub unit_comma : (unit : Option UnitName) (inside : Bool) (r : Raw) → unit_at Due.NameComma unit inside r ≡ unit
+unfolding unit_at
+unit_comma unit inside r = refl
+
+pub unit_bits : (unit : Option UnitName) (inside : Bool) (r : Raw) → unit_at Due.Bits unit inside r ≡ None
+unfolding unit_at
+unit_bits unit inside r = refl
+
+pub unit_none : (unit : Option UnitName) (inside : Bool) (r : Raw) → unit_at Due.Comma unit inside r ≡ None
+unfolding unit_at
+unit_none unit inside r = refl
+
+pub comma_made : (unit : Option UnitName) (r : Raw) → (comma_at unit r).made ≡ no_plans
+unfolding comma_at
+comma_made unit r = by (is_separator_at r)
+  where
+    by : (b : Bool) → (field_part Due.NameComma unit (place_at nowhere r) b (fine omitted)).made ≡ no_plans
+    by true = refl
+    by false = refl
+
+pub ruleset part_rules = (part_begin, part_comma, part_bits, part_none, unit_begin, unit_comma, unit_bits, unit_none, comma_made, nothing_more, nothing_behind)
+
+-- ---- a begin
+
+pub begin_skip : (inside : Bool) (r : Raw) → is_separator_at r ≡ true → begin_at inside r ≡ fine no_plans
+unfolding begin_at
+begin_skip inside r e = ap (λ b. field_part begin None (place_at nowhere r) b (shape_at slot.FieldElement inside r)) e
+
+pub begin_faults : (inside : Bool) (r : Raw) → is_separator_at r ≡ false → (begin_at inside r).faults ≡ (shape_at slot.FieldElement inside r).faults
+unfolding begin_at
+begin_faults inside r e = ap (λ b. (field_part begin None (place_at nowhere r) b (shape_at slot.FieldElement inside r)).faults) e
+
+pub begin_made : (inside : Bool) (r : Raw) → is_separator_at r ≡ false → (begin_at inside r).made ≡ offset_alone (place_at nowhere r) (shape_at slot.FieldElement inside r).made
+unfolding begin_at
+begin_made inside r e = ap (λ b. (field_part begin None (place_at nowhere r) b (shape_at slot.FieldElement inside r)).made) e
+
+pub unit_skip : (inside : Bool) (r : Raw) → is_separator_at r ≡ true → unit_at begin None inside r ≡ None
+unfolding unit_at
+unit_skip inside r e = ap (λ b. unit_behind begin None (place_at nowhere r) b (shape_at slot.FieldElement inside r).made) e
+
+pub unit_named : (inside : Bool) (r : Raw) → is_separator_at r ≡ false → unit_at begin None inside r ≡ named_unit (place_at nowhere r) (shape_at slot.FieldElement inside r).made
+unfolding unit_at
+unit_named inside r e = ap (λ b. unit_behind begin None (place_at nowhere r) b (shape_at slot.FieldElement inside r).made) e
+
+pub ruleset begin_rules = (begin_skip, begin_faults, begin_made, unit_skip, unit_named, nothing_more, nothing_behind)
+
+-- ---- a comma that is missed
+
+pub comma_skip : (unit : Option UnitName) (r : Raw) → is_separator_at r ≡ true → (comma_at unit r).faults ≡ []
+unfolding comma_at
+comma_skip unit r e = ap (λ b. (field_part Due.NameComma unit (place_at nowhere r) b (fine omitted)).faults) e
+
+pub comma_missed : (unit : Option UnitName) (r : Raw) → is_separator_at r ≡ false → (comma_at unit r).faults ≡ no_comma unit
+unfolding comma_at
+comma_missed unit r e = ap (λ b. (field_part Due.NameComma unit (place_at nowhere r) b (fine omitted)).faults) e
+
+pub ruleset comma_rules = (comma_skip, comma_missed, nothing_more)
+
+-- ---- a number of bits
+
+pub bits_faults : (unit : Option UnitName) (inside : Bool) (r : Raw) → (bits_at unit inside r).faults ≡ (shape_at (slot.Constant 0 18446744073709551615) inside r).faults
+unfolding bits_at
+bits_faults unit inside r = refl
+
+pub bits_made : (unit : Option UnitName) (inside : Bool) (r : Raw) → (bits_at unit inside r).made ≡ of_bits unit (place_at nowhere r) (number_of (shape_at (slot.Constant 0 18446744073709551615) inside r).made)
+unfolding bits_at
+bits_made unit inside r = refl
+
+pub ruleset bits_rules = (bits_faults, bits_made)
+
+-- ---- the list from one of its members on
+
+pub element_step : (due : Due) (unit : Option UnitName) (inside : Bool) (raws : List Raw) (i : ℕ) (d : Raw) → i < length raws
+    → elements_at due unit inside (drop i raws) ≡ followed (part_at due unit inside (get_or raws i d)) (elements_at (due_behind_at due (get_or raws i d)) (unit_at due unit inside (get_or raws i d)) inside (drop (i + 1) raws))
+unfolding elements_at writtens place_at bare_at is_separator_at due_behind_at part_at unit_at
+element_step due unit inside raws i d lt = ap (λ rs. Shapes.elements due unit inside (writtens rs)) (from_item raws i d lt)
+
+pub element_end : (due : Due) (unit : Option UnitName) (inside : Bool) (raws : List Raw) (i : ℕ) → length raws ≤ i → elements_at due unit inside (drop i raws) ≡ fine no_plans
+unfolding elements_at writtens
+element_end due unit inside raws i le = ap (λ rs. Shapes.elements due unit inside (writtens rs)) (drop_all i raws le)
+
+pub element_faults : (due next : Due) (unit later : Option UnitName) (inside : Bool) (raws : List Raw) (i : ℕ) (d : Raw) (old new w : List Message) → i < length raws
+    → next ≡ due_behind_at due (get_or raws i d) → later ≡ unit_at due unit inside (get_or raws i d)
+    → old ++ (elements_at due unit inside (drop i raws)).faults ≡ w → new ≡ old ++ (part_at due unit inside (get_or raws i d)).faults
+    → new ++ (elements_at next later inside (drop (i + 1) raws)).faults ≡ w
+element_faults due next unit later inside raws i d old new w lt n u e f =
+    let r = get_or raws i d in
+    let rest : Shaped Plans = elements_at (due_behind_at due r) (unit_at due unit inside r) inside (drop (i + 1) raws) in
+    ap (λ x. new ++ (elements_at x later inside (drop (i + 1) raws)).faults) n ∙ ap (λ x. new ++ (elements_at (due_behind_at due r) x inside (drop (i + 1) raws)).faults) u
+    ∙ ap (λ ms. ms ++ rest.faults) f ∙ append_assoc old (part_at due unit inside r).faults rest.faults
+    ∙ ap (λ x. old ++ x.faults) (sym (element_step due unit inside raws i d lt)) ∙ e
+
+pub element_made : (due next : Due) (unit later : Option UnitName) (inside : Bool) (raws : List Raw) (i : ℕ) (d : Raw) (old new w : Plans) → i < length raws
+    → next ≡ due_behind_at due (get_or raws i d) → later ≡ unit_at due unit inside (get_or raws i d)
+    → join old (elements_at due unit inside (drop i raws)).made ≡ w → new ≡ join old (part_at due unit inside (get_or raws i d)).made
+    → join new (elements_at next later inside (drop (i + 1) raws)).made ≡ w
+element_made due next unit later inside raws i d old new w lt n u e f =
+    let r = get_or raws i d in
+    let rest : Shaped Plans = elements_at (due_behind_at due r) (unit_at due unit inside r) inside (drop (i + 1) raws) in
+    ap (λ x. join new (elements_at x later inside (drop (i + 1) raws)).made) n ∙ ap (λ x. join new (elements_at (due_behind_at due r) x inside (drop (i + 1) raws)).made) u
+    ∙ ap (λ ms. join ms rest.made) f ∙ join_assoc old (part_at due unit inside r).made rest.made
+    ∙ ap (λ x. join old x.made) (sym (element_step due unit inside raws i d lt)) ∙ e
+
+pub ruleset element_steps = (element_end, nothing_more, nothing_behind)

@@ -1,4 +1,0 @@
-use Rattle.asl_shape.proofs.paths.+segments_in.Given as goal
-
-abbrev pub decreases-segments_in : goal.decreases-segments_in
-decreases-segments_in l = l.most

@@ -1,0 +1,241 @@
+//! The list of a field (ACPI Specification 6.4, 19.6.48).
+ghost use Rattle.std.specs.Prelude.{◌≡◌, OnOk, IfOk, drop};
+ghost use Rattle.asl_shape.specs.Shapes as spec;
+ghost use Rattle.asl_shape.specs.AtRaw as at;
+ghost use Rattle.asl_shape.specs.Plans.{plan_of, plans_of, join};
+
+use crate::item::is_given;
+use crate::lists::{is_comma, is_separator};
+use crate::settle::push;
+use asl_parser::Raw;
+use asl_tree::path::{NameSeg, Path};
+use asl_tree::term::{Node, Term};
+use asl_words::meaning::{Meaning, meaning_of};
+use asl_words::operator::Slot;
+use iasl_messages::place::Place;
+use std::alloc::AllocError;
+
+/// The name of a unit, where it stands.
+#[derive(Clone, Copy)]
+pub struct UnitName {
+    pub place: Place,
+    pub segment: NameSeg,
+}
+
+/// What may come next in a field's list.
+#[derive(Clone, Copy)]
+pub enum Due {
+    /// An element, or the end.
+    Element,
+    /// The comma behind the name of a unit.
+    NameComma,
+    /// The number of bits of a unit or of a gap.
+    Bits,
+    /// The comma behind an element, or the end.
+    Comma,
+}
+
+/// What the word of a part is, if it has one.
+#[tactic(auto, using(crate::proofs::FieldLaws::meaning_rules))]
+pub fn meaning_in(raw: &Raw) -> Meaning
+    ensures { result ≡ at.meaning_at raw.now }
+{
+    match raw {
+        Raw::Item { word, body, .. } => meaning_of(word.as_bytes(), is_given(body)),
+        Raw::Number { .. } => Meaning::Unknown,
+        Raw::Text { .. } => Meaning::Unknown,
+        Raw::Apply { .. } => Meaning::Unknown,
+        Raw::List { .. } => Meaning::Unknown,
+        Raw::Comma => Meaning::Unknown,
+        Raw::Semicolon => Meaning::Unknown,
+        Raw::Empty => Meaning::Unknown,
+    }
+}
+
+fn is_offset(meaning: Meaning) -> bool
+    ensures { result ≡ spec.is_offset meaning }
+{
+    matches!(meaning, Meaning::Offset)
+}
+
+fn behind_begin(offset: bool) -> Due
+    ensures { result ≡ spec.behind_begin offset }
+{
+    if offset { Due::Comma } else { Due::NameComma }
+}
+
+// What may come behind a member: none where it may not stand.
+fn next_due(due: Due, comma: bool, separator: bool, offset: bool) -> Option<Due>
+    ensures { result ≡ spec.next_due due comma separator offset }
+{
+    match due {
+        Due::Element => {
+            if !separator {
+                Some(behind_begin(offset))
+            } else if comma {
+                Some(Due::Bits)
+            } else {
+                None
+            }
+        }
+        Due::NameComma => {
+            if !separator {
+                Some(Due::Comma)
+            } else if comma {
+                Some(Due::Bits)
+            } else {
+                None
+            }
+        }
+        Due::Bits => { if separator { None } else { Some(Due::Comma) } }
+        Due::Comma => { if comma { Some(Due::Element) } else { None } }
+    }
+}
+
+#[tactic(auto, using(crate::proofs::FieldLaws::next_rules))]
+fn goes_on(due: Due, raw: &Raw) -> Option<Due>
+    ensures { result ≡ at.goes_on_at due raw.now }
+{
+    next_due(
+        due,
+        is_comma(raw),
+        is_separator(raw),
+        is_offset(meaning_in(raw)),
+    )
+}
+
+/// What is due behind a member.
+#[tactic(auto, using(crate::proofs::FieldLaws::next_rules))]
+pub fn due_behind(due: Due, raw: &Raw) -> Due
+    ensures { result ≡ at.due_behind_at due raw.now }
+{
+    match goes_on(due, raw) {
+        Some(next) => next,
+        None => Due::Comma,
+    }
+}
+
+fn may_stop(due: Due) -> bool
+    ensures { result ≡ spec.may_stop due }
+{
+    match due {
+        Due::Element | Due::Comma => true,
+        Due::NameComma | Due::Bits => false,
+    }
+}
+
+/// Whether units, gaps and Offsets stand with commas between them.
+#[tactic(auto, using(crate::proofs::FieldLaws::list_steps))]
+pub fn is_field_list(raws: &[Raw]) -> bool
+    ensures { result ≡ at.is_field_list_at spec.begin raws.now }
+{
+    let mut due = Due::Element;
+    for raw in raws {
+        match goes_on(due, raw) {
+            Some(next) => due = next,
+            None => return false,
+        }
+    }
+    may_stop(due)
+}
+
+/// How a number of bits is read.
+pub const BITS: Slot = Slot::Constant {
+    least: 0,
+    most: 0xFFFF_FFFF_FFFF_FFFF,
+};
+
+fn named_by(place: Place, path: &Path) -> Option<UnitName>
+    ensures { result ≡ spec.named_by place path.now }
+{
+    if path.root || path.up != 0 {
+        return None;
+    }
+    match path.segs.as_slice() {
+        [segment] => Some(UnitName {
+            place,
+            segment: *segment,
+        }),
+        _ => None,
+    }
+}
+
+/// The unit that a name begins.
+#[tactic(auto, using(crate::proofs::FieldLaws::named_rules))]
+pub fn named_unit(place: Place, term: &Term) -> Option<UnitName>
+    ensures { result ≡ spec.named_unit place (plan_of term.now) }
+{
+    match term {
+        Term::Name(path) => named_by(place, path),
+        Term::Text(_) => None,
+        Term::Form { .. } => None,
+        Term::Integer(_) => None,
+        Term::Fill(_) => None,
+        Term::Word(_) => None,
+        Term::Local(_) => None,
+        Term::Arg(_) => None,
+        Term::Debug => None,
+        Term::Omitted => None,
+        Term::Unit { .. } => None,
+        Term::Skip(_) => None,
+        Term::Offset(_) => None,
+        Term::Call { .. } => None,
+    }
+}
+
+#[tactic(auto, using(crate::proofs::FieldLaws::offset_rules))]
+fn is_offset_term(term: &Term) -> bool
+    ensures { result ≡ spec.is_offset_plan (plan_of term.now) }
+{
+    match term {
+        Term::Offset(_) => true,
+        Term::Name(_) => false,
+        Term::Text(_) => false,
+        Term::Form { .. } => false,
+        Term::Integer(_) => false,
+        Term::Fill(_) => false,
+        Term::Word(_) => false,
+        Term::Local(_) => false,
+        Term::Arg(_) => false,
+        Term::Debug => false,
+        Term::Omitted => false,
+        Term::Unit { .. } => false,
+        Term::Skip(_) => false,
+        Term::Call { .. } => false,
+    }
+}
+
+/// Adds an Offset, and nothing for the name of a unit.
+#[tactic(auto, using(crate::proofs::FieldLaws::alone_rules))]
+pub fn add_offset(nodes: &mut Vec<Node>, place: Place, term: Term) -> Result<(), AllocError>
+    ensures { OnOk result (plans_of nodes.new.items ≡ join (plans_of nodes.old.items) (spec.offset_alone place (plan_of term))) }
+{
+    if is_offset_term(&term) {
+        Ok(push(nodes, place, term)?)
+    } else {
+        Ok(())
+    }
+}
+
+/// Adds a unit at its name, or a gap at this place.
+#[tactic(auto, using(crate::proofs::Terms::term_rules))]
+pub fn add_unit(
+    nodes: &mut Vec<Node>,
+    unit: Option<UnitName>,
+    place: Place,
+    bits: u64,
+) -> Result<(), AllocError>
+    ensures { OnOk result (plans_of nodes.new.items ≡ join (plans_of nodes.old.items) (spec.of_bits unit place bits)) }
+{
+    match unit {
+        Some(unit) => Ok(push(
+            nodes,
+            unit.place,
+            Term::Unit {
+                segment: unit.segment,
+                bits,
+            },
+        )?),
+        None => Ok(push(nodes, place, Term::Skip(bits))?),
+    }
+}

@@ -1,0 +1,4 @@
+pub mod Operators
+pub mod Paths
+pub mod Texts
+pub mod Meanings

@@ -1,0 +1,181 @@
+-- What a word is, where it may stand, and what it is read as.
+use Rattle.std.specs.Prelude.{ℕ, nat_le, Bool, true, false, not, ◌&&◌, if◌then◌else◌, List, [], ◌∷◌, length, Option, Some, None}
+use Rattle.acpi_state.specs.Outcomes.{choose}
+use Rattle.asl_words.specs.declared.operator.Parameter.{Parameter}
+use Rattle.asl_words.specs.declared.operator.Slot.{Slot}
+use Rattle.asl_words.specs.declared.operator.Slot.TheVariants as slot
+use Rattle.asl_words.specs.declared.operator.Role.{Role}
+use Rattle.asl_words.specs.declared.operator.Role.TheVariants as role
+use Rattle.asl_words.specs.declared.operator.Body.{Body}
+use Rattle.asl_words.specs.declared.operator.Body.TheVariants as braces
+use Rattle.asl_words.specs.declared.operator.WordKind.{WordKind}
+use Rattle.asl_words.specs.declared.operator.WordKind.TheVariants as kind
+use Rattle.asl_words.specs.declared.operator.Known.{Known}
+use Rattle.asl_words.specs.declared.operator.Known.TheVariants as known
+use Rattle.asl_words.specs.declared.meaning.Meaning.{Meaning}
+use Rattle.asl_words.specs.declared.meaning.Meaning.TheVariants as is
+use Rattle.asl_words.specs.declared.meaning.Reading.{Reading}
+use Rattle.asl_words.specs.declared.meaning.Reading.TheVariants as read
+use Rattle.asl_words.specs.Operators.{operator_of, word_of, body_of, role_of}
+use Rattle.asl_words.specs.Paths.{is_path}
+
+-- a word of at most four characters without a body is a name
+abbrev pub name_or_unknown : List ℕ → Bool → Meaning
+name_or_unknown text has_body = if is_path text then is.Path else (if nat_le (length text) 4 && not has_body then is.Name else is.Unknown)
+
+abbrev pub known_as : Known → Meaning
+known_as known.LeftOut = is.Unknown
+known_as known.Offset = is.Offset
+known_as k = is.Known k
+
+-- what a word or path is: an operator, a word that stands for something, a name, or nothing that is known
+abbrev pub meaning_of : List ℕ → Bool → Meaning
+meaning_of text has_body = choose (operator_of text) (choose (word_of text) (name_or_unknown text has_body) known_as) is.Operator
+
+abbrev pub is_behind_if : Slot → Bool
+is_behind_if (slot.Term behind) = behind
+is_behind_if _ = false
+
+abbrev pub is_term : Slot → Bool
+is_term (slot.Term behind) = true
+is_term _ = false
+
+abbrev pub is_field_element : Slot → Bool
+is_field_element slot.FieldElement = true
+is_field_element _ = false
+
+-- where an operator may stand
+abbrev pub may_stand : Slot → Bool → Role → Bool
+may_stand s inside role.MethodStatement = inside
+may_stand s inside role.OuterTerm = not inside
+may_stand s inside role.Else = is_behind_if s
+may_stand s inside _ = true
+
+abbrev pub is_word : Known → Bool
+is_word (known.Word k n) = true
+is_word _ = false
+
+abbrev pub is_declared : Slot → Bool
+is_declared slot.Declared = true
+is_declared _ = false
+
+-- inside a method a path that is declared is a single segment; an Offset stands in a field's list alone
+abbrev pub may_be : Slot → Bool → Meaning → Bool
+may_be s inside (is.Operator o) = may_stand s inside (role_of o)
+may_be s inside (is.Known k) = not (is_term s && is_word k)
+may_be s inside is.Path = not (is_declared s && inside)
+may_be s inside is.Offset = is_field_element s
+may_be s inside _ = true
+
+-- nothing is left out that has to stand
+abbrev pub may_end : List Parameter → Bool
+may_end [] = true
+may_end (q ∷ qs) = q.omittable && may_end qs
+
+abbrev pub has_braces : Body → Bool
+has_braces braces.No = false
+has_braces _ = true
+
+abbrev pub wants_braces : Meaning → Bool
+wants_braces (is.Operator o) = has_braces (body_of o)
+wants_braces _ = false
+
+abbrev pub is_unknown : Meaning → Bool
+is_unknown is.Unknown = true
+is_unknown _ = false
+
+abbrev pub is_same : Bool → Bool → Bool
+is_same true b = b
+is_same false b = not b
+
+-- the first of an item's errors: an unknown operator, one that may not stand here, its arguments, its body
+abbrev pub item_fault : Slot → Bool → Meaning → Bool → Bool → Option ℕ
+item_fault s inside meaning has has_body =
+    if is_unknown meaning then Some 6020 else (
+    if not (may_be s inside meaning) then Some 6025 else (
+    if not has then Some 6021 else (
+    if not (is_same (wants_braces meaning) has_body) then Some 6023 else None)))
+
+abbrev pub is_value : Role → Bool
+is_value role.Expression = true
+is_value role.Place = true
+is_value _ = false
+
+abbrev pub is_place : Role → Bool
+is_place role.Place = true
+is_place _ = false
+
+-- where an expression is read
+abbrev pub takes_expression : Slot → Bool
+takes_expression slot.Expression = true
+takes_expression (slot.Constant least most) = true
+takes_expression slot.Element = true
+takes_expression (slot.Term behind) = true
+takes_expression _ = false
+
+abbrev pub takes_role : Slot → Role → Bool
+takes_role (slot.Term behind) r = true
+takes_role slot.Place r = is_place r
+takes_role s r = takes_expression s && is_value r
+
+abbrev pub takes_place : Slot → Bool
+takes_place slot.Place = true
+takes_place s = takes_expression s
+
+abbrev pub takes_slot : Slot → Bool
+takes_slot slot.Named = true
+takes_slot s = takes_place s
+
+abbrev pub takes_path : Slot → Bool
+takes_path slot.Declared = true
+takes_path slot.External = true
+takes_path slot.Used = true
+takes_path slot.FieldElement = true
+takes_path s = takes_slot s
+
+abbrev pub is_kind : WordKind → WordKind → Bool
+is_kind kind.Serialize kind.Serialize = true
+is_kind kind.ObjectType kind.ObjectType = true
+is_kind kind.Match kind.Match = true
+is_kind kind.Space kind.Space = true
+is_kind kind.Access kind.Access = true
+is_kind kind.Lock kind.Lock = true
+is_kind kind.Update kind.Update = true
+is_kind _ _ = false
+
+abbrev pub takes_word : Slot → WordKind → Bool
+takes_word (slot.Word asked) k = is_kind asked k
+takes_word (slot.Types most) k = is_kind kind.ObjectType k
+takes_word _ k = false
+
+abbrev pub takes_known : Slot → Known → Bool
+takes_known s (known.Word k n) = takes_word s k
+takes_known s known.Debug = takes_place s
+takes_known s known.Offset = false
+takes_known s known.LeftOut = false
+takes_known s _ = takes_slot s
+
+abbrev pub unless_wrong : Bool → Reading → Reading
+unless_wrong good reading = if good then reading else read.Wrong
+
+abbrev pub name_reading : Slot → Bool → Reading
+name_reading s true = unless_wrong (takes_expression s) read.Call
+name_reading s false = unless_wrong (takes_path s) read.Path
+
+abbrev pub reading_of : Slot → Meaning → Bool → Reading
+reading_of s (is.Operator o) called = unless_wrong (takes_role s (role_of o)) (read.Form o)
+reading_of s (is.Known k) called = unless_wrong (takes_known s k) (read.Known k)
+reading_of s is.Name called = name_reading s called
+reading_of s is.Path called = name_reading s called
+reading_of s is.Offset called = unless_wrong (is_field_element s) read.Offset
+reading_of s is.Unknown called = read.Wrong
+
+abbrev pub is_space_word : Meaning → Bool
+is_space_word (is.Known k) = takes_known (slot.Word kind.Space) k
+is_space_word _ = false
+
+-- how an argument is read: a word for a space as a word, and anything else in its stead as a number that a vendor gives
+-- a space of its own
+abbrev pub slot_as : Slot → Meaning → Slot
+slot_as slot.Space m = if is_space_word m then slot.Word kind.Space else slot.Constant 128 255
+slot_as s m = s

@@ -1,0 +1,411 @@
+-- The operators and words of the language (ACPI Specification 6.4, 19.6): the words, and the arguments and braces of
+-- each operator. The operands and targets of the plain operators are those of their own table.
+use Rattle.std.specs.Prelude.{ℕ, ◌-◌, ◌^◌, nat_eq, ◌==◌, List, [], ◌∷◌, ◌++◌, length, take, drop, map, replicate, codes, Bool, true, false, ◌&&◌, Option, Some, None}
+use Rattle.std.specs.List.{find, list_all}
+use Rattle.std.specs.Cmp.Lexicographic.{pointwise}
+use Rattle.acpi_values.specs.declared.operator.IntOp.{IntOp}
+use Rattle.acpi_values.specs.declared.operator.DataOp.{DataOp}
+use Rattle.acpi_values.specs.declared.operator.EventOp.{EventOp}
+use Rattle.acpi_values.specs.declared.operator.Plain.{Plain}
+use Rattle.acpi_values.specs.Operators.{Letter, Valued, Kept, Placed, Used, Row, row_of as plain_row}
+use Rattle.acpi_values.specs.Operators as L
+use Rattle.asl_tree.specs.declared.term.Op.{Op}
+use Rattle.asl_tree.specs.declared.term.Declaration.{Declaration}
+use Rattle.asl_tree.specs.declared.term.Control.{Control}
+use Rattle.asl_tree.specs.declared.term.Special.{Special}
+use Rattle.asl_tree.specs.declared.term.Literal.{Literal}
+use Rattle.asl_words.specs.declared.operator.Operator.{Operator}
+use Rattle.asl_words.specs.declared.operator.Named.{Named}
+use Rattle.asl_words.specs.declared.operator.Known.{Known}
+use Rattle.asl_words.specs.declared.operator.Known.TheVariants as known
+use Rattle.asl_words.specs.declared.operator.WordKind.TheVariants as kind
+use Rattle.asl_words.specs.declared.operator.StringForm.TheVariants as form
+use Rattle.asl_words.specs.declared.operator.Parameter.{Parameter}
+use Rattle.asl_words.specs.declared.operator.Slot.{Slot}
+use Rattle.asl_words.specs.declared.operator.Slot.TheVariants as slot
+use Rattle.asl_words.specs.declared.operator.Body.{Body}
+use Rattle.asl_words.specs.declared.operator.Body.TheVariants as braces
+use Rattle.asl_words.specs.declared.operator.Role.{Role}
+use Rattle.asl_words.specs.declared.operator.Role.TheVariants as role
+
+-- ---- words
+
+-- filled with blanks (32)
+abbrev pub filled : List ℕ → List ℕ
+filled word = word ++ replicate (24 - length word) 32
+
+-- the bytes are the word with blanks behind it
+abbrev pub is_filled : List ℕ → List ℕ → Bool
+is_filled bytes word = pointwise nat_eq (take (length word) bytes) word && list_all (λ b. b == 32) (drop (length word) bytes)
+
+abbrev pub number : IntOp → Op
+number op = Op.Plain (Plain.Number op)
+
+abbrev pub data' : DataOp → Op
+data' op = Op.Plain (Plain.Data op)
+
+abbrev pub event : EventOp → Op
+event op = Op.Plain (Plain.Event op)
+
+abbrev pub literal : Literal → Op
+literal op = Op.Literal op
+
+abbrev pub special : Special → Op
+special op = Op.Special op
+
+abbrev pub control : Control → Op
+control op = Op.Control op
+
+abbrev pub declaration : Declaration → Op
+declaration op = Op.Declaration op
+
+abbrev pub row : List ℕ → Op → Operator
+row word op = record { word = filled word; op = op }
+
+abbrev pub word : List ℕ → Known → Named
+word text known = record { text = filled text; known = known }
+
+-- the operators that are built; any other word of more than four characters is unknown
+unfoldable pub operators : List Operator
+operators =
+    row (codes "ADD") (number IntOp.Add) ∷
+    row (codes "SUBTRACT") (number IntOp.Subtract) ∷
+    row (codes "MULTIPLY") (number IntOp.Multiply) ∷
+    row (codes "SHIFTLEFT") (number IntOp.ShiftLeft) ∷
+    row (codes "SHIFTRIGHT") (number IntOp.ShiftRight) ∷
+    row (codes "AND") (number IntOp.And) ∷
+    row (codes "NAND") (number IntOp.Nand) ∷
+    row (codes "OR") (number IntOp.Or) ∷
+    row (codes "NOR") (number IntOp.Nor) ∷
+    row (codes "XOR") (number IntOp.Xor) ∷
+    row (codes "MOD") (number IntOp.Mod) ∷
+    row (codes "DIVIDE") (number IntOp.Divide) ∷
+    row (codes "NOT") (number IntOp.Not) ∷
+    row (codes "FINDSETLEFTBIT") (number IntOp.FindSetLeftBit) ∷
+    row (codes "FINDSETRIGHTBIT") (number IntOp.FindSetRightBit) ∷
+    row (codes "FROMBCD") (number IntOp.FromBcd) ∷
+    row (codes "TOBCD") (number IntOp.ToBcd) ∷
+    row (codes "LAND") (number IntOp.LAnd) ∷
+    row (codes "LOR") (number IntOp.LOr) ∷
+    row (codes "LNOT") (number IntOp.LNot) ∷
+    row (codes "LEQUAL") (number IntOp.LEqual) ∷
+    row (codes "LGREATER") (number IntOp.LGreater) ∷
+    row (codes "LLESS") (number IntOp.LLess) ∷
+    row (codes "LNOTEQUAL") (number IntOp.LNotEqual) ∷
+    row (codes "LLESSEQUAL") (number IntOp.LLessEqual) ∷
+    row (codes "LGREATEREQUAL") (number IntOp.LGreaterEqual) ∷
+    row (codes "INCREMENT") (data' DataOp.Increment) ∷
+    row (codes "DECREMENT") (data' DataOp.Decrement) ∷
+    row (codes "STORE") (data' DataOp.Store) ∷
+    row (codes "COPYOBJECT") (data' DataOp.CopyObject) ∷
+    row (codes "CONCATENATE") (data' DataOp.Concatenate) ∷
+    row (codes "CONCATENATERESTEMPLATE") (data' DataOp.ConcatenateResTemplate) ∷
+    row (codes "TOBUFFER") (data' DataOp.ToBuffer) ∷
+    row (codes "TODECIMALSTRING") (data' DataOp.ToDecimalString) ∷
+    row (codes "TOHEXSTRING") (data' DataOp.ToHexString) ∷
+    row (codes "TOINTEGER") (data' DataOp.ToInteger) ∷
+    row (codes "TOSTRING") (data' DataOp.ToString) ∷
+    row (codes "MID") (data' DataOp.Mid) ∷
+    row (codes "INDEX") (data' DataOp.Index) ∷
+    row (codes "DEREFOF") (data' DataOp.DerefOf) ∷
+    row (codes "REFOF") (data' DataOp.RefOf) ∷
+    row (codes "SIZEOF") (data' DataOp.SizeOf) ∷
+    row (codes "OBJECTTYPE") (data' DataOp.ObjectType) ∷
+    row (codes "MATCH") (data' DataOp.Match) ∷
+    row (codes "ACQUIRE") (event EventOp.Acquire) ∷
+    row (codes "WAIT") (event EventOp.Wait) ∷
+    row (codes "TIMER") (event EventOp.Timer) ∷
+    row (codes "REVISION") (event EventOp.Revision) ∷
+    row (codes "RELEASE") (event EventOp.Release) ∷
+    row (codes "SIGNAL") (event EventOp.Signal) ∷
+    row (codes "RESET") (event EventOp.Reset) ∷
+    row (codes "NOTIFY") (event EventOp.Notify) ∷
+    row (codes "SLEEP") (event EventOp.Sleep) ∷
+    row (codes "STALL") (event EventOp.Stall) ∷
+    row (codes "FATAL") (event EventOp.Fatal) ∷
+    row (codes "NOOP") (event EventOp.Noop) ∷
+    row (codes "BREAKPOINT") (event EventOp.BreakPoint) ∷
+    row (codes "ZERO") (literal Literal.Zero) ∷
+    row (codes "ONE") (literal Literal.One) ∷
+    row (codes "ONES") (literal Literal.Ones) ∷
+    row (codes "CONDREFOF") (special Special.CondRefOf) ∷
+    row (codes "BUFFER") (special Special.Buffer) ∷
+    row (codes "PACKAGE") (special Special.Package) ∷
+    row (codes "RETURN") (control Control.Return) ∷
+    row (codes "IF") (control Control.If) ∷
+    row (codes "ELSE") (control Control.Else) ∷
+    row (codes "WHILE") (control Control.While) ∷
+    row (codes "BREAK") (control Control.Break) ∷
+    row (codes "CONTINUE") (control Control.Continue) ∷
+    row (codes "NAME") (declaration Declaration.Name) ∷
+    row (codes "ALIAS") (declaration Declaration.Alias) ∷
+    row (codes "EXTERNAL") (declaration Declaration.External) ∷
+    row (codes "METHOD") (declaration Declaration.Method) ∷
+    row (codes "MUTEX") (declaration Declaration.Mutex) ∷
+    row (codes "EVENT") (declaration Declaration.Event) ∷
+    row (codes "DEVICE") (declaration Declaration.Device) ∷
+    row (codes "THERMALZONE") (declaration Declaration.ThermalZone) ∷
+    row (codes "POWERRESOURCE") (declaration Declaration.PowerResource) ∷
+    row (codes "PROCESSOR") (declaration Declaration.Processor) ∷
+    row (codes "SCOPE") (declaration Declaration.Scope) ∷
+    row (codes "OPERATIONREGION") (declaration Declaration.OperationRegion) ∷
+    row (codes "FIELD") (declaration Declaration.Field) ∷
+    row (codes "INDEXFIELD") (declaration Declaration.IndexField) ∷
+    row (codes "BANKFIELD") (declaration Declaration.BankField) ∷
+    row (codes "CREATEFIELD") (declaration Declaration.CreateField) ∷
+    row (codes "CREATEBITFIELD") (declaration Declaration.CreateBitField) ∷
+    row (codes "CREATEBYTEFIELD") (declaration Declaration.CreateByteField) ∷
+    row (codes "CREATEWORDFIELD") (declaration Declaration.CreateWordField) ∷
+    row (codes "CREATEDWORDFIELD") (declaration Declaration.CreateDWordField) ∷
+    row (codes "CREATEQWORDFIELD") (declaration Declaration.CreateQWordField) ∷
+    []
+
+-- the other words; those that are left out stand here where they might be taken for names
+unfoldable pub words : List Named
+words =
+    word (codes "NOTSERIALIZED") (known.Word kind.Serialize 0) ∷
+    word (codes "SERIALIZED") (known.Word kind.Serialize 1) ∷
+    word (codes "UNKNOWNOBJ") (known.Word kind.ObjectType 0) ∷
+    word (codes "INTOBJ") (known.Word kind.ObjectType 1) ∷
+    word (codes "STROBJ") (known.Word kind.ObjectType 2) ∷
+    word (codes "BUFFOBJ") (known.Word kind.ObjectType 3) ∷
+    word (codes "PKGOBJ") (known.Word kind.ObjectType 4) ∷
+    word (codes "FIELDUNITOBJ") (known.Word kind.ObjectType 5) ∷
+    word (codes "DEVICEOBJ") (known.Word kind.ObjectType 6) ∷
+    word (codes "EVENTOBJ") (known.Word kind.ObjectType 7) ∷
+    word (codes "METHODOBJ") (known.Word kind.ObjectType 8) ∷
+    word (codes "MUTEXOBJ") (known.Word kind.ObjectType 9) ∷
+    word (codes "OPREGIONOBJ") (known.Word kind.ObjectType 10) ∷
+    word (codes "POWERRESOBJ") (known.Word kind.ObjectType 11) ∷
+    word (codes "PROCESSOROBJ") (known.Word kind.ObjectType 12) ∷
+    word (codes "THERMALZONEOBJ") (known.Word kind.ObjectType 13) ∷
+    word (codes "BUFFFIELDOBJ") (known.Word kind.ObjectType 14) ∷
+    word (codes "MTR") (known.Word kind.Match 0) ∷
+    word (codes "MEQ") (known.Word kind.Match 1) ∷
+    word (codes "MLE") (known.Word kind.Match 2) ∷
+    word (codes "MLT") (known.Word kind.Match 3) ∷
+    word (codes "MGE") (known.Word kind.Match 4) ∷
+    word (codes "MGT") (known.Word kind.Match 5) ∷
+    word (codes "SYSTEMMEMORY") (known.Word kind.Space 0) ∷
+    word (codes "SYSTEMIO") (known.Word kind.Space 1) ∷
+    word (codes "PCI_CONFIG") (known.Word kind.Space 2) ∷
+    word (codes "EMBEDDEDCONTROL") (known.Word kind.Space 3) ∷
+    word (codes "SMBUS") (known.Word kind.Space 4) ∷
+    word (codes "SYSTEMCMOS") (known.Word kind.Space 5) ∷
+    word (codes "PCIBARTARGET") (known.Word kind.Space 6) ∷
+    word (codes "IPMI") (known.Word kind.Space 7) ∷
+    word (codes "GENERALPURPOSEIO") (known.Word kind.Space 8) ∷
+    word (codes "GENERICSERIALBUS") (known.Word kind.Space 9) ∷
+    word (codes "PCC") (known.Word kind.Space 10) ∷
+    word (codes "ANYACC") (known.Word kind.Access 0) ∷
+    word (codes "BYTEACC") (known.Word kind.Access 1) ∷
+    word (codes "WORDACC") (known.Word kind.Access 2) ∷
+    word (codes "DWORDACC") (known.Word kind.Access 3) ∷
+    word (codes "QWORDACC") (known.Word kind.Access 4) ∷
+    word (codes "NOLOCK") (known.Word kind.Lock 0) ∷
+    word (codes "LOCK") (known.Word kind.Lock 1) ∷
+    word (codes "PRESERVE") (known.Word kind.Update 0) ∷
+    word (codes "WRITEASONES") (known.Word kind.Update 1) ∷
+    word (codes "WRITEASZEROS") (known.Word kind.Update 2) ∷
+    word (codes "LOCAL0") (known.Local 0) ∷
+    word (codes "LOCAL1") (known.Local 1) ∷
+    word (codes "LOCAL2") (known.Local 2) ∷
+    word (codes "LOCAL3") (known.Local 3) ∷
+    word (codes "LOCAL4") (known.Local 4) ∷
+    word (codes "LOCAL5") (known.Local 5) ∷
+    word (codes "LOCAL6") (known.Local 6) ∷
+    word (codes "LOCAL7") (known.Local 7) ∷
+    word (codes "ARG0") (known.Arg 0) ∷
+    word (codes "ARG1") (known.Arg 1) ∷
+    word (codes "ARG2") (known.Arg 2) ∷
+    word (codes "ARG3") (known.Arg 3) ∷
+    word (codes "ARG4") (known.Arg 4) ∷
+    word (codes "ARG5") (known.Arg 5) ∷
+    word (codes "ARG6") (known.Arg 6) ∷
+    word (codes "DEBUG") known.Debug ∷
+    word (codes "OFFSET") known.Offset ∷
+    word (codes "LOAD") known.LeftOut ∷
+    word (codes "FOR") known.LeftOut ∷
+    word (codes "CASE") known.LeftOut ∷
+    word (codes "IRQ") known.LeftOut ∷
+    word (codes "DMA") known.LeftOut ∷
+    word (codes "IO") known.LeftOut ∷
+    word (codes "EDGE") known.LeftOut ∷
+    []
+
+unfoldable pub row_in : List Operator → List ℕ → Option Operator
+row_in rows text = find (λ row. is_filled row.word text) rows
+
+unfoldable pub named_in : List Named → List ℕ → Option Named
+named_in rows text = find (λ row. is_filled row.text text) rows
+
+abbrev pub op_in : Option Operator → Option Op
+op_in None = None
+op_in (Some row) = Some row.op
+
+abbrev pub known_in : Option Named → Option Known
+known_in None = None
+known_in (Some row) = Some row.known
+
+-- the operator of a word
+unfoldable pub operator_of : List ℕ → Option Op
+operator_of text = op_in (row_in operators text)
+
+-- what a word stands for
+unfoldable pub word_of : List ℕ → Option Known
+word_of text = known_in (named_in words text)
+
+-- ---- arguments
+
+abbrev pub asked : Slot → Parameter
+asked s = record { slot = s; omittable = false }
+
+-- one that may be left out
+abbrev pub optional : Slot → Parameter
+optional s = record { slot = s; omittable = true }
+
+abbrev pub expression : Parameter
+expression = asked slot.Expression
+
+abbrev pub place : Parameter
+place = asked slot.Place
+
+abbrev pub target : Parameter
+target = optional slot.Place
+
+abbrev pub named : Parameter
+named = asked slot.Named
+
+abbrev pub declared : Parameter
+declared = asked slot.Declared
+
+abbrev pub external : Parameter
+external = asked slot.External
+
+abbrev pub used : Parameter
+used = asked slot.Used
+
+abbrev pub constant : ℕ → ℕ → Slot
+constant least most = slot.Constant least most
+
+abbrev pub space : Parameter
+space = asked slot.Space
+
+abbrev pub access : Parameter
+access = asked (slot.Word kind.Access)
+
+abbrev pub lock : Parameter
+lock = asked (slot.Word kind.Lock)
+
+abbrev pub update : Parameter
+update = asked (slot.Word kind.Update)
+
+-- an operand of a plain operator, as its letter says
+abbrev pub by_letter : Letter → Parameter
+by_letter Valued = expression
+by_letter Kept = expression
+by_letter Placed = place
+by_letter Used = used
+by_letter (L.Raw size) = asked (constant 0 (256 ^ size - 1))
+
+-- the operands, and then the targets, each of which may be left out
+abbrev pub by_row : Row → List Parameter
+by_row row = map by_letter row.operands ++ replicate row.targets target
+
+-- of a method as many arguments are read as there are; the types have no effect
+unfoldable pub parameters_of : Op → List Parameter
+-- the length may be left out
+parameters_of (Op.Plain (Plain.Data DataOp.ToString)) = expression ∷ optional slot.Expression ∷ target ∷ []
+parameters_of (Op.Plain (Plain.Data DataOp.CopyObject)) = expression ∷ named ∷ []
+parameters_of (Op.Plain (Plain.Data DataOp.Match)) =
+    expression ∷ asked (slot.Word kind.Match) ∷ expression ∷ asked (slot.Word kind.Match) ∷ expression ∷ expression ∷ []
+parameters_of (Op.Plain op) = by_row (plain_row op)
+parameters_of (Op.Literal op) = []
+parameters_of (Op.Special Special.CondRefOf) = place ∷ target ∷ []
+parameters_of (Op.Special Special.Buffer) = optional slot.Expression ∷ []
+parameters_of (Op.Special Special.Package) = optional slot.Expression ∷ []
+parameters_of (Op.Symbolic symbol) = []
+parameters_of (Op.Control Control.Return) = optional slot.Expression ∷ []
+parameters_of (Op.Control Control.If) = expression ∷ []
+parameters_of (Op.Control Control.While) = expression ∷ []
+parameters_of (Op.Control op) = []
+parameters_of (Op.Declaration Declaration.Name) = declared ∷ expression ∷ []
+parameters_of (Op.Declaration Declaration.Alias) = used ∷ declared ∷ []
+parameters_of (Op.Declaration Declaration.External) = external ∷ optional (slot.Word kind.ObjectType) ∷ optional (slot.Types 7) ∷ optional (slot.Types 7) ∷ []
+parameters_of (Op.Declaration Declaration.Method) =
+    declared ∷ optional (constant 0 7) ∷ optional (slot.Word kind.Serialize) ∷ optional (constant 0 15)
+    ∷ optional (slot.Types 4294967295) ∷ optional (slot.Types 4294967295) ∷ []
+parameters_of (Op.Declaration Declaration.Mutex) = declared ∷ optional (constant 0 15) ∷ []
+parameters_of (Op.Declaration Declaration.PowerResource) = declared ∷ asked (constant 0 255) ∷ asked (constant 0 65535) ∷ []
+parameters_of (Op.Declaration Declaration.Processor) = declared ∷ asked (constant 0 255) ∷ asked (constant 0 4294967295) ∷ asked (constant 0 255) ∷ []
+parameters_of (Op.Declaration Declaration.Scope) = used ∷ []
+parameters_of (Op.Declaration Declaration.OperationRegion) = declared ∷ space ∷ expression ∷ expression ∷ []
+parameters_of (Op.Declaration Declaration.Field) = used ∷ access ∷ lock ∷ update ∷ []
+parameters_of (Op.Declaration Declaration.IndexField) = used ∷ used ∷ access ∷ lock ∷ update ∷ []
+parameters_of (Op.Declaration Declaration.BankField) = used ∷ used ∷ expression ∷ access ∷ lock ∷ update ∷ []
+parameters_of (Op.Declaration Declaration.CreateField) = expression ∷ expression ∷ expression ∷ declared ∷ []
+parameters_of (Op.Declaration Declaration.CreateBitField) = expression ∷ expression ∷ declared ∷ []
+parameters_of (Op.Declaration Declaration.CreateByteField) = expression ∷ expression ∷ declared ∷ []
+parameters_of (Op.Declaration Declaration.CreateWordField) = expression ∷ expression ∷ declared ∷ []
+parameters_of (Op.Declaration Declaration.CreateDWordField) = expression ∷ expression ∷ declared ∷ []
+parameters_of (Op.Declaration Declaration.CreateQWordField) = expression ∷ expression ∷ declared ∷ []
+parameters_of (Op.Declaration op) = declared ∷ []
+
+-- the argument of an Offset
+unfoldable pub offset_parameters : List Parameter
+offset_parameters = asked (constant 0 18446744073709551615) ∷ []
+
+-- the file, the signature, the revision, the OEM's name, that of the table, and its revision
+unfoldable pub block_parameters : List Parameter
+block_parameters =
+    asked (slot.String form.Any) ∷ asked (slot.String form.Signature) ∷ asked (constant 2 255) ∷ asked (slot.String (form.AtMost 6)) ∷ asked (slot.String (form.AtMost 8))
+    ∷ asked (constant 0 4294967295) ∷ []
+
+-- what stands in the braces of an operator
+abbrev pub body_of : Op → Body
+body_of (Op.Special Special.Buffer) = braces.Bytes
+body_of (Op.Special Special.Package) = braces.Elements
+body_of (Op.Control Control.If) = braces.Terms
+body_of (Op.Control Control.Else) = braces.Terms
+body_of (Op.Control Control.While) = braces.Terms
+body_of (Op.Declaration Declaration.Method) = braces.Terms
+body_of (Op.Declaration Declaration.Device) = braces.Terms
+body_of (Op.Declaration Declaration.ThermalZone) = braces.Terms
+body_of (Op.Declaration Declaration.PowerResource) = braces.Terms
+body_of (Op.Declaration Declaration.Processor) = braces.Terms
+body_of (Op.Declaration Declaration.Scope) = braces.Terms
+body_of (Op.Declaration Declaration.Field) = braces.FieldList
+body_of (Op.Declaration Declaration.IndexField) = braces.FieldList
+body_of (Op.Declaration Declaration.BankField) = braces.FieldList
+body_of _ = braces.No
+
+-- where an operator may stand; containers and methods stand in no method
+abbrev pub event_role : EventOp → Role
+event_role EventOp.Acquire = role.Expression
+event_role EventOp.Wait = role.Expression
+event_role EventOp.Timer = role.Expression
+event_role EventOp.Revision = role.Expression
+event_role _ = role.Statement
+
+abbrev pub data_role : DataOp → Role
+data_role DataOp.Index = role.Place
+data_role DataOp.DerefOf = role.Place
+data_role _ = role.Expression
+
+abbrev pub role_of : Op → Role
+role_of (Op.Plain (Plain.Number op)) = role.Expression
+role_of (Op.Plain (Plain.Data op)) = data_role op
+role_of (Op.Plain (Plain.Event op)) = event_role op
+role_of (Op.Literal op) = role.Expression
+role_of (Op.Special op) = role.Expression
+role_of (Op.Symbolic symbol) = role.Expression
+role_of (Op.Control Control.Return) = role.MethodStatement
+role_of (Op.Control Control.Else) = role.Else
+role_of (Op.Control op) = role.Statement
+role_of (Op.Declaration Declaration.Method) = role.OuterTerm
+role_of (Op.Declaration Declaration.Device) = role.OuterTerm
+role_of (Op.Declaration Declaration.ThermalZone) = role.OuterTerm
+role_of (Op.Declaration Declaration.PowerResource) = role.OuterTerm
+role_of (Op.Declaration Declaration.Processor) = role.OuterTerm
+role_of (Op.Declaration Declaration.Scope) = role.OuterTerm
+role_of (Op.Declaration op) = role.Statement

@@ -1,0 +1,350 @@
+//! What a word is, where it may stand, and what it is read as.
+ghost use Rattle.std.specs.Prelude.{◌≡◌, ◌==◌, ◌||◌, ◌∷◌, [], true, false, Some, None};
+ghost use Rattle.asl_words.specs.Meanings as spec;
+
+use crate::operator::{Body, Known, Parameter, Role, Slot, WordKind};
+use crate::parameters::{body_of, role_of};
+use crate::paths::{is_path, parts};
+use crate::table::{operator_of, word_of};
+use asl_tree::term::Op;
+
+/// What a word or path is.
+#[derive(Clone, Copy)]
+pub enum Meaning {
+    Operator(Op),
+    Known(Known),
+    /// A name of one segment.
+    Name,
+    /// A path with a prefix or several segments.
+    Path,
+    /// The place of the next byte, in a field's list.
+    Offset,
+    /// Nothing that is known.
+    Unknown,
+}
+
+/// What an item is read as.
+#[derive(Clone, Copy)]
+pub enum Reading {
+    Form(Op),
+    Known(Known),
+    /// A name without arguments.
+    Path,
+    /// A name with arguments.
+    Call,
+    /// The place of the next byte, in a field's list.
+    Offset,
+    /// It does not fit where it stands.
+    Wrong,
+}
+
+fn name_or_unknown(text: &[u8], has_body: bool) -> Meaning
+    ensures { result ≡ spec.name_or_unknown text.now has_body }
+{
+    if is_path(text) {
+        return Meaning::Path;
+    }
+    if text.len() <= 4 && !has_body {
+        Meaning::Name
+    } else {
+        Meaning::Unknown
+    }
+}
+
+fn known_as(known: Known) -> Meaning
+    ensures { result ≡ spec.known_as known }
+{
+    match known {
+        Known::LeftOut => Meaning::Unknown,
+        Known::Offset => Meaning::Offset,
+        _ => Meaning::Known(known),
+    }
+}
+
+/// What a word or path is.
+pub fn meaning_of(text: &[u8], has_body: bool) -> Meaning
+    ensures { result ≡ spec.meaning_of text.now has_body }
+{
+    if let Some(operator) = operator_of(text) {
+        return Meaning::Operator(operator);
+    }
+    if let Some(known) = word_of(text) {
+        return known_as(known);
+    }
+    name_or_unknown(text, has_body)
+}
+
+fn is_behind_if(slot: Slot) -> bool
+    ensures { result ≡ spec.is_behind_if slot }
+{
+    match slot {
+        Slot::Term { behind_if } => behind_if,
+        _ => false,
+    }
+}
+
+fn is_term(slot: Slot) -> bool
+    ensures { result ≡ spec.is_term slot }
+{
+    matches!(slot, Slot::Term { .. })
+}
+
+fn is_field_element(slot: Slot) -> bool
+    ensures { result ≡ spec.is_field_element slot }
+{
+    matches!(slot, Slot::FieldElement)
+}
+
+fn may_stand(slot: Slot, inside: bool, role: Role) -> bool
+    ensures { result ≡ spec.may_stand slot inside role }
+{
+    match role {
+        Role::MethodStatement => inside,
+        Role::OuterTerm => !inside,
+        Role::Else => is_behind_if(slot),
+        Role::Expression | Role::Place | Role::Statement => true,
+    }
+}
+
+fn is_word(known: Known) -> bool
+    ensures { result ≡ spec.is_word known }
+{
+    matches!(known, Known::Word { .. })
+}
+
+fn is_declared(slot: Slot) -> bool
+    ensures { result ≡ spec.is_declared slot }
+{
+    matches!(slot, Slot::Declared)
+}
+
+/// Whether an item may stand here.
+pub fn may_be(slot: Slot, inside: bool, meaning: Meaning) -> bool
+    ensures { result ≡ spec.may_be slot inside meaning }
+{
+    match meaning {
+        Meaning::Operator(operator) => may_stand(slot, inside, role_of(operator)),
+        Meaning::Known(known) => !(is_term(slot) && is_word(known)),
+        Meaning::Path => !(is_declared(slot) && inside),
+        Meaning::Offset => is_field_element(slot),
+        Meaning::Name | Meaning::Unknown => true,
+    }
+}
+
+/// Whether nothing is left out that has to stand.
+pub fn may_end(parameters: &[Parameter]) -> bool
+    ensures { result ≡ spec.may_end parameters.now }
+{
+    match parts(parameters) {
+        None => true,
+        Some((first, rest)) => {
+            if first.omittable {
+                may_end(rest)
+            } else {
+                false
+            }
+        }
+    }
+}
+
+fn has_braces(body: Body) -> bool
+    ensures { result ≡ spec.has_braces body }
+{
+    match body {
+        Body::No => false,
+        Body::Terms | Body::Bytes | Body::Elements | Body::FieldList => true,
+    }
+}
+
+/// Whether an item has braces.
+pub fn wants_braces(meaning: Meaning) -> bool
+    ensures { result ≡ spec.wants_braces meaning }
+{
+    match meaning {
+        Meaning::Operator(operator) => has_braces(body_of(operator)),
+        Meaning::Known(_) | Meaning::Name | Meaning::Path | Meaning::Offset | Meaning::Unknown =>
+            false,
+    }
+}
+
+/// Whether a word is nothing that is known.
+pub fn is_unknown(meaning: Meaning) -> bool
+    ensures { result ≡ spec.is_unknown meaning }
+{
+    match meaning {
+        Meaning::Unknown => true,
+        Meaning::Operator(_)
+        | Meaning::Known(_)
+        | Meaning::Name
+        | Meaning::Path
+        | Meaning::Offset => false,
+    }
+}
+
+/// Whether both are so, or neither.
+pub fn is_same(a: bool, b: bool) -> bool
+    ensures { result ≡ spec.is_same a b }
+{
+    if a { b } else { !b }
+}
+
+fn is_value(role: Role) -> bool
+    ensures { result ≡ spec.is_value role }
+{
+    match role {
+        Role::Expression | Role::Place => true,
+        Role::Statement | Role::MethodStatement | Role::OuterTerm | Role::Else => false,
+    }
+}
+
+fn is_place(role: Role) -> bool
+    ensures { result ≡ spec.is_place role }
+{
+    matches!(role, Role::Place)
+}
+
+/// Where an expression is read.
+pub fn takes_expression(slot: Slot) -> bool
+    ensures { result ≡ spec.takes_expression slot }
+{
+    match slot {
+        Slot::Expression => true,
+        Slot::Constant { .. } => true,
+        Slot::Element => true,
+        Slot::Term { .. } => true,
+        _ => false,
+    }
+}
+
+fn takes_role(slot: Slot, role: Role) -> bool
+    ensures { result ≡ spec.takes_role slot role }
+{
+    match slot {
+        Slot::Term { .. } => true,
+        Slot::Place => is_place(role),
+        _ => takes_expression(slot) && is_value(role),
+    }
+}
+
+fn takes_place(slot: Slot) -> bool
+    ensures { result ≡ spec.takes_place slot }
+{
+    match slot {
+        Slot::Place => true,
+        _ => takes_expression(slot),
+    }
+}
+
+// Where a name, a Local or an Arg may stand.
+fn takes_slot(slot: Slot) -> bool
+    ensures { result ≡ spec.takes_slot slot }
+{
+    match slot {
+        Slot::Named => true,
+        _ => takes_place(slot),
+    }
+}
+
+fn takes_path(slot: Slot) -> bool
+    ensures { result ≡ spec.takes_path slot }
+{
+    match slot {
+        Slot::Declared | Slot::External | Slot::Used | Slot::FieldElement => true,
+        _ => takes_slot(slot),
+    }
+}
+
+fn is_kind(asked: WordKind, kind: WordKind) -> bool
+    ensures { result ≡ spec.is_kind asked kind }
+{
+    match (asked, kind) {
+        (WordKind::Serialize, WordKind::Serialize) => true,
+        (WordKind::ObjectType, WordKind::ObjectType) => true,
+        (WordKind::Match, WordKind::Match) => true,
+        (WordKind::Space, WordKind::Space) => true,
+        (WordKind::Access, WordKind::Access) => true,
+        (WordKind::Lock, WordKind::Lock) => true,
+        (WordKind::Update, WordKind::Update) => true,
+        _ => false,
+    }
+}
+
+fn takes_word(slot: Slot, kind: WordKind) -> bool
+    ensures { result ≡ spec.takes_word slot kind }
+{
+    match slot {
+        Slot::Word(asked) => is_kind(asked, kind),
+        Slot::Types { .. } => is_kind(WordKind::ObjectType, kind),
+        _ => false,
+    }
+}
+
+/// Where a word may stand.
+pub fn takes_known(slot: Slot, known: Known) -> bool
+    ensures { result ≡ spec.takes_known slot known }
+{
+    match known {
+        Known::Word { kind, .. } => takes_word(slot, kind),
+        Known::Local(_) | Known::Arg(_) => takes_slot(slot),
+        Known::Debug => takes_place(slot),
+        Known::Offset | Known::LeftOut => false,
+    }
+}
+
+fn unless_wrong(good: bool, reading: Reading) -> Reading
+    ensures { result ≡ spec.unless_wrong good reading }
+{
+    if good { reading } else { Reading::Wrong }
+}
+
+fn name_reading(slot: Slot, called: bool) -> Reading
+    ensures { result ≡ spec.name_reading slot called }
+{
+    if called {
+        unless_wrong(takes_expression(slot), Reading::Call)
+    } else {
+        unless_wrong(takes_path(slot), Reading::Path)
+    }
+}
+
+/// What an item without such errors is read as.
+pub fn reading_of(slot: Slot, meaning: Meaning, called: bool) -> Reading
+    ensures { result ≡ spec.reading_of slot meaning called }
+{
+    match meaning {
+        Meaning::Operator(op) => unless_wrong(takes_role(slot, role_of(op)), Reading::Form(op)),
+        Meaning::Known(known) => unless_wrong(takes_known(slot, known), Reading::Known(known)),
+        Meaning::Name | Meaning::Path => name_reading(slot, called),
+        Meaning::Offset => unless_wrong(is_field_element(slot), Reading::Offset),
+        Meaning::Unknown => Reading::Wrong,
+    }
+}
+
+fn is_space_word(meaning: Meaning) -> bool
+    ensures { result ≡ spec.is_space_word meaning }
+{
+    match meaning {
+        Meaning::Known(known) => takes_known(Slot::Word(WordKind::Space), known),
+        _ => false,
+    }
+}
+
+/// How an argument is read: a word for a space as a word, and anything else in its stead as a constant from 0x80 to
+/// 0xFF.
+pub fn slot_as(slot: Slot, meaning: Meaning) -> Slot
+    ensures { result ≡ spec.slot_as slot meaning }
+{
+    match slot {
+        Slot::Space => {
+            if is_space_word(meaning) {
+                Slot::Word(WordKind::Space)
+            } else {
+                Slot::Constant {
+                    least: 0x80,
+                    most: 0xFF,
+                }
+            }
+        }
+        _ => slot,
+    }
+}

@@ -1,0 +1,134 @@
+//! What an operator asks for.
+use asl_tree::term::Op;
+
+/// The kinds of words that an argument may be one of.
+#[derive(Clone, Copy)]
+pub enum WordKind {
+    /// Whether a method is serialized.
+    Serialize,
+    /// A type of objects.
+    ObjectType,
+    /// A test of Match.
+    Match,
+    /// The address space of a region.
+    Space,
+    /// How wide the accesses to a field are.
+    Access,
+    /// Whether the global lock is taken for a field.
+    Lock,
+    /// What a write to a field does to the other bits of an access.
+    Update,
+}
+
+/// What a string has to be.
+#[derive(Clone, Copy)]
+pub enum StringForm {
+    /// Any string.
+    Any,
+    /// The signature of a table that has a definition block.
+    Signature,
+    /// A string of at most so many bytes.
+    AtMost(u8),
+}
+
+/// How a part of a source is read.
+#[derive(Clone, Copy)]
+pub enum Slot {
+    /// An expression.
+    Expression,
+    /// What can be stored to, or referred to.
+    Place,
+    /// A name, a Local or an Arg.
+    Named,
+    /// A path that is declared; inside a method it is a single segment.
+    Declared,
+    /// A path that is declared elsewhere.
+    External,
+    /// A path that is used.
+    Used,
+    /// A constant of this range.
+    Constant { least: u64, most: u64 },
+    /// A word of this kind.
+    Word(WordKind),
+    /// A word for an address space, or the number of a space that a vendor defines.
+    Space,
+    /// A word for an object type, or a list of at most so many of these, or of lists of these.
+    Types { most: u64 },
+    /// A string of this form.
+    String(StringForm),
+    /// A member of a Package.
+    Element,
+    /// What an element of a field's list begins with: the name of a unit, or an Offset.
+    FieldElement,
+    /// A term of a list. Directly behind an If it may be an Else.
+    Term { behind_if: bool },
+}
+
+/// An argument of an operator.
+#[derive(Clone, Copy)]
+pub struct Parameter {
+    pub slot: Slot,
+    /// Whether it may be left out.
+    pub omittable: bool,
+}
+
+/// What stands in the braces of an operator.
+#[derive(Clone, Copy)]
+pub enum Body {
+    /// There are none.
+    No,
+    Terms,
+    /// Bytes, or one string.
+    Bytes,
+    /// Members of a Package.
+    Elements,
+    /// Units, gaps and Offsets.
+    FieldList,
+}
+
+/// Where an operator may stand.
+#[derive(Clone, Copy)]
+pub enum Role {
+    /// As an argument or a statement.
+    Expression,
+    /// As an argument that is a place, and as an expression.
+    Place,
+    /// As a term.
+    Statement,
+    /// As a statement of a method.
+    MethodStatement,
+    /// As a term outside methods.
+    OuterTerm,
+    /// Directly behind an If.
+    Else,
+}
+
+/// An operator under its word.
+#[derive(Clone, Copy)]
+pub struct Operator {
+    /// In upper case and filled with blanks.
+    pub word: [u8; 24],
+    pub op: Op,
+}
+
+/// What a word that is no operator stands for.
+#[derive(Clone, Copy)]
+pub enum Known {
+    /// A number, where a word of this kind is asked for.
+    Word { kind: WordKind, number: u64 },
+    Local(u8),
+    Arg(u8),
+    Debug,
+    /// The place of the next byte, in a field's list.
+    Offset,
+    /// A word of the language that no program has.
+    LeftOut,
+}
+
+/// A word and what it stands for.
+#[derive(Clone, Copy)]
+pub struct Named {
+    /// In upper case and filled with blanks.
+    pub text: [u8; 24],
+    pub known: Known,
+}

@@ -1,0 +1,50 @@
+//! What a string has to be (ACPI Specification 6.4, 19.6.29).
+ghost use Rattle.std.specs.Prelude.{◌≡◌};
+ghost use Rattle.asl_words.specs.Texts as spec;
+
+use crate::operator::StringForm;
+
+fn is_text_byte(byte: u8) -> bool
+    ensures { result ≡ spec.is_text_byte byte }
+{
+    1 <= byte && byte <= 127
+}
+
+/// Whether each byte may stand in a string: 01 to 7F.
+pub fn is_text(bytes: &[u8]) -> bool
+    ensures { result ≡ spec.is_all_text bytes.now }
+{
+    bytes.iter().all(|byte| is_text_byte(*byte))
+}
+
+fn is_upper_or_digit(byte: u8) -> bool
+    ensures { result ≡ spec.is_upper_or_digit byte }
+{
+    (65 <= byte && byte <= 90) || (48 <= byte && byte <= 57)
+}
+
+fn is_oem_signature(text: &[u8]) -> bool
+    ensures { result ≡ spec.is_oem_signature text.now }
+{
+    let [first, second, third, last] = text else {
+        return false;
+    };
+    *first == b'O' && (*second == b'E' && (*third == b'M' && is_upper_or_digit(*last)))
+}
+
+fn is_signature(text: &[u8]) -> bool
+    ensures { result ≡ spec.is_signature text.now }
+{
+    matches!(text, b"DSDT" | b"SSDT" | b"PSDT") || is_oem_signature(text)
+}
+
+/// Whether a string is what it has to be.
+pub fn has_form(form: StringForm, text: &[u8]) -> bool
+    ensures { result ≡ spec.has_form form text.now }
+{
+    match form {
+        StringForm::Any => true,
+        StringForm::Signature => is_signature(text),
+        StringForm::AtMost(most) => text.len() <= most as usize,
+    }
+}

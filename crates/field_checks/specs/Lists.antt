@@ -1,0 +1,40 @@
+-- The errors of the lists of fields: an Offset that goes back, and a number of bits that cannot be written.
+use Rattle.std.specs.Prelude.{ℕ, List, [], ◌∷◌, ◌++◌, Option, Some, None}
+use Rattle.acpi_state.specs.Outcomes.{choose}
+use Rattle.iasl_messages.specs.declared.message.Message.{Message}
+use Rattle.asl_tree.specs.FieldItems.{FieldItem, UnitItem, SkipItem, OffsetItem, behind_item}
+use Rattle.asl_tree.specs.declared.term.Op.{Op}
+use Rattle.asl_tree.specs.declared.term.Declaration.{Declaration}
+use Rattle.asl_shape.specs.Plans.{Plan, a_unit, a_skip, an_offset, a_form, Plans, no_plans, plan}
+use Rattle.asl_shape.specs.Shapes.{fault_at}
+use Rattle.field_layout.specs.Layout.{item_fault}
+
+-- the item of a list that a term is; the name of a unit is of no account here
+abbrev pub item_in : Plan → Option (FieldItem ℕ)
+item_in (a_unit segment bits) = Some (UnitItem 0 bits)
+item_in (a_skip bits) = Some (SkipItem bits)
+item_in (an_offset bytes) = Some (OffsetItem bytes)
+item_in _ = None
+
+-- the first fault of a list whose next bit is `at`, at its item; what is no item ends the list
+abbrev pub list_errors : ℕ → Plans → List Message
+list_errors at no_plans = []
+list_errors at (plan place p ps) =
+    choose (item_in p) [] (λ item. choose (item_fault at item) (list_errors (behind_item at item) ps) (λ number. fault_at number place ∷ []))
+
+-- a field has a list
+abbrev pub field_errors : Op → Plans → List Message
+field_errors (Op.Declaration Declaration.Field) body = list_errors 0 body
+field_errors (Op.Declaration Declaration.IndexField) body = list_errors 0 body
+field_errors (Op.Declaration Declaration.BankField) body = list_errors 0 body
+field_errors _ body = []
+
+abbrev mutual
+  -- the errors of a term, and then those of its body
+  pub term_errors : Plan → List Message
+  term_errors (a_form op args body) = field_errors op body ++ all_errors body
+  term_errors _ = []
+
+  pub all_errors : Plans → List Message
+  all_errors no_plans = []
+  all_errors (plan place p ps) = term_errors p ++ all_errors ps

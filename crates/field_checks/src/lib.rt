@@ -1,0 +1,6 @@
+//! The errors of the lists of fields.
+#![tactic(auto)]
+
+pub mod check;
+#[cfg(test)]
+mod tests;

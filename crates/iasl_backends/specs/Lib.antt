@@ -1,0 +1,6 @@
+pub mod Table
+pub mod CText
+pub mod Listing
+pub mod Rendering
+pub mod Asked
+pub mod Each

@@ -1,0 +1,169 @@
+//! The listing: the lines of the source, each with the bytes of the table that come from it.
+ghost use Rattle.std.specs.Prelude.{◌≡◌, ◌+◌, ◌^◌, ◌<◌, ◌++◌, [], true, false, length, OnOk, IfOk};
+ghost use Rattle.std.specs.List.{flat_map};
+ghost use Rattle.iasl_backends.specs.Table.{rows};
+ghost use Rattle.iasl_backends.specs.Listing as spec;
+ghost use Rattle.iasl_backends.specs.Rendering.{rendering};
+ghost use Rattle.iasl_backends.specs.declared.backend.Kind.TheVariants as kinds;
+
+use crate::backend::{Backend, Kind};
+use crate::text::{copy_of, put, put_pair};
+use iasl_messages::place::Piece;
+use iasl_ports::list::{behind, front};
+use itoa::Buffer;
+use std::alloc::{AllocError, Global};
+
+/// The output that is the listing.
+#[derive(Drop)]
+pub struct Listing {
+    alloc: Global,
+    held: Vec<Piece>,
+    text: Vec<u8>,
+    done: bool,
+    ghost rendered: { done ≡ true → text.items ≡ rendering kinds.Listing held.items },
+}
+
+impl Listing {
+    /// The output before its first piece.
+    pub fn new(alloc: Global) -> Listing
+        ensures pieces { ⟦<Listing as Backend>⟧.pieces result ≡ [] }
+        ensures open { ⟦<Listing as Backend>⟧.finished result ≡ false }
+    {
+        Listing {
+            alloc,
+            held: Vec::new(alloc),
+            text: Vec::new(alloc),
+            done: false,
+        }
+    }
+}
+
+fn put_byte(out: &mut Vec<u8>, byte: u8) -> Result<(), AllocError>
+    ensures { OnOk result (out.new.items ≡ out.old.items ++ spec.listed_byte byte) }
+{
+    put(out, b" ")?;
+    put_pair(out, byte)
+}
+
+fn put_bytes(out: &mut Vec<u8>, row: &[u8]) -> Result<(), AllocError>
+    ensures { OnOk result (out.new.items ≡ out.old.items ++ flat_map spec.listed_byte row.now) }
+{
+    for byte in row {
+        put_byte(out, *byte)?;
+    }
+    Ok(())
+}
+
+// The eight digits of an offset.
+fn put_offset(out: &mut Vec<u8>, offset: usize) -> Result<(), AllocError>
+    ensures { OnOk result (out.new.items ≡ out.old.items ++ spec.eight_digits offset) }
+{
+    put_pair(out, (offset / 16_777_216 % 256) as u8)?;
+    put_pair(out, (offset / 65_536 % 256) as u8)?;
+    put_pair(out, (offset / 256 % 256) as u8)?;
+    put_pair(out, (offset % 256) as u8)
+}
+
+fn put_row(out: &mut Vec<u8>, offset: usize, row: &[u8]) -> Result<(), AllocError>
+    ensures { OnOk result (out.new.items ≡ out.old.items ++ spec.listed_row offset row.now) }
+{
+    put_offset(out, offset)?;
+    put(out, b" ")?;
+    put_bytes(out, row)?;
+    put(out, b"\n")
+}
+
+// The rows of bytes that stand at an offset.
+fn put_rows(out: &mut Vec<u8>, offset: usize, bytes: &[u8]) -> Result<(), AllocError>
+    requires { offset + length bytes.now < 2 ^ 64 }
+    ensures { OnOk result (out.new.items ≡ out.old.items ++ spec.listed_rows offset (rows 16 bytes.now)) }
+{
+    let mut rest = bytes;
+    let mut at = offset;
+    while !rest.is_empty() {
+        let row = front(rest, 16);
+        put_row(out, at, row)?;
+        at += row.len();
+        rest = behind(rest, 16);
+    }
+    Ok(())
+}
+
+// A number right in six places.
+fn put_number(out: &mut Vec<u8>, number: u32) -> Result<(), AllocError>
+    ensures { OnOk result (out.new.items ≡ out.old.items ++ spec.right_in_six number) }
+{
+    let mut buffer = Buffer::new();
+    let digits = buffer.format(number).as_bytes();
+    put(out, behind(b"      ", digits.len()))?;
+    put(out, digits)
+}
+
+fn put_line(out: &mut Vec<u8>, piece: &Piece) -> Result<(), AllocError>
+    ensures { OnOk result (out.new.items ≡ out.old.items ++ spec.source_line piece.now) }
+{
+    put_number(out, piece.place.line)?;
+    put(out, b"  ")?;
+    put(out, piece.source.as_bytes())?;
+    put(out, b"\n")
+}
+
+fn put_piece(out: &mut Vec<u8>, offset: usize, piece: &Piece) -> Result<(), AllocError>
+    requires { offset + length piece.now.bytes < 2 ^ 64 }
+    ensures { OnOk result (out.new.items ≡ out.old.items ++ spec.listed_piece offset piece.now) }
+{
+    put_line(out, piece)?;
+    put_rows(out, offset, piece.bytes.as_bytes())
+}
+
+// The listing of the pieces. There is no memory for a table whose size is no `usize`.
+fn render(alloc: Global, pieces: &[Piece]) -> Result<Vec<u8>, AllocError>
+    ensures { IfOk result (λ text. text.items ≡ spec.listed_pieces 0 pieces.now) }
+{
+    let mut out = Vec::new(alloc);
+    let mut offset: usize = 0;
+    for piece in pieces {
+        let end = offset
+            .checked_add(piece.bytes.as_bytes().len())
+            .ok_or(AllocError)?;
+        put_piece(&mut out, offset, piece)?;
+        offset = end;
+    }
+    Ok(out)
+}
+
+impl Backend for Listing {
+    ghost use Rattle.iasl_backends.specs.declared.backend.Kind.TheVariants as kinds;
+
+    ghost kind_of = { λ output. kinds.Listing };
+
+    ghost pieces = { λ output. output.held.items };
+
+    ghost finished = { λ output. output.done };
+
+    fn kind(&self) -> Kind {
+        Kind::Listing
+    }
+
+    fn clear(&mut self) {
+        self.done = false;
+        self.held.clear();
+        self.text.clear();
+    }
+
+    fn piece(&mut self, piece: &Piece) -> Result<(), AllocError> {
+        let copy = copy_of(self.alloc, piece)?;
+        self.held.push(copy)?;
+        Ok(())
+    }
+
+    fn finish(&mut self) -> Result<(), AllocError> {
+        self.text = render(self.alloc, &self.held)?;
+        self.done = true;
+        Ok(())
+    }
+
+    fn text(&self) -> &[u8] {
+        &self.text
+    }
+}

@@ -1,0 +1,7 @@
+use Rattle.std.proofs.Common.{[], get_or, ap, sym, ◌∙◌}
+use Rattle.acpi_names.specs.Errors as spec
+use Rattle.name_checks.specs.Facts.{ended}
+use Rattle.name_checks.proofs.rules.ends_at_unit.Goals as goal
+
+pub returns-in-Some : goal.returns-in-Some
+returns-in-Some c paths = c.is_unit.ensures (get_or paths c.in-Some.end.path []) ∙ ap (λ e. spec.is_unit (ended paths e)) (sym c.in-Some.is)

@@ -1,4 +1,0 @@
-use Rattle.name_checks.proofs.rules.use_types.Given as goal
-
-abbrev pub ghost-name_end : goal.ghost-name_end
-ghost-name_end g a = g.whole

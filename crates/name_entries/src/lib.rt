@@ -1,0 +1,6 @@
+//! What the used names of a block denote, by the numbers of their nodes.
+#![tactic(auto)]
+
+pub mod entries;
+#[cfg(test)]
+mod tests;

@@ -1,0 +1,4 @@
+pub mod Spelling
+pub mod Turns
+pub mod SpelledForms
+pub mod SpelledNodes

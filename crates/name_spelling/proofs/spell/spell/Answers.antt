@@ -1,0 +1,10 @@
+use Rattle.std.proofs.Common.{ap, ◌∙◌}
+use Rattle.asl_tree.specs.View.{trees_of}
+use Rattle.asl_meaning.specs.Declarations.{is_named, written_external}
+use Rattle.acpi_names.specs.Spelled.{spelled_all}
+use Rattle.name_spelling.proofs.spell.spell.Goals as goal
+
+pub returns : goal.returns
+returns c d counts agrees tabled =
+    c.in_ok-spell_all.ensures.spells d counts agrees tabled
+    ∙ ap (spelled_all (is_named d) (written_external counts) (trees_of c.args.terms.now.items)) c.len-count.ensures.root

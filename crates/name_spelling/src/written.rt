@@ -1,0 +1,157 @@
+//! Names as they have to stand in the bytes.
+ghost use Rattle.std.specs.Prelude.{◌≡◌, ◌<◌, [], length, get_or, IfOk, OnOk, MatchOption, unwrap_or};
+ghost use Rattle.acpi_names.specs.Paths.{is_named_in, number_in};
+ghost use Rattle.name_spelling.specs.Spelling.{external_type, type_written};
+ghost use Rattle.acpi_names.specs.Tables.{entry_at};
+ghost use Rattle.asl_tree.specs.Names.{absolute, place_of, spelled_name, spelled_element};
+ghost use Rattle.asl_meaning.specs.Declarations.{written_type, external_object};
+
+use acpi_names::index::Index;
+use acpi_names::paths::{Paths, nearest};
+use acpi_names::place::{find, from_root, prefixed, single};
+use asl_tree::path::Path;
+use std::alloc::{AllocError, Global};
+
+/// The nearest candidate of a used name that has a second one further out.
+fn ambiguous(paths: &Paths, named: &[bool], name: &Path, scope: usize) -> Option<usize>
+    requires scope_in { scope < length paths.now }
+    requires all { length named.now ≡ length paths.now }
+    ensures { MatchOption result (spelled_name (is_named_in paths.now named.now) name.now (get_or paths.now scope []) ≡ name.now) (λ n. (n < length paths.now) × (spelled_name (is_named_in paths.now named.now) name.now (get_or paths.now scope []) ≡ absolute (get_or paths.now n []))) }
+{
+    let segment = single(name)?;
+    let number = nearest(paths, named, scope, segment)?;
+    let (found_in, _) = paths.step(number)?;
+    let (around, _) = paths.step(found_in)?;
+    match nearest(paths, named, around, segment) {
+        Some(_) => Some(number),
+        None => None,
+    }
+}
+
+/// A used name as its search finds what it denotes, where that is not how it is written: with several candidates it
+/// is written from the root.
+pub(crate) fn other_name(
+    alloc: Global,
+    index: &Index,
+    name: &Path,
+    scope: usize,
+) -> Result<Option<Path>, AllocError>
+    requires scope_in { scope < length index.now.paths }
+    requires all { length index.now.named.items ≡ length index.now.paths }
+    ensures { IfOk result (λ other. unwrap_or other name.now ≡ spelled_name (is_named_in index.now.paths index.now.named.items) name.now (get_or index.now.paths scope [])) }
+{
+    match ambiguous(&index.paths, &index.named, name, scope) {
+        Some(number) => Ok(Some(from_root(alloc, &index.paths, number)?)),
+        None => Ok(None),
+    }
+}
+
+/// The name of an element of a Package, whose object may not be there yet, where that is not how it is written: what
+/// would be searched is written from the root.
+pub(crate) fn other_element(
+    alloc: Global,
+    index: &Index,
+    name: &Path,
+    scope: usize,
+) -> Result<Option<Path>, AllocError>
+    requires scope_in { scope < length index.now.paths }
+    requires all { length index.now.named.items ≡ length index.now.paths }
+    ensures { IfOk result (λ other. unwrap_or other name.now ≡ spelled_element (is_named_in index.now.paths index.now.named.items) name.now (get_or index.now.paths scope [])) }
+{
+    match single(name) {
+        Some(segment) => match nearest(&index.paths, &index.named, scope, segment) {
+            Some(number) => Ok(Some(from_root(alloc, &index.paths, number)?)),
+            None => {
+                let mut path = from_root(alloc, &index.paths, scope)?;
+                path.segs.push(segment)?;
+                Ok(Some(path))
+            }
+        },
+        None => Ok(None),
+    }
+}
+
+/// Writes a used name so that its search finds what it denotes.
+pub(crate) fn spell_name(
+    alloc: Global,
+    index: &Index,
+    name: &mut Path,
+    scope: usize,
+) -> Result<(), AllocError>
+    requires scope_in { scope < length index.now.paths }
+    requires all { length index.now.named.items ≡ length index.now.paths }
+    ensures { OnOk result (name.new ≡ spelled_name (is_named_in index.now.paths index.now.named.items) name.old (get_or index.now.paths scope [])) }
+{
+    match other_name(alloc, index, name, scope)? {
+        Some(other) => {
+            *name = other;
+            Ok(())
+        }
+        None => Ok(()),
+    }
+}
+
+/// What an External is written as: the number of its object type, and how many arguments it takes.
+#[derive(Clone, Copy)]
+pub(crate) struct Written {
+    pub object: u64,
+    pub arity: u64,
+}
+
+// What an External is written as, that says this and is first called with so many arguments.
+fn written_as(object: u64, parameters: Option<u64>, first: Option<usize>) -> Written
+    ensures { type_written result ≡ written_type (external_type object parameters) (external_object (external_type object parameters) first) }
+{
+    let is_method = match object {
+        8 => true,
+        0 => first.is_some(),
+        _ => false,
+    };
+    if !is_method {
+        return Written { object, arity: 0 };
+    }
+    match parameters {
+        Some(count) => Written {
+            object: 8,
+            arity: count,
+        },
+        None => Written {
+            object: 8,
+            arity: first.unwrap_or(0) as u64,
+        },
+    }
+}
+
+// The entry of a table at a number; past its end there is none.
+fn entry(table: &[Option<usize>], number: Option<usize>) -> Option<usize>
+    ensures { result ≡ entry_at table.now number }
+{
+    match number {
+        Some(number) => {
+            if number < table.len() {
+                table[number]
+            } else {
+                None
+            }
+        }
+        None => None,
+    }
+}
+
+/// What an External of a name is written as. `calls` says of the numbers of paths how many arguments their first
+/// calls have.
+pub(crate) fn written_external(
+    index: &Index,
+    calls: &[Option<usize>],
+    name: &Path,
+    object: u64,
+    parameters: Option<u64>,
+    scope: usize,
+) -> Written
+    requires { scope < length index.now.paths }
+    ensures { type_written result ≡ written_type (external_type object parameters) (external_object (external_type object parameters) (entry_at calls.now (number_in index.now.paths (place_of name.now (get_or index.now.paths scope []))))) }
+{
+    let outer = prefixed(&index.paths, name, scope);
+    let number = find(&index.paths, outer, name.segs.as_slice());
+    written_as(object, parameters, entry(calls, number))
+}

@@ -1,0 +1,54 @@
+-- The messages on the lists of fields stand where the items of the lists stand.
+use Rattle.std.proofs.Common.{ℕ, ◌<◌, List, [], ◌∷◌, ◌++◌, Option, Some, None, arith}
+use Rattle.std.specs.List.{All}
+use Rattle.std.proofs.lemmas.List.Elements.{All-cons}
+use Rattle.acpi_state.specs.Outcomes.{choose}
+use Rattle.iasl_messages.specs.declared.message.Message.{Message}
+use Rattle.asl_tree.specs.FieldItems.{FieldItem, behind_item}
+use Rattle.asl_tree.specs.declared.term.Op.{Op}
+use Rattle.asl_tree.specs.declared.term.Declaration.{Declaration}
+use Rattle.asl_shape.specs.Plans.{Plan, a_form, Plans, no_plans, plan}
+use Rattle.asl_shape.specs.Shapes.{fault_at}
+use Rattle.asl_shape.specs.Places.{AreTold}
+use Rattle.field_layout.specs.Layout.{item_fault}
+use Rattle.field_checks.specs.Lists.{item_in, list_errors, field_errors, term_errors, all_errors}
+use Rattle.program_shapes.specs.Places.{PlanWithin, PlansWithin}
+
+module _ (files : ℕ) where
+  both : (xs ys : List Message) → AreTold files xs → AreTold files ys → AreTold files (xs ++ ys)
+  both [] ys h k = k
+  both (x ∷ xs) ys h k = (h.0, both xs ys h.1 k)
+
+  list_within : (at : ℕ) (ps : Plans) → PlansWithin files ps → AreTold files (list_errors at ps)
+  list_within at no_plans h = tt
+  list_within at (plan place p ps) h = by_item (item_in p) (λ next. list_within next ps h.2)
+    where
+      by_fault : (fault : Option ℕ) (rest : List Message) → AreTold files rest → AreTold files (choose fault rest (λ number. fault_at number place ∷ []))
+      by_fault None rest k = k
+      by_fault (Some number) rest k = (h.0, tt)
+
+      by_item : (item : Option (FieldItem ℕ)) → ((next : ℕ) → AreTold files (list_errors next ps)) → AreTold files (choose item [] (λ item. choose (item_fault at item) (list_errors (behind_item at item) ps) (λ number. fault_at number place ∷ [])))
+      by_item None k = tt
+      by_item (Some item) k = by_fault (item_fault at item) (list_errors (behind_item at item) ps) (k (behind_item at item))
+
+  field_within : (op : Op) (body : Plans) → PlansWithin files body → AreTold files (field_errors op body)
+  field_within (Op.Declaration Declaration.Field) body h = list_within 0 body h
+  field_within (Op.Declaration Declaration.IndexField) body h = list_within 0 body h
+  field_within (Op.Declaration Declaration.BankField) body h = list_within 0 body h
+  field_within _ body h = tt
+
+  mutual
+    term_within : (p : Plan) → PlanWithin files p → AreTold files (term_errors p)
+    term_within (a_form op args body) h = both (field_errors op body) (all_errors body) (field_within op body h.1) (all_within body h.1)
+    term_within _ h = tt
+
+    all_within : (ps : Plans) → PlansWithin files ps → AreTold files (all_errors ps)
+    all_within no_plans h = tt
+    all_within (plan place p ps) h = both (term_errors p) (all_errors ps) (term_within p h.1) (all_within ps h.2)
+
+  as_all : (ms : List Message) → AreTold files ms → All (λ m. m.place.file < files) ms
+  as_all [] h = λ i m lt. absurd (omega (arith, lt))
+  as_all (m ∷ ms) h = All-cons (λ m. m.place.file < files) m ms h.0 (as_all ms h.1)
+
+pub list_errors_within : (files : ℕ) (ps : Plans) → PlansWithin files ps → All (λ m. m.place.file < files) (all_errors ps)
+list_errors_within files ps h = as_all files (all_errors ps) (all_within files ps h)
