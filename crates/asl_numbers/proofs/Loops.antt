@@ -4,7 +4,7 @@ use Rattle.std.proofs.lemmas.List.{take_all, drop_all}
 use Rattle.asl_tree.specs.declared.term.Node.{Node}
 use Rattle.asl_tree.specs.Tree.{At, Trees, no_trees, tree}
 use Rattle.asl_tree.specs.View.{tree_of, trees_of}
-use Rattle.asl_shape.specs.Plans.{plan_of, plans_of}
+use Rattle.asl_shape.specs.Plans.{plan, plan_of, plans_of}
 use Rattle.asl_numbers.specs.Numbers.{inside, nodes, numbered, numbered_all}
 
 -- trees behind those of some nodes
@@ -18,10 +18,11 @@ pub record IsNumbered (first : ℕ) (old now : List Node) (at next : ℕ) : Type
   pub rest : drop at now ≡ drop at old
   pub trees : behind (take at now) (numbered_all next (plans_of (drop at old))) ≡ numbered_all first (plans_of old)
   pub count : next + nodes (plans_of (drop at old)) ≡ first + nodes (plans_of old)
+  pub plans : plans_of now ≡ plans_of old
 
 pub none_numbered : (first : ℕ) (old : List Node) → IsNumbered first old old 0 first
-none_numbered first [] = record { size = refl; rest = refl; trees = refl; count = refl }
-none_numbered first (node ∷ ns) = record { size = refl; rest = refl; trees = refl; count = refl }
+none_numbered first [] = record { size = refl; rest = refl; trees = refl; count = refl; plans = refl }
+none_numbered first (node ∷ ns) = record { size = refl; rest = refl; trees = refl; count = refl; plans = refl }
 
 behind_all : (ns : List Node) → behind ns no_trees ≡ trees_of ns
 unfolding trees_of
@@ -71,6 +72,14 @@ set_length [] at node = refl
 set_length (n ∷ ns) zero node = refl
 set_length (n ∷ ns) (suc at) node = ap suc (set_length ns at node)
 
+-- a node in the place of another, with its place and its plan
+set_plans : (ns : List Node) (at : ℕ) (node made : Node) → at < length ns → node ≡ get_or ns at node → made.place ≡ node.place → plan_of made.term ≡ plan_of node.term → plans_of (set ns at made) ≡ plans_of ns
+unfolding plans_of
+set_plans [] at node made lt e p t = absurd (omega (arith, lt))
+set_plans (n ∷ ns) zero node made lt e p t =
+    ap (λ at. plan at (plan_of made.term) (plans_of ns)) (p ∙ ap (λ (x : Node). x.place) e) ∙ ap (λ one. plan n.place one (plans_of ns)) (t ∙ ap (λ (x : Node). plan_of x.term) e)
+set_plans (n ∷ ns) (suc at) node made lt e p t = ap (plan n.place (plan_of n.term)) (set_plans ns at node made (omega (arith, lt)) e p t)
+
 one_count : (node : Node) (ns : List Node) → nodes (plans_of (node ∷ ns)) ≡ suc (inside (plan_of node.term) + nodes (plans_of ns))
 unfolding plans_of
 one_count node ns = refl
@@ -80,9 +89,9 @@ unfolding plans_of numbered_all
 one_numbered next node ns = refl
 
 pub next_numbered : (first : ℕ) (old now : List Node) (at next behind_it : ℕ) (node made : Node) → at < length now → node ≡ get_or now at node → IsNumbered first old now at next
-    → made.id ≡ next → made.place ≡ node.place → ((here : At) → tree_of here made.term ≡ numbered here (suc next) (plan_of node.term)) → behind_it ≡ suc next + inside (plan_of node.term)
+    → made.id ≡ next → made.place ≡ node.place → ((here : At) → tree_of here made.term ≡ numbered here (suc next) (plan_of node.term)) → behind_it ≡ suc next + inside (plan_of node.term) → plan_of made.term ≡ plan_of node.term
     → IsNumbered first old (set now at made) (suc at) behind_it
-next_numbered first old now at next behind_it node made lt e h id place tree_is count =
+next_numbered first old now at next behind_it node made lt e h id place tree_is count plan_is =
     let rest : drop at old ≡ node ∷ drop (suc at) now = sym h.rest ∙ first_behind now at node lt e in
     let same : drop (suc at) now ≡ drop (suc at) old = later old at node (drop (suc at) now) rest in
     let old_rest : drop at old ≡ node ∷ drop (suc at) old = rest ∙ ap (λ ns. node ∷ ns) same in
@@ -97,6 +106,7 @@ next_numbered first old now at next behind_it node made lt e h id place tree_is 
           ∙ sym (one_numbered next node (drop (suc at) old)) ∙ ap (λ ns. numbered_all next (plans_of ns)) (sym old_rest))
           ∙ h.trees;
       count = let c : nodes (plans_of (drop at old)) ≡ suc (inside (plan_of node.term) + nodes (plans_of (drop (suc at) old))) = ap (λ ns. nodes (plans_of ns)) old_rest ∙ one_count node (drop (suc at) old) in omega (arith, c, count, h.count);
+      plans = set_plans now at node made lt e place plan_is ∙ h.plans;
     }
   where
     later : (ns : List Node) (k : ℕ) (n : Node) (others : List Node) → drop k ns ≡ n ∷ others → others ≡ drop (suc k) ns
@@ -133,9 +143,9 @@ same_node (n ∷ ns) (suc at) a b lt ea eb = same_node ns at a b (omega (arith, 
 
 -- a node is made in the place of another, whose term was taken out of it
 pub node_numbered : (first : ℕ) (old now : List Node) (at next behind_it : ℕ) (node : Node) (held made : Node) → at < length now → node ≡ get_or now at node → IsNumbered first old now at next
-    → made.id ≡ next → made.place ≡ node.place → ((here : At) → tree_of here made.term ≡ numbered here (suc next) (plan_of node.term)) → behind_it ≡ suc next + inside (plan_of node.term)
+    → made.id ≡ next → made.place ≡ node.place → ((here : At) → tree_of here made.term ≡ numbered here (suc next) (plan_of node.term)) → behind_it ≡ suc next + inside (plan_of node.term) → plan_of made.term ≡ plan_of node.term
     → IsNumbered first old (set (set now at held) at made) (at + 1) behind_it
-node_numbered first old now at next behind_it node held made lt e h id place tree_is count =
+node_numbered first old now at next behind_it node held made lt e h id place tree_is count plan_is =
     let one : at + 1 ≡ suc at = omega arith in
     subst (λ ns. IsNumbered first old ns (at + 1) behind_it) (sym (twice_set now at held made))
-    (subst (λ n. IsNumbered first old (set now at made) n behind_it) (sym one) (next_numbered first old now at next behind_it node made lt e h id place tree_is count))
+    (subst (λ n. IsNumbered first old (set now at made) n behind_it) (sym one) (next_numbered first old now at next behind_it node made lt e h id place tree_is count plan_is))

@@ -14,6 +14,7 @@ use std::mem::replace;
 pub fn number_nodes(nodes: &mut Vec<Node>, first: u32) -> Option<u32>
     ensures next { IfSome result (λ next. next ≡ first + node_count (plans_of nodes.old.items)) }
     ensures trees { IfSome result (λ next. trees_of nodes.new.items ≡ numbered_all first (plans_of nodes.old.items)) }
+    ensures plans { IfSome result (λ next. plans_of nodes.new.items ≡ plans_of nodes.old.items) }
 {
     let mut next = first;
     let mut at = 0;
@@ -38,6 +39,7 @@ pub fn number_nodes(nodes: &mut Vec<Node>, first: u32) -> Option<u32>
 fn numbered_inside(term: Term, first: u32) -> Option<(Term, u32)>
     ensures next { IfSome result (λ r. r.1 ≡ first + inside (plan_of term)) }
     ensures tree { IfSome result (λ r. (at : At) → tree_of at r.0 ≡ numbered at first (plan_of term)) }
+    ensures plan { IfSome result (λ r. plan_of r.0 ≡ plan_of term) }
 {
     match term {
         Term::Call { path, mut args } => {

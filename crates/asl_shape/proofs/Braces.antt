@@ -8,9 +8,9 @@ use Rattle.asl_parser.specs.declared.raw.Raw.TheVariants as raw
 use Rattle.asl_words.specs.declared.operator.Slot.TheVariants as slot
 use Rattle.asl_words.specs.declared.operator.StringForm.TheVariants as form
 use Rattle.asl_parser.specs.Written.{writtens, written_in}
-use Rattle.asl_shape.specs.Shapes.{is_separator, is_comma, behind_if, is_if, is_given, is_text, is_none}
-use Rattle.asl_words.specs.Meanings.{meaning_of}
-use Rattle.asl_shape.specs.AtRaw.{is_separator_at, is_comma_at, behind_if_at, is_listed_at, byte_slot_at, is_some, is_text_at, due_at}
+use Rattle.asl_shape.specs.Shapes.{is_separator, is_comma, run_after, is_given, is_text, is_none}
+use Rattle.asl_words.specs.Meanings.{meaning_of, run_behind}
+use Rattle.asl_shape.specs.AtRaw.{is_separator_at, is_comma_at, run_after_at, is_listed_at, byte_slot_at, is_some, is_text_at, due_at}
 use Rattle.acpi_state.specs.Outcomes.{choose}
 use Rattle.asl_shape.proofs.ItemLaws.{is_none_short, is_none_long}
 use Rattle.asl_parser.proofs.Views.{written_number, written_text, written_item, written_apply, written_list, written_comma, written_semicolon, written_empty}
@@ -87,37 +87,37 @@ comma_empty = ap is_comma (written_empty)
 
 pub ruleset comma_rules = (comma_number, comma_text, comma_item, comma_apply, comma_list, comma_comma, comma_semicolon, comma_empty)
 
-pub run_number : (run : Bool) (place : Place) (n : ℕ) → behind_if_at run (raw.Number place n) ≡ false
-unfolding behind_if_at
-run_number run place n = ap (behind_if run) (written_number place n)
+pub run_number : (run : Option ℕ) (place : Place) (n : ℕ) → run_after_at run (raw.Number place n) ≡ None
+unfolding run_after_at
+run_number run place n = ap (run_after run) (written_number place n)
 
-pub run_text : (run : Bool) (place : Place) (bytes : List ℕ) → behind_if_at run (raw.Text place bytes) ≡ false
-unfolding behind_if_at
-run_text run place bytes = ap (behind_if run) (written_text place bytes)
+pub run_text : (run : Option ℕ) (place : Place) (bytes : List ℕ) → run_after_at run (raw.Text place bytes) ≡ None
+unfolding run_after_at
+run_text run place bytes = ap (run_after run) (written_text place bytes)
 
-pub run_item : (run : Bool) (place : Place) (word : List ℕ) (args body : Option (List Raw)) → behind_if_at run (raw.Item place word args body) ≡ is_if (meaning_of word (is_some body))
-unfolding behind_if_at
-run_item run place word args body = ap (behind_if run) (written_item place word args body) ∙ ap (λ b. is_if (meaning_of word b)) (given_some body)
+pub run_item : (run : Option ℕ) (place : Place) (word : List ℕ) (args body : Option (List Raw)) → run_after_at run (raw.Item place word args body) ≡ run_behind run (meaning_of word (is_some body))
+unfolding run_after_at
+run_item run place word args body = ap (run_after run) (written_item place word args body) ∙ ap (λ b. run_behind run (meaning_of word b)) (given_some body)
 
-pub run_apply : (run : Bool) (place : Place) (op : Infix) (args : List Raw) → behind_if_at run (raw.Apply place op args) ≡ false
-unfolding behind_if_at
-run_apply run place op args = ap (behind_if run) (written_apply place op args)
+pub run_apply : (run : Option ℕ) (place : Place) (op : Infix) (args : List Raw) → run_after_at run (raw.Apply place op args) ≡ None
+unfolding run_after_at
+run_apply run place op args = ap (run_after run) (written_apply place op args)
 
-pub run_list : (run : Bool) (place : Place) (items : List Raw) → behind_if_at run (raw.List place items) ≡ false
-unfolding behind_if_at
-run_list run place items = ap (behind_if run) (written_list place items)
+pub run_list : (run : Option ℕ) (place : Place) (items : List Raw) → run_after_at run (raw.List place items) ≡ None
+unfolding run_after_at
+run_list run place items = ap (run_after run) (written_list place items)
 
-pub run_comma : (run : Bool) → behind_if_at run (raw.Comma) ≡ run
-unfolding behind_if_at
-run_comma run = ap (behind_if run) (written_comma)
+pub run_comma : (run : Option ℕ) → run_after_at run (raw.Comma) ≡ run
+unfolding run_after_at
+run_comma run = ap (run_after run) (written_comma)
 
-pub run_semicolon : (run : Bool) → behind_if_at run (raw.Semicolon) ≡ run
-unfolding behind_if_at
-run_semicolon run = ap (behind_if run) (written_semicolon)
+pub run_semicolon : (run : Option ℕ) → run_after_at run (raw.Semicolon) ≡ run
+unfolding run_after_at
+run_semicolon run = ap (run_after run) (written_semicolon)
 
-pub run_empty : (run : Bool) → behind_if_at run (raw.Empty) ≡ false
-unfolding behind_if_at
-run_empty run = ap (behind_if run) (written_empty)
+pub run_empty : (run : Option ℕ) → run_after_at run (raw.Empty) ≡ None
+unfolding run_after_at
+run_empty run = ap (run_after run) (written_empty)
 
 pub ruleset run_rules = (run_number, run_text, run_item, run_apply, run_list, run_comma, run_semicolon, run_empty)
 

@@ -25,13 +25,14 @@ use Rattle.asl_shape.specs.declared.fields.UnitName.{UnitName}
 use Rattle.acpi_state.specs.Outcomes.{choose}
 use Rattle.acpi_values.specs.Paths.{NameSeg}
 use Rattle.asl_tree.specs.Names.{single_segment}
-use Rattle.asl_shape.specs.Plans.{Plan, Plans, an_integer, a_name, is_omitted, constant_of}
+use Rattle.asl_shape.specs.Plans.{Plan, Plans, no_plans, an_integer, a_name, is_omitted, constant_of}
 use Rattle.asl_words.specs.Paths.{path_of}
-use Rattle.asl_words.specs.Operators.{parameters_of, body_of, block_parameters, offset_parameters}
+use Rattle.asl_words.specs.Operators.{parameters_of, body_of, role_of, block_parameters, offset_parameters}
 use Rattle.acpi_values.specs.Integers.{wrapped}
 use Rattle.acpi_values.specs.declared.width.Width.TheVariants.{W64}
-use Rattle.asl_shape.specs.Shapes.{Shaped, fine, fault_at, refused, nowhere, valued, evaluated, after, checked, is_member, is_given, takes, count, has_arguments, are_all_types, text_plan, number_shape, string_shape, text_shape, path_shape, call_shape, listed_shape, read_shape, item_shape, form_shape, within, place_of, is_separator, is_listed, byte_slot, list_shape, skipped, behind_if, bare, operands, call_args, arguments, arguments_in, contents, members, terms, inside_of, is_element, meaning_in, offset_shape, is_field_list, begin, named_unit, unit_behind, no_comma, field_part, field_slot, due_behind, elements}
-use Rattle.asl_words.specs.Meanings.{item_fault, meaning_of, reading_of, takes_expression, slot_as}
+use Rattle.asl_shape.specs.Symbols.{symbol_of}
+use Rattle.asl_shape.specs.Shapes.{Shaped, fine, fault_at, refused, nowhere, valued, evaluated, after, checked, is_member, is_given, takes, count, has_arguments, are_all_types, text_plan, number_shape, string_shape, text_shape, path_shape, call_shape, listed_shape, read_shape, item_shape, form_shape, symbol_shape, within, place_of, is_separator, is_listed, byte_slot, list_shape, skipped, run_after, bare, operands, call_args, arguments, arguments_in, contents, members, terms, inside_of, is_element, meaning_in, offset_shape, is_field_list, begin, named_unit, unit_behind, no_comma, field_part, field_slot, due_behind, elements}
+use Rattle.asl_words.specs.Meanings.{item_fault, meaning_of, reading_of, takes_expression, takes_role, slot_as}
 use Rattle.asl_words.specs.Texts.{is_all_text, has_form}
 use Rattle.asl_shape.specs.Forms.{start, is_block_word, block_fault, errors_inside, block_errors, no_block, errors_before, first_errors, errors_of, errors_at}
 use Rattle.asl_parser.specs.Within.{IsIn, IsWithin, AreWithin, IsGroupWithin}
@@ -54,14 +55,14 @@ module _ (files : ℕ) where
   string_told f place bytes h = either (has_form f bytes && is_all_text bytes) (fine (text_plan bytes)) (refused 6024 place) tt (one 6024 place h)
 
   number_told : (s : Slot) (place : Place) (n : ℕ) → IsIn files place → AreTold files (number_shape s place n).faults
-  number_told (slot.Term behind) place n h = one 6025 place h
+  number_told (slot.Term run) place n h = one 6025 place h
   number_told s place n h = either (takes_expression s) (fine (an_integer (wrapped W64 n))) (refused 6022 place) tt (one 6022 place h)
 
   text_told : (s : Slot) (place : Place) (bytes : List ℕ) → IsIn files place → AreTold files (text_shape s place bytes).faults
   text_told slot.Expression place bytes h = string_told form.Any place bytes h
   text_told slot.Element place bytes h = string_told form.Any place bytes h
   text_told (slot.String f) place bytes h = string_told f place bytes h
-  text_told (slot.Term behind) place bytes h = one 6025 place h
+  text_told (slot.Term run) place bytes h = one 6025 place h
   text_told _ place bytes h = one 6022 place h
 
   listed_told : (s : Slot) (place : Place) (ws : Writtens) → IsIn files place → AreTold files (listed_shape s place ws).faults
@@ -102,6 +103,9 @@ module _ (files : ℕ) where
   read_told s place text read.Offset args offset form h k l go = l
   read_told s place text (read.Known known) args offset form h k l go = tt
   read_told s place text (read.Form o) args offset form h k l go = go o
+
+  symbol_told : (s : Slot) (place : Place) (o : Op) (args : Shaped Plans) → IsIn files place → AreTold files args.faults → AreTold files (symbol_shape s place o args).faults
+  symbol_told s place o args h k = either (takes_role s (role_of o)) (form_shape o place args (fine no_plans)) (refused 6022 place) (both args.faults [] k tt) (one 6022 place h)
 
   item_told : (place : Place) (fault : Option ℕ) (shape : Shaped Plan) → IsIn files place → AreTold files shape.faults → AreTold files (item_shape place fault shape).faults
   item_told place (Some n) shape h k = one n place h
@@ -164,7 +168,9 @@ module _ (files : ℕ) where
       bare_told s inside (piece.number place n) h = number_told s place n h
       bare_told s inside (piece.text place bytes) h = text_told s place bytes h
       bare_told s inside (listed place ws) h = listed_told s place ws h.0
-      bare_told s inside (apply place o ws) h = one 6020 place h.0
+      bare_told s inside (apply place o ws) h =
+          let args : Shaped Plans = arguments_in (parameters_of (symbol_of o)) place inside ws in
+          symbol_told s place (symbol_of o) args h.0 (arguments_in_told (parameters_of (symbol_of o)) place inside ws h.0 h.1)
       bare_told s inside (item place w args body) h =
           let meaning = meaning_of w (is_given body) in
           let form : Op → Shaped Plan = λ o. form_shape o place (arguments (parameters_of o) place inside args) (contents (body_of o) (within o inside) place body) in
@@ -199,7 +205,7 @@ module _ (files : ℕ) where
       contents_told : (b : Body) (inside : Bool) (place : Place) (body : Group) → IsIn files place → IsGroupWithin files body → AreTold files (contents b inside place body).faults
       contents_told b inside place absent p h = tt
       contents_told braces.No inside place (given ws) p h = tt
-      contents_told braces.Terms inside place (given ws) p h = terms_told inside false ws h
+      contents_told braces.Terms inside place (given ws) p h = terms_told inside None ws h
       contents_told braces.Bytes inside place (given ws) p h = list_told place (is_listed true ws) (members (byte_slot ws) inside ws) p (members_told (byte_slot ws) inside ws h)
       contents_told braces.Elements inside place (given ws) p h = list_told place (is_listed true ws) (members slot.Element inside ws) p (members_told slot.Element inside ws h)
       contents_told braces.FieldList inside place (given ws) p h = list_told place (is_field_list begin ws) (elements begin None inside ws) p (elements_told begin None inside ws tt h)
@@ -221,10 +227,10 @@ module _ (files : ℕ) where
       members_told s inside (more w ws) h =
           skipped_told (is_separator w) (place_of nowhere w) (checked s (place_of nowhere w) (bare s inside w)) (members s inside ws) (checked_told s (place_of nowhere w) (bare s inside w) (place_in nowhere w main h.0) (bare_told s inside w h.0)) (members_told s inside ws h.1)
 
-      terms_told : (inside behind : Bool) (ws : Writtens) → AreWithin files ws → AreTold files (terms inside behind ws).faults
-      terms_told inside behind none h = tt
-      terms_told inside behind (more w ws) h =
-          skipped_told (is_separator w) (place_of nowhere w) (checked (slot.Term behind) (place_of nowhere w) (bare (slot.Term behind) inside w)) (terms inside (behind_if behind w) ws) (checked_told (slot.Term behind) (place_of nowhere w) (bare (slot.Term behind) inside w) (place_in nowhere w main h.0) (bare_told (slot.Term behind) inside w h.0)) (terms_told inside (behind_if behind w) ws h.1)
+      terms_told : (inside : Bool) (run : Option ℕ) (ws : Writtens) → AreWithin files ws → AreTold files (terms inside run ws).faults
+      terms_told inside run none h = tt
+      terms_told inside run (more w ws) h =
+          skipped_told (is_separator w) (place_of nowhere w) (checked (slot.Term run) (place_of nowhere w) (bare (slot.Term run) inside w)) (terms inside (run_after run w) ws) (checked_told (slot.Term run) (place_of nowhere w) (bare (slot.Term run) inside w) (place_in nowhere w main h.0) (bare_told (slot.Term run) inside w h.0)) (terms_told inside (run_after run w) ws h.1)
 
     inside_told : (fault : Option ℕ) (place : Place) (inside : List Message) → IsIn files place → AreTold files inside → AreTold files (errors_inside fault place inside)
     inside_told (Some n) place inside h k = one n place h
@@ -234,9 +240,9 @@ module _ (files : ℕ) where
     if_told true xs ys h k = h
     if_told false xs ys h k = k
 
-    terms_in_told : (body : Group) → IsGroupWithin files body → AreTold files (terms false false (inside_of body)).faults
+    terms_in_told : (body : Group) → IsGroupWithin files body → AreTold files (terms false None (inside_of body)).faults
     terms_in_told absent h = tt
-    terms_in_told (given ws) h = terms_told false false ws h
+    terms_in_told (given ws) h = terms_told false None ws h
 
     before_told : (errors : List Message) (ws : Writtens) → AreTold files errors → AreWithin files ws → AreTold files (errors_before errors ws)
     before_told errors none h k = h
@@ -245,7 +251,7 @@ module _ (files : ℕ) where
     first_told : (w : Written) (ws : Writtens) → IsWithin files w → AreWithin files ws → AreTold files (first_errors w ws)
     first_told (item place word args body) ws h k =
         let args_faults = (arguments block_parameters place false args).faults in
-        let terms_faults = (terms false false (inside_of body)).faults in
+        let terms_faults = (terms false None (inside_of body)).faults in
         let fault = block_fault (takes block_parameters (inside_of args)) (is_given body) in
         if_told (is_block_word word) (errors_before (block_errors place args body) ws) (no_block place)
         (before_told (block_errors place args body) ws (inside_told fault place (args_faults ++ terms_faults) h.0 (both args_faults terms_faults (arguments_told block_parameters place false args h.0 h.1) (terms_in_told body h.2))) k)

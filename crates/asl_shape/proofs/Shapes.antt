@@ -9,7 +9,7 @@ use Rattle.asl_parser.specs.declared.raw.Raw.TheVariants as raw
 use Rattle.asl_tree.specs.declared.term.Op.{Op}
 use Rattle.asl_tree.specs.declared.term.Node.{Node}
 use Rattle.asl_words.specs.Paths.{path_of}
-use Rattle.asl_shape.specs.Plans.{plan_of, plans_of, Plan, omitted, Plans, no_plans, plan, join}
+use Rattle.asl_shape.specs.Plans.{plans_of, Plan, omitted, Plans, no_plans, plan, join}
 use Rattle.asl_shape.proofs.Plans.{plan_form, plan_call, no_plans_are}
 use Rattle.asl_words.specs.declared.operator.Known.{Known}
 use Rattle.asl_words.specs.declared.operator.Parameter.{Parameter}
@@ -22,9 +22,10 @@ use Rattle.asl_parser.specs.Written.{writtens, written, written_in}
 use Rattle.asl_shape.specs.Sizes.{size, sizes, size_at, sizes_at, size_in_at}
 use Rattle.asl_words.specs.Operators.{parameters_of, body_of, offset_parameters}
 use Rattle.asl_shape.specs.Shapes
-use Rattle.asl_shape.specs.Shapes.{Shaped, fine, refused, is_given, inside_of, has_arguments, after, checked, evaluated, number_shape, text_shape, listed_shape, form_shape, read_shape, item_shape, path_shape, call_shape, known_plan, within, place_of, joined, left_out, list_shape, skipped, is_separator, nowhere, bare, call_args, arguments, contents, meaning_in, offset_shape, begin}
+use Rattle.asl_shape.specs.Symbols.{symbol_of}
+use Rattle.asl_shape.specs.Shapes.{Shaped, fine, refused, is_given, inside_of, has_arguments, after, checked, evaluated, number_shape, text_shape, listed_shape, form_shape, symbol_shape, read_shape, item_shape, path_shape, call_shape, known_plan, within, place_of, joined, left_out, list_shape, skipped, is_separator, nowhere, bare, call_args, arguments, contents, meaning_in, offset_shape, begin}
 use Rattle.asl_words.specs.Meanings.{item_fault, meaning_of, reading_of, slot_as}
-use Rattle.asl_shape.specs.AtRaw.{has_arguments_at, inside_at, bare_at, listed_at, place_at, shape_at, is_separator_at, behind_if_at, operands_at, call_at, arguments_at, arguments_in_at, contents_at, members_at, terms_at, member_at, argument_at, form_at, read_at, is_some, one_at, left_at, is_listed_at, byte_slot_at, item_at, meaning_at, offset_at, is_field_list_at, elements_at}
+use Rattle.asl_shape.specs.AtRaw.{has_arguments_at, inside_at, bare_at, listed_at, place_at, shape_at, is_separator_at, run_after_at, operands_at, call_at, arguments_at, arguments_in_at, contents_at, members_at, terms_at, member_at, argument_at, form_at, read_at, is_some, one_at, left_at, is_listed_at, byte_slot_at, item_at, meaning_at, offset_at, is_field_list_at, elements_at}
 use Rattle.asl_parser.proofs.Views.{written_number, written_text, written_item, written_apply, written_list, written_comma, written_semicolon, written_empty}
 use Rattle.asl_shape.proofs.Terms.{term_rules, omitted_term, offset_term, nothing_more}
 use Rattle.asl_shape.proofs.Braces.{given_some, from_item}
@@ -59,8 +60,8 @@ pub bare_text : (s : Slot) (inside : Bool) (place : Place) (bytes : List ℕ) �
 unfolding bare_at
 bare_text s inside place bytes = ap (bare s inside) (written_text place bytes)
 
-pub bare_apply : (s : Slot) (inside : Bool) (place : Place) (op : Infix) (args : List Raw) → bare_at s inside (raw.Apply place op args) ≡ refused 6020 place
-unfolding bare_at
+pub bare_apply : (s : Slot) (inside : Bool) (place : Place) (op : Infix) (args : List Raw) → bare_at s inside (raw.Apply place op args) ≡ symbol_shape s place (symbol_of op) (arguments_in_at (parameters_of (symbol_of op)) place inside args)
+unfolding bare_at arguments_in_at
 bare_apply s inside place op args = ap (bare s inside) (written_apply place op args)
 
 pub bare_list : (s : Slot) (inside : Bool) (place : Place) (items : List Raw) → bare_at s inside (raw.List place items) ≡ listed_at s place items
@@ -106,11 +107,6 @@ pub join_assoc : (ps qs rs : Plans) → join (join ps qs) rs ≡ join ps (join q
 join_assoc no_plans qs rs = refl
 join_assoc (plan place p ps) qs rs = ap (plan place p) (join_assoc ps qs rs)
 
-pub push_plan : (nodes : List Node) (node : Node) → plans_of (nodes ++ node ∷ []) ≡ join (plans_of nodes) (plan node.place (plan_of node.term) no_plans)
-unfolding plans_of
-push_plan [] node = refl
-push_plan (n ∷ ns) node = ap (plan n.place (plan_of n.term)) (push_plan ns node)
-
 pub from_none : (ps : Plans) → join (plans_of []) ps ≡ ps
 unfolding plans_of
 from_none ps = refl
@@ -155,9 +151,9 @@ pub read_known : (s : Slot) (place : Place) (w : List ℕ) (k : Known) (inside :
 unfolding read_at
 read_known s place w k inside args body = refl
 
-pub read_form : (s : Slot) (place : Place) (w : List ℕ) (o : Op) (inside : Bool) (args body : Option (List Raw)) → read_at s place w (read.Form o) inside args body ≡ form_at o place inside args body
+pub read_form : (s : Slot) (place : Place) (w : List ℕ) (o : Op) (inside : Bool) (args body : Option (List Raw)) → read_at s place w (read.Form o) inside args body ≡ form_shape o place (arguments_in_at (parameters_of o) place inside (inside_at args)) (contents_at (body_of o) (within o inside) place body)
 unfolding read_at
-read_form s place w o inside args body = refl
+read_form s place w o inside args body = form_is o place inside args body
 
 pub read_offset : (s : Slot) (place : Place) (w : List ℕ) (inside : Bool) (args body : Option (List Raw)) → read_at s place w read.Offset inside args body ≡ offset_at place inside args
 unfolding read_at
@@ -183,11 +179,11 @@ pub member_end : (s : Slot) (inside : Bool) (raws : List Raw) (i : ℕ) → leng
 unfolding members_at writtens
 member_end s inside raws i le = ap (λ rs. Shapes.members s inside (writtens rs)) (drop_all i raws le)
 
-pub term_step : (inside : Bool) (run : Bool) (raws : List Raw) (i : ℕ) (d : Raw) → i < length raws → terms_at inside run (drop i raws) ≡ skipped (is_separator_at (get_or raws i d)) (place_at nowhere (get_or raws i d)) (shape_at (slot.Term run) inside (get_or raws i d)) (terms_at inside (behind_if_at run (get_or raws i d)) (drop (i + 1) raws))
-unfolding terms_at writtens place_at bare_at is_separator_at behind_if_at
+pub term_step : (inside : Bool) (run : Option ℕ) (raws : List Raw) (i : ℕ) (d : Raw) → i < length raws → terms_at inside run (drop i raws) ≡ skipped (is_separator_at (get_or raws i d)) (place_at nowhere (get_or raws i d)) (shape_at (slot.Term run) inside (get_or raws i d)) (terms_at inside (run_after_at run (get_or raws i d)) (drop (i + 1) raws))
+unfolding terms_at writtens place_at bare_at is_separator_at run_after_at
 term_step inside run raws i d lt = ap (λ rs. Shapes.terms inside run (writtens rs)) (from_item raws i d lt)
 
-pub term_end : (inside : Bool) (run : Bool) (raws : List Raw) (i : ℕ) → length raws ≤ i → terms_at inside run (drop i raws) ≡ fine no_plans
+pub term_end : (inside : Bool) (run : Option ℕ) (raws : List Raw) (i : ℕ) → length raws ≤ i → terms_at inside run (drop i raws) ≡ fine no_plans
 unfolding terms_at writtens
 term_end inside run raws i le = ap (λ rs. Shapes.terms inside run (writtens rs)) (drop_all i raws le)
 
@@ -203,9 +199,7 @@ pub ruleset call_rules = (plan_call, from_none, call_is)
 
 pub ruleset offset_rules = (offset_term, from_none, offset_is)
 
-pub ruleset form_rules = (plan_form, from_none, form_is, append_assoc)
-
-pub ruleset push_rules = (push_plan, omitted_term)
+pub ruleset form_rules = (plan_form, from_none, append_assoc)
 
 -- ---- what stands in braces
 
@@ -221,7 +215,7 @@ pub contents_no : (inside : Bool) (place : Place) (raws : List Raw) → contents
 unfolding contents_at
 contents_no inside place raws = refl
 
-pub contents_terms : (inside : Bool) (place : Place) (raws : List Raw) → contents_at braces.Terms inside place (Some raws) ≡ terms_at inside false raws
+pub contents_terms : (inside : Bool) (place : Place) (raws : List Raw) → contents_at braces.Terms inside place (Some raws) ≡ terms_at inside None raws
 unfolding contents_at terms_at
 contents_terms inside place raws = refl
 
@@ -252,6 +246,10 @@ unfolding sizes_at size_in_at writtens
 size_inside None = refl
 size_inside (Some raws) = refl
 
+pub size_none : size_in_at None ≡ 0
+unfolding size_in_at
+size_none = refl
+
 pub size_some : (raws : List Raw) → size_in_at (Some raws) ≡ sizes_at raws
 unfolding sizes_at size_in_at
 size_some raws = refl
@@ -278,7 +276,9 @@ operand_made s inside raws i d old new w lt e f =
 
 pub ruleset operand_all = (operand_faults, operand_made, operand_end, nothing_more, nothing_behind, size_within)
 
-pub ruleset size_rules = (size_item, size_apply, size_inside, size_some, size_within)
+pub ruleset size_rules = (size_item, size_apply, size_inside, size_none, size_some, size_within)
+
+pub ruleset symbol_rules = (contents_none, nothing_more)
 
 pub ruleset content_rules = (append_assoc, nothing_more, nothing_behind, contents_none, contents_no, contents_terms, contents_bytes, contents_elements, contents_fields, size_some)
 
@@ -322,19 +322,19 @@ list_made s inside raws i d old new w lt e f =
     ap (λ ms. join ms rest.made) f ∙ join_assoc old (member_at s inside r).made rest.made
     ∙ ap (λ ms. join old ms) (parted_made (is_separator_at r) (place_at nowhere r) (shape_at s inside r) rest) ∙ ap (λ x. join old x.made) (sym (member_step s inside raws i d lt)) ∙ e
 
-pub run_faults : (inside : Bool) (run : Bool) (raws : List Raw) (i : ℕ) (d : Raw) (old new w : List Message) → i < length raws → old ++ (terms_at inside run (drop i raws)).faults ≡ w → new ≡ old ++ (member_at (slot.Term run) inside (get_or raws i d)).faults → new ++ (terms_at inside (behind_if_at run (get_or raws i d)) (drop (i + 1) raws)).faults ≡ w
+pub run_faults : (inside : Bool) (run : Option ℕ) (raws : List Raw) (i : ℕ) (d : Raw) (old new w : List Message) → i < length raws → old ++ (terms_at inside run (drop i raws)).faults ≡ w → new ≡ old ++ (member_at (slot.Term run) inside (get_or raws i d)).faults → new ++ (terms_at inside (run_after_at run (get_or raws i d)) (drop (i + 1) raws)).faults ≡ w
 unfolding member_at
 run_faults inside run raws i d old new w lt e f =
     let r = get_or raws i d in
-    let rest = terms_at inside (behind_if_at run r) (drop (i + 1) raws) in
+    let rest = terms_at inside (run_after_at run r) (drop (i + 1) raws) in
     ap (λ ms. ms ++ rest.faults) f ∙ append_assoc old (member_at (slot.Term run) inside r).faults rest.faults
     ∙ ap (λ ms. old ++ ms) (parted (is_separator_at r) (place_at nowhere r) (shape_at (slot.Term run) inside r) rest) ∙ ap (λ x. old ++ x.faults) (sym (term_step inside run raws i d lt)) ∙ e
 
-pub run_made : (inside : Bool) (run : Bool) (raws : List Raw) (i : ℕ) (d : Raw) (old new w : Plans) → i < length raws → join old (terms_at inside run (drop i raws)).made ≡ w → new ≡ join old (member_at (slot.Term run) inside (get_or raws i d)).made → join new (terms_at inside (behind_if_at run (get_or raws i d)) (drop (i + 1) raws)).made ≡ w
+pub run_made : (inside : Bool) (run : Option ℕ) (raws : List Raw) (i : ℕ) (d : Raw) (old new w : Plans) → i < length raws → join old (terms_at inside run (drop i raws)).made ≡ w → new ≡ join old (member_at (slot.Term run) inside (get_or raws i d)).made → join new (terms_at inside (run_after_at run (get_or raws i d)) (drop (i + 1) raws)).made ≡ w
 unfolding member_at
 run_made inside run raws i d old new w lt e f =
     let r = get_or raws i d in
-    let rest = terms_at inside (behind_if_at run r) (drop (i + 1) raws) in
+    let rest = terms_at inside (run_after_at run r) (drop (i + 1) raws) in
     ap (λ ms. join ms rest.made) f ∙ join_assoc old (member_at (slot.Term run) inside r).made rest.made
     ∙ ap (λ ms. join old ms) (parted_made (is_separator_at r) (place_at nowhere r) (shape_at (slot.Term run) inside r) rest) ∙ ap (λ x. join old x.made) (sym (term_step inside run raws i d lt)) ∙ e
 
@@ -391,7 +391,7 @@ got_none [] (suc i) le = refl
 got_none (x ∷ xs) zero le = absurd (omega (arith, le))
 got_none (x ∷ xs) (suc i) le = got_none xs i (omega (arith, le))
 
-pub ruleset one_argument_rules = (left_faults, left_made, argument_some_faults, argument_some_made, nothing_more, nothing_behind, size_got)
+pub ruleset one_argument_rules = (left_faults, left_made, argument_some_faults, argument_some_made, nothing_more, nothing_behind, omitted_term, size_got)
 
 next_argument : (q : Parameter) (qs : List Parameter) (place : Place) (inside : Bool) (raws : List Raw) (i : ℕ)
     → ((argument_at q place inside (slice_get raws i)).faults ++ (arguments_in_at qs place inside (drop (suc i) raws)).faults ≡ (arguments_in_at (q ∷ qs) place inside (drop i raws)).faults)

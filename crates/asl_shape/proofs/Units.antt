@@ -41,7 +41,7 @@ text_none nodes i le = ap text_of (at_none nodes i le)
 
 pub ruleset text_rules = (text_some, text_none)
 
-pub errors_in_are : (place : Place) (args body : List Raw) → errors_in place args body ≡ (arguments_in_at block_parameters place false args).faults ++ (terms_at false false body).faults
+pub errors_in_are : (place : Place) (args body : List Raw) → errors_in place args body ≡ (arguments_in_at block_parameters place false args).faults ++ (terms_at false None body).faults
 unfolding errors_in
 errors_in_are place args body = refl
 
@@ -80,10 +80,10 @@ pub ruleset item_rules = (item_other, item_more, item_alone, alone_is)
 block_errors_are : (place : Place) (args body : Option (List Raw)) → block_errors place (written_in args) (written_in body) ≡ block_errors_at place args body
 unfolding block_errors_at errors_in takes_at terms_at arguments_at
 block_errors_are place args body =
-    ap (λ ws. errors_inside (block_fault (takes block_parameters ws) (is_given (written_in body))) place ((arguments_at block_parameters place false args).faults ++ (terms false false (inside_of (written_in body))).faults)) (inside_written args)
-    ∙ ap (λ b. errors_inside (block_fault (takes block_parameters (writtens (inside_at args))) b) place ((arguments_at block_parameters place false args).faults ++ (terms false false (inside_of (written_in body))).faults)) (given_some body)
-    ∙ ap (λ ws. errors_inside (block_fault (takes block_parameters (writtens (inside_at args))) (is_some body)) place ((arguments_at block_parameters place false args).faults ++ (terms false false ws).faults)) (inside_written body)
-    ∙ ap (λ x. errors_inside (block_fault (takes block_parameters (writtens (inside_at args))) (is_some body)) place (x.faults ++ (terms_at false false (inside_at body)).faults)) (arguments_are block_parameters place false args)
+    ap (λ ws. errors_inside (block_fault (takes block_parameters ws) (is_given (written_in body))) place ((arguments_at block_parameters place false args).faults ++ (terms false None (inside_of (written_in body))).faults)) (inside_written args)
+    ∙ ap (λ b. errors_inside (block_fault (takes block_parameters (writtens (inside_at args))) b) place ((arguments_at block_parameters place false args).faults ++ (terms false None (inside_of (written_in body))).faults)) (given_some body)
+    ∙ ap (λ ws. errors_inside (block_fault (takes block_parameters (writtens (inside_at args))) (is_some body)) place ((arguments_at block_parameters place false args).faults ++ (terms false None ws).faults)) (inside_written body)
+    ∙ ap (λ x. errors_inside (block_fault (takes block_parameters (writtens (inside_at args))) (is_some body)) place (x.faults ++ (terms_at false None (inside_at body)).faults)) (arguments_are block_parameters place false args)
 
 pub first_item : (place : Place) (word : List ℕ) (args body : Option (List Raw)) (rest : List Raw) → errors_at (raw.Item place word args body ∷ rest) ≡ item_errors_at place word args body rest
 unfolding errors_at writtens item_errors_at
@@ -132,8 +132,8 @@ pub block_is : (place : Place) (word : List ℕ) (args body : Option (List Raw))
 unfolding IsItemBlock IsBlockOf writtens terms_at arguments_at
 block_is place word args body [] block h =
     subst (λ w. IsBlock (block_place (more w none)) (args_of (more w none)) (terms_of (more w none)) block) (sym (written_item place word args body))
-    (subst (λ x. IsBlock place x.made (terms false false (inside_of (written_in body))).made block) (sym (arguments_are block_parameters place false args))
-    (subst (λ ws. IsBlock place (args_in place (inside_at args)).made (terms false false ws).made block) (sym (inside_written body)) h))
+    (subst (λ x. IsBlock place x.made (terms false None (inside_of (written_in body))).made block) (sym (arguments_are block_parameters place false args))
+    (subst (λ ws. IsBlock place (args_in place (inside_at args)).made (terms false None ws).made block) (sym (inside_written body)) h))
 block_is place word args body (r ∷ rs) block h = absurd h
 
 pub first_formed : (first : Raw) (place : Place) (word : List ℕ) (args body : Option (List Raw)) (rest : List Raw) (result : Result Block Stage) → first ≡ raw.Item place word args body

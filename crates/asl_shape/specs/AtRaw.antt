@@ -16,7 +16,7 @@ use Rattle.asl_words.specs.declared.meaning.Reading.{Reading}
 use Rattle.asl_shape.specs.declared.fields.Due.{Due}
 use Rattle.asl_shape.specs.declared.fields.UnitName.{UnitName}
 use Rattle.asl_parser.specs.Written.{written, writtens, written_in}
-use Rattle.asl_shape.specs.Shapes.{Shaped, fine, takes, none_empty, has_arguments, is_comma, due_after, is_text, bare, behind_if, is_call, is_separator, is_listed, byte_slot, skipped, joined, operands, call_args, arguments, arguments_in, contents, members, terms, read_shape, form_shape, within, place_of, nowhere, checked, item_shape, listed_shape, types_shape, is_type, are_types, is_type_or_list, are_all_types, meaning_in, goes_on, is_field_list, field_slot, unit_behind, field_part, due_behind, offset_shape, elements, begin}
+use Rattle.asl_shape.specs.Shapes.{Shaped, fine, takes, none_empty, has_arguments, is_comma, due_after, is_text, bare, run_after, is_call, is_separator, is_listed, byte_slot, skipped, joined, operands, call_args, arguments, arguments_in, contents, members, terms, read_shape, form_shape, within, place_of, nowhere, checked, item_shape, listed_shape, types_shape, is_type, are_types, is_type_or_list, are_all_types, meaning_in, goes_on, is_field_list, field_slot, unit_behind, field_part, due_behind, offset_shape, elements, begin}
 use Rattle.asl_words.specs.Meanings.{item_fault, meaning_of, reading_of, slot_as}
 use Rattle.asl_words.specs.Operators.{parameters_of, body_of, offset_parameters}
 
@@ -49,8 +49,8 @@ shape_at s inside raw = checked s (place_at nowhere raw) (bare_at s inside raw)
 unfoldable pub is_separator_at : Raw → Bool
 is_separator_at raw = is_separator (written raw)
 
-unfoldable pub behind_if_at : Bool → Raw → Bool
-behind_if_at behind raw = behind_if behind (written raw)
+unfoldable pub run_after_at : Option ℕ → Raw → Option ℕ
+run_after_at run raw = run_after run (written raw)
 
 unfoldable pub operands_at : Slot → Bool → List Raw → Shaped Plans
 operands_at s inside raws = operands s inside (writtens raws)
@@ -70,8 +70,8 @@ contents_at b inside place raws = contents b inside place (written_in raws)
 unfoldable pub members_at : Slot → Bool → List Raw → Shaped Plans
 members_at s inside raws = members s inside (writtens raws)
 
-unfoldable pub terms_at : Bool → Bool → List Raw → Shaped Plans
-terms_at inside behind raws = terms inside behind (writtens raws)
+unfoldable pub terms_at : Bool → Option ℕ → List Raw → Shaped Plans
+terms_at inside run raws = terms inside run (writtens raws)
 
 -- a form with its arguments and its braces
 unfoldable pub form_at : Op → Place → Bool → Option (List Raw) → Option (List Raw) → Shaped Plan

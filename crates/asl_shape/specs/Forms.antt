@@ -31,7 +31,7 @@ abbrev pub block_args : Place → Group → Shaped Plans
 block_args place args = arguments block_parameters place false args
 
 abbrev pub block_terms : Group → Shaped Plans
-block_terms body = terms false false (inside_of body)
+block_terms body = terms false None (inside_of body)
 
 abbrev pub block_errors : Place → Group → Group → List Message
 block_errors place args body =
@@ -97,7 +97,7 @@ abbrev pub args_in : Place → List Raw → Shaped Plans
 args_in place args = arguments_in_at block_parameters place false args
 
 abbrev pub terms_in : List Raw → Shaped Plans
-terms_in body = terms_at false false body
+terms_in body = terms_at false None body
 
 unfoldable pub errors_in : Place → List Raw → List Raw → List Message
 errors_in place args body = (args_in place args).faults ++ (terms_in body).faults

@@ -1,4 +1,5 @@
 pub mod Plans
+pub mod Symbols
 pub mod Shapes
 pub mod AtRaw
 pub mod Forms

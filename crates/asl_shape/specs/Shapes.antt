@@ -31,8 +31,9 @@ use Rattle.asl_shape.specs.declared.fields.Due.{Due}
 use Rattle.asl_shape.specs.declared.fields.UnitName.{UnitName}
 use Rattle.asl_parser.specs.Written as piece
 use Rattle.asl_parser.specs.Written.{Written, Writtens, Group, item, apply, listed, comma, semicolon, empty, none, more, absent, given}
-use Rattle.asl_words.specs.Operators.{parameters_of, body_of, offset_parameters}
-use Rattle.asl_words.specs.Meanings.{meaning_of, may_end, item_fault, takes_expression, takes_known, reading_of, slot_as}
+use Rattle.asl_words.specs.Operators.{parameters_of, body_of, role_of, offset_parameters}
+use Rattle.asl_words.specs.Meanings.{meaning_of, may_end, item_fault, takes_expression, takes_role, takes_known, reading_of, run_behind, slot_as}
+use Rattle.asl_shape.specs.Symbols.{symbol_of}
 use Rattle.asl_words.specs.Texts.{has_form, is_all_text}
 use Rattle.asl_words.specs.Paths.{path_of}
 use Rattle.asl_shape.specs.Plans.{Plan, an_integer, a_text, a_local, an_arg, debug, omitted, a_name, a_unit, a_skip, an_offset, a_call, a_form, Plans, no_plans, plan, join, number_of, plan_at, first_plans, first_alone, is_omitted, constant_of}
@@ -140,7 +141,7 @@ checked s place shape = after shape.faults shape (evaluated s place shape.made)
 -- ---- leaves
 
 abbrev pub number_shape : Slot → Place → ℕ → Shaped Plan
-number_shape (slot.Term behind) place n = refused 6025 place
+number_shape (slot.Term run) place n = refused 6025 place
 number_shape s place n = if takes_expression s then fine (an_integer (wrapped W64 n)) else refused 6022 place
 
 abbrev pub text_plan : List ℕ → Plan
@@ -153,7 +154,7 @@ abbrev pub text_shape : Slot → Place → List ℕ → Shaped Plan
 text_shape slot.Expression place bytes = string_shape form.Any place bytes
 text_shape slot.Element place bytes = string_shape form.Any place bytes
 text_shape (slot.String f) place bytes = string_shape f place bytes
-text_shape (slot.Term behind) place bytes = refused 6025 place
+text_shape (slot.Term run) place bytes = refused 6025 place
 text_shape _ place bytes = refused 6022 place
 
 -- ---- names
@@ -258,12 +259,21 @@ field_flags n ps = number_of (plan_at ps n) % 16 + 16 * (number_of (plan_at ps (
 abbrev pub field_settled : ℕ → Place → Plans → Plans
 field_settled n place ps = join (first_plans n ps) (one_plan place (an_integer (field_flags n ps)))
 
+-- a number of elements that is a constant of at most 255 stands as its value
+abbrev pub few_elements : Result ℕ NoConstant → Option ℕ
+few_elements (Ok n) = if nat_le n 255 then Some n else None
+few_elements (Err e) = None
+
+abbrev pub package_settled : Place → Plans → Plans
+package_settled place ps = choose (few_elements (constant_of (plan_at ps 0))) ps (λ n. one_plan place (an_integer n))
+
 -- the arguments of a form, from those that are written; what they come to stands at the operator
 abbrev pub settled : Op → Place → Plans → Plans
 settled (Op.Declaration Declaration.Method) place ps = method_settled place ps
 settled (Op.Declaration Declaration.Mutex) place ps = mutex_settled place ps
 settled (Op.Declaration Declaration.External) place ps = external_settled place ps
 settled (Op.Control Control.Return) place ps = return_settled place ps
+settled (Op.Special Special.Package) place ps = package_settled place ps
 settled (Op.Declaration Declaration.Field) place ps = field_settled 1 place ps
 settled (Op.Declaration Declaration.IndexField) place ps = field_settled 2 place ps
 settled (Op.Declaration Declaration.BankField) place ps = field_settled 3 place ps
@@ -271,6 +281,10 @@ settled _ place ps = ps
 
 abbrev pub form_shape : Op → Place → Shaped Plans → Shaped Plans → Shaped Plan
 form_shape o place args body = record { faults = args.faults ++ body.faults; made = a_form o (settled o place args.made) body.made }
+
+-- what is written with a symbol, by what its operands come to
+abbrev pub symbol_shape : Slot → Place → Op → Shaped Plans → Shaped Plan
+symbol_shape s place o args = if takes_role s (role_of o) then form_shape o place args (fine no_plans) else refused 6022 place
 
 -- the place of the next byte
 abbrev pub offset_shape : Shaped Plans → Shaped Plan
@@ -346,16 +360,12 @@ abbrev pub skipped : Bool → Place → Shaped Plan → Shaped Plans → Shaped 
 skipped true place first rest = rest
 skipped false place first rest = joined place first rest
 
-abbrev pub is_if : Meaning → Bool
-is_if (is.Operator (Op.Control Control.If)) = true
-is_if _ = false
-
--- whether an If stands directly before what follows a member
-abbrev pub behind_if : Bool → Written → Bool
-behind_if behind comma = behind
-behind_if behind semicolon = behind
-behind_if behind (item p w args body) = is_if (meaning_of w (is_given body))
-behind_if behind _ = false
+-- the If that stands directly before what follows a member, with so many ElseIfs behind it
+abbrev pub run_after : Option ℕ → Written → Option ℕ
+run_after run comma = run
+run_after run semicolon = run
+run_after run (item p w args body) = run_behind run (meaning_of w (is_given body))
+run_after run _ = None
 
 -- ---- the list of a field
 
@@ -454,8 +464,7 @@ abbrev mutual
   bare s inside (piece.number place n) = number_shape s place n
   bare s inside (piece.text place bytes) = text_shape s place bytes
   bare s inside (listed place ws) = listed_shape s place ws
-  -- no symbol is built so far
-  bare s inside (apply place o ws) = refused 6020 place
+  bare s inside (apply place o ws) = symbol_shape s place (symbol_of o) (arguments_in (parameters_of (symbol_of o)) place inside ws)
   bare s inside (item place w args body) =
       item_shape place (item_fault s inside (meaning_of w (is_given body)) (has_arguments (meaning_of w (is_given body)) (inside_of args)) (is_given body))
       (read_shape s place w (reading_of s (meaning_of w (is_given body)) (is_given args)) (call_args inside args)
@@ -486,7 +495,7 @@ abbrev mutual
   pub contents : Body → Bool → Place → Group → Shaped Plans
   contents b inside place absent = fine no_plans
   contents braces.No inside place (given ws) = fine no_plans
-  contents braces.Terms inside place (given ws) = terms inside false ws
+  contents braces.Terms inside place (given ws) = terms inside None ws
   contents braces.Bytes inside place (given ws) = list_shape place (is_listed true ws) (members (byte_slot ws) inside ws)
   contents braces.Elements inside place (given ws) = list_shape place (is_listed true ws) (members slot.Element inside ws)
   contents braces.FieldList inside place (given ws) = list_shape place (is_field_list begin ws) (elements begin None inside ws)
@@ -502,11 +511,11 @@ abbrev mutual
       followed (field_part due unit (place_of nowhere w) (is_separator w) (checked (field_slot due) (place_of nowhere w) (bare (field_slot due) inside w)))
       (elements (due_behind due w) (unit_behind due unit (place_of nowhere w) (is_separator w) (checked (field_slot due) (place_of nowhere w) (bare (field_slot due) inside w)).made) inside ws)
 
-  -- the terms of a list; `behind` says that an If stands directly before
-  pub terms : Bool → Bool → Writtens → Shaped Plans
-  terms inside behind none = fine no_plans
-  terms inside behind (more w ws) =
-      skipped (is_separator w) (place_of nowhere w) (checked (slot.Term behind) (place_of nowhere w) (bare (slot.Term behind) inside w)) (terms inside (behind_if behind w) ws)
+  -- the terms of a list; `run` says how many ElseIfs stand directly before, and before them an If
+  pub terms : Bool → Option ℕ → Writtens → Shaped Plans
+  terms inside run none = fine no_plans
+  terms inside run (more w ws) =
+      skipped (is_separator w) (place_of nowhere w) (checked (slot.Term run) (place_of nowhere w) (bare (slot.Term run) inside w)) (terms inside (run_after run w) ws)
 
 -- a part of a source where it is read so
 abbrev pub shape : Slot → Bool → Written → Shaped Plan

@@ -6,6 +6,7 @@ mod item;
 mod leaf;
 mod lists;
 mod settle;
+mod symbol;
 mod tree;
 mod unit;
 mod work;

@@ -5,8 +5,8 @@ ghost use Rattle.asl_shape.specs.AtRaw as at;
 
 use crate::item::is_given;
 use asl_parser::Raw;
-use asl_tree::term::{Control, Declaration, Op};
-use asl_words::meaning::{Meaning, meaning_of};
+use asl_tree::term::{Declaration, Op};
+use asl_words::meaning::{meaning_of, run_behind};
 use asl_words::operator::{Slot, StringForm};
 use asl_words::paths::parts;
 
@@ -122,25 +122,21 @@ pub fn byte_slot(raws: &[Raw]) -> Slot
     }
 }
 
-fn is_if(meaning: Meaning) -> bool
-    ensures { result ≡ spec.is_if meaning }
-{
-    matches!(meaning, Meaning::Operator(Op::Control(Control::If)))
-}
-
-/// Whether an If stands directly before what follows a member.
+/// The If that stands directly before what follows a member: how many ElseIfs stand behind it.
 #[tactic(auto, using(crate::proofs::Braces::run_rules))]
-pub fn behind_if(behind: bool, raw: &Raw) -> bool
-    ensures { result ≡ at.behind_if_at behind raw.now }
+pub fn run_after(run: Option<u8>, raw: &Raw) -> Option<u8>
+    ensures { result ≡ at.run_after_at run raw.now }
 {
     match raw {
-        Raw::Comma => behind,
-        Raw::Semicolon => behind,
-        Raw::Item { word, body, .. } => is_if(meaning_of(word.as_bytes(), is_given(body))),
-        Raw::Number { .. } => false,
-        Raw::Text { .. } => false,
-        Raw::Apply { .. } => false,
-        Raw::List { .. } => false,
-        Raw::Empty => false,
+        Raw::Comma => run,
+        Raw::Semicolon => run,
+        Raw::Item { word, body, .. } => {
+            run_behind(run, meaning_of(word.as_bytes(), is_given(body)))
+        }
+        Raw::Number { .. } => None,
+        Raw::Text { .. } => None,
+        Raw::Apply { .. } => None,
+        Raw::List { .. } => None,
+        Raw::Empty => None,
     }
 }

@@ -1,7 +1,7 @@
 //! The arguments of a form, from those that are written.
 ghost use Rattle.std.specs.Prelude.{◌≡◌, ◌≤◌, ◌∷◌, [], slice_get, take, OnOk, IfOk};
 ghost use Rattle.asl_shape.specs.Shapes as spec;
-ghost use Rattle.asl_shape.specs.Plans.{plan_of, plans_of, plan_at, number_of, first_plans, join};
+ghost use Rattle.asl_shape.specs.Plans.{plan_of, plans_of, plan_at, number_of, first_plans, join, constant_of};
 
 use crate::work::{is_omitted, value_of};
 use asl_tree::term::{Control, Declaration, Literal, Node, Op, Special, Term};
@@ -160,6 +160,30 @@ fn returned(alloc: Global, nodes: &mut Vec<Node>, place: Place) -> Result<(), Al
     }
 }
 
+// The first argument, where it is a constant of at most 255.
+#[tactic(auto, using(crate::proofs::Settled::few_rules))]
+fn few_elements(nodes: &[Node]) -> Option<u64>
+    ensures { result ≡ spec.few_elements (constant_of (plan_at (plans_of nodes.now) 0)) }
+{
+    let Some(node) = nodes.get(0) else {
+        return None;
+    };
+    match value_of(&node.term) {
+        Ok(count) => if count <= 255 { Some(count) } else { None },
+        Err(_) => None,
+    }
+}
+
+#[tactic(auto, using(crate::proofs::Terms::term_rules))]
+fn package(alloc: Global, nodes: &mut Vec<Node>, place: Place) -> Result<(), AllocError>
+    ensures { OnOk result (plans_of nodes.new.items ≡ spec.package_settled place (plans_of nodes.old.items)) }
+{
+    match few_elements(nodes) {
+        Some(count) => Ok(only(alloc, nodes, place, Term::Integer(count))?),
+        None => Ok(()),
+    }
+}
+
 /// The arguments of a form, from those that are written.
 pub fn settle(alloc: Global, op: Op, place: Place, nodes: &mut Vec<Node>) -> Result<(), AllocError>
     ensures { OnOk result (plans_of nodes.new.items ≡ spec.settled op place (plans_of nodes.old.items)) }
@@ -172,6 +196,7 @@ pub fn settle(alloc: Global, op: Op, place: Place, nodes: &mut Vec<Node>) -> Res
         Op::Declaration(Declaration::IndexField) => Ok(field(nodes, place, 2)?),
         Op::Declaration(Declaration::BankField) => Ok(field(nodes, place, 3)?),
         Op::Control(Control::Return) => Ok(returned(alloc, nodes, place)?),
+        Op::Special(Special::Package) => Ok(package(alloc, nodes, place)?),
         _ => Ok(()),
     }
 }

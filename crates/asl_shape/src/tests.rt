@@ -1,8 +1,9 @@
 use crate::shape;
+use acpi_values::operator::{DataOp, IntOp, Plain};
 use asl_lexer::token::{Token, TokenKind, Tokens};
 use asl_parser::parse;
 use asl_tree::program::Program;
-use asl_tree::term::Term;
+use asl_tree::term::{Compound, Op, Symbolic, Term};
 use iasl_messages::message::Stage;
 use iasl_messages::place::Place;
 use iasl_ports::list::Text;
@@ -117,7 +118,6 @@ fn tells_each_error_at_its_place(rt: HostRuntime) -> Result<(), Fail> {
         ("METHOD ( M ) { NAME ( \\A , 1 ) }", "6025@22 "),
         ("\\A.B { }", "6023@15 "),
         ("SCOPE ( \\ ) { NAME ( \\A.B.CDEF , 1 ) }", "none"),
-        ("NAME ( A , 1 + 2 )", "6020@20 "),
         // The first of 6020, 6025, 6021 and 6023 alone.
         ("RETURN ( 1 , 2 )", "6025@15 "),
         (
@@ -238,6 +238,73 @@ fn tells_errors_of_regions_and_fields(rt: HostRuntime) -> Result<(), Fail> {
     Ok(())
 }
 
+#[test]
+fn tells_errors_of_symbols(rt: HostRuntime) -> Result<(), Fail> {
+    let alloc = rt.alloc();
+    for (text, want) in [
+        ("NAME ( A , 1 + 2 )", "none"),
+        ("A = B + C [ 1 ] A -- ! A", "none"),
+        // A constant may be written with symbols, and has to be in its range.
+        ("METHOD ( M , 3 + 4 ) { }", "none"),
+        ("METHOD ( M , 4 + 4 ) { }", "6024@20 "),
+        ("METHOD ( M , A + 4 ) { }", "6022@20 "),
+        ("METHOD ( M , A = 4 ) { }", "6022@20 "),
+        // A symbol stands for no name, and for a place only where it is an Index.
+        ("NAME ( A + B , 1 )", "6022@18 "),
+        ("ACQUIRE ( A ++ , 1 )", "6022@18 "),
+        ("A [ 0 ] = 1", "none"),
+        ("A + 0 = 1", "6022@16 "),
+        // Its operands are what its operator asks for, one error for each.
+        ("1 += \"a", "6022@15 "),
+        ("A = NAME ( B , 1 ) + FOO12 ( )", "6022@17 6020@24 "),
+    ] {
+        let source = format!(in alloc; "{HEAD} {text} }}")?;
+        assert_eq!(rt; errors(alloc, source.as_str())?.as_str(), want);
+    }
+    Ok(())
+}
+
+#[test]
+fn tells_errors_of_runs(rt: HostRuntime) -> Result<(), Fail> {
+    let alloc = rt.alloc();
+    for (text, want) in [
+        (
+            "IF ( 1 ) { } ; ELSEIF ( 2 ) { } ELSEIF ( 3 ) { } ELSE { }",
+            "none",
+        ),
+        // Behind nothing, behind a While and behind an Else; what follows is accepted.
+        ("ELSEIF ( 1 ) { } ELSEIF ( 2 ) { } ELSE { }", "6025@15 "),
+        ("WHILE ( 1 ) { } ELSEIF ( 1 ) { }", "6025@21 "),
+        ("IF ( 1 ) { } ELSE { } ELSEIF ( 1 ) { }", "6025@24 "),
+        // Its test and its braces.
+        ("IF ( 1 ) { } ELSEIF { }", "6021@21 "),
+        ("IF ( 1 ) { } ELSEIF ( 1 ) ELSE { }", "6023@21 "),
+    ] {
+        let source = format!(in alloc; "{HEAD} {text} }}")?;
+        assert_eq!(rt; errors(alloc, source.as_str())?.as_str(), want);
+    }
+    Ok(())
+}
+
+/// The errors of an If and a run of so many ElseIfs behind it.
+fn run_errors(alloc: Global, count: usize) -> Result<String, AllocError> {
+    let mut source = String::from_str(alloc, HEAD)?;
+    source.push_str(" IF ( 1 ) { }")?;
+    for _ in 0..count {
+        source.push_str(" ELSEIF ( 1 ) { }")?;
+    }
+    source.push_str(" ELSE { } }")?;
+    errors(alloc, source.as_str())
+}
+
+#[test]
+fn a_run_has_at_most_120_else_ifs(rt: HostRuntime) -> Result<(), Fail> {
+    let alloc = rt.alloc();
+    assert_eq!(rt; run_errors(alloc, 120)?.as_str(), "none");
+    assert_eq!(rt; run_errors(alloc, 122)?.as_str(), "6025@741 6025@747 ");
+    Ok(())
+}
+
 /// The one term of a block, where there is no error.
 fn with_term(alloc: Global, text: &str) -> Result<Option<Program>, AllocError> {
     let source = format!(in alloc; "{HEAD} {text} }}")?;
@@ -290,5 +357,73 @@ fn the_words_of_a_field_are_one_number(rt: HostRuntime) -> Result<(), Fail> {
     ] {
         assert!(rt; last_number(alloc, text)? == Some(want));
     }
+    Ok(())
+}
+
+fn operator_of(term: &Term) -> Option<Op> {
+    match term {
+        Term::Form { op, .. } => Some(*op),
+        _ => None,
+    }
+}
+
+/// The operator of the one term of a block, or of its argument of this number.
+fn operator_in(
+    alloc: Global,
+    text: &str,
+    argument: Option<usize>,
+) -> Result<Option<Op>, AllocError> {
+    let Some(program) = with_term(alloc, text)? else {
+        return Ok(None);
+    };
+    let Some(block) = program.blocks.get(0) else {
+        return Ok(None);
+    };
+    let Some(node) = block.terms.get(0) else {
+        return Ok(None);
+    };
+    let Term::Form { op, args, .. } = &node.term else {
+        return Ok(None);
+    };
+    let Some(i) = argument else {
+        return Ok(Some(*op));
+    };
+    match args.get(i) {
+        Some(node) => Ok(operator_of(&node.term)),
+        None => Ok(None),
+    }
+}
+
+fn number(op: IntOp) -> Op {
+    Op::Symbolic(Symbolic::Operator(Plain::Number(op)))
+}
+
+fn data(op: DataOp) -> Op {
+    Op::Symbolic(Symbolic::Operator(Plain::Data(op)))
+}
+
+#[test]
+fn symbols_are_operators(rt: HostRuntime) -> Result<(), Fail> {
+    let alloc = rt.alloc();
+    let assign = Op::Symbolic(Symbolic::Assign);
+    for (text, argument, want) in [
+        ("X = Y + 1 * 2", None, assign),
+        ("X = Y + 1 * 2", Some(1), number(IntOp::Add)),
+        ("Y + 1 * 2", Some(1), number(IntOp::Multiply)),
+        ("X [ 1 ] = 2", None, assign),
+        ("X [ 1 ] = 2", Some(0), data(DataOp::Index)),
+        ("X ++", None, data(DataOp::Increment)),
+        ("! X", None, number(IntOp::LNot)),
+        ("~ X", None, number(IntOp::Not)),
+        (
+            "X <<= 1",
+            None,
+            Op::Symbolic(Symbolic::AssignBy(Compound::ShiftLeft)),
+        ),
+    ] {
+        assert!(rt; operator_in(alloc, text, argument)? == Some(want));
+    }
+    // A constant argument is its value.
+    assert!(rt; last_number(alloc, "MUTEX ( M , 1 + 2 )")? == Some(3));
     Ok(())
 }

@@ -11,14 +11,15 @@ use crate::fields::{
 };
 use crate::item::{inside_of, is_given, item_fault};
 use crate::leaf::{known_term, listed, number, path, place_in, text};
-use crate::lists::{behind_if, byte_slot, is_listed, is_separator, within};
-use crate::settle::{number_at, number_in, settle};
+use crate::lists::{byte_slot, is_listed, is_separator, run_after, within};
+use crate::settle::{number_at, number_in, push, settle};
+use crate::symbol::symbol_of;
 use crate::work::{NOWHERE, Work, evaluate, refuse, tell};
 use asl_parser::{Raw, Raws};
 use asl_tree::term::{Node, Op, Term};
-use asl_words::meaning::{Reading, meaning_of, reading_of, slot_as};
+use asl_words::meaning::{Reading, meaning_of, reading_of, slot_as, takes_role};
 use asl_words::operator::{Body, Parameter, Slot};
-use asl_words::parameters::{body_of, offset_parameters, parameters_of};
+use asl_words::parameters::{body_of, offset_parameters, parameters_of, role_of};
 use asl_words::paths::path_of;
 use iasl_messages::message::{Messages, Stage};
 use iasl_messages::place::Place;
@@ -63,7 +64,15 @@ fn bare(
         Raw::Number { place, value } => Ok(number(alloc, work, slot, *place, *value)?),
         Raw::Text { place, text: bytes } => Ok(text(alloc, work, slot, *place, bytes)?),
         Raw::List { place, items } => Ok(listed(alloc, work, slot, *place, items.as_slice())?),
-        Raw::Apply { place, .. } => Ok(refuse(alloc, work, 6020, *place)?),
+        Raw::Apply { place, op, args } => Ok(symbol(
+            alloc,
+            work,
+            slot,
+            symbol_of(*op),
+            inside,
+            *place,
+            args.as_slice(),
+        )?),
         Raw::Item {
             place,
             word,
@@ -78,7 +87,7 @@ fn bare(
 
 // A node at its place, or at this one where it has none.
 #[cycle(shape)]
-#[tactic(auto, using(crate::proofs::Shapes::size_rules, crate::proofs::Shapes::push_rules))]
+#[tactic(auto, using(crate::proofs::Shapes::size_rules))]
 fn add(
     alloc: Global,
     work: &mut Work,
@@ -92,12 +101,7 @@ fn add(
     ensures made { OnOk result (plans_of nodes.new.items ≡ join (plans_of nodes.old.items) (at.one_at place raw.now (at.shape_at slot inside raw.now).made)) }
 {
     let term = shape(alloc, work, slot, inside, raw)?;
-    nodes.push(Node {
-        id: 0,
-        place: place_in(place, raw),
-        term,
-    })?;
-    Ok(())
+    Ok(push(nodes, place_in(place, raw), term)?)
 }
 
 // A member of a list, unless it only separates others.
@@ -198,7 +202,7 @@ fn read(
         Reading::Call => Ok(call(alloc, work, inside, place, word, args)?),
         Reading::Offset => Ok(offset(alloc, work, inside, place, args)?),
         Reading::Known(known) => Ok(known_term(slot, known)),
-        Reading::Form(op) => Ok(form(alloc, work, op, inside, place, args, body)?),
+        Reading::Form(op) => Ok(form(alloc, work, op, inside, place, inside_of(args), body)?),
     }
 }
 
@@ -257,6 +261,28 @@ fn offset(
     Ok(Term::Offset(number_at(&nodes, 0)))
 }
 
+// What is written with a symbol, with its operands.
+#[cycle(shape)]
+#[tactic(auto, using(crate::proofs::Shapes::size_rules, crate::proofs::Shapes::symbol_rules))]
+fn symbol(
+    alloc: Global,
+    work: &mut Work,
+    slot: Slot,
+    op: Op,
+    inside: bool,
+    place: Place,
+    args: &[Raw],
+) -> Result<Term, AllocError>
+    ensures faults { OnOk result (work.new.faults.items ≡ work.old.faults.items ++ (spec.symbol_shape slot place op (at.arguments_in_at (table.parameters_of op) place inside args.now)).faults) }
+    ensures made { IfOk result (λ term. plan_of term ≡ (spec.symbol_shape slot place op (at.arguments_in_at (table.parameters_of op) place inside args.now)).made) }
+{
+    if takes_role(slot, role_of(op)) {
+        Ok(form(alloc, work, op, inside, place, args, &None)?)
+    } else {
+        Ok(refuse(alloc, work, 6022, place)?)
+    }
+}
+
 // An operator with its arguments and its braces.
 #[cycle(shape)]
 #[tactic(auto, using(crate::proofs::Shapes::size_rules, crate::proofs::Shapes::form_rules))]
@@ -266,11 +292,11 @@ fn form(
     op: Op,
     inside: bool,
     place: Place,
-    args: &Option<Raws>,
+    args: &[Raw],
     body: &Option<Raws>,
 ) -> Result<Term, AllocError>
-    ensures faults { OnOk result (work.new.faults.items ≡ work.old.faults.items ++ (at.form_at op place inside args.now body.now).faults) }
-    ensures made { IfOk result (λ term. plan_of term ≡ (at.form_at op place inside args.now body.now).made) }
+    ensures faults { OnOk result (work.new.faults.items ≡ work.old.faults.items ++ (spec.form_shape op place (at.arguments_in_at (table.parameters_of op) place inside args.now) (at.contents_at (table.body_of op) (spec.within op inside) place body.now)).faults) }
+    ensures made { IfOk result (λ term. plan_of term ≡ (spec.form_shape op place (at.arguments_in_at (table.parameters_of op) place inside args.now) (at.contents_at (table.body_of op) (spec.within op inside) place body.now)).made) }
 {
     let mut nodes = Vec::new(alloc);
     arguments(
@@ -280,7 +306,7 @@ fn form(
         parameters_of(op),
         inside,
         place,
-        inside_of(args),
+        args,
     )?;
     settle(alloc, op, place, &mut nodes)?;
     let mut terms = Vec::new(alloc);
@@ -298,19 +324,6 @@ fn form(
         args: nodes,
         body: terms,
     })
-}
-
-// An argument that is left out.
-#[tactic(auto, using(crate::proofs::Shapes::push_rules))]
-fn leave_out(nodes: &mut Vec<Node>, place: Place) -> Result<(), AllocError>
-    ensures { OnOk result (plans_of nodes.new.items ≡ join (plans_of nodes.old.items) (at.left_at place)) }
-{
-    nodes.push(Node {
-        id: 0,
-        place,
-        term: Term::Omitted,
-    })?;
-    Ok(())
 }
 
 // The argument of this number, by its letter.
@@ -339,7 +352,7 @@ fn add_argument(
             place,
             raw,
         )?),
-        None => Ok(leave_out(nodes, place)?),
+        None => Ok(push(nodes, place, Term::Omitted)?),
     }
 }
 
@@ -573,20 +586,13 @@ pub fn terms(
     inside: bool,
     raws: &[Raw],
 ) -> Result<(), AllocError>
-    ensures faults { OnOk result (work.new.faults.items ≡ work.old.faults.items ++ (at.terms_at inside false raws.now).faults) }
-    ensures made { OnOk result (plans_of nodes.new.items ≡ join (plans_of nodes.old.items) (at.terms_at inside false raws.now).made) }
+    ensures faults { OnOk result (work.new.faults.items ≡ work.old.faults.items ++ (at.terms_at inside None raws.now).faults) }
+    ensures made { OnOk result (plans_of nodes.new.items ≡ join (plans_of nodes.old.items) (at.terms_at inside None raws.now).made) }
 {
-    let mut behind = false;
+    let mut run = None;
     for raw in raws {
-        add_member(
-            alloc,
-            work,
-            nodes,
-            Slot::Term { behind_if: behind },
-            inside,
-            raw,
-        )?;
-        behind = behind_if(behind, raw);
+        add_member(alloc, work, nodes, Slot::Term { run }, inside, raw)?;
+        run = run_after(run, raw);
     }
     Ok(())
 }

@@ -236,7 +236,7 @@ fn source_block(alloc: Global, raws: &[Raw]) -> Result<Block, Stage>
 /// then, and the program is the tree of its terms, each at its place; the numbers of its nodes are not told apart
 /// yet. Otherwise it is refused with exactly its errors, 6020 to 6028, in the order of the source: for each item the
 /// first of 6020, 6025, 6021 and 6023, for any other argument the first of 6022 and 6024, and nothing inside of
-/// either. A want of memory is `Stage::Memory`.
+/// either. What is written with a symbol stands at the symbol. A want of memory is `Stage::Memory`.
 pub fn shape(alloc: Global, raw: &RawUnit) -> Result<Program, Stage>
     ensures formed { IfOk result (spec.Forms raw.now.items) }
     ensures refused { IfErr result (λ stage. at.Refuses stage (spec.errors_at raw.now.items)) }

@@ -1,6 +1,8 @@
 -- What a word is, where it may stand, and what it is read as.
-use Rattle.std.specs.Prelude.{ℕ, nat_le, Bool, true, false, not, ◌&&◌, if◌then◌else◌, List, [], ◌∷◌, length, Option, Some, None}
+use Rattle.std.specs.Prelude.{ℕ, suc, nat_le, nat_lt, Bool, true, false, not, ◌&&◌, if◌then◌else◌, List, [], ◌∷◌, length, Option, Some, None}
 use Rattle.acpi_state.specs.Outcomes.{choose}
+use Rattle.asl_tree.specs.declared.term.Op.{Op}
+use Rattle.asl_tree.specs.declared.term.Control.{Control}
 use Rattle.asl_words.specs.declared.operator.Parameter.{Parameter}
 use Rattle.asl_words.specs.declared.operator.Slot.{Slot}
 use Rattle.asl_words.specs.declared.operator.Slot.TheVariants as slot
@@ -32,12 +34,36 @@ known_as k = is.Known k
 abbrev pub meaning_of : List ℕ → Bool → Meaning
 meaning_of text has_body = choose (operator_of text) (choose (word_of text) (name_or_unknown text has_body) known_as) is.Operator
 
-abbrev pub is_behind_if : Slot → Bool
-is_behind_if (slot.Term behind) = behind
-is_behind_if _ = false
+-- the number of ElseIfs since the If that stands directly before with these behind it
+abbrev pub run_of : Slot → Option ℕ
+run_of (slot.Term run) = run
+run_of _ = None
+
+-- how many ElseIfs may stand behind one If
+abbrev pub most_else_ifs : ℕ
+most_else_ifs = 120
+
+abbrev pub is_behind : Option ℕ → Bool
+is_behind None = false
+is_behind (Some n) = true
+
+abbrev pub has_room : Option ℕ → Bool
+has_room None = false
+has_room (Some n) = nat_lt n most_else_ifs
+
+-- one more, where there is room for one; an ElseIf behind nothing begins a run of its own
+abbrev pub one_longer : Option ℕ → ℕ
+one_longer None = 1
+one_longer (Some n) = if nat_lt n most_else_ifs then suc n else n
+
+-- the run that goes on behind a term
+abbrev pub run_behind : Option ℕ → Meaning → Option ℕ
+run_behind run (is.Operator (Op.Control Control.If)) = Some 0
+run_behind run (is.Operator (Op.Control Control.ElseIf)) = Some (one_longer run)
+run_behind run _ = None
 
 abbrev pub is_term : Slot → Bool
-is_term (slot.Term behind) = true
+is_term (slot.Term run) = true
 is_term _ = false
 
 abbrev pub is_field_element : Slot → Bool
@@ -48,7 +74,8 @@ is_field_element _ = false
 abbrev pub may_stand : Slot → Bool → Role → Bool
 may_stand s inside role.MethodStatement = inside
 may_stand s inside role.OuterTerm = not inside
-may_stand s inside role.Else = is_behind_if s
+may_stand s inside role.Else = is_behind (run_of s)
+may_stand s inside role.ElseIf = has_room (run_of s)
 may_stand s inside _ = true
 
 abbrev pub is_word : Known → Bool
@@ -110,11 +137,11 @@ abbrev pub takes_expression : Slot → Bool
 takes_expression slot.Expression = true
 takes_expression (slot.Constant least most) = true
 takes_expression slot.Element = true
-takes_expression (slot.Term behind) = true
+takes_expression (slot.Term run) = true
 takes_expression _ = false
 
 abbrev pub takes_role : Slot → Role → Bool
-takes_role (slot.Term behind) r = true
+takes_role (slot.Term run) r = true
 takes_role slot.Place r = is_place r
 takes_role s r = takes_expression s && is_value r
 

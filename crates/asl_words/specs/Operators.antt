@@ -14,6 +14,7 @@ use Rattle.asl_tree.specs.declared.term.Declaration.{Declaration}
 use Rattle.asl_tree.specs.declared.term.Control.{Control}
 use Rattle.asl_tree.specs.declared.term.Special.{Special}
 use Rattle.asl_tree.specs.declared.term.Literal.{Literal}
+use Rattle.asl_tree.specs.declared.term.Symbolic.{Symbolic}
 use Rattle.asl_words.specs.declared.operator.Operator.{Operator}
 use Rattle.asl_words.specs.declared.operator.Named.{Named}
 use Rattle.asl_words.specs.declared.operator.Known.{Known}
@@ -133,6 +134,7 @@ operators =
     row (codes "PACKAGE") (special Special.Package) ∷
     row (codes "RETURN") (control Control.Return) ∷
     row (codes "IF") (control Control.If) ∷
+    row (codes "ELSEIF") (control Control.ElseIf) ∷
     row (codes "ELSE") (control Control.Else) ∷
     row (codes "WHILE") (control Control.While) ∷
     row (codes "BREAK") (control Control.Break) ∷
@@ -324,9 +326,12 @@ parameters_of (Op.Literal op) = []
 parameters_of (Op.Special Special.CondRefOf) = place ∷ target ∷ []
 parameters_of (Op.Special Special.Buffer) = optional slot.Expression ∷ []
 parameters_of (Op.Special Special.Package) = optional slot.Expression ∷ []
-parameters_of (Op.Symbolic symbol) = []
+parameters_of (Op.Symbolic (Symbolic.Operator op)) = map by_letter (plain_row op).operands
+parameters_of (Op.Symbolic Symbolic.Assign) = place ∷ expression ∷ []
+parameters_of (Op.Symbolic (Symbolic.AssignBy op)) = place ∷ expression ∷ []
 parameters_of (Op.Control Control.Return) = optional slot.Expression ∷ []
 parameters_of (Op.Control Control.If) = expression ∷ []
+parameters_of (Op.Control Control.ElseIf) = expression ∷ []
 parameters_of (Op.Control Control.While) = expression ∷ []
 parameters_of (Op.Control op) = []
 parameters_of (Op.Declaration Declaration.Name) = declared ∷ expression ∷ []
@@ -366,6 +371,7 @@ abbrev pub body_of : Op → Body
 body_of (Op.Special Special.Buffer) = braces.Bytes
 body_of (Op.Special Special.Package) = braces.Elements
 body_of (Op.Control Control.If) = braces.Terms
+body_of (Op.Control Control.ElseIf) = braces.Terms
 body_of (Op.Control Control.Else) = braces.Terms
 body_of (Op.Control Control.While) = braces.Terms
 body_of (Op.Declaration Declaration.Method) = braces.Terms
@@ -392,15 +398,20 @@ data_role DataOp.Index = role.Place
 data_role DataOp.DerefOf = role.Place
 data_role _ = role.Expression
 
+abbrev pub plain_role : Plain → Role
+plain_role (Plain.Number op) = role.Expression
+plain_role (Plain.Data op) = data_role op
+plain_role (Plain.Event op) = event_role op
+
 abbrev pub role_of : Op → Role
-role_of (Op.Plain (Plain.Number op)) = role.Expression
-role_of (Op.Plain (Plain.Data op)) = data_role op
-role_of (Op.Plain (Plain.Event op)) = event_role op
+role_of (Op.Plain op) = plain_role op
 role_of (Op.Literal op) = role.Expression
 role_of (Op.Special op) = role.Expression
+role_of (Op.Symbolic (Symbolic.Operator op)) = plain_role op
 role_of (Op.Symbolic symbol) = role.Expression
 role_of (Op.Control Control.Return) = role.MethodStatement
 role_of (Op.Control Control.Else) = role.Else
+role_of (Op.Control Control.ElseIf) = role.ElseIf
 role_of (Op.Control op) = role.Statement
 role_of (Op.Declaration Declaration.Method) = role.OuterTerm
 role_of (Op.Declaration Declaration.Device) = role.OuterTerm

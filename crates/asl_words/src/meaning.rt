@@ -6,7 +6,7 @@ use crate::operator::{Body, Known, Parameter, Role, Slot, WordKind};
 use crate::parameters::{body_of, role_of};
 use crate::paths::{is_path, parts};
 use crate::table::{operator_of, word_of};
-use asl_tree::term::Op;
+use asl_tree::term::{Control, Op};
 
 /// What a word or path is.
 #[derive(Clone, Copy)]
@@ -74,12 +74,60 @@ pub fn meaning_of(text: &[u8], has_body: bool) -> Meaning
     name_or_unknown(text, has_body)
 }
 
-fn is_behind_if(slot: Slot) -> bool
-    ensures { result ≡ spec.is_behind_if slot }
+/// How many ElseIfs may stand behind one If. As bytes each is an If inside an Else that holds all that follows it in
+/// its run, so a long run lies deep (ACPI Specification 6.4, 19.6.40).
+pub const MOST_ELSE_IFS: u8 = 120;
+
+// How many ElseIfs stand directly before, and before them an If.
+fn run_of(slot: Slot) -> Option<u8>
+    ensures { result ≡ spec.run_of slot }
 {
     match slot {
-        Slot::Term { behind_if } => behind_if,
-        _ => false,
+        Slot::Term { run } => run,
+        _ => None,
+    }
+}
+
+fn is_behind(run: Option<u8>) -> bool
+    ensures { result ≡ spec.is_behind run }
+{
+    run.is_some()
+}
+
+fn has_room(run: Option<u8>) -> bool
+    ensures { result ≡ spec.has_room run }
+{
+    match run {
+        None => false,
+        Some(count) => count < MOST_ELSE_IFS,
+    }
+}
+
+fn one_longer(run: Option<u8>) -> u8
+    ensures { result ≡ spec.one_longer run }
+{
+    match run {
+        None => 1,
+        Some(count) => {
+            if count < MOST_ELSE_IFS {
+                count + 1
+            } else {
+                count
+            }
+        }
+    }
+}
+
+/// The run of an If and its ElseIfs that stands directly before what follows a term of this meaning: how many ElseIfs
+/// it has. An ElseIf with no room in the run before it leaves the run as long as it is, and one behind no run begins
+/// a run of its own.
+pub fn run_behind(run: Option<u8>, meaning: Meaning) -> Option<u8>
+    ensures { result ≡ spec.run_behind run meaning }
+{
+    match meaning {
+        Meaning::Operator(Op::Control(Control::If)) => Some(0),
+        Meaning::Operator(Op::Control(Control::ElseIf)) => Some(one_longer(run)),
+        _ => None,
     }
 }
 
@@ -101,7 +149,8 @@ fn may_stand(slot: Slot, inside: bool, role: Role) -> bool
     match role {
         Role::MethodStatement => inside,
         Role::OuterTerm => !inside,
-        Role::Else => is_behind_if(slot),
+        Role::Else => is_behind(run_of(slot)),
+        Role::ElseIf => has_room(run_of(slot)),
         Role::Expression | Role::Place | Role::Statement => true,
     }
 }
@@ -193,7 +242,8 @@ fn is_value(role: Role) -> bool
 {
     match role {
         Role::Expression | Role::Place => true,
-        Role::Statement | Role::MethodStatement | Role::OuterTerm | Role::Else => false,
+        Role::Statement | Role::MethodStatement | Role::OuterTerm | Role::Else | Role::ElseIf =>
+            false,
     }
 }
 
@@ -216,7 +266,8 @@ pub fn takes_expression(slot: Slot) -> bool
     }
 }
 
-fn takes_role(slot: Slot, role: Role) -> bool
+/// Where an operator of this role is read.
+pub fn takes_role(slot: Slot, role: Role) -> bool
     ensures { result ≡ spec.takes_role slot role }
 {
     match slot {

@@ -60,8 +60,8 @@ pub enum Slot {
     Element,
     /// What an element of a field's list begins with: the name of a unit, or an Offset.
     FieldElement,
-    /// A term of a list. Directly behind an If it may be an Else.
-    Term { behind_if: bool },
+    /// A term of a list, directly behind an If and so many ElseIfs, or behind none.
+    Term { run: Option<u8> },
 }
 
 /// An argument of an operator.
@@ -99,8 +99,10 @@ pub enum Role {
     MethodStatement,
     /// As a term outside methods.
     OuterTerm,
-    /// Directly behind an If.
+    /// Directly behind an If or an ElseIf.
     Else,
+    /// Directly behind an If and fewer ElseIfs than a run may have.
+    ElseIf,
 }
 
 /// An operator under its word.

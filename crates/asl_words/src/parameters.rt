@@ -1,12 +1,13 @@
 //! The arguments and braces of the operators, and where they may stand (ACPI Specification 6.4, 19.6).
 ghost use Rattle.std.specs.Prelude.{◌≡◌};
 ghost use Rattle.asl_tree.specs.declared.term.Op.TheVariants as Op;
+ghost use Rattle.asl_tree.specs.declared.term.Symbolic.TheVariants as Symbolic;
 ghost use Rattle.acpi_values.specs.declared.operator.Plain.TheVariants as Plain;
 ghost use Rattle.asl_words.specs.Operators as spec;
 
 use crate::operator::{Body, Parameter, Role, Slot, StringForm, WordKind};
 use acpi_values::operator::{DataOp, EventOp, IntOp, Plain};
-use asl_tree::term::{Control, Declaration, Op, Special};
+use asl_tree::term::{Control, Declaration, Op, Special, Symbolic};
 
 macro_rules! asked {
     ($slot:expr) => {
@@ -190,8 +191,79 @@ fn of_control(op: Control) -> &'static [Parameter]
 {
     match op {
         Control::Return => &[optional!(Slot::Expression)],
-        Control::If | Control::While => &[EXPRESSION],
-        Control::ElseIf | Control::Else | Control::Break | Control::Continue => &[],
+        Control::If | Control::ElseIf | Control::While => &[EXPRESSION],
+        Control::Else | Control::Break | Control::Continue => &[],
+    }
+}
+
+// The operands, without a target.
+#[tactic(auto, unfolding(crate::specs::Operators::parameters_of))]
+fn number_operands(op: IntOp) -> &'static [Parameter]
+    ensures { result.now ≡ spec.parameters_of (Op.Symbolic (Symbolic.Operator (Plain.Number op))) }
+{
+    match op {
+        IntOp::Not
+        | IntOp::LNot
+        | IntOp::FindSetLeftBit
+        | IntOp::FindSetRightBit
+        | IntOp::FromBcd
+        | IntOp::ToBcd => &[EXPRESSION],
+        IntOp::Add
+        | IntOp::Subtract
+        | IntOp::Multiply
+        | IntOp::Divide
+        | IntOp::Mod
+        | IntOp::ShiftLeft
+        | IntOp::ShiftRight
+        | IntOp::And
+        | IntOp::Nand
+        | IntOp::Or
+        | IntOp::Nor
+        | IntOp::Xor
+        | IntOp::LAnd
+        | IntOp::LOr
+        | IntOp::LEqual
+        | IntOp::LGreater
+        | IntOp::LLess
+        | IntOp::LNotEqual
+        | IntOp::LLessEqual
+        | IntOp::LGreaterEqual => &[EXPRESSION, EXPRESSION],
+    }
+}
+
+// The operands, without a target.
+#[tactic(auto, unfolding(crate::specs::Operators::parameters_of))]
+fn data_operands(op: DataOp) -> &'static [Parameter]
+    ensures { result.now ≡ spec.parameters_of (Op.Symbolic (Symbolic.Operator (Plain.Data op))) }
+{
+    match op {
+        DataOp::Increment
+        | DataOp::Decrement
+        | DataOp::RefOf
+        | DataOp::SizeOf
+        | DataOp::ObjectType => &[PLACE],
+        DataOp::Store | DataOp::CopyObject => &[EXPRESSION, PLACE],
+        DataOp::ToBuffer
+        | DataOp::ToDecimalString
+        | DataOp::ToHexString
+        | DataOp::ToInteger
+        | DataOp::DerefOf => &[EXPRESSION],
+        DataOp::Concatenate | DataOp::ConcatenateResTemplate | DataOp::Index | DataOp::ToString =>
+            &[EXPRESSION, EXPRESSION],
+        DataOp::Mid => &[EXPRESSION, EXPRESSION, EXPRESSION],
+        DataOp::Match => &[EXPRESSION, BYTE, EXPRESSION, BYTE, EXPRESSION, EXPRESSION],
+    }
+}
+
+#[tactic(auto, unfolding(crate::specs::Operators::parameters_of))]
+fn of_symbol(symbol: Symbolic) -> &'static [Parameter]
+    ensures { result.now ≡ spec.parameters_of (Op.Symbolic symbol) }
+{
+    match symbol {
+        Symbolic::Operator(Plain::Number(op)) => number_operands(op),
+        Symbolic::Operator(Plain::Data(op)) => data_operands(op),
+        Symbolic::Operator(Plain::Event(op)) => of_event(op),
+        Symbolic::Assign | Symbolic::AssignBy(_) => &[PLACE, EXPRESSION],
     }
 }
 
@@ -208,7 +280,7 @@ pub fn parameters_of(op: Op) -> &'static [Parameter]
         Op::Plain(Plain::Data(op)) => of_data(op),
         Op::Plain(Plain::Event(op)) => of_event(op),
         Op::Special(op) => of_special(op),
-        Op::Symbolic(_) => &[],
+        Op::Symbolic(symbol) => of_symbol(symbol),
     }
 }
 
@@ -243,7 +315,7 @@ pub fn body_of(op: Op) -> Body
     match op {
         Op::Special(Special::Buffer) => Body::Bytes,
         Op::Special(Special::Package) => Body::Elements,
-        Op::Control(Control::If | Control::Else | Control::While) => Body::Terms,
+        Op::Control(Control::If | Control::ElseIf | Control::Else | Control::While) => Body::Terms,
         Op::Declaration(
             Declaration::Method
             | Declaration::Device
@@ -283,8 +355,8 @@ fn control_role(op: Control) -> Role
     match op {
         Control::Return => Role::MethodStatement,
         Control::Else => Role::Else,
-        Control::If | Control::ElseIf | Control::While | Control::Break | Control::Continue =>
-            Role::Statement,
+        Control::ElseIf => Role::ElseIf,
+        Control::If | Control::While | Control::Break | Control::Continue => Role::Statement,
     }
 }
 
@@ -302,15 +374,25 @@ fn declaration_role(op: Declaration) -> Role
     }
 }
 
+fn plain_role(op: Plain) -> Role
+    ensures { result ≡ spec.plain_role op }
+{
+    match op {
+        Plain::Number(_) => Role::Expression,
+        Plain::Data(op) => data_role(op),
+        Plain::Event(op) => event_role(op),
+    }
+}
+
 /// Where an operator may stand.
 pub fn role_of(op: Op) -> Role
     ensures { result ≡ spec.role_of op }
 {
     match op {
-        Op::Plain(Plain::Number(_)) => Role::Expression,
-        Op::Plain(Plain::Data(op)) => data_role(op),
-        Op::Plain(Plain::Event(op)) => event_role(op),
-        Op::Literal(_) | Op::Special(_) | Op::Symbolic(_) => Role::Expression,
+        Op::Plain(op) => plain_role(op),
+        Op::Literal(_) | Op::Special(_) => Role::Expression,
+        Op::Symbolic(Symbolic::Operator(op)) => plain_role(op),
+        Op::Symbolic(Symbolic::Assign | Symbolic::AssignBy(_)) => Role::Expression,
         Op::Control(op) => control_role(op),
         Op::Declaration(op) => declaration_role(op),
     }

@@ -264,6 +264,7 @@ pub const OPERATORS: &[Operator] = &[
     row!(b"PACKAGE                 ", Op::Special(Special::Package)),
     row!(b"RETURN                  ", Op::Control(Control::Return)),
     row!(b"IF                      ", Op::Control(Control::If)),
+    row!(b"ELSEIF                  ", Op::Control(Control::ElseIf)),
     row!(b"ELSE                    ", Op::Control(Control::Else)),
     row!(b"WHILE                   ", Op::Control(Control::While)),
     row!(b"BREAK                   ", Op::Control(Control::Break)),

@@ -54,7 +54,7 @@ items_are items right within =
     let place = block_place (writtens items) in
     let le : nat_le (length (table_in items)) most_table_bytes ≡ true = le-leb (length (table_in items)) most_table_bytes within in
     ap (λ es. unless_wrong es (of_terms place (own_in items) (fields_in items) (others_in items) (terms_in items))) right.form
-    ∙ ap (λ es. unless_wrong es (of_table place (signature_of items) (own_in items) (table_in items))) (none_behind (told_errors (terms_in items)) (others_in items) (none_told (terms_in items) right.names right.counts) (both_right items right.statements right.layouts))
+    ∙ ap (λ es. unless_wrong es (of_table place (signature_of items) (own_in items) (table_in items))) (none_behind (told_errors (terms_in items)) (others_in items) (none_told (terms_in items) right.names right.counts) (both_right items right.statements right.layouts right.regions))
     ∙ ap (λ c. if c then Table (signature_of items) (own_in items) (table_in items) [] else Refused (too_long place ∷ [])) le
 
 -- what is due of a source whose table's name is free
@@ -177,7 +177,7 @@ module _ (words : List (List ℕ)) (told : List Named) where
       let none = both_none (told_errors (terms_in items)) (others_in items) en in
       let names = right_names (terms_in items) none.0 in
       let others = none_of_others items none.1 in
-      by_table k asl tokens items (nat_le (length (table_in items)) most_table_bytes) et eo (record { form = form; names = names.0; counts = names.1; statements = others.0; layouts = others.1 }) refl h
+      by_table k asl tokens items (nat_le (length (table_in items)) most_table_bytes) et eo (record { form = form; names = names.0; counts = names.1; statements = others.0; layouts = others.1; regions = others.2 }) refl h
   by_names k asl tokens items (m ∷ ms) et eo form en h = absurd (omega (arith, h))
 
   by_items : (k : Known words told) (asl : is_data_table k.named.lines ≡ false) (tokens : List Token) (items : List Raw) (ms : List Message) → tokens_of k.named.lines ≡ Ok tokens → outcome tokens ≡ read items → errors_at items ≡ ms

@@ -20,10 +20,11 @@ use Rattle.asl_parser.specs.Written.{Writtens, item, none, more, writtens}
 use Rattle.asl_parser.specs.Within.{AreWithin as PartsWithin}
 use Rattle.asl_shape.specs.Forms.{errors_at, block_place, terms_of}
 use Rattle.asl_shape.proofs.Places.{errors_within}
-use Rattle.program_shapes.specs.Sources.{terms_in, statements_in, layouts_in, fields_in, table_in}
+use Rattle.program_shapes.specs.Sources.{terms_in, statements_in, layouts_in, regions_in, fields_in, table_in}
 use Rattle.program_shapes.proofs.Places.{terms_within}
 use Rattle.program_shapes.proofs.StatementPlaces.{statement_errors_within}
 use Rattle.program_shapes.proofs.ListPlaces.{list_errors_within}
+use Rattle.program_shapes.proofs.RegionPlaces.{access_errors_within}
 use Rattle.program_shapes.proofs.TreePlaces.{source_within}
 use Rattle.aml_writer.specs.Written.{most_table_bytes}
 use Rattle.iasl_tool.specs.declared.compile.Compiled.{Compiled}
@@ -95,7 +96,9 @@ module _ (files : ℕ) where
   items_home items parts main =
       let names = told_home (terms_in items) (source_within files 0 (writtens items) parts) in
       let plans = terms_within files (writtens items) parts in
-      let statements = All-append (λ (m : Message). m.place.file < files) (statements_in items) (layouts_in items) (statement_errors_within files (terms_of (writtens items)) plans) (list_errors_within files (terms_of (writtens items)) plans) in
+      let lists = All-append (λ (m : Message). m.place.file < files) (statements_in items) (layouts_in items) (statement_errors_within files (terms_of (writtens items)) plans) (list_errors_within files (terms_of (writtens items)) plans) in
+      let statements = All-append (λ (m : Message). m.place.file < files) (statements_in items ++ layouts_in items) (regions_in items) lists
+      (access_errors_within files (terms_in items) (terms_of (writtens items)) (source_within files 0 (writtens items) parts)) in
       wrong_home (errors_at items) (of_terms (block_place (writtens items)) (own_in items) (fields_in items) (others_in items) (terms_in items)) (errors_within files main items parts)
       (wrong_home (with_others (told_errors (terms_in items)) (others_in items)) (of_table (block_place (writtens items)) (fields_in items).signature (own_in items) (table_in items)) (statements_home (told_errors (terms_in items)) (others_in items) names statements)
       (of_table_home (block_place (writtens items)) (fields_in items).signature (own_in items) (table_in items) (block_home (writtens items) parts main)))

@@ -1,5 +1,5 @@
 -- What a block, a program and a source come to.
-use Rattle.std.proofs.Common.{◌≡◌, ◌<◌, ◌≤◌, ◌^◌, length, List, [], ◌∷◌, Result, Ok, Err, refl, sym, ap, ◌∙◌, subst, arith}
+use Rattle.std.proofs.Common.{ℕ, ◌≡◌, ◌<◌, ◌≤◌, ◌^◌, length, List, [], ◌∷◌, Result, Ok, Err, refl, sym, ap, ◌∙◌, subst, arith}
 use Rattle.std.specs.Prelude.{map, IfOk, nat_le, if◌then◌else◌, ◌++◌, Bool, true, false}
 use Rattle.statement_checks.specs.Statements.{errors_of_statements}
 use Rattle.std.specs.declared.alloc.AllocError.{AllocError}
@@ -12,9 +12,10 @@ use Rattle.iasl_messages.specs.declared.message.Message.{Message}
 use Rattle.acpi_values.specs.declared.width.Width.TheVariants.{W64}
 use Rattle.asl_tree.specs.declared.program.Block.{Block}
 use Rattle.asl_tree.specs.Tree.{Trees}
-use Rattle.aml_code.specs.Header.{fields_of}
+use Rattle.aml_code.specs.Header.{HeaderFields, fields_of, table_bytes}
 use Rattle.acpi_names.specs.Errors.{NameError, name_errors, type_errors}
 use Rattle.named_sessions.specs.Shaped.{AreFormed, AreNamed, AreShaped}
+use Rattle.asl_lower.specs.Nodes.{named_all}
 use Rattle.asl_parser.specs.declared.raw.Raw.{Raw}
 use Rattle.asl_parser.specs.Written.{writtens}
 use Rattle.asl_shape.specs.Plans.{Plans, plans_of, plan_at, number_of}
@@ -22,7 +23,7 @@ use Rattle.asl_shape.specs.Forms.{IsBlockOf, errors_at, args_of, block_place}
 use Rattle.asl_numbers.specs.Numbers.{numbered_all}
 use Rattle.name_checks.specs.Messages.{message_of, first_errors, told_errors}
 use Rattle.program_shapes.specs.Kept.{IsKeptSource}
-use Rattle.program_shapes.specs.Sources.{terms_in, statements_in, layouts_in, fields_in, table_in}
+use Rattle.program_shapes.specs.Sources.{terms_in, statements_in, layouts_in, regions_in, fields_in, table_in}
 use Rattle.std.specs.Str.{IsAscii}
 use Rattle.iasl_messages.specs.declared.place.Place.{Place}
 use Rattle.aml_writer.specs.Written.{most_table_bytes}
@@ -30,7 +31,8 @@ use Rattle.program_shapes.proofs.OwnNames.{own_is_ascii}
 use Rattle.program_shapes.proofs.Blocks.{room_in}
 use Rattle.program_shapes.proofs.Headers.{HaveRoom}
 use Rattle.field_checks.specs.Lists.{all_errors}
-use Rattle.program_shapes.proofs.Tables.{terms_are_formed, terms_are_shaped}
+use Rattle.region_checks.specs.Regions.{region_errors}
+use Rattle.program_shapes.proofs.Tables.{terms_are_formed, core_is_shaped}
 use Rattle.iasl_tool.specs.declared.compile.Compiled.{Compiled}
 use Rattle.iasl_tool.specs.declared.compile.Compiled.TheVariants.{Table, Refused}
 use Rattle.iasl_tool.specs.Compiled.{unless_wrong, is_of_kinds, others_in, with_others, own_in, of_table, of_terms, of_items, too_long, HasAsciiName}
@@ -94,34 +96,37 @@ same_terms : (items : List Raw) (block : Block) (terms : Trees) → IsBlockOf it
 unfolding IsBlockOf
 same_terms items block terms h e = e ∙ ap (numbered_all 0) h.terms
 
--- what is wrong with the statements of some plans, and then with their lists of fields
-abbrev pub others_of : Plans → List Message
-others_of ps = errors_of_statements ps ++ all_errors ps
+-- what is wrong with the statements of some plans, then with their lists of fields, and then with the accesses of these
+abbrev pub others_of : Trees → Plans → List Message
+others_of terms ps = errors_of_statements ps ++ all_errors ps ++ region_errors terms ps
 
-same_others : (items : List Raw) (block : Block) → IsBlockOf items block → others_of (plans_of block.terms.items) ≡ others_in items
+same_others : (items : List Raw) (block : Block) (terms : Trees) → IsBlockOf items block → terms ≡ numbered_all 0 (plans_of block.terms.items) → others_of terms (plans_of block.terms.items) ≡ others_in items
 unfolding IsBlockOf
-same_others items block h = ap others_of h.terms
+same_others items block terms h is = ap (λ ts. others_of ts (plans_of block.terms.items)) (same_terms items block terms h is) ∙ ap (others_of (terms_in items)) h.terms
 
 -- its terms, numbered, are formed
-pub block_formed : (items : List Raw) (block : Block) (terms : Trees) → errors_at items ≡ [] → IsBlockOf items block → IsKeptSource (writtens items) → terms ≡ numbered_all 0 (plans_of block.terms.items) → AreFormed W64 AreNamed terms
-block_formed items block terms e h k is = subst (AreFormed W64 AreNamed) (sym (same_terms items block terms h is)) (terms_are_formed items e k)
+pub block_formed : (items : List Raw) (block : Block) (terms : Trees) → errors_at items ≡ [] → IsBlockOf items block → IsKeptSource (writtens items) → terms ≡ numbered_all 0 (plans_of block.terms.items) → AreFormed W64 AreNamed (Unit {0}) terms
+block_formed items block terms e h k is = subst (AreFormed W64 AreNamed (Unit {0})) (sym (same_terms items block terms h is)) (terms_are_formed items e k)
 
 both_nil : (xs ys : List Message) → xs ++ ys ≡ [] → (xs ≡ []) × (ys ≡ [])
 both_nil [] ys e = (refl, e)
 both_nil (x ∷ xs) ys e = absurd cc
 
--- nothing is wrong with statements and lists
-pub none_of_others : (items : List Raw) → others_in items ≡ [] → (statements_in items ≡ []) × (layouts_in items ≡ [])
-none_of_others items e = both_nil (statements_in items) (layouts_in items) e
+-- nothing is wrong with statements, lists and accesses
+pub none_of_others : (items : List Raw) → others_in items ≡ [] → (statements_in items ≡ []) × (layouts_in items ≡ []) × (regions_in items ≡ [])
+none_of_others items e =
+    let last = both_nil (statements_in items ++ layouts_in items) (regions_in items) e in
+    let first = both_nil (statements_in items) (layouts_in items) last.0 in
+    (first.0, first.1, last.1)
 
-pub both_right : (items : List Raw) → statements_in items ≡ [] → layouts_in items ≡ [] → others_in items ≡ []
-both_right items s l = ap (λ ms. ms ++ layouts_in items) s ∙ l
+pub both_right : (items : List Raw) → statements_in items ≡ [] → layouts_in items ≡ [] → regions_in items ≡ [] → others_in items ≡ []
+both_right items s l r = ap (λ ms. ms ++ layouts_in items ++ regions_in items) s ∙ ap (λ ms. ms ++ regions_in items) l ∙ r
 
 -- and shaped, where nothing else is wrong
-pub block_shaped : (items : List Raw) (block : Block) (terms : Trees) (others : List Message) → errors_at items ≡ [] → IsBlockOf items block → IsKeptSource (writtens items) → terms ≡ numbered_all 0 (plans_of block.terms.items) → others ≡ others_of (plans_of block.terms.items) → others ≡ [] → AreShaped W64 terms
+pub block_shaped : (items : List Raw) (block : Block) (terms : Trees) (others : List Message) → errors_at items ≡ [] → IsBlockOf items block → IsKeptSource (writtens items) → terms ≡ numbered_all 0 (plans_of block.terms.items) → others ≡ others_of terms (plans_of block.terms.items) → others ≡ [] → AreShaped W64 (named_all terms)
 block_shaped items block terms others e h k is are none =
-    let nothing : others_in items ≡ [] = sym (same_others items block h) ∙ sym are ∙ none in
-    subst (AreShaped W64) (sym (same_terms items block terms h is)) (terms_are_shaped items e (none_of_others items nothing).1 k)
+    let nothing : others_in items ≡ [] = sym (same_others items block terms h is) ∙ sym are ∙ none in
+    subst (λ ts. AreShaped W64 (named_all ts)) (sym (same_terms items block terms h is)) (core_is_shaped items e (none_of_others items nothing).1 k)
 
 same_fields : (items : List Raw) (block : Block) → IsBlockOf items block → fields_of block ≡ fields_in items
 unfolding IsBlockOf
@@ -136,19 +141,27 @@ unfolding IsBlockOf
 same_place items block h = h.place
 
 -- and it comes to what its source comes to
-pub block_comes : (items : List Raw) (block : Block) (terms : Trees) (statements : List Message) (it : Compiled) → errors_at items ≡ [] → IsBlockOf items block → terms ≡ numbered_all 0 (plans_of block.terms.items) → statements ≡ others_of (plans_of block.terms.items)
+pub block_comes : (items : List Raw) (block : Block) (terms : Trees) (statements : List Message) (it : Compiled) → errors_at items ≡ [] → IsBlockOf items block → terms ≡ numbered_all 0 (plans_of block.terms.items) → statements ≡ others_of terms (plans_of block.terms.items)
     → it ≡ of_terms block.place block.file (fields_of block) statements terms → it ≡ of_items items
 block_comes items block terms statements it e h is are comes =
     right_is (errors_at items) it (of_terms (block_place (writtens items)) (own_in items) (fields_in items) (others_in items) (terms_in items)) e
     (comes ∙ ap (λ p. of_terms p block.file (fields_of block) statements terms) (same_place items block h) ∙ ap (λ own. of_terms (block_place (writtens items)) own (fields_of block) statements terms) (same_own items block h)
     ∙ ap (λ f. of_terms (block_place (writtens items)) (own_in items) f statements terms) (same_fields items block h)
-    ∙ ap (λ ss. of_terms (block_place (writtens items)) (own_in items) (fields_in items) ss terms) (are ∙ same_others items block h)
+    ∙ ap (λ ss. of_terms (block_place (writtens items)) (own_in items) (fields_in items) ss terms) (are ∙ same_others items block terms h is)
     ∙ ap (of_terms (block_place (writtens items)) (own_in items) (fields_in items) (others_in items)) (same_terms items block terms h is))
 
 -- a block in whose names nothing is wrong
 pub right_comes : (r : Result Compiled AllocError) (errors : List Message) (it : Compiled) → errors ≡ [] → IfOk r (λ made. made ≡ it) → IfOk r (λ made. made ≡ unless_wrong errors it)
 right_comes (Ok made) errors it e h = right_is errors made it e h
 right_comes (Err error) errors it e h = tt
+
+-- a block with the place, the file and the header of another
+pub like_another : (r : Result Compiled AllocError) (place other : Place) (file own : List ℕ) (fields header : HeaderFields) (content : List ℕ) → place ≡ other → file ≡ own → fields ≡ header
+    → IfOk r (λ it. it ≡ of_table place fields.signature file (table_bytes fields content)) → IfOk r (λ it. it ≡ of_table other header.signature own (table_bytes header content))
+like_another r place other file own fields header content p f h e =
+    subst (λ p. IfOk r (λ it. it ≡ of_table p header.signature own (table_bytes header content))) p
+    (subst (λ f. IfOk r (λ it. it ≡ of_table place header.signature f (table_bytes header content))) f
+    (subst (λ (h : HeaderFields). IfOk r (λ it. it ≡ of_table place h.signature file (table_bytes h content))) h e))
 
 -- a stage that refuses, with errors of statements behind its own
 pub stage_comes : (stage : Stage) (messages errors statements all : List Message) (it : Compiled) → Refuses stage errors → stage ≡ Refused' messages → all ≡ with_others messages statements → Refused all ≡ unless_wrong (with_others errors statements) it
@@ -160,7 +173,7 @@ pub shape_comes : (stage : Stage) (messages errors : List Message) (it : Compile
 shape_comes stage messages errors it h e = refused_is messages errors it (subst (λ (s : Stage). ShapeRefuses s errors) e h)
 
 -- what a block that is compiled comes to is what its source comes to
-pub program_comes : (r : Result Compiled AllocError) (items : List Raw) (block : Block) (terms : Trees) (statements : List Message) → errors_at items ≡ [] → IsBlockOf items block → terms ≡ numbered_all 0 (plans_of block.terms.items) → statements ≡ others_of (plans_of block.terms.items)
+pub program_comes : (r : Result Compiled AllocError) (items : List Raw) (block : Block) (terms : Trees) (statements : List Message) → errors_at items ≡ [] → IsBlockOf items block → terms ≡ numbered_all 0 (plans_of block.terms.items) → statements ≡ others_of terms (plans_of block.terms.items)
     → IfOk r (λ it. it ≡ of_terms block.place block.file (fields_of block) statements terms) → IfOk r (λ it. it ≡ of_items items)
 program_comes (Ok it) items block terms statements e h is are comes = block_comes items block terms statements it e h is are comes
 program_comes (Err error) items block terms statements e h is are comes = tt

@@ -13,6 +13,7 @@ use Rattle.aml_code.specs.Header.{HeaderFields, table_bytes, fields_of}
 use Rattle.aml_meaning.specs.Encoded.{encoded_all}
 use Rattle.aml_writer.specs.Written.{most_table_bytes}
 use Rattle.named_sessions.specs.Core.{core_of}
+use Rattle.asl_lower.specs.Nodes.{named_all}
 use Rattle.name_checks.specs.Messages.{told_errors}
 use Rattle.asl_parser.specs.declared.raw.Raw.{Raw}
 use Rattle.asl_parser.specs.Parse.{Outcome, outcome, read, stopped, sunk, tall}
@@ -20,7 +21,7 @@ use Rattle.asl_parser.specs.Written.{writtens}
 use Rattle.std.specs.Str.{IsAscii}
 use Rattle.asl_shape.specs.Plans.{plan_at, text_of}
 use Rattle.asl_shape.specs.Forms.{errors_at, block_place, args_of}
-use Rattle.program_shapes.specs.Sources.{terms_in, statements_in, layouts_in, fields_in}
+use Rattle.program_shapes.specs.Sources.{terms_in, statements_in, layouts_in, regions_in, fields_in}
 use Rattle.iasl_tool.specs.declared.compile.Compiled.{Compiled}
 use Rattle.iasl_tool.specs.declared.compile.Compiled.TheVariants.{Table, Refused}
 use Rattle.data_text.specs.Kinds.{is_data_table}
@@ -57,15 +58,15 @@ with_others (m ∷ ms) others = if is_of_kinds m.number then (m ∷ ms) ++ other
 -- a block of this form, that is refused with what is wrong with its names, its statements or the lists of its fields
 abbrev pub of_terms : Place → List ℕ → HeaderFields → List Message → Trees → Compiled
 of_terms place own fields others terms =
-    unless_wrong (with_others (told_errors terms) others) (of_table place fields.signature own (table_bytes fields (encoded_all W64 true (core_of terms))))
+    unless_wrong (with_others (told_errors terms) others) (of_table place fields.signature own (table_bytes fields (encoded_all W64 true (core_of (named_all terms)))))
 
 -- the name that a source's block states for its file
 abbrev pub own_in : List Raw → List ℕ
 own_in items = text_of (plan_at (args_of (writtens items)) 0)
 
--- what is wrong with its statements, and then with the lists of its fields
+-- what is wrong with its statements, then with the lists of its fields, and then with their accesses
 abbrev pub others_in : List Raw → List Message
-others_in items = statements_in items ++ layouts_in items
+others_in items = statements_in items ++ layouts_in items ++ regions_in items
 
 -- the tree of a source's syntax, that is refused with what is wrong with its form
 abbrev pub of_items : List Raw → Compiled

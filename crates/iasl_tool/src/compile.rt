@@ -1,5 +1,5 @@
 //! An ASL source to its table, or its errors.
-ghost use Rattle.std.specs.Prelude.{◌≡◌, ℕ, ◌<◌, ◌^◌, ◌++◌, ◌∷◌, [], length, All, Ok, IfOk};
+ghost use Rattle.std.specs.Prelude.{◌≡◌, ℕ, ◌<◌, ◌^◌, ◌++◌, ◌∷◌, [], length, All, Ok, IfOk, true};
 ghost use Rattle.acpi_values.specs.declared.width.Width.TheVariants.{W64};
 ghost use Rattle.asl_tree.specs.Tree.{Trees};
 ghost use Rattle.asl_tree.specs.View.{trees_of};
@@ -11,9 +11,12 @@ ghost use Rattle.asl_parser.specs.Parse.{outcome};
 ghost use Rattle.asl_shape.specs.Forms.{Forms};
 ghost use Rattle.asl_parser.specs.Written.{writtens};
 ghost use Rattle.field_checks.specs.Lists.{all_errors};
+ghost use Rattle.region_checks.specs.Regions.{region_errors};
+ghost use Rattle.acpi_names.specs.Terms.{are_terms};
 ghost use Rattle.statement_checks.specs.Statements.{errors_of_statements};
 ghost use Rattle.asl_shape.specs.Plans.{plans_of};
 ghost use Rattle.named_sessions.specs.Shaped.{AreFormed, AreNamed, AreShaped};
+ghost use Rattle.asl_lower.specs.Nodes.{named_all};
 ghost use Rattle.program_shapes.specs.Kept.{IsKeptSource};
 ghost use Rattle.program_shapes.proofs.Kept.{HaveShortTexts};
 ghost use Rattle.iasl_messages.specs.declared.message.Stage.TheVariants as stages;
@@ -26,6 +29,7 @@ use aml_writer::stop::WriteStop;
 use aml_writer::write::write;
 use asl_lexer::token::Tokens;
 use asl_lexer::tokens;
+use asl_lower::lower::lower;
 use asl_numbers::number::number_nodes;
 use asl_parser::{RawUnit, Syntax, parse, place_at};
 use asl_shape::shape;
@@ -40,6 +44,7 @@ use iasl_messages::place::{LineList, Lines, Piece};
 use iasl_ports::list::{List, Text, Texts};
 use name_checks::check::check;
 use name_spelling::spell::spell;
+use region_checks::check::region_faults;
 use statement_checks::check::statement_errors;
 use std::alloc::{AllocError, Global};
 
@@ -141,7 +146,7 @@ fn is_of_kinds(number: u16) -> bool
     number == WRONG_CALL_ARGUMENT_COUNT || number == WRONG_OBJECT_KIND || number == UNKNOWN_OPERATOR
 }
 
-// The errors of statements and of the lists of fields behind those of kinds.
+// The errors of statements, of the lists of fields and of their accesses behind those of kinds.
 fn with_others(errors: Messages, others: Messages) -> Result<Messages, AllocError>
     ensures { IfOk result (λ all. all ≡ with_others errors others) }
 {
@@ -156,12 +161,42 @@ fn with_others(errors: Messages, others: Messages) -> Result<Messages, AllocErro
     }
 }
 
-// A block whose nodes have their numbers: its table, with its names spelled, or what is wrong with its names, its statements
-// and the lists of its fields.
-fn compile_block(alloc: Global, mut block: Block, others: Messages) -> Result<Compiled, AllocError>
+// The block with its symbolic operators named and its ElseIfs nested.
+fn lowered(alloc: Global, block: Block) -> Result<Block, AllocError>
+    ensures terms { IfOk result (λ core. trees_of core.terms.items ≡ named_all (trees_of block.terms.items)) }
+    ensures place { IfOk result (λ core. core.place ≡ block.place) }
+    ensures file { IfOk result (λ core. core.file ≡ block.file) }
+    ensures fields { IfOk result (λ core. fields_of core ≡ fields_of block) }
+{
+    let Block {
+        place,
+        file,
+        signature,
+        revision,
+        oem_id,
+        table_id,
+        oem_revision,
+        terms,
+    } = block;
+    let terms = lower(alloc, terms)?;
+    Ok(Block {
+        place,
+        file,
+        signature,
+        revision,
+        oem_id,
+        table_id,
+        oem_revision,
+        terms,
+    })
+}
+
+// A block whose nodes have their numbers: its table, with its symbols named and its names spelled, or what is wrong with its
+// names, its statements and the lists of its fields.
+fn compile_block(alloc: Global, block: Block, others: Messages) -> Result<Compiled, AllocError>
     requires room { HasRoom (fields_of block) }
-    requires formed { AreFormed W64 AreNamed (trees_of block.terms.items) }
-    requires shaped { others ≡ [] → AreShaped W64 (trees_of block.terms.items) }
+    requires formed { AreFormed W64 AreNamed (Unit {0}) (trees_of block.terms.items) }
+    requires shaped { others ≡ [] → AreShaped W64 (named_all (trees_of block.terms.items)) }
     ensures { IfOk result (λ it. it ≡ of_terms block.place block.file (fields_of block) others (trees_of block.terms.items)) }
 {
     match check(alloc, block.terms.as_slice()) {
@@ -169,13 +204,14 @@ fn compile_block(alloc: Global, mut block: Block, others: Messages) -> Result<Co
             if !others.is_empty() {
                 return Ok(Compiled::Refused(others));
             }
+            let mut core = lowered(alloc, block)?;
             spell(
                 alloc,
                 &mut names.index,
                 names.calls.as_slice(),
-                &mut block.terms,
+                &mut core.terms,
             )?;
-            write_block(alloc, block)
+            write_block(alloc, core)
         }
         Err(stage) => Ok(Compiled::Refused(with_others(refusal(stage)?, others)?)),
     }
@@ -191,11 +227,13 @@ fn block_of(program: Program) -> Result<Block, AllocError>
     }
 }
 
-// What is wrong with statements, and then with the lists of fields.
+// What is wrong with statements, then with the lists of fields, and then with their accesses.
 fn other_errors(alloc: Global, terms: &[Node]) -> Result<Messages, AllocError>
-    ensures { IfOk result (λ ms. ms ≡ errors_of_statements (plans_of terms.now) ++ all_errors (plans_of terms.now)) }
+    requires { are_terms (trees_of terms.now) ≡ true }
+    ensures { IfOk result (λ ms. ms ≡ errors_of_statements (plans_of terms.now) ++ all_errors (plans_of terms.now) ++ region_errors (trees_of terms.now) (plans_of terms.now)) }
 {
-    both(statement_errors(alloc, terms)?, list_faults(alloc, terms)?)
+    let errors = both(statement_errors(alloc, terms)?, list_faults(alloc, terms)?)?;
+    both(errors, region_faults(alloc, terms)?)
 }
 
 // The tree of a source's syntax.
@@ -207,9 +245,11 @@ fn compile_unit(alloc: Global, unit: &RawUnit) -> Result<Compiled, AllocError>
     match shape(alloc, unit) {
         Ok(program) => {
             let mut block = block_of(program)?;
-            let others = other_errors(alloc, block.terms.as_slice())?;
             match number_nodes(&mut block.terms, 0) {
-                Some(_) => compile_block(alloc, block, others),
+                Some(_) => {
+                    let others = other_errors(alloc, block.terms.as_slice())?;
+                    compile_block(alloc, block, others)
+                }
                 None => Err(AllocError),
             }
         }

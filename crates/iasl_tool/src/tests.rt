@@ -1,4 +1,5 @@
 mod data;
+mod rows;
 
 use crate::run::iasl;
 use iasl_ports::files::MOST_BYTES;

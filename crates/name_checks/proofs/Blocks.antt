@@ -5,21 +5,15 @@ use Rattle.iasl_messages.specs.declared.message.Message.{Message}
 use Rattle.name_checks.specs.Faults.{fault_as}
 use Rattle.name_checks.specs.declared.fault.Fault.{Fault}
 use Rattle.asl_tree.specs.Tree.{Trees}
-use Rattle.asl_meaning.specs.Declarations.{declarations, is_named, called, nothing_declared}
+use Rattle.asl_meaning.specs.Declarations.{nothing_declared}
 use Rattle.acpi_names.specs.Errors.{NameError, whole_of, name_errors, type_errors}
-use Rattle.acpi_names.specs.Mentions.{block_mentions, calls_in, all_errors, all_types}
+use Rattle.acpi_names.specs.Mentions.{block_mentions, all_errors, all_types}
 use Rattle.acpi_names.specs.Terms.{are_terms}
-use Rattle.acpi_names.proofs.Mentions.{after_block}
-use Rattle.acpi_names.proofs.MentionErrors.{block_errors, block_calls}
+use Rattle.acpi_names.proofs.MentionErrors.{block_errors}
 use Rattle.acpi_names.proofs.MentionTypes.{block_types}
-use Rattle.name_checks.specs.Seen.{known_with, seen, seen_errors}
+use Rattle.name_kinds.proofs.Seeing.{block_seen}
+use Rattle.name_checks.specs.Seen.{seen_errors}
 use Rattle.name_checks.specs.Messages.{message_of, first_errors, told_errors}
-
--- the mentions of a block say what is known of it
-pub block_seen : (terms : Trees) → are_terms terms ≡ true → seen (block_mentions terms [] nothing_declared) ≡ whole_of terms
-block_seen terms are =
-    ap (λ all. known_with all (called (calls_in (is_named all) (block_mentions terms [] nothing_declared)))) (after_block terms [] nothing_declared)
-    ∙ ap (λ calls. known_with (declarations terms) (called calls)) (sym (block_calls (is_named (declarations terms)) terms are [] nothing_declared))
 
 -- the errors of a block are those of its mentions
 pub block_told : (terms : Trees) → are_terms terms ≡ true → seen_errors (block_mentions terms [] nothing_declared) ≡ told_errors terms

@@ -1,5 +1,5 @@
 -- Errors that are found, one after another.
-use Rattle.std.proofs.Common.{◌≡◌, ℕ, ◌<◌, Bool, true, false, List, [], ◌++◌, length, get_or, Option, Some, None, refl, sym, ap, ◌∙◌, arith}
+use Rattle.std.proofs.Common.{◌≡◌, ℕ, ◌<◌, Bool, true, false, List, [], ◌++◌, length, get_or, Option, Some, None, refl, sym, ap, ◌∙◌}
 use Rattle.std.specs.Prelude.{map, is_some, not, nat_eq, ◌&&◌, ◌||◌, if◌then◌else◌}
 use Rattle.std.specs.Option.{option_map}
 use Rattle.std.proofs.lemmas.List.{append_assoc}
@@ -12,29 +12,22 @@ use Rattle.asl_meaning.specs.Declarations.{Declarations, ExternalType, is_named,
 use Rattle.acpi_names.specs.Errors.{NameError, Differs, Missing, NoContainer, Whole, unless, call_errors, is_container, final, name_end}
 use Rattle.acpi_names.specs.Mentions.{opening_errors}
 use Rattle.acpi_state.specs.Outcomes.{choose}
-use Rattle.acpi_names.specs.Parts.{Agrees}
-use Rattle.acpi_names.specs.Paths.{AreDistinct, is_flagged, path_with}
-use Rattle.name_checks.specs.Facts.{ended}
-use Rattle.name_checks.specs.declared.kind.End.{End}
-use Rattle.acpi_names.proofs.Closed.{own_number}
+use Rattle.acpi_names.specs.Paths.{AreDistinct, path_with}
+use Rattle.name_kinds.specs.Ends.{ended}
+use Rattle.name_kinds.specs.declared.kind.End.{End}
 use Rattle.name_checks.specs.Calls.{is_open, is_first}
 use Rattle.name_checks.specs.Faults.{Before, Finds, fault_as}
-use Rattle.name_checks.specs.Kinds.{kind_as}
+use Rattle.name_kinds.specs.Kinds.{kind_as}
 use Rattle.name_checks.specs.declared.fault.Fault.{Fault}
-use Rattle.name_checks.specs.declared.tables.Tables.{Tables}
-use Rattle.name_checks.proofs.Lookups.{kinds_some}
-use Rattle.name_checks.proofs.Noting.{read_at, look_here}
+use Rattle.name_kinds.specs.declared.tables.Tables.{Tables}
+use Rattle.name_kinds.proofs.Lookups.{kinds_some}
+use Rattle.name_kinds.proofs.Noting.{look_here}
 
 pub finds_then : (paths : List AbsolutePath) (a b c : List Fault) (x y : List NameError) → Finds paths a b x → Finds paths b c y → Finds paths a c (x ++ y)
 finds_then paths a b c x y h k = k ∙ ap (λ es. es ++ y) h ∙ append_assoc (map (fault_as paths) a) x y
 
 pub finds_as : (paths : List AbsolutePath) (a b : List Fault) (x y : List NameError) → x ≡ y → Finds paths a b x → Finds paths a b y
 finds_as paths a b x y e h = h ∙ ap (λ es. map (fault_as paths) a ++ es) e
-
--- the flag that is read says whether the path is named
-pub flag_here : (paths : List AbsolutePath) (named : List Bool) (n : ℕ) (x : Bool) (d : Declarations) → AreDistinct paths → n < length paths → length named ≡ length paths → x ≡ get_or named n x → Agrees paths named d → x ≡ is_named d (get_or paths n [])
-flag_here paths named n x d distinct lt size e agrees =
-    sym (read_at named n x false (omega (arith, lt, size)) e) ∙ sym (ap (is_flagged named) (own_number paths n distinct lt)) ∙ agrees (get_or paths n [])
 
 -- the entry that is read says whether the path is declared
 pub declared_here : (paths : List AbsolutePath) (has : AbsolutePath → Bool) (tables : Tables) (d : Declarations) (n : ℕ) (x : _) → AreDistinct paths → n < length paths → length tables.kinds.items ≡ length paths → x ≡ get_or tables.kinds.items n x → Before paths has tables d → is_some x ≡ is_some (lookup d.declared (get_or paths n []))

@@ -10,7 +10,7 @@ use Rattle.acpi_names.specs.declared.mention.Mention.{Mention as CodeMention}
 use Rattle.acpi_names.proofs.Mentions.{after_append, right_nil}
 use Rattle.name_checks.specs.Faults.{Finds, fault_as}
 use Rattle.name_checks.specs.declared.fault.Fault.{Fault}
-use Rattle.name_checks.proofs.Places.{next_taken, next_dropped}
+use Rattle.name_kinds.proofs.Places.{next_taken, next_dropped}
 
 -- what is found is moved from what is still to come
 moved : (a b x y r : List NameError) → b ≡ a ++ x → a ++ (x ++ y) ≡ r → b ++ y ≡ r

@@ -5,9 +5,9 @@ use Rattle.asl_meaning.specs.Declarations.{Declarations, declared_kinds}
 use Rattle.acpi_state.specs.Objects.{lookup}
 use Rattle.acpi_names.specs.Errors.{NameError, Twice, DeclaredHere, Missing, NoContainer, LeavesRoot, Differs, TooLong, WrongCount, WrongKind, UnbuiltSpace}
 use Rattle.acpi_names.specs.Shown.{spot_as, written_as}
-use Rattle.name_checks.specs.Kinds.{kind_as, type_as}
-use Rattle.name_checks.specs.Tables.{TabledBy}
-use Rattle.name_checks.specs.declared.tables.Tables.{Tables}
+use Rattle.name_kinds.specs.Kinds.{kind_as, type_as}
+use Rattle.name_kinds.specs.Tables.{TabledBy}
+use Rattle.name_kinds.specs.declared.tables.Tables.{Tables}
 use Rattle.name_checks.specs.declared.fault.Fault.{Fault}
 use Rattle.name_checks.specs.declared.fault.Fault.TheVariants as F
 

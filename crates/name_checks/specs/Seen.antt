@@ -1,22 +1,10 @@
--- What a block is known to have, by the list of its mentions.
-use Rattle.std.specs.Prelude.{ℕ, List, ◌++◌, map}
-use Rattle.acpi_values.specs.Paths.{AbsolutePath}
-use Rattle.acpi_state.specs.Objects.{root_objects}
+-- The messages of a block, by the list of its mentions.
+use Rattle.std.specs.Prelude.{List, map}
 use Rattle.iasl_messages.specs.declared.message.Message.{Message}
-use Rattle.asl_meaning.specs.Declarations.{Declarations, nothing_declared, is_named, called, declared_kinds, external_names, as_known}
-use Rattle.acpi_names.specs.Errors.{Whole}
-use Rattle.acpi_names.specs.Mentions.{Mention, all_errors, all_types, after_all, calls_in}
+use Rattle.asl_meaning.specs.Declarations.{nothing_declared}
+use Rattle.acpi_names.specs.Mentions.{Mention, all_errors, all_types}
+use Rattle.name_kinds.specs.Seen.{seen}
 use Rattle.name_checks.specs.Messages.{message_of, first_errors}
-
-abbrev pub known_with : Declarations → List (AbsolutePath × ℕ) → Whole
-known_with all calls = record {
-  all = all;
-  known = declared_kinds (is_named all) all.declared ++ as_known (external_names calls all.external ++ root_objects);
-  calls = calls;
-}
-
-abbrev pub seen : List Mention → Whole
-seen mentions = let all = after_all mentions nothing_declared in known_with all (called (calls_in (is_named all) mentions))
 
 -- the messages of its errors
 abbrev pub seen_errors : List Mention → List Message

@@ -10,24 +10,25 @@ ghost use Rattle.acpi_names.specs.Shown.{shown, all_shown};
 ghost use Rattle.acpi_names.specs.Tables.{Tabled};
 ghost use Rattle.acpi_names.specs.Terms.{are_terms};
 ghost use Rattle.name_checks.specs.Faults.{Before, Finds, fault_as};
-ghost use Rattle.name_checks.specs.Facts.{Knows};
+ghost use Rattle.name_kinds.specs.Facts.{Knows};
 ghost use Rattle.name_checks.specs.Messages.{message_of, first_errors, told_errors};
-ghost use Rattle.name_checks.specs.Tables.{AreSized, IsThere};
+ghost use Rattle.name_kinds.specs.Tables.{AreSized, IsThere};
 ghost use Rattle.name_checks.specs.Refusals.{Refuses};
-ghost use Rattle.name_checks.specs.Seen.{seen, seen_errors};
+ghost use Rattle.name_checks.specs.Seen.{seen_errors};
+ghost use Rattle.name_kinds.specs.Seen.{seen};
 
-use crate::facts::{Facts, blank, facts_of};
 use crate::fault::{Fault, messages};
-use crate::kind::External;
 use crate::rules::{
     asked_types, call_errors, call_types, declared_errors, external_errors, scope_errors,
     step_errors, use_errors,
 };
-use crate::tables::{Tables, denoted, note};
 use acpi_names::index::{Index, names_of};
 use acpi_names::mention::{Mention, WrittenName};
 use asl_tree::term::Node;
 use iasl_messages::message::{Message, Messages, Stage};
+use name_kinds::facts::{Facts, blank, facts_of};
+use name_kinds::kind::External;
+use name_kinds::tables::{Tables, denoted, note};
 use std::alloc::{AllocError, Global};
 
 /// The names of a block whose names are right.

@@ -2,10 +2,7 @@
 #![tactic(auto)]
 
 pub mod check;
-pub mod facts;
 pub mod fault;
-pub mod kind;
 pub mod rules;
-pub mod tables;
 #[cfg(test)]
 mod tests;

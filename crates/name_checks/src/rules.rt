@@ -13,20 +13,21 @@ ghost use Rattle.acpi_names.specs.Paths.{path_with};
 ghost use Rattle.acpi_names.specs.Shown.{spot_as, asked_as, written_as};
 ghost use Rattle.name_checks.specs.Calls.{is_open as open_is, is_first as first_is};
 ghost use Rattle.name_checks.specs.Faults.{Before, Finds, fault_as};
-ghost use Rattle.name_checks.specs.Facts.{Knows, ended};
-ghost use Rattle.name_checks.specs.Kinds.{object_as, type_as};
-ghost use Rattle.name_checks.specs.Tables.{AreSized};
+ghost use Rattle.name_kinds.specs.Ends.{ended};
+ghost use Rattle.name_kinds.specs.Facts.{Knows};
+ghost use Rattle.name_kinds.specs.Kinds.{object_as, type_as};
+ghost use Rattle.name_kinds.specs.Tables.{AreSized};
 
-use crate::facts::{Facts, end};
 use crate::fault::Fault;
-use crate::kind::{
-    End, External, is_container, is_event, is_method, is_mutex, is_region, is_unbuilt, is_unit,
-    operand_count,
-};
-use crate::tables::{Tables, is_in_root, place};
 use acpi_names::mention::{Asked, Spot, WrittenName};
 use acpi_names::place::scope_in;
 use asl_tree::path::Path;
+use name_kinds::facts::{Facts, end, is_named_at};
+use name_kinds::kind::{
+    End, External, is_container, is_event, is_method, is_mutex, is_region, is_unbuilt, is_unit,
+    operand_count,
+};
+use name_kinds::tables::{Tables, is_in_root, place};
 use std::alloc::AllocError;
 
 /// The most segments of a path.
@@ -40,17 +41,6 @@ fn unless<'a>(out: &mut Vec<Fault<'a>>, holds: bool, fault: Fault<'a>) -> Result
         out.push(fault)?;
     }
     Ok(())
-}
-
-// Whether the path with a number is named by the block.
-fn is_named_at(facts: &Facts, number: usize) -> bool
-    ghost whole: { Whole }
-    requires told { Knows facts.now whole }
-    requires within { number < length facts.now.index.paths }
-    ensures { result ≡ is_named whole.all (get_or facts.now.index.paths number []) }
-{
-    let count = facts.index.paths.len();
-    facts.index.named[number]
 }
 
 // Whether the scope of a path is named.

@@ -1,6 +1,6 @@
 use crate::check::{check, examine};
 use acpi_values::operator::{EventOp, Plain};
-use asl_tree::path::{Path, Segs};
+use asl_tree::path::{NameSeg, Path, Segs};
 use asl_tree::term::{Control, Declaration, Node, Op, Special, Term};
 use iasl_messages::message::Message;
 use iasl_messages::place::Place;
@@ -398,4 +398,70 @@ fn an_empty_block_is_right(rt: HostRuntime) -> Result<(), Fail> {
         }
         Err(_) => Err(AllocError)?,
     }
+}
+
+// A letter and three characters of 36.
+fn numbered(number: u32) -> NameSeg {
+    let digits = b"0123456789ABCDEFGHIJKLMNOPQRSTUVWXYZ";
+    let at = |n: u32| digits[(n % 36) as usize];
+    let letter = match number / 46_656 {
+        0 => b'A',
+        1 => b'B',
+        _ => b'C',
+    };
+    [letter, at(number / 1296), at(number / 36), at(number)]
+}
+
+fn add_numbered(alloc: Global, nodes: &mut Vec<Node>, number: u32) -> Result<(), AllocError> {
+    let mut segs = Segs::new(alloc);
+    segs.push(numbered(number))?;
+    add(
+        nodes,
+        1,
+        1,
+        Term::Name(Path {
+            root: false,
+            up: 0,
+            segs,
+        }),
+    )
+}
+
+fn add_form(
+    alloc: Global,
+    nodes: &mut Vec<Node>,
+    op: Op,
+    args: Vec<Node>,
+) -> Result<(), AllocError> {
+    let body = Vec::new(alloc);
+    add(nodes, 1, 1, Term::Form { op, args, body })
+}
+
+// Aliases, each of the next name and each with a use behind it, and at their end a Name.
+fn chain(alloc: Global, count: u32) -> Result<Vec<Node>, AllocError> {
+    let mut nodes = Vec::new(alloc);
+    for number in 0..count {
+        let mut args = Vec::new(alloc);
+        add_numbered(alloc, &mut args, number.wrapping_add(1))?;
+        add_numbered(alloc, &mut args, number)?;
+        add_form(alloc, &mut nodes, Op::Declaration(Declaration::Alias), args)?;
+        let mut args = Vec::new(alloc);
+        add_numbered(alloc, &mut args, number)?;
+        add_form(alloc, &mut nodes, Op::Control(Control::Return), args)?;
+    }
+    let mut args = Vec::new(alloc);
+    add_numbered(alloc, &mut args, count)?;
+    add(&mut args, 1, 1, Term::Integer(1))?;
+    add_form(alloc, &mut nodes, Op::Declaration(Declaration::Name), args)?;
+    Ok(nodes)
+}
+
+// Each path is followed once, so that 100,000 uses of a chain of as many aliases are found at once.
+#[test]
+fn a_long_chain_of_aliases_is_right(rt: HostRuntime) -> Result<(), Fail> {
+    let alloc = rt.alloc();
+    let nodes = chain(alloc, 100_000)?;
+    let examined = examine(alloc, &nodes)?;
+    assert_eq!(rt; examined.errors.len(), 0);
+    Ok(())
 }

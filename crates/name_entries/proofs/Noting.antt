@@ -11,7 +11,7 @@ use Rattle.acpi_names.specs.Mentions as M
 use Rattle.acpi_names.specs.Paths.{path_with}
 use Rattle.acpi_names.specs.Shown.{shown, all_shown}
 use Rattle.acpi_names.specs.declared.mention.Mention.{Mention}
-use Rattle.name_entries.specs.Uses.{Use, used_by, uses_after, use_at, denoted_at, Denotes}
+use Rattle.name_entries.specs.Uses.{Use, used_by, uses_after, use_at, Denotes}
 
 -- a write to the table
 pub put_there : (table now : List (Option ℕ)) (number n : ℕ) (target : Option ℕ) → number < length now → ((m : ℕ) → get_or now m None ≡ get_or table m None) → get_or (set now number target) n None ≡ (if nat_eq number n then target else get_or table n None)

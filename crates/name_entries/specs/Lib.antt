@@ -1,1 +1,3 @@
 pub mod Uses
+pub mod Placed
+pub mod Entries

@@ -1,6 +1,10 @@
-//! What the used names of a block denote, by the numbers of their nodes.
+//! What stands at the paths of a block, and what its used names denote, by the numbers of paths and of nodes.
 #![tactic(auto)]
 
+pub mod description;
 pub mod entries;
+pub mod kind;
+mod places;
 #[cfg(test)]
 mod tests;
+mod uses;

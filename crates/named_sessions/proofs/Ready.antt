@@ -352,6 +352,9 @@ module _ (width : Width) (whole : Whole) (says : AbsolutePath → ExternalType �
         (same_expression has says size scope ∙ shaped.0, ready_value size scope d shaped.0 shaped.1 valid (left_none _ (names_all whole elements scope d) e) (left_none _ (element_types_all whole elements scope) y), ready_elements elements scope d shaped.2 valid (right_none (names whole size scope d) _ e) (right_none (types whole size scope) _ y))
     ready_value (CondRefOf place target) scope d x shaped valid e y =
         (ready_cond place scope d shaped.0 valid (left_none _ (names whole target scope d) e) (left_none _ (spot_types whole target scope) y), ready_spot target scope d shaped.1 valid (right_none (cond_errors whole place (names whole place scope d) scope) _ e) (right_none (spot_types whole place scope) _ y))
+    ready_value (Operated op args) scope d x shaped valid e y = absurd shaped.0
+    ready_value (Assigned target value) scope d x shaped valid e y = absurd shaped.0
+    ready_value (AssignedBy op target value) scope d x shaped valid e y = absurd shaped.0
     ready_value t scope d x shaped valid e y = absurd (grind arith)
 
     -- a term that stands for a place
@@ -362,6 +365,7 @@ module _ (width : Width) (whole : Whole) (says : AbsolutePath → ExternalType �
     ready_spot (Use at name) scope d shaped valid e y = let f = found at name scope shaped valid e in (f.path, f.spells)
     ready_spot (Apply op args targets) scope d shaped valid e y =
         (shaped.0, by_spot_form whole (spot_form op) _ _ _ _ _ _ shaped.1 y (λ h y. (ready_operands (asked_by op) (row_of op).operands args scope d h.0 valid (left_none _ (names_all whole targets scope d) e) (left_none _ (spot_types_all whole targets scope) y), count_same has says targets scope ∙ h.1, ready_spots targets scope d h.2 valid (right_none (names_all whole args scope d) _ e) (right_none (operand_types whole (asked_by op) (row_of op).operands args scope) _ y))) (λ h y. ready_alone args targets scope d h valid (left_none _ (names_all whole targets scope d) e) y))
+    ready_spot (Operated op args) scope d shaped valid e y = absurd shaped.0
     ready_spot t scope d shaped valid e y = absurd shaped
 
     ready_cond : (t : Tree) (scope : AbsolutePath) (d : Declarations) → IsShapedSpot width t → AreSegments scope → cond_errors whole t (names whole t scope d) scope ≡ [] → spot_types whole t scope ≡ [] → CondReady known (spelled has says t scope) (IsSpot width known (spelled has says t scope) scope) scope
@@ -371,6 +375,7 @@ module _ (width : Width) (whole : Whole) (says : AbsolutePath → ExternalType �
     ready_cond (InSlot slot) scope d shaped valid e y = shaped
     ready_cond (Apply op args targets) scope d shaped valid e y =
         (shaped.0, by_spot_form whole (spot_form op) _ _ _ _ _ _ shaped.1 y (λ h y. (ready_operands (asked_by op) (row_of op).operands args scope d h.0 valid (left_none _ (names_all whole targets scope d) e) (left_none _ (spot_types_all whole targets scope) y), count_same has says targets scope ∙ h.1, ready_spots targets scope d h.2 valid (right_none (names_all whole args scope d) _ e) (right_none (operand_types whole (asked_by op) (row_of op).operands args scope) _ y))) (λ h y. ready_alone args targets scope d h valid (left_none _ (names_all whole targets scope d) e) y))
+    ready_cond (Operated op args) scope d shaped valid e y = absurd shaped.0
     ready_cond t scope d shaped valid e y = absurd shaped
 
     ready_alone : (args targets : Trees) (scope : AbsolutePath) (d : Declarations) → IsShapedAlone width args targets → AreSegments scope → names_all whole args scope d ≡ [] → first_types whole args scope ≡ [] → IsAlone width known (spelled_all has says args scope) (spelled_all has says targets scope) scope
@@ -495,10 +500,10 @@ module _ (width : Width) (whole : Whole) (says : AbsolutePath → ExternalType �
         (ready_operands Anything (field_letters form) args scope d shaped.0 valid (left_none _ (declared_errors whole at name scope d) e) y, declared_known at name scope d as_buffer_field (right_none (names_all whole args scope d) _ e) w shaped.1)
     ready (Item item) scope d shaped valid e y w = absurd shaped
     ready (Fill bytes) scope d shaped valid e y w = absurd shaped
-    ready (Operated op args) scope d shaped valid e y w = absurd shaped
-    ready (Assigned target value) scope d shaped valid e y w = absurd shaped
-    ready (AssignedBy op target value) scope d shaped valid e y w = absurd shaped
-    ready (ElseIf test body) scope d shaped valid e y w = absurd shaped
+    ready (Operated op args) scope d shaped valid e y w = absurd shaped.0
+    ready (Assigned target value) scope d shaped valid e y w = absurd shaped.0
+    ready (AssignedBy op target value) scope d shaped valid e y w = absurd shaped.0
+    ready (ElseIf test body) scope d shaped valid e y w = absurd shaped.0
     ready Misshapen scope d shaped valid e y w = absurd shaped
 
     pub ready_all : (ts : Trees) (scope : AbsolutePath) (d : Declarations) → AreShaped width ts → AreSegments scope → names_all whole ts scope d ≡ [] → types_all whole ts scope ≡ [] → Within (declare_all ts scope d) whole.all → AreReady width known (spelled_all has says ts scope) scope

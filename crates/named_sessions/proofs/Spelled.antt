@@ -154,6 +154,7 @@ module _ (width : Width) (says : AbsolutePath → ExternalType → ExternalType)
   alike_cond Debug scope spot spot' shaped h = agree_then with_spelled Any (λ o. o) _ h (λ p any. agree_done with_spelled Any (λ o. o) (Some p) tt)
   alike_cond (InSlot slot) scope spot spot' shaped h = agree_then with_spelled Any (λ o. o) _ h (λ p any. agree_done with_spelled Any (λ o. o) (Some p) tt)
   alike_cond (Apply op args targets) scope spot spot' shaped h = agree_then with_spelled Any (λ o. o) _ h (λ p any. agree_done with_spelled Any (λ o. o) (Some p) tt)
+  alike_cond (Operated op args) scope spot spot' shaped h = absurd shaped.0
   alike_cond _ scope spot spot' shaped h = absurd shaped
 
   -- an element of a Package
@@ -275,10 +276,10 @@ module _ (width : Width) (says : AbsolutePath → ExternalType → ExternalType)
         agree_then G Any (λ f. f) _ (alike_operands (field_letters form) args scope h.0) (λ os any. agree_buffer_field G width form (place_of name scope) os (λ field. tt))
     alike (Item item) scope due h = absurd h
     alike (Fill bytes) scope due h = absurd h
-    alike (Operated op args) scope due h = absurd h
-    alike (Assigned target value) scope due h = absurd h
-    alike (AssignedBy op target value) scope due h = absurd h
-    alike (ElseIf test body) scope due h = absurd h
+    alike (Operated op args) scope due h = absurd h.0
+    alike (Assigned target value) scope due h = absurd h.0
+    alike (AssignedBy op target value) scope due h = absurd h.0
+    alike (ElseIf test body) scope due h = absurd h.0
     alike Misshapen scope due h = absurd h
 
     alike_spot : (t : Tree) (scope : AbsolutePath) → IsShapedSpot width t → Alike width says known Any (λ p. p) (P t scope) (P' t scope)
@@ -290,6 +291,7 @@ module _ (width : Width) (says : AbsolutePath → ExternalType → ExternalType)
         alike_spot_form width says known (spot_form op) _ _ _ _ _ _ h.1
         (λ whole. alike_plain width says known op _ _ _ _ (alike_operands (row_of op).operands args scope whole.0) (λ rs. alike_spots targets rs scope whole.2))
         (λ alone. alike_alone args targets scope alone)
+    alike_spot (Operated op args) scope h = absurd h.0
     alike_spot _ scope h = absurd h
 
     alike_alone : (args targets : Trees) (scope : AbsolutePath) → IsShapedAlone width args targets → Alike width says known Any (λ v. v) (S.first_value width known turns call args scope) (S.first_value width known turns call' (spelled_all has says args scope) scope)

@@ -9,7 +9,7 @@ use Rattle.acpi_values.specs.Operators.{Letter, Valued, Kept, Placed, Used, Row,
 use Rattle.acpi_values.specs.Operators as L
 use Rattle.acpi_state.specs.FieldActs.{region_letters, field_letters}
 use Rattle.asl_meaning.specs.Meaning.{OfInside, spot_form}
-use Rattle.asl_tree.specs.Tree.{Tree, Integer, Constant, String, InSlot, Debug, Omitted, Raw, Use, Call, Apply, Buffer, Package, VarPackage, CondRefOf, Return, Name, Alias, External, Method, Mutex, Event, Container', Scope, Trees, no_trees, tree, count, OperationRegion, Field, IndexField, BankField, CreateField, If, Else, While, Break, Continue, UnitName}
+use Rattle.asl_tree.specs.Tree.{Tree, Integer, Constant, String, InSlot, Debug, Omitted, Raw, Use, Call, Apply, Buffer, Package, VarPackage, CondRefOf, Return, Name, Alias, External, Method, Mutex, Event, Container', Scope, Trees, no_trees, tree, count, OperationRegion, Field, IndexField, BankField, CreateField, If, ElseIf, Else, While, Break, Continue, Operated, Assigned, AssignedBy, UnitName}
 use Rattle.asl_tree.specs.FieldItems.{FieldItem}
 use Rattle.aml_sessions.specs.Ready.{is_expression, is_constant, SpotReady}
 use Rattle.acpi_names.specs.Terms.{has_no_targets, is_value, are_values, is_term, are_terms}
@@ -30,14 +30,14 @@ constant_value (Package n elements) e = refl
 constant_value (VarPackage size elements) e = refl
 constant_value _ e = absurd cc
 
--- whatever is asked of the lists of fields
-module _ (width : Width) (Listed : List (FieldItem UnitName) → Type 0) where
+-- whatever is asked of the lists of fields, with symbols or without
+module _ (width : Width) (Listed : List (FieldItem UnitName) → Type 0) (Symbols : Type 0) where
   used_value : (t : Tree) → UsedShaped t → is_value t ≡ true
   used_value (Use at name) h = refl
   used_value _ h = absurd h
 
-  letter_value : (letter : Letter) (t : Tree) → (is_expression t ≡ true → IsFormed width Listed t → is_value t ≡ true) → (IsFormedSpot width Listed t → is_value t ≡ true)
-      → LetterShaped letter t ((is_expression t ≡ true) × IsFormed width Listed t) (IsFormedSpot width Listed t) → is_value t ≡ true
+  letter_value : (letter : Letter) (t : Tree) → (is_expression t ≡ true → IsFormed width Listed Symbols t → is_value t ≡ true) → (IsFormedSpot width Listed Symbols t → is_value t ≡ true)
+      → LetterShaped letter t ((is_expression t ≡ true) × IsFormed width Listed Symbols t) (IsFormedSpot width Listed Symbols t) → is_value t ≡ true
   letter_value Valued t value spot h = value h.0 h.1
   letter_value Kept t value spot h = value h.0 h.1
   letter_value Placed t value spot h = spot h
@@ -45,7 +45,7 @@ module _ (width : Width) (Listed : List (FieldItem UnitName) → Type 0) where
   letter_value (L.Raw size) (Raw other number) value spot h = refl
   letter_value (L.Raw size) _ value spot h = absurd h
 
-  element_value : (t : Tree) → (is_expression t ≡ true → IsFormed width Listed t → is_value t ≡ true) → ElementShaped t (IsFormed width Listed t) → is_value t ≡ true
+  element_value : (t : Tree) → (is_expression t ≡ true → IsFormed width Listed Symbols t → is_value t ≡ true) → ElementShaped t (IsFormed width Listed Symbols t) → is_value t ≡ true
   element_value (Use at name) value h = refl
   element_value t value h = value (constant_value t h.0) h.1
 
@@ -53,16 +53,23 @@ module _ (width : Width) (Listed : List (FieldItem UnitName) → Type 0) where
   applied op args targets h e k = and_from (has_no_targets (spot_form op) targets) (are_values args && are_values targets) (without_targets op targets e) (and_from (are_values args) (are_values targets) h k)
 
   -- the place of an operator, by its form
-  spot_applied : (op : Plain) (args targets : Trees) → (AreFormedOperands width Listed (row_of op).operands args → are_values args ≡ true) → (AreFormedSpots width Listed targets → are_values targets ≡ true)
-      → (IsFormedAlone width Listed args targets → (has_no_targets OfInside targets && (are_values args && are_values targets)) ≡ true)
-      → SpotReady (spot_form op) (AreFormedOperands width Listed (row_of op).operands args × (count targets ≡ (row_of op).targets) × AreFormedSpots width Listed targets) (IsFormedAlone width Listed args targets)
+  spot_applied : (op : Plain) (args targets : Trees) → (AreFormedOperands width Listed Symbols (row_of op).operands args → are_values args ≡ true) → (AreFormedSpots width Listed Symbols targets → are_values targets ≡ true)
+      → (IsFormedAlone width Listed Symbols args targets → (has_no_targets OfInside targets && (are_values args && are_values targets)) ≡ true)
+      → SpotReady (spot_form op) (AreFormedOperands width Listed Symbols (row_of op).operands args × (count targets ≡ (row_of op).targets) × AreFormedSpots width Listed Symbols targets) (IsFormedAlone width Listed Symbols args targets)
       → is_value (Apply op args targets) ≡ true
   spot_applied (Plain.Data DataOp.Index) args targets first rest alone h = applied (Plain.Data DataOp.Index) args targets (first h.0) h.1 (rest h.2)
   spot_applied (Plain.Data DataOp.DerefOf) args targets first rest alone h = alone h
   spot_applied _ args targets first rest alone h = absurd h
 
+  -- the same where it is written with a symbol
+  spot_operated : (op : Plain) (args : Trees) → (AreFormedOperands width Listed Symbols (row_of op).operands args → are_values args ≡ true)
+      → SpotReady (spot_form op) (AreFormedOperands width Listed Symbols (row_of op).operands args) ⊥ → is_value (Operated op args) ≡ true
+  spot_operated (Plain.Data DataOp.Index) args all h = all h
+  spot_operated (Plain.Data DataOp.DerefOf) args all h = absurd h
+  spot_operated _ args all h = absurd h
+
   mutual
-    value : (t : Tree) → is_expression t ≡ true → IsFormed width Listed t → is_value t ≡ true
+    value : (t : Tree) → is_expression t ≡ true → IsFormed width Listed Symbols t → is_value t ≡ true
     value (Integer number) e h = refl
     value (Constant literal) e h = refl
     value (String text) e h = refl
@@ -75,40 +82,44 @@ module _ (width : Width) (Listed : List (FieldItem UnitName) → Type 0) where
     value (Package n elements) e h = elements_values elements h.1
     value (VarPackage size elements) e h = and_from (is_value size) (are_values elements) (value size h.0 h.1) (elements_values elements h.2)
     value (CondRefOf place target) e h = and_from (is_value place) (is_value target) (spot_value place h.0) (spot_value target h.1)
+    value (Operated op args) e h = operands_values (row_of op).operands args h.2
+    value (Assigned target v) e h = and_from (is_value target) (is_value v) (spot_value target h.1) (value v h.2 h.3)
+    value (AssignedBy op target v) e h = and_from (is_value target) (is_value v) (spot_value target h.1) (value v h.4 h.5)
     value _ e h = absurd cc
 
-    spot_value : (t : Tree) → IsFormedSpot width Listed t → is_value t ≡ true
+    spot_value : (t : Tree) → IsFormedSpot width Listed Symbols t → is_value t ≡ true
     spot_value Omitted h = refl
     spot_value Debug h = refl
     spot_value (InSlot slot) h = refl
     spot_value (Use at name) h = refl
     spot_value (Apply op args targets) h = spot_applied op args targets (λ k. operands_values (row_of op).operands args k) (λ k. spots_values targets k) (λ k. alone_value args targets k) h.1
+    spot_value (Operated op args) h = spot_operated op args (λ k. operands_values (row_of op).operands args k) h.2
     spot_value _ h = absurd h
 
-    alone_value : (args targets : Trees) → IsFormedAlone width Listed args targets → (has_no_targets OfInside targets && (are_values args && are_values targets)) ≡ true
+    alone_value : (args targets : Trees) → IsFormedAlone width Listed Symbols args targets → (has_no_targets OfInside targets && (are_values args && are_values targets)) ≡ true
     alone_value (tree t no_trees) no_trees h = and_from (is_value t && true) true (and_from (is_value t) true (value t h.0 h.1) refl) refl
     alone_value _ _ h = absurd h
 
-    operands_values : (letters : List Letter) (ts : Trees) → AreFormedOperands width Listed letters ts → are_values ts ≡ true
+    operands_values : (letters : List Letter) (ts : Trees) → AreFormedOperands width Listed Symbols letters ts → are_values ts ≡ true
     operands_values [] no_trees h = refl
     operands_values (letter ∷ letters) (tree t ts) h =
         and_from (is_value t) (are_values ts) (letter_value letter t (λ e s. value t e s) (λ s. spot_value t s) h.0) (operands_values letters ts h.1)
     operands_values _ _ h = absurd h
 
-    spots_values : (ts : Trees) → AreFormedSpots width Listed ts → are_values ts ≡ true
+    spots_values : (ts : Trees) → AreFormedSpots width Listed Symbols ts → are_values ts ≡ true
     spots_values no_trees h = refl
     spots_values (tree t ts) h = and_from (is_value t) (are_values ts) (spot_value t h.0) (spots_values ts h.1)
 
-    values : (ts : Trees) → AreFormedValues width Listed ts → are_values ts ≡ true
+    values : (ts : Trees) → AreFormedValues width Listed Symbols ts → are_values ts ≡ true
     values no_trees h = refl
     values (tree t ts) h = and_from (is_value t) (are_values ts) (value t h.0 h.1) (values ts h.2)
 
-    elements_values : (ts : Trees) → AreFormedElements width Listed ts → are_values ts ≡ true
+    elements_values : (ts : Trees) → AreFormedElements width Listed Symbols ts → are_values ts ≡ true
     elements_values no_trees h = refl
     elements_values (tree t ts) h = and_from (is_value t) (are_values ts) (element_value t (λ e s. value t e s) h.0) (elements_values ts h.1)
 
   mutual
-    formed_term : (t : Tree) → IsFormed width Listed t → is_term t ≡ true
+    formed_term : (t : Tree) → IsFormed width Listed Symbols t → is_term t ≡ true
     formed_term (Return v) h = value v h.0 h.1
     formed_term (Name at name v) h = value v h.1 h.2
     formed_term (Alias from source at name) h = refl
@@ -138,14 +149,18 @@ module _ (width : Width) (Listed : List (FieldItem UnitName) → Type 0) where
     formed_term (Package n elements) h = value (Package n elements) refl h
     formed_term (VarPackage size elements) h = value (VarPackage size elements) refl h
     formed_term (CondRefOf place target) h = value (CondRefOf place target) refl h
+    formed_term (Operated op args) h = value (Operated op args) refl h
+    formed_term (Assigned target v) h = value (Assigned target v) refl h
+    formed_term (AssignedBy op target v) h = value (AssignedBy op target v) refl h
+    formed_term (ElseIf test body) h = and_from (is_value test) (are_terms body) (value test h.1 h.2) (terms body h.3)
     formed_term Break h = refl
     formed_term Continue h = refl
     formed_term _ h = absurd h
 
-    terms : (ts : Trees) → AreFormed width Listed ts → are_terms ts ≡ true
+    terms : (ts : Trees) → AreFormed width Listed Symbols ts → are_terms ts ≡ true
     terms no_trees h = refl
     terms (tree t ts) h = and_from (is_term t) (are_terms ts) (formed_term t h.0) (terms ts h.1)
 
 -- formed terms are terms, and have values where values are due
-pub formed_terms : (width : Width) (Listed : List (FieldItem UnitName) → Type 0) (ts : Trees) → AreFormed width Listed ts → are_terms ts ≡ true
-formed_terms width Listed ts h = terms width Listed ts h
+pub formed_terms : (width : Width) (Listed : List (FieldItem UnitName) → Type 0) (Symbols : Type 0) (ts : Trees) → AreFormed width Listed Symbols ts → are_terms ts ≡ true
+formed_terms width Listed Symbols ts h = terms width Listed Symbols ts h

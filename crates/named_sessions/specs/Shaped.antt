@@ -34,8 +34,8 @@ AreNamed (UnitItem name bits ∷ items) = (is_segment name.segment ≡ true) × 
 AreNamed (SkipItem bits ∷ items) = AreNamed items
 AreNamed (OffsetItem bytes ∷ items) = AreNamed items
 
--- a tree whose lists of fields are `Listed`
-module _ (width : Width) (Listed : List (FieldItem UnitName) → Type 0) where
+-- a tree whose lists of fields are `Listed`, and in which what is written with a symbol, and an ElseIf, stands where that is `Symbols`
+module _ (width : Width) (Listed : List (FieldItem UnitName) → Type 0) (Symbols : Type 0) where
   abbrev mutual
     pub IsFormed : Tree → Type 0
     IsFormed (Integer number) = number ≤ ones_of width
@@ -75,10 +75,10 @@ module _ (width : Width) (Listed : List (FieldItem UnitName) → Type 0) where
     IsFormed (CreateField form args at name) = AreFormedOperands (field_letters form) args × IsName name
     IsFormed (Item item) = ⊥
     IsFormed (Fill bytes) = ⊥
-    IsFormed (Operated op args) = ⊥
-    IsFormed (Assigned target value) = ⊥
-    IsFormed (AssignedBy op target value) = ⊥
-    IsFormed (ElseIf test body) = ⊥
+    IsFormed (Operated op args) = Symbols × HasOwnCode op × AreFormedOperands (row_of op).operands args
+    IsFormed (Assigned target value) = Symbols × IsFormedSpot target × (is_expression value ≡ true) × IsFormed value
+    IsFormed (AssignedBy op target value) = Symbols × IsFormedSpot target × (is_expression target ≡ true) × IsFormed target × (is_expression value ≡ true) × IsFormed value
+    IsFormed (ElseIf test body) = Symbols × (is_expression test ≡ true) × IsFormed test × AreFormed body
     IsFormed Misshapen = ⊥
 
     -- a term that stands for a place, or a target that is left out
@@ -89,6 +89,7 @@ module _ (width : Width) (Listed : List (FieldItem UnitName) → Type 0) where
     IsFormedSpot (Use at name) = IsUsedName name
     IsFormedSpot (Apply op args targets) =
         HasOwnCode op × SpotReady (spot_form op) (AreFormedOperands (row_of op).operands args × (count targets ≡ (row_of op).targets) × AreFormedSpots targets) (IsFormedAlone args targets)
+    IsFormedSpot (Operated op args) = Symbols × HasOwnCode op × SpotReady (spot_form op) (AreFormedOperands (row_of op).operands args) ⊥
     IsFormedSpot _ = ⊥
 
     pub IsFormedAlone : Trees → Trees → Type 0
@@ -117,27 +118,27 @@ module _ (width : Width) (Listed : List (FieldItem UnitName) → Type 0) where
     AreFormed no_trees = Unit {0}
     AreFormed (tree term terms) = IsFormed term × AreFormed terms
 
--- a tree in whose lists no Offset goes back and each count of bits can be written
+-- a tree without symbols and ElseIfs, in whose lists no Offset goes back and each count of bits can be written
 abbrev pub IsShaped : Width → Tree → Type 0
-IsShaped width = IsFormed width (AreItems 0)
+IsShaped width = IsFormed width (AreItems 0) ⊥
 
 abbrev pub IsShapedSpot : Width → Tree → Type 0
-IsShapedSpot width = IsFormedSpot width (AreItems 0)
+IsShapedSpot width = IsFormedSpot width (AreItems 0) ⊥
 
 abbrev pub IsShapedAlone : Width → Trees → Trees → Type 0
-IsShapedAlone width = IsFormedAlone width (AreItems 0)
+IsShapedAlone width = IsFormedAlone width (AreItems 0) ⊥
 
 abbrev pub AreShapedOperands : Width → List Letter → Trees → Type 0
-AreShapedOperands width = AreFormedOperands width (AreItems 0)
+AreShapedOperands width = AreFormedOperands width (AreItems 0) ⊥
 
 abbrev pub AreShapedSpots : Width → Trees → Type 0
-AreShapedSpots width = AreFormedSpots width (AreItems 0)
+AreShapedSpots width = AreFormedSpots width (AreItems 0) ⊥
 
 abbrev pub AreShapedValues : Width → Trees → Type 0
-AreShapedValues width = AreFormedValues width (AreItems 0)
+AreShapedValues width = AreFormedValues width (AreItems 0) ⊥
 
 abbrev pub AreShapedElements : Width → Trees → Type 0
-AreShapedElements width = AreFormedElements width (AreItems 0)
+AreShapedElements width = AreFormedElements width (AreItems 0) ⊥
 
 abbrev pub AreShaped : Width → Trees → Type 0
-AreShaped width = AreFormed width (AreItems 0)
+AreShaped width = AreFormed width (AreItems 0) ⊥

@@ -2,13 +2,12 @@
 use Rattle.std.proofs.Common.{◌≡◌, ℕ, Bool, true, false, [], ◌++◌, Option, Some, None, refl}
 use Rattle.std.specs.Prelude.{if◌then◌else◌}
 use Rattle.iasl_messages.specs.declared.place.Place.{Place}
-use Rattle.acpi_values.specs.declared.width.Width.TheVariants.{W64}
-use Rattle.named_sessions.specs.Shaped.{AreFormed, AreNamed}
 use Rattle.asl_parser.specs.Written.{Writtens, Group, item, none, more}
 use Rattle.asl_words.specs.Operators.{block_parameters}
 use Rattle.asl_shape.specs.Shapes.{takes, inside_of, is_given}
 use Rattle.asl_shape.specs.Forms.{errors_of, errors_at, errors_inside, block_errors, block_fault, block_args, block_terms, is_block_word, no_block, IsBlockOf, args_of}
 use Rattle.asl_shape.specs.Forms as forms
+use Rattle.program_shapes.proofs.Fits.{FormedTerms}
 use Rattle.program_shapes.proofs.Plans.{PlansAs}
 use Rattle.program_shapes.proofs.Parts.{none_in}
 use Rattle.program_shapes.specs.Kept.{IsKeptSource}
@@ -24,16 +23,16 @@ no_inside place args body e = by (block_fault (takes block_parameters (inside_of
     by (Some number) e = absurd cc
     by None e = (none_in (block_args place args).faults (block_terms body).faults e).1
 
-pub terms_as : (ws : Writtens) → errors_of ws ≡ [] → IsKeptSource ws → PlansAs (AreFormed W64 AreNamed) (forms.terms_of ws)
+pub terms_as : (ws : Writtens) → errors_of ws ≡ [] → IsKeptSource ws → PlansAs FormedTerms (forms.terms_of ws)
 terms_as none e k = absurd cc
 terms_as (more (item place word args body) none) e k = by (is_block_word word) e
   where
-    by : (b : Bool) → (if b then block_errors place args body else no_block place) ≡ [] → PlansAs (AreFormed W64 AreNamed) (block_terms body).made
+    by : (b : Bool) → (if b then block_errors place args body else no_block place) ≡ [] → PlansAs FormedTerms (block_terms body).made
     by true e = in_braces body k.1 (no_inside place args body e)
     by false e = absurd cc
 terms_as (more (item place word args body) (more w ws)) e k = by (is_block_word word) e
   where
-    by : (b : Bool) → (if b then forms.errors_before (block_errors place args body) (more w ws) else no_block place) ≡ [] → PlansAs (AreFormed W64 AreNamed) (forms.terms_of (more (item place word args body) (more w ws)))
+    by : (b : Bool) → (if b then forms.errors_before (block_errors place args body) (more w ws) else no_block place) ≡ [] → PlansAs FormedTerms (forms.terms_of (more (item place word args body) (more w ws)))
     by true e = absurd cc
     by false e = absurd cc
 terms_as (more _ ws) e k = absurd cc

@@ -1,5 +1,5 @@
 -- What the shape promises of an argument, as a tree, and what follows of a plain operator.
-use Rattle.std.proofs.Common.{◌≡◌, ◌⊎◌, inl, inr, ℕ, zero, suc, ◌-◌, ◌<◌, ◌≤◌, ◌^◌, Bool, true, false, List, [], ◌∷◌, ◌++◌, map, refl, sym, ap, subst, arith}
+use Rattle.std.proofs.Common.{◌≡◌, ◌⊎◌, inl, inr, ℕ, zero, suc, ◌-◌, ◌<◌, ◌≤◌, ◌^◌, Bool, true, false, List, [], ◌∷◌, ◌++◌, map, refl, sym, ap, subst, arith, append-nil}
 use Rattle.std.specs.Prelude.{replicate}
 use Rattle.std.proofs.Math.Nat.{one-le-pow}
 use Rattle.acpi_values.specs.declared.width.Width.TheVariants.{W64}
@@ -7,14 +7,48 @@ use Rattle.acpi_values.specs.Operators.{Letter, Valued, Kept, Placed, Used, Row}
 use Rattle.acpi_values.specs.Operators as L
 use Rattle.asl_tree.specs.FieldItems.{OffsetItem}
 use Rattle.asl_tree.specs.Tree.{Tree, Integer, String, Omitted, Use, Item, Trees, no_trees, tree, count}
-use Rattle.asl_tree.specs.View.{operands_as, targets_of}
+use Rattle.asl_tree.specs.View.{fits, operands_as, targets_of}
 use Rattle.aml_code.specs.Fronts.{IsName, IsUsedName}
 use Rattle.aml_sessions.specs.Ready.{is_expression, IsText}
-use Rattle.named_sessions.specs.Shaped.{UsedShaped, ElementShaped, IsFormed, IsFormedSpot, AreFormedOperands, AreFormedSpots, AreNamed}
+use Rattle.named_sessions.specs.Shaped.{UsedShaped, ElementShaped, IsFormed, IsFormedSpot, AreFormedOperands, AreFormedSpots, AreFormedValues, AreFormedElements, AreFormed, AreNamed, IsFormedAlone}
 use Rattle.asl_words.specs.declared.operator.Parameter.{Parameter}
 use Rattle.asl_words.specs.declared.operator.Slot.{Slot}
 use Rattle.asl_words.specs.declared.operator.Slot.TheVariants as slot
 use Rattle.asl_words.specs.Operators.{target, by_letter}
+
+-- what is formed in a source, where symbols and ElseIfs may stand
+abbrev pub Formed : Tree → Type 0
+Formed = IsFormed W64 AreNamed (Unit {0})
+
+abbrev pub FormedSpot : Tree → Type 0
+FormedSpot = IsFormedSpot W64 AreNamed (Unit {0})
+
+abbrev pub FormedAlone : Trees → Trees → Type 0
+FormedAlone = IsFormedAlone W64 AreNamed (Unit {0})
+
+abbrev pub FormedOperands : List Letter → Trees → Type 0
+FormedOperands = AreFormedOperands W64 AreNamed (Unit {0})
+
+abbrev pub FormedSpots : Trees → Type 0
+FormedSpots = AreFormedSpots W64 AreNamed (Unit {0})
+
+abbrev pub FormedValues : Trees → Type 0
+FormedValues = AreFormedValues W64 AreNamed (Unit {0})
+
+abbrev pub FormedElements : Trees → Type 0
+FormedElements = AreFormedElements W64 AreNamed (Unit {0})
+
+abbrev pub FormedTerms : Trees → Type 0
+FormedTerms = AreFormed W64 AreNamed (Unit {0})
+
+-- whether an argument is left out
+abbrev pub is_left_out : Tree → Bool
+is_left_out Omitted = true
+is_left_out _ = false
+
+-- a term that stands for a place, and is not left out
+abbrev pub IsThere : Tree → Type 0
+IsThere t = FormedSpot t × (is_left_out t ≡ false)
 
 -- a name that is declared
 abbrev pub IsDeclared : Tree → Type 0
@@ -42,9 +76,9 @@ IsElement _ = ⊥
 
 -- what stands in a slot
 abbrev pub Fits : Slot → Tree → Type 0
-Fits slot.Expression t = (is_expression t ≡ true) × IsFormed W64 AreNamed t
-Fits slot.Place t = IsFormedSpot W64 AreNamed t
-Fits slot.Named t = IsFormedSpot W64 AreNamed t
+Fits slot.Expression t = (is_expression t ≡ true) × Formed t
+Fits slot.Place t = IsThere t
+Fits slot.Named t = IsThere t
 Fits slot.Declared t = IsDeclared t
 Fits slot.External t = IsDeclared t
 Fits slot.Used t = UsedShaped t
@@ -53,9 +87,9 @@ Fits (slot.Word kind) t = IsAtMost 255 t
 Fits slot.Space t = IsAtMost 255 t
 Fits (slot.Types most) t = IsNumber t
 Fits (slot.String form) t = IsString t
-Fits slot.Element t = ElementShaped t (IsFormed W64 AreNamed t)
+Fits slot.Element t = ElementShaped t (Formed t)
 Fits slot.FieldElement t = IsElement t
-Fits (slot.Term behind) t = IsFormed W64 AreNamed t
+Fits (slot.Term run) t = Formed t
 
 -- what an operator takes as an argument, which may be left out
 abbrev pub Takes : Bool → Slot → Tree → Type 0
@@ -72,7 +106,7 @@ pub valued_same : (letters : List Letter) (t : Tree) (ts : Trees) → is_express
 valued_same letters Omitted ts h = absurd cc
 valued_same letters _ ts h = refl
 
-raw_ready : (size : ℕ) (letters : List Letter) (t : Tree) (ts : Trees) → IsAtMost (256 ^ size - 1) t → AreFormedOperands W64 AreNamed letters (operands_as letters ts) → AreFormedOperands W64 AreNamed (L.Raw size ∷ letters) (operands_as (L.Raw size ∷ letters) (tree t ts))
+raw_ready : (size : ℕ) (letters : List Letter) (t : Tree) (ts : Trees) → IsAtMost (256 ^ size - 1) t → FormedOperands letters (operands_as letters ts) → FormedOperands (L.Raw size ∷ letters) (operands_as (L.Raw size ∷ letters) (tree t ts))
 raw_ready size letters (Integer n) ts h k = ((refl, below size n h), k)
   where
     below : (size n : ℕ) → n ≤ 256 ^ size - 1 → n < 256 ^ size
@@ -80,29 +114,40 @@ raw_ready size letters (Integer n) ts h k = ((refl, below size n h), k)
 raw_ready size letters _ ts h k = absurd h
 
 -- the targets, each of which may be left out
-spots_of : (n : ℕ) (ts : Trees) → TreesFit (replicate n target) ts → (count ts ≡ n) × AreFormedSpots W64 AreNamed ts
+spots_of : (n : ℕ) (ts : Trees) → TreesFit (replicate n target) ts → (count ts ≡ n) × FormedSpots ts
 spots_of zero no_trees h = (refl, tt)
 spots_of zero (tree t ts) h = absurd h
 spots_of (suc n) no_trees h = absurd h
 spots_of (suc n) (tree t ts) h = let more = spots_of n ts h.1 in (ap suc more.0, (spot t h.0, more.1))
   where
-    spot : (t : Tree) → IsFormedSpot W64 AreNamed t ⊎ (t ≡ Omitted) → IsFormedSpot W64 AreNamed t
-    spot t (inl s) = s
-    spot t (inr e) = subst (IsFormedSpot W64 AreNamed) (sym e) tt
+    spot : (t : Tree) → IsThere t ⊎ (t ≡ Omitted) → FormedSpot t
+    spot t (inl s) = s.0
+    spot t (inr e) = subst FormedSpot (sym e) tt
 
 -- what a plain operator asks of its operands and targets
 pub record ArePlain (letters : List Letter) (targets : ℕ) (ts : Trees) : Type 0 where
-  pub operands : AreFormedOperands W64 AreNamed letters (operands_as letters ts)
+  pub operands : FormedOperands letters (operands_as letters ts)
   pub number : count (targets_of letters ts) ≡ targets
-  pub spots : AreFormedSpots W64 AreNamed (targets_of letters ts)
+  pub spots : FormedSpots (targets_of letters ts)
 
 pub plain_fits : (letters : List Letter) (targets : ℕ) (ts : Trees) → TreesFit (map by_letter letters ++ replicate targets target) ts → ArePlain letters targets ts
 plain_fits [] targets ts h = let spots = spots_of targets ts h in record { operands = tt; number = spots.0; spots = spots.1 }
 plain_fits (letter ∷ letters) targets no_trees h = absurd h
 plain_fits (Valued ∷ letters) targets (tree t ts) h =
     let more = plain_fits letters targets ts h.1 in
-    record { operands = subst (AreFormedOperands W64 AreNamed (Valued ∷ letters)) (sym (valued_same letters t ts h.0.0)) (h.0, more.operands); number = more.number; spots = more.spots }
+    record { operands = subst (FormedOperands (Valued ∷ letters)) (sym (valued_same letters t ts h.0.0)) (h.0, more.operands); number = more.number; spots = more.spots }
 plain_fits (Kept ∷ letters) targets (tree t ts) h = let more = plain_fits letters targets ts h.1 in record { operands = (h.0, more.operands); number = more.number; spots = more.spots }
-plain_fits (Placed ∷ letters) targets (tree t ts) h = let more = plain_fits letters targets ts h.1 in record { operands = (h.0, more.operands); number = more.number; spots = more.spots }
+plain_fits (Placed ∷ letters) targets (tree t ts) h = let more = plain_fits letters targets ts h.1 in record { operands = (h.0.0, more.operands); number = more.number; spots = more.spots }
 plain_fits (Used ∷ letters) targets (tree t ts) h = let more = plain_fits letters targets ts h.1 in record { operands = (h.0, more.operands); number = more.number; spots = more.spots }
 plain_fits (L.Raw size ∷ letters) targets (tree t ts) h = let more = plain_fits letters targets ts h.1 in record { operands = raw_ready size letters t ts h.0 more.operands; number = more.number; spots = more.spots }
+
+-- as many arguments as operands
+pub all_fit : (letters : List Letter) (ts : Trees) → TreesFit (map by_letter letters) ts → fits letters ts ≡ true
+all_fit [] no_trees h = refl
+all_fit [] (tree t ts) h = absurd h
+all_fit (letter ∷ letters) no_trees h = absurd h
+all_fit (letter ∷ letters) (tree t ts) h = all_fit letters ts h.1
+
+-- what is written with a symbol has no targets
+pub operands_fit : (letters : List Letter) (ts : Trees) → TreesFit (map by_letter letters) ts → FormedOperands letters (operands_as letters ts)
+operands_fit letters ts h = (plain_fits letters 0 ts (subst (λ qs. TreesFit qs ts) (sym (append-nil (map by_letter letters))) h)).operands

@@ -8,15 +8,18 @@ use Rattle.asl_tree.specs.declared.term.Op.{Op}
 use Rattle.asl_tree.specs.declared.term.Declaration.{Declaration}
 use Rattle.asl_tree.specs.declared.term.Control.{Control}
 use Rattle.asl_tree.specs.declared.term.Special.{Special}
+use Rattle.asl_tree.specs.declared.term.Symbolic.{Symbolic}
+use Rattle.asl_tree.specs.declared.term.Compound.{Compound}
 use Rattle.acpi_state.specs.Outcomes.{choose}
 use Rattle.asl_tree.specs.FieldItems.{FieldItem}
 use Rattle.asl_tree.specs.Tree.{At, Tree, Integer, Omitted, Use, Package, VarPackage, CondRefOf, Field, IndexField, BankField, Misshapen, UnitName, Trees, no_trees, tree, count}
 use Rattle.asl_tree.specs.View.{form, buffer, body_bytes, packaged, counted, items_in}
-use Rattle.named_sessions.specs.Shaped.{IsFormed, AreFormed, AreFormedElements, AreNamed}
+use Rattle.named_sessions.specs.Shaped.{AreNamed}
 use Rattle.asl_words.specs.declared.operator.Parameter.{Parameter}
 use Rattle.asl_words.specs.declared.operator.Slot.TheVariants as slot
 use Rattle.asl_words.specs.Operators.{asked, optional, expression, place, target, used, declared, space, constant}
-use Rattle.program_shapes.proofs.Fits.{Fits, Takes, TreesFit}
+use Rattle.program_shapes.proofs.Plains.{spot_value}
+use Rattle.program_shapes.proofs.Fits.{Fits, Takes, TreesFit, Formed, FormedElements, FormedTerms}
 
 -- ---- arguments of a known number
 
@@ -68,94 +71,103 @@ four_of q r s z (tree t ts) h = behind (three_of r s z ts h.1)
 at_most : ℕ → ℕ → Parameter
 at_most least most = asked (constant least most)
 
-pub condition_made : (here : At) (ts : Trees) → Two place target ts → IsFormed W64 AreNamed (form here (Op.Special Special.CondRefOf) ts no_trees)
-condition_made here _ (two t u h (inl i)) = (h, i)
-condition_made here _ (two t u h (inr e)) = subst (λ u. IsFormed W64 AreNamed (CondRefOf t u)) (sym e) (h, tt)
+pub condition_made : (here : At) (ts : Trees) → Two place target ts → Formed (form here (Op.Special Special.CondRefOf) ts no_trees)
+condition_made here _ (two t u h (inl i)) = (h.0, i.0)
+condition_made here _ (two t u h (inr e)) = subst (λ u. Formed (CondRefOf t u)) (sym e) (h.0, tt)
 
-pub return_made : (here : At) (ts : Trees) → One expression ts → IsFormed W64 AreNamed (form here (Op.Control Control.Return) ts no_trees)
+pub return_made : (here : At) (ts : Trees) → One expression ts → Formed (form here (Op.Control Control.Return) ts no_trees)
 return_made here _ (one t h) = h
 
-pub name_made : (here : At) (ts : Trees) → Two declared expression ts → IsFormed W64 AreNamed (form here (Op.Declaration Declaration.Name) ts no_trees)
+pub assign_made : (here : At) (ts : Trees) → Two place expression ts → Formed (form here (Op.Symbolic Symbolic.Assign) ts no_trees)
+assign_made here _ (two t u h i) = (tt, h.0, i.0, i.1)
+
+pub assign_by_made : (here : At) (op : Compound) (ts : Trees) → Two place expression ts → Formed (form here (Op.Symbolic (Symbolic.AssignBy op)) ts no_trees)
+assign_by_made here op _ (two t u h i) = let value = spot_value t h in (tt, h.0, value.0, value.1, i.0, i.1)
+
+pub name_made : (here : At) (ts : Trees) → Two declared expression ts → Formed (form here (Op.Declaration Declaration.Name) ts no_trees)
 name_made here _ (two (Use at name) value h i) = (h, i.0, i.1)
 name_made here _ (two _ value h i) = absurd h
 
-pub alias_made : (here : At) (ts : Trees) → Two used declared ts → IsFormed W64 AreNamed (form here (Op.Declaration Declaration.Alias) ts no_trees)
+pub alias_made : (here : At) (ts : Trees) → Two used declared ts → Formed (form here (Op.Declaration Declaration.Alias) ts no_trees)
 alias_made here _ (two (Use from source) (Use at name) h i) = (h, i)
 alias_made here _ (two (Use from source) _ h i) = absurd i
 alias_made here _ (two _ u h i) = absurd h
 
-pub event_made : (here : At) (ts : Trees) → One declared ts → IsFormed W64 AreNamed (form here (Op.Declaration Declaration.Event) ts no_trees)
+pub event_made : (here : At) (ts : Trees) → One declared ts → Formed (form here (Op.Declaration Declaration.Event) ts no_trees)
 event_made here _ (one (Use at name) h) = h
 event_made here _ (one _ h) = absurd h
 
-pub mutex_made : (here : At) (ts : Trees) → Two declared (asked (constant 0 255)) ts → IsFormed W64 AreNamed (form here (Op.Declaration Declaration.Mutex) ts no_trees)
+pub mutex_made : (here : At) (ts : Trees) → Two declared (asked (constant 0 255)) ts → Formed (form here (Op.Declaration Declaration.Mutex) ts no_trees)
 mutex_made here _ (two (Use at name) (Integer n) h i) = (h, omega (arith, i))
 mutex_made here _ (two (Use at name) _ h i) = absurd i
 mutex_made here _ (two _ u h i) = absurd h
 
-pub bits_made : (here : At) (ts : Trees) → Four expression expression expression declared ts → IsFormed W64 AreNamed (form here (Op.Declaration Declaration.CreateField) ts no_trees)
+pub bits_made : (here : At) (ts : Trees) → Four expression expression expression declared ts → Formed (form here (Op.Declaration Declaration.CreateField) ts no_trees)
 bits_made here _ (four t u v (Use at name) h i j k) = ((h, (i, (j, tt))), k)
 bits_made here _ (four t u v _ h i j k) = absurd k
 
-pub bit_made : (here : At) (ts : Trees) → Three expression expression declared ts → IsFormed W64 AreNamed (form here (Op.Declaration Declaration.CreateBitField) ts no_trees)
+pub bit_made : (here : At) (ts : Trees) → Three expression expression declared ts → Formed (form here (Op.Declaration Declaration.CreateBitField) ts no_trees)
 bit_made here _ (three t u (Use at name) h i j) = ((h, (i, tt)), j)
 bit_made here _ (three t u _ h i j) = absurd j
 
-pub byte_made : (here : At) (ts : Trees) → Three expression expression declared ts → IsFormed W64 AreNamed (form here (Op.Declaration Declaration.CreateByteField) ts no_trees)
+pub byte_made : (here : At) (ts : Trees) → Three expression expression declared ts → Formed (form here (Op.Declaration Declaration.CreateByteField) ts no_trees)
 byte_made here _ (three t u (Use at name) h i j) = ((h, (i, tt)), j)
 byte_made here _ (three t u _ h i j) = absurd j
 
-pub word_made : (here : At) (ts : Trees) → Three expression expression declared ts → IsFormed W64 AreNamed (form here (Op.Declaration Declaration.CreateWordField) ts no_trees)
+pub word_made : (here : At) (ts : Trees) → Three expression expression declared ts → Formed (form here (Op.Declaration Declaration.CreateWordField) ts no_trees)
 word_made here _ (three t u (Use at name) h i j) = ((h, (i, tt)), j)
 word_made here _ (three t u _ h i j) = absurd j
 
-pub dword_made : (here : At) (ts : Trees) → Three expression expression declared ts → IsFormed W64 AreNamed (form here (Op.Declaration Declaration.CreateDWordField) ts no_trees)
+pub dword_made : (here : At) (ts : Trees) → Three expression expression declared ts → Formed (form here (Op.Declaration Declaration.CreateDWordField) ts no_trees)
 dword_made here _ (three t u (Use at name) h i j) = ((h, (i, tt)), j)
 dword_made here _ (three t u _ h i j) = absurd j
 
-pub qword_made : (here : At) (ts : Trees) → Three expression expression declared ts → IsFormed W64 AreNamed (form here (Op.Declaration Declaration.CreateQWordField) ts no_trees)
+pub qword_made : (here : At) (ts : Trees) → Three expression expression declared ts → Formed (form here (Op.Declaration Declaration.CreateQWordField) ts no_trees)
 qword_made here _ (three t u (Use at name) h i j) = ((h, (i, tt)), j)
 qword_made here _ (three t u _ h i j) = absurd j
 
-pub region_made : (here : At) (ts : Trees) → Four declared space expression expression ts → IsFormed W64 AreNamed (form here (Op.Declaration Declaration.OperationRegion) ts no_trees)
+pub region_made : (here : At) (ts : Trees) → Four declared space expression expression ts → Formed (form here (Op.Declaration Declaration.OperationRegion) ts no_trees)
 region_made here _ (four (Use at name) (Integer n) v w h i j k) = (h, omega (arith, i), (j, (k, tt)))
 region_made here _ (four (Use at name) _ v w h i j k) = absurd i
 region_made here _ (four _ u v w h i j k) = absurd h
 
 -- ---- forms with a body
 
-pub if_made : (here : At) (ts body : Trees) → One expression ts → AreFormed W64 AreNamed body → IsFormed W64 AreNamed (form here (Op.Control Control.If) ts body)
+pub if_made : (here : At) (ts body : Trees) → One expression ts → FormedTerms body → Formed (form here (Op.Control Control.If) ts body)
 if_made here _ body (one t h) b = (h.0, h.1, b)
 
-pub while_made : (here : At) (ts body : Trees) → One expression ts → AreFormed W64 AreNamed body → IsFormed W64 AreNamed (form here (Op.Control Control.While) ts body)
+pub else_if_made : (here : At) (ts body : Trees) → One expression ts → FormedTerms body → Formed (form here (Op.Control Control.ElseIf) ts body)
+else_if_made here _ body (one t h) b = (tt, h.0, h.1, b)
+
+pub while_made : (here : At) (ts body : Trees) → One expression ts → FormedTerms body → Formed (form here (Op.Control Control.While) ts body)
 while_made here _ body (one t h) b = (h.0, h.1, b)
 
-pub device_made : (here : At) (ts body : Trees) → One declared ts → AreFormed W64 AreNamed body → IsFormed W64 AreNamed (form here (Op.Declaration Declaration.Device) ts body)
+pub device_made : (here : At) (ts body : Trees) → One declared ts → FormedTerms body → Formed (form here (Op.Declaration Declaration.Device) ts body)
 device_made here _ body (one (Use at name) h) b = (h, tt, b)
 device_made here _ body (one _ h) b = absurd h
 
-pub zone_made : (here : At) (ts body : Trees) → One declared ts → AreFormed W64 AreNamed body → IsFormed W64 AreNamed (form here (Op.Declaration Declaration.ThermalZone) ts body)
+pub zone_made : (here : At) (ts body : Trees) → One declared ts → FormedTerms body → Formed (form here (Op.Declaration Declaration.ThermalZone) ts body)
 zone_made here _ body (one (Use at name) h) b = (h, tt, b)
 zone_made here _ body (one _ h) b = absurd h
 
-pub scope_made : (here : At) (ts body : Trees) → One used ts → AreFormed W64 AreNamed body → IsFormed W64 AreNamed (form here (Op.Declaration Declaration.Scope) ts body)
+pub scope_made : (here : At) (ts body : Trees) → One used ts → FormedTerms body → Formed (form here (Op.Declaration Declaration.Scope) ts body)
 scope_made here _ body (one (Use at name) h) b = (h, b)
 scope_made here _ body (one _ h) b = absurd h
 
-pub method_made : (here : At) (ts body : Trees) → Two declared (asked (constant 0 255)) ts → AreFormed W64 AreNamed body → IsFormed W64 AreNamed (form here (Op.Declaration Declaration.Method) ts body)
+pub method_made : (here : At) (ts body : Trees) → Two declared (asked (constant 0 255)) ts → FormedTerms body → Formed (form here (Op.Declaration Declaration.Method) ts body)
 method_made here _ body (two (Use at name) (Integer n) h i) b = (h, omega (arith, i), b)
 method_made here _ body (two (Use at name) _ h i) b = absurd i
 method_made here _ body (two _ u h i) b = absurd h
 
-pub power_made : (here : At) (ts body : Trees) → Three declared (asked (constant 0 255)) (asked (constant 0 65535)) ts → AreFormed W64 AreNamed body
-    → IsFormed W64 AreNamed (form here (Op.Declaration Declaration.PowerResource) ts body)
+pub power_made : (here : At) (ts body : Trees) → Three declared (asked (constant 0 255)) (asked (constant 0 65535)) ts → FormedTerms body
+    → Formed (form here (Op.Declaration Declaration.PowerResource) ts body)
 power_made here _ body (three (Use at name) (Integer level) (Integer order) h i j) b = (h, (omega (arith, i), omega (arith, j)), b)
 power_made here _ body (three (Use at name) (Integer level) _ h i j) b = absurd j
 power_made here _ body (three (Use at name) _ v h i j) b = absurd i
 power_made here _ body (three _ u v h i j) b = absurd h
 
-pub processor_made : (here : At) (ts body : Trees) → Four declared (asked (constant 0 255)) (asked (constant 0 4294967295)) (asked (constant 0 255)) ts → AreFormed W64 AreNamed body
-    → IsFormed W64 AreNamed (form here (Op.Declaration Declaration.Processor) ts body)
+pub processor_made : (here : At) (ts body : Trees) → Four declared (asked (constant 0 255)) (asked (constant 0 4294967295)) (asked (constant 0 255)) ts → FormedTerms body
+    → Formed (form here (Op.Declaration Declaration.Processor) ts body)
 processor_made here _ body (four (Use at name) (Integer number) (Integer address) (Integer size) h i j k) b = (h, (omega (arith, i), omega (arith, j), omega (arith, k)), b)
 processor_made here _ body (four (Use at name) (Integer number) (Integer address) _ h i j k) b = absurd k
 processor_made here _ body (four (Use at name) (Integer number) _ w h i j k) b = absurd j
@@ -165,27 +177,27 @@ processor_made here _ body (four _ u v w h i j k) b = absurd h
 -- ---- data
 
 pub buffer_made : (here : At) (ts body : Trees) → One (optional slot.Expression) ts → length (body_bytes body) ≤ ones_of W64
-    → IsFormed W64 AreNamed (form here (Op.Special Special.Buffer) ts body)
-buffer_made here _ body (one t (inr e)) b = subst (λ t. IsFormed W64 AreNamed (buffer t (body_bytes body))) (sym e) (refl, b)
+    → Formed (form here (Op.Special Special.Buffer) ts body)
+buffer_made here _ body (one t (inr e)) b = subst (λ t. Formed (buffer t (body_bytes body))) (sym e) (refl, b)
 buffer_made here _ body (one t (inl h)) b = sized t h
   where
-    sized : (t : Tree) → Fits slot.Expression t → IsFormed W64 AreNamed (buffer t (body_bytes body))
+    sized : (t : Tree) → Fits slot.Expression t → Formed (buffer t (body_bytes body))
     sized Omitted h = absurd cc
     sized _ h = h
 
-counted_made : (n : ℕ) (elements : Trees) → n ≤ ones_of W64 → AreFormedElements W64 AreNamed elements → IsFormed W64 AreNamed (counted n elements)
+counted_made : (n : ℕ) (elements : Trees) → n ≤ ones_of W64 → FormedElements elements → Formed (counted n elements)
 counted_made n elements h es = by (nat_le n 255) refl
   where
-    by : (b : Bool) → nat_le n 255 ≡ b → IsFormed W64 AreNamed (if b then Package n elements else VarPackage (Integer n) elements)
+    by : (b : Bool) → nat_le n 255 ≡ b → Formed (if b then Package n elements else VarPackage (Integer n) elements)
     by true e = (omega (arith, leb-true n 255 e), es)
     by false e = (refl, h, es)
 
-pub package_made : (here : At) (ts body : Trees) → One (optional slot.Expression) ts → AreFormedElements W64 AreNamed body → count body ≤ ones_of W64
-    → IsFormed W64 AreNamed (form here (Op.Special Special.Package) ts body)
-package_made here _ body (one t (inr e)) es b = subst (λ t. IsFormed W64 AreNamed (packaged t body)) (sym e) (counted_made (count body) body b es)
+pub package_made : (here : At) (ts body : Trees) → One (optional slot.Expression) ts → FormedElements body → count body ≤ ones_of W64
+    → Formed (form here (Op.Special Special.Package) ts body)
+package_made here _ body (one t (inr e)) es b = subst (λ t. Formed (packaged t body)) (sym e) (counted_made (count body) body b es)
 package_made here _ body (one t (inl h)) es b = sized t h
   where
-    sized : (t : Tree) → Fits slot.Expression t → IsFormed W64 AreNamed (packaged t body)
+    sized : (t : Tree) → Fits slot.Expression t → Formed (packaged t body)
     sized Omitted h = absurd cc
     sized (Integer n) h = counted_made n body h.1 es
     sized _ h = (h.0, h.1, es)
@@ -197,23 +209,23 @@ abbrev pub ListFit : Option (List (FieldItem UnitName)) → Type 0
 ListFit None = ⊥
 ListFit (Some items) = AreNamed items
 
-listed_made : (o : Option (List (FieldItem UnitName))) (made : List (FieldItem UnitName) → Tree) → ListFit o → ((items : List (FieldItem UnitName)) → AreNamed items → IsFormed W64 AreNamed (made items))
-    → IsFormed W64 AreNamed (choose o Misshapen made)
+listed_made : (o : Option (List (FieldItem UnitName))) (made : List (FieldItem UnitName) → Tree) → ListFit o → ((items : List (FieldItem UnitName)) → AreNamed items → Formed (made items))
+    → Formed (choose o Misshapen made)
 listed_made None made b go = absurd b
 listed_made (Some items) made b go = go items b
 
-pub field_made : (here : At) (ts body : Trees) → Two used (asked (constant 0 255)) ts → ListFit (items_in body) → IsFormed W64 AreNamed (form here (Op.Declaration Declaration.Field) ts body)
+pub field_made : (here : At) (ts body : Trees) → Two used (asked (constant 0 255)) ts → ListFit (items_in body) → Formed (form here (Op.Declaration Declaration.Field) ts body)
 field_made here _ body (two (Use from region) (Integer n) h i) b = listed_made (items_in body) (λ items. Field here from region n items) b (λ items k. (h, omega (arith, i), k))
 field_made here _ body (two (Use from region) _ h i) b = absurd i
 field_made here _ body (two _ u h i) b = absurd h
 
-pub index_made : (here : At) (ts body : Trees) → Three used used (asked (constant 0 255)) ts → ListFit (items_in body) → IsFormed W64 AreNamed (form here (Op.Declaration Declaration.IndexField) ts body)
+pub index_made : (here : At) (ts body : Trees) → Three used used (asked (constant 0 255)) ts → ListFit (items_in body) → Formed (form here (Op.Declaration Declaration.IndexField) ts body)
 index_made here _ body (three (Use from index) (Use to register) (Integer n) h i j) b = listed_made (items_in body) (λ items. IndexField here from index to register n items) b (λ items k. (h, i, omega (arith, j), k))
 index_made here _ body (three (Use from index) (Use to register) _ h i j) b = absurd j
 index_made here _ body (three (Use from index) _ v h i j) b = absurd i
 index_made here _ body (three _ u v h i j) b = absurd h
 
-pub bank_made : (here : At) (ts body : Trees) → Four used used expression (asked (constant 0 255)) ts → ListFit (items_in body) → IsFormed W64 AreNamed (form here (Op.Declaration Declaration.BankField) ts body)
+pub bank_made : (here : At) (ts body : Trees) → Four used used expression (asked (constant 0 255)) ts → ListFit (items_in body) → Formed (form here (Op.Declaration Declaration.BankField) ts body)
 bank_made here _ body (four (Use from region) (Use to bank) value (Integer n) h i j k) b =
     listed_made (items_in body) (λ items. BankField here from region to bank value n items) b (λ items l. (h, i, j.0, j.1, omega (arith, k), l))
 bank_made here _ body (four (Use from region) (Use to bank) value _ h i j k) b = absurd k

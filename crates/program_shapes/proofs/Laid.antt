@@ -1,4 +1,4 @@
--- A tree that is formed, and whose lists of fields have no fault, is shaped.
+-- In a tree that is formed, and whose lists of fields have no fault, no Offset goes back and each count of bits can be written.
 use Rattle.std.proofs.Common.{◌≡◌, ℕ, suc, ◌-◌, ◌*◌, ◌^◌, ◌<◌, Bool, true, false, List, [], ◌∷◌, Option, Some, None, refl, arith}
 use Rattle.std.specs.Prelude.{nat_le, nat_lt, nat_eq, if◌then◌else◌}
 use Rattle.std.proofs.lemmas.Bool.{leb-false}
@@ -12,7 +12,7 @@ use Rattle.asl_tree.specs.Tree.{Tree, Integer, Constant, String, InSlot, Debug, 
 use Rattle.acpi_state.specs.FieldActs.{field_letters}
 use Rattle.field_layout.specs.Layout.{bits_fault, item_fault, first_fault}
 use Rattle.aml_sessions.specs.Ready.{is_expression, SpotReady, IsItem, AreItems}
-use Rattle.named_sessions.specs.Shaped.{LetterShaped, ElementShaped, AreNamed, IsFormed, IsFormedSpot, IsFormedAlone, AreFormedOperands, AreFormedSpots, AreFormedValues, AreFormedElements, AreFormed, IsShaped, IsShapedSpot, IsShapedAlone, AreShapedOperands, AreShapedSpots, AreShapedValues, AreShapedElements, AreShaped}
+use Rattle.named_sessions.specs.Shaped.{LetterShaped, ElementShaped, AreNamed, IsFormed, IsFormedSpot, IsFormedAlone, AreFormedOperands, AreFormedSpots, AreFormedValues, AreFormedElements, AreFormed}
 use Rattle.program_shapes.proofs.Lists.{list_faults, term_faults, layout_faults, none_before}
 
 -- ---- lists of fields
@@ -71,9 +71,17 @@ spot_by NoSpot R I R' I' r i h = h
 never : {A : Type 0} → false ≡ true → A
 never e = absurd cc
 
-module _ (width : Width) where
-  letter_laid : (letter : Letter) (t : Tree) → (is_expression t ≡ true → IsFormed width AreNamed t → IsShaped width t) → (IsFormedSpot width AreNamed t → IsShapedSpot width t)
-      → LetterShaped letter t ((is_expression t ≡ true) × IsFormed width AreNamed t) (IsFormedSpot width AreNamed t) → LetterShaped letter t ((is_expression t ≡ true) × IsShaped width t) (IsShapedSpot width t)
+-- with symbols or without
+module _ (width : Width) (Symbols : Type 0) where
+  -- trees in whose lists no Offset goes back and each count of bits can be written
+  abbrev Laid : Tree → Type 0
+  Laid = IsFormed width (AreItems 0) Symbols
+
+  abbrev LaidSpot : Tree → Type 0
+  LaidSpot = IsFormedSpot width (AreItems 0) Symbols
+
+  letter_laid : (letter : Letter) (t : Tree) → (is_expression t ≡ true → IsFormed width AreNamed Symbols t → Laid t) → (IsFormedSpot width AreNamed Symbols t → LaidSpot t)
+      → LetterShaped letter t ((is_expression t ≡ true) × IsFormed width AreNamed Symbols t) (IsFormedSpot width AreNamed Symbols t) → LetterShaped letter t ((is_expression t ≡ true) × Laid t) (LaidSpot t)
   letter_laid Valued t value spot h = (h.0, value h.0 h.1)
   letter_laid Kept t value spot h = (h.0, value h.0 h.1)
   letter_laid Placed t value spot h = spot h
@@ -82,7 +90,7 @@ module _ (width : Width) where
 
   mutual
     -- an expression has no list of a field in it
-    value_laid : (t : Tree) → is_expression t ≡ true → IsFormed width AreNamed t → IsShaped width t
+    value_laid : (t : Tree) → is_expression t ≡ true → IsFormed width AreNamed Symbols t → Laid t
     value_laid (Integer number) e h = h
     value_laid (Constant literal) e h = h
     value_laid (String text) e h = h
@@ -95,42 +103,51 @@ module _ (width : Width) where
     value_laid (Package n elements) e h = (h.0, elements_laid elements h.1)
     value_laid (VarPackage size elements) e h = (h.0, value_laid size h.0 h.1, elements_laid elements h.2)
     value_laid (CondRefOf place target) e h = (spot_laid place h.0, spot_laid target h.1)
+    value_laid (Operated op args) e h = (h.0, h.1, operands_laid (row_of op).operands args h.2)
+    value_laid (Assigned target value) e h = (h.0, spot_laid target h.1, h.2, value_laid value h.2 h.3)
+    value_laid (AssignedBy op target value) e h = (h.0, spot_laid target h.1, h.2, value_laid target h.2 h.3, h.4, value_laid value h.4 h.5)
     value_laid _ e h = absurd cc
 
-    spot_laid : (t : Tree) → IsFormedSpot width AreNamed t → IsShapedSpot width t
+    spot_laid : (t : Tree) → IsFormedSpot width AreNamed Symbols t → LaidSpot t
     spot_laid Omitted h = tt
     spot_laid Debug h = tt
     spot_laid (InSlot slot) h = h
     spot_laid (Use at name) h = h
     spot_laid (Apply op args targets) h = (
       h.0,
-      spot_by (spot_form op) (AreFormedOperands width AreNamed (row_of op).operands args × (count targets ≡ (row_of op).targets) × AreFormedSpots width AreNamed targets) (IsFormedAlone width AreNamed args targets)
-          (AreShapedOperands width (row_of op).operands args × (count targets ≡ (row_of op).targets) × AreShapedSpots width targets) (IsShapedAlone width args targets)
+      spot_by (spot_form op) (AreFormedOperands width AreNamed Symbols (row_of op).operands args × (count targets ≡ (row_of op).targets) × AreFormedSpots width AreNamed Symbols targets) (IsFormedAlone width AreNamed Symbols args targets)
+          (AreFormedOperands width (AreItems 0) Symbols (row_of op).operands args × (count targets ≡ (row_of op).targets) × AreFormedSpots width (AreItems 0) Symbols targets) (IsFormedAlone width (AreItems 0) Symbols args targets)
           (λ r. (operands_laid (row_of op).operands args r.0, r.1, spots_laid targets r.2)) (λ i. alone_laid args targets i) h.1,
+    )
+    spot_laid (Operated op args) h = (
+      h.0,
+      h.1,
+      spot_by (spot_form op) (AreFormedOperands width AreNamed Symbols (row_of op).operands args) ⊥ (AreFormedOperands width (AreItems 0) Symbols (row_of op).operands args) ⊥
+          (λ r. operands_laid (row_of op).operands args r) (λ i. i) h.2,
     )
     spot_laid _ h = absurd h
 
-    alone_laid : (args targets : Trees) → IsFormedAlone width AreNamed args targets → IsShapedAlone width args targets
+    alone_laid : (args targets : Trees) → IsFormedAlone width AreNamed Symbols args targets → IsFormedAlone width (AreItems 0) Symbols args targets
     alone_laid (tree t no_trees) no_trees h = (h.0, value_laid t h.0 h.1)
     alone_laid no_trees targets h = absurd h
     alone_laid (tree t no_trees) (tree u us) h = absurd h
     alone_laid (tree t (tree v vs)) targets h = absurd h
 
-    operands_laid : (letters : List Letter) (ts : Trees) → AreFormedOperands width AreNamed letters ts → AreShapedOperands width letters ts
+    operands_laid : (letters : List Letter) (ts : Trees) → AreFormedOperands width AreNamed Symbols letters ts → AreFormedOperands width (AreItems 0) Symbols letters ts
     operands_laid [] no_trees h = tt
     operands_laid [] (tree t ts) h = absurd h
     operands_laid (letter ∷ letters) no_trees h = absurd h
     operands_laid (letter ∷ letters) (tree t ts) h = (letter_laid letter t (λ e k. value_laid t e k) (λ k. spot_laid t k) h.0, operands_laid letters ts h.1)
 
-    spots_laid : (ts : Trees) → AreFormedSpots width AreNamed ts → AreShapedSpots width ts
+    spots_laid : (ts : Trees) → AreFormedSpots width AreNamed Symbols ts → AreFormedSpots width (AreItems 0) Symbols ts
     spots_laid no_trees h = tt
     spots_laid (tree t ts) h = (spot_laid t h.0, spots_laid ts h.1)
 
-    values_laid : (ts : Trees) → AreFormedValues width AreNamed ts → AreShapedValues width ts
+    values_laid : (ts : Trees) → AreFormedValues width AreNamed Symbols ts → AreFormedValues width (AreItems 0) Symbols ts
     values_laid no_trees h = tt
     values_laid (tree t ts) h = (h.0, value_laid t h.0 h.1, values_laid ts h.2)
 
-    element_laid : (t : Tree) → ElementShaped t (IsFormed width AreNamed t) → ElementShaped t (IsShaped width t)
+    element_laid : (t : Tree) → ElementShaped t (IsFormed width AreNamed Symbols t) → ElementShaped t (Laid t)
     element_laid (Use at name) h = h
     element_laid (Integer number) h = h
     element_laid (Constant literal) h = h
@@ -140,12 +157,12 @@ module _ (width : Width) where
     element_laid (VarPackage size elements) h = (h.0, (h.1.0, value_laid size h.1.0 h.1.1, elements_laid elements h.1.2))
     element_laid _ h = never h.0
 
-    elements_laid : (ts : Trees) → AreFormedElements width AreNamed ts → AreShapedElements width ts
+    elements_laid : (ts : Trees) → AreFormedElements width AreNamed Symbols ts → AreFormedElements width (AreItems 0) Symbols ts
     elements_laid no_trees h = tt
     elements_laid (tree t ts) h = (element_laid t h.0, elements_laid ts h.1)
 
   mutual
-    term_laid : (t : Tree) → IsFormed width AreNamed t → term_faults t ≡ [] → IsShaped width t
+    term_laid : (t : Tree) → IsFormed width AreNamed Symbols t → term_faults t ≡ [] → Laid t
     term_laid (Return value) h e = (h.0, value_laid value h.0 h.1)
     term_laid (Name at name value) h e = (h.0, h.1, value_laid value h.1 h.2)
     term_laid (Alias from source at name) h e = h
@@ -170,10 +187,10 @@ module _ (width : Width) where
     term_laid (Item item) h e = absurd h
     term_laid (Fill bytes) h e = absurd h
     term_laid Misshapen h e = absurd h
-    term_laid (Operated op args) h e = absurd h
-    term_laid (Assigned target value) h e = absurd h
-    term_laid (AssignedBy op target value) h e = absurd h
-    term_laid (ElseIf test body) h e = absurd h
+    term_laid (Operated op args) h e = value_laid (Operated op args) refl h
+    term_laid (Assigned target value) h e = value_laid (Assigned target value) refl h
+    term_laid (AssignedBy op target value) h e = value_laid (AssignedBy op target value) refl h
+    term_laid (ElseIf test body) h e = (h.0, h.1, value_laid test h.1 h.2, terms_laid body h.3 e)
     term_laid (Integer number) h e = h
     term_laid (Constant literal) h e = h
     term_laid (String text) h e = h
@@ -187,6 +204,6 @@ module _ (width : Width) where
     term_laid (VarPackage size elements) h e = value_laid (VarPackage size elements) refl h
     term_laid (CondRefOf place target) h e = value_laid (CondRefOf place target) refl h
 
-    pub terms_laid : (ts : Trees) → AreFormed width AreNamed ts → layout_faults ts ≡ [] → AreShaped width ts
+    pub terms_laid : (ts : Trees) → AreFormed width AreNamed Symbols ts → layout_faults ts ≡ [] → AreFormed width (AreItems 0) Symbols ts
     terms_laid no_trees h e = tt
     terms_laid (tree t ts) h e = let none = none_before (term_faults t) (layout_faults ts) e in (term_laid t h.0 none.0, terms_laid ts h.1 none.1)

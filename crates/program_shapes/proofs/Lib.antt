@@ -19,5 +19,8 @@ pub mod Headers
 pub mod OwnNames
 pub mod Lists
 pub mod Laid
+pub mod Lowered
+pub mod Cores
 pub mod Tables
 pub mod ListPlaces
+pub mod RegionPlaces

@@ -46,7 +46,7 @@ module _ (files : ℕ) where
     all_within no_plans h = tt
     all_within (plan place p ps) h = both (term_errors p) (all_errors ps) (term_within p h.1) (all_within ps h.2)
 
-  as_all : (ms : List Message) → AreTold files ms → All (λ m. m.place.file < files) ms
+  pub as_all : (ms : List Message) → AreTold files ms → All (λ m. m.place.file < files) ms
   as_all [] h = λ i m lt. absurd (omega (arith, lt))
   as_all (m ∷ ms) h = All-cons (λ m. m.place.file < files) m ms h.0 (as_all ms h.1)
 

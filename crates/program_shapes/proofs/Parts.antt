@@ -17,11 +17,12 @@ use Rattle.asl_tree.specs.declared.term.Op.{Op}
 use Rattle.asl_tree.specs.declared.term.Control.{Control}
 use Rattle.asl_tree.specs.declared.term.Declaration.{Declaration}
 use Rattle.asl_tree.specs.declared.term.Special.TheVariants as Special
+use Rattle.asl_tree.specs.declared.term.Symbolic.TheVariants as Symbolic
+use Rattle.asl_tree.specs.declared.term.Compound.{Compound}
 use Rattle.asl_tree.specs.Tree.{At, Tree, Integer, String, Omitted, Package, VarPackage, Trees, no_trees, tree, count}
 use Rattle.asl_tree.specs.View.{form, counted}
 use Rattle.aml_code.specs.Fronts.{IsUsedName}
 use Rattle.aml_sessions.specs.Ready.{is_expression, IsText}
-use Rattle.named_sessions.specs.Shaped.{IsFormed, IsFormedSpot, AreFormedValues, AreNamed}
 use Rattle.asl_words.specs.declared.operator.Slot.{Slot}
 use Rattle.asl_words.specs.declared.operator.Slot.TheVariants as slot
 use Rattle.asl_words.specs.declared.operator.StringForm.{StringForm}
@@ -32,18 +33,18 @@ use Rattle.asl_words.specs.declared.meaning.Meaning.{Meaning}
 use Rattle.asl_words.specs.declared.meaning.Meaning.TheVariants as is
 use Rattle.asl_words.specs.declared.meaning.Reading.TheVariants as read
 use Rattle.asl_words.specs.Paths.{path_of}
-use Rattle.asl_words.specs.Operators.{parameters_of, body_of, role_of, event_role, place, target}
+use Rattle.asl_words.specs.Operators.{parameters_of, body_of, role_of, event_role, place, target, expression}
 use Rattle.asl_parser.specs.Written.{Writtens}
-use Rattle.asl_shape.specs.Plans.{Plan, an_integer, a_text, Plans}
-use Rattle.asl_shape.specs.Shapes.{Shaped, fine, refused, number_shape, text_shape, string_shape, listed_shape, types_shape, are_all_types, known_plan, path_shape, call_shape, form_shape, settled, item_shape, read_shape}
+use Rattle.asl_shape.specs.Plans.{Plan, an_integer, a_text, Plans, no_plans}
+use Rattle.asl_shape.specs.Shapes.{Shaped, fine, refused, number_shape, text_shape, string_shape, listed_shape, types_shape, are_all_types, known_plan, path_shape, call_shape, form_shape, symbol_shape, settled, item_shape, read_shape}
 use Rattle.asl_words.specs.Meanings.{takes_role, takes_known, takes_expression, takes_path, is_value, is_place, item_fault, reading_of, name_reading, unless_wrong, may_be, is_unknown, wants_braces, is_same, is_field_element}
 use Rattle.asl_words.specs.Texts.{has_form, is_all_text, is_text_byte}
 use Rattle.asl_shape.specs.Shapes as shapes
-use Rattle.program_shapes.proofs.Fits.{Fits, IsAtMost, IsNumber, IsElement}
-use Rattle.program_shapes.proofs.Plains.{plain_made, index_spot, deref_spot}
+use Rattle.program_shapes.proofs.Fits.{IsThere, Fits, IsAtMost, IsNumber, IsElement, Formed, FormedValues}
+use Rattle.program_shapes.proofs.Plains.{plain_made, symbol_made, index_spot, deref_spot, symbol_spot}
 use Rattle.program_shapes.proofs.Forms.{Two, two, two_of}
-use Rattle.program_shapes.proofs.Operators.{SettledFit, BodyFit, IsBuilt, form_made}
-use Rattle.program_shapes.proofs.Words.{IsRightKnown, IsRightMeaning, both_true}
+use Rattle.program_shapes.proofs.Operators.{SettledFit, BodyFit, form_made}
+use Rattle.program_shapes.proofs.Words.{IsSpelled, IsRightKnown, IsRightMeaning, both_true}
 use Rattle.asl_numbers.specs.Numbers.{numbered, numbered_all}
 use Rattle.program_shapes.proofs.Plans.{PlanAs, PlansAs, PlansFit, integer_as, text_as, local_as, arg_as, debug_as, name_as, call_as, form_as}
 use Rattle.program_shapes.proofs.Settled.{settled_fit}
@@ -101,22 +102,22 @@ path_fit s at None h t e = absurd cc
 path_fit slot.Expression at (Some path) h t e = name_as (Fits slot.Expression) path (λ at. (refl, h))
 path_fit (slot.Constant least most) at (Some path) h t e = name_as (Fits slot.Expression) path (λ at. (refl, h))
 path_fit slot.Element at (Some path) h t e = name_as (Fits slot.Expression) path (λ at. (refl, h))
-path_fit slot.Place at (Some path) h t e = name_as (Fits slot.Place) path (λ at. h)
-path_fit slot.Named at (Some path) h t e = name_as (Fits slot.Named) path (λ at. h)
+path_fit slot.Place at (Some path) h t e = name_as (Fits slot.Place) path (λ at. (h, refl))
+path_fit slot.Named at (Some path) h t e = name_as (Fits slot.Named) path (λ at. (h, refl))
 path_fit slot.Declared at (Some path) h t e = name_as (Fits slot.Declared) path (λ at. h.is_name)
 path_fit slot.External at (Some path) h t e = name_as (Fits slot.External) path (λ at. h.is_name)
 path_fit slot.Used at (Some path) h t e = name_as (Fits slot.Used) path (λ at. h)
 path_fit slot.FieldElement at (Some path) h t e = name_as (Fits slot.FieldElement) path (λ at. h)
-path_fit (slot.Term behind) at (Some path) h t e = name_as (IsFormed W64 AreNamed) path (λ at. h)
+path_fit (slot.Term run) at (Some path) h t e = name_as Formed path (λ at. h)
 path_fit _ at (Some path) h t e = absurd cc
 
-pub call_fit : (s : Slot) (at : Place) (o : Option Path) (args : Shaped Plans) → IfSome o IsUsedName → takes_expression s ≡ true → (args.faults ≡ [] → PlansAs (AreFormedValues W64 AreNamed) args.made) → (call_shape at o args).faults ≡ []
+pub call_fit : (s : Slot) (at : Place) (o : Option Path) (args : Shaped Plans) → IfSome o IsUsedName → takes_expression s ≡ true → (args.faults ≡ [] → PlansAs FormedValues args.made) → (call_shape at o args).faults ≡ []
     → PlanAs (Fits (loose s)) (call_shape at o args).made
 call_fit s at None args h t k e = absurd cc
 call_fit slot.Expression at (Some path) args h t k e = call_as (Fits slot.Expression) path args.made (λ at m. (refl, (h, k e m)))
 call_fit (slot.Constant least most) at (Some path) args h t k e = call_as (Fits slot.Expression) path args.made (λ at m. (refl, (h, k e m)))
 call_fit slot.Element at (Some path) args h t k e = call_as (Fits slot.Expression) path args.made (λ at m. (refl, (h, k e m)))
-call_fit (slot.Term behind) at (Some path) args h t k e = call_as (IsFormed W64 AreNamed) path args.made (λ at m. (h, k e m))
+call_fit (slot.Term run) at (Some path) args h t k e = call_as Formed path args.made (λ at m. (h, k e m))
 call_fit _ at (Some path) args h t k e = absurd cc
 
 pub known_fit : (s : Slot) (k : Known) → IsRightKnown k → takes_known s k ≡ true → PlanAs (Fits (loose s)) (known_plan s k)
@@ -126,22 +127,22 @@ known_fit _ (known.Word kind n) h t = absurd cc
 known_fit slot.Expression (known.Local i) h t = local_as (Fits slot.Expression) i (refl, h)
 known_fit (slot.Constant least most) (known.Local i) h t = local_as (Fits slot.Expression) i (refl, h)
 known_fit slot.Element (known.Local i) h t = local_as (Fits slot.Expression) i (refl, h)
-known_fit slot.Place (known.Local i) h t = local_as (Fits slot.Place) i h
-known_fit slot.Named (known.Local i) h t = local_as (Fits slot.Named) i h
-known_fit (slot.Term behind) (known.Local i) h t = local_as (IsFormed W64 AreNamed) i h
+known_fit slot.Place (known.Local i) h t = local_as (Fits slot.Place) i (h, refl)
+known_fit slot.Named (known.Local i) h t = local_as (Fits slot.Named) i (h, refl)
+known_fit (slot.Term run) (known.Local i) h t = local_as Formed i h
 known_fit _ (known.Local i) h t = absurd cc
 known_fit slot.Expression (known.Arg i) h t = arg_as (Fits slot.Expression) i (refl, h)
 known_fit (slot.Constant least most) (known.Arg i) h t = arg_as (Fits slot.Expression) i (refl, h)
 known_fit slot.Element (known.Arg i) h t = arg_as (Fits slot.Expression) i (refl, h)
-known_fit slot.Place (known.Arg i) h t = arg_as (Fits slot.Place) i h
-known_fit slot.Named (known.Arg i) h t = arg_as (Fits slot.Named) i h
-known_fit (slot.Term behind) (known.Arg i) h t = arg_as (IsFormed W64 AreNamed) i h
+known_fit slot.Place (known.Arg i) h t = arg_as (Fits slot.Place) i (h, refl)
+known_fit slot.Named (known.Arg i) h t = arg_as (Fits slot.Named) i (h, refl)
+known_fit (slot.Term run) (known.Arg i) h t = arg_as Formed i h
 known_fit _ (known.Arg i) h t = absurd cc
 known_fit slot.Expression known.Debug h t = debug_as (Fits slot.Expression) (refl, tt)
 known_fit (slot.Constant least most) known.Debug h t = debug_as (Fits slot.Expression) (refl, tt)
 known_fit slot.Element known.Debug h t = debug_as (Fits slot.Expression) (refl, tt)
-known_fit slot.Place known.Debug h t = debug_as (Fits slot.Place) tt
-known_fit (slot.Term behind) known.Debug h t = debug_as (IsFormed W64 AreNamed) tt
+known_fit slot.Place known.Debug h t = debug_as (Fits slot.Place) (tt, refl)
+known_fit (slot.Term run) known.Debug h t = debug_as Formed tt
 known_fit _ known.Debug h t = absurd cc
 known_fit _ known.LeftOut h t = absurd cc
 known_fit _ known.Offset h t = absurd cc
@@ -151,8 +152,8 @@ known_fit _ known.Offset h t = absurd cc
 -- what an operator's role says of its tree
 pub record OpFits (op : Op) (t : Tree) : Type 0 where
   pub value : is_value (role_of op) ≡ true → is_expression t ≡ true
-  pub spot : is_place (role_of op) ≡ true → IsFormedSpot W64 AreNamed t
-  pub shaped : IsFormed W64 AreNamed t
+  pub spot : is_place (role_of op) ≡ true → IsThere t
+  pub shaped : Formed t
 
 event_spot : (op : EventOp) → is_place (event_role op) ≡ true → ⊥
 event_spot EventOp.Acquire e = absurd cc
@@ -177,17 +178,21 @@ control_value : (op : Control) → is_value (role_of (Op.Control op)) ≡ true �
 control_value Control.Return e = absurd cc
 control_value _ e = absurd cc
 
-spot_made : (at : At) (op : Op) (ts body : Trees) → SettledFit op ts → BodyFit (body_of op) body → is_place (role_of op) ≡ true → IsFormedSpot W64 AreNamed (form at op ts body)
+spot_made : (at : At) (op : Op) (ts body : Trees) → IsSpelled op → SettledFit op ts → BodyFit (body_of op) body → is_place (role_of op) ≡ true → IsThere (form at op ts body)
 unfolding parameters_of
-spot_made at (Op.Plain (Plain.Data DataOp.Index)) ts body h b e = subst (λ body. IsFormedSpot W64 AreNamed (form at (Op.Plain (Plain.Data DataOp.Index)) ts body)) (sym b) (index_spot ts h)
-spot_made at (Op.Plain (Plain.Data DataOp.DerefOf)) ts body h b e = subst (λ body. IsFormedSpot W64 AreNamed (form at (Op.Plain (Plain.Data DataOp.DerefOf)) ts body)) (sym b) (deref_spot ts h)
-spot_made at (Op.Plain (Plain.Event op)) ts body h b e = absurd (event_spot op e)
-spot_made at (Op.Plain (Plain.Number op)) ts body h b e = absurd cc
-spot_made at (Op.Declaration op) ts body h b e = absurd (declaration_spot op e)
-spot_made at (Op.Control op) ts body h b e = absurd (control_spot op e)
-spot_made at _ ts body h b e = absurd cc
+spot_made at (Op.Plain (Plain.Data DataOp.Index)) ts body i h b e = subst (λ body. IsThere (form at (Op.Plain (Plain.Data DataOp.Index)) ts body)) (sym b) (index_spot ts h)
+spot_made at (Op.Plain (Plain.Data DataOp.DerefOf)) ts body i h b e = subst (λ body. IsThere (form at (Op.Plain (Plain.Data DataOp.DerefOf)) ts body)) (sym b) (deref_spot ts h)
+spot_made at (Op.Plain (Plain.Event op)) ts body i h b e = absurd (event_spot op e)
+spot_made at (Op.Plain (Plain.Number op)) ts body i h b e = absurd cc
+spot_made at (Op.Symbolic (Symbolic.Operator (Plain.Data DataOp.Index))) ts body i h b e = subst (λ body. IsThere (form at (Op.Symbolic (Symbolic.Operator (Plain.Data DataOp.Index))) ts body)) (sym b) (symbol_spot ts h)
+spot_made at (Op.Symbolic (Symbolic.Operator (Plain.Data DataOp.DerefOf))) ts body i h b e = absurd i
+spot_made at (Op.Symbolic (Symbolic.Operator (Plain.Event op))) ts body i h b e = absurd (event_spot op e)
+spot_made at (Op.Symbolic (Symbolic.Operator (Plain.Number op))) ts body i h b e = absurd cc
+spot_made at (Op.Declaration op) ts body i h b e = absurd (declaration_spot op e)
+spot_made at (Op.Control op) ts body i h b e = absurd (control_spot op e)
+spot_made at _ ts body i h b e = absurd cc
 
-buffer_value : (at : At) (ts body : Trees) → IsFormed W64 AreNamed (form at (Op.Special Special.Buffer) ts body) → is_expression (form at (Op.Special Special.Buffer) ts body) ≡ true
+buffer_value : (at : At) (ts body : Trees) → Formed (form at (Op.Special Special.Buffer) ts body) → is_expression (form at (Op.Special Special.Buffer) ts body) ≡ true
 buffer_value at no_trees body h = absurd h
 buffer_value at (tree Omitted no_trees) body h = refl
 buffer_value at (tree _ no_trees) body h = refl
@@ -200,7 +205,7 @@ counted_value n bs = by (nat_le n 255)
     by true = refl
     by false = refl
 
-package_value : (at : At) (ts body : Trees) → IsFormed W64 AreNamed (form at (Op.Special Special.Package) ts body) → is_expression (form at (Op.Special Special.Package) ts body) ≡ true
+package_value : (at : At) (ts body : Trees) → Formed (form at (Op.Special Special.Package) ts body) → is_expression (form at (Op.Special Special.Package) ts body) ≡ true
 package_value at no_trees body h = absurd h
 package_value at (tree Omitted no_trees) body h = counted_value (count body) body
 package_value at (tree (Integer n) no_trees) body h = counted_value n body
@@ -210,36 +215,54 @@ package_value at (tree t (tree u us)) body h = absurd h
 condition_value : (at : At) (ts : Trees) → Two place target ts → is_expression (form at (Op.Special Special.CondRefOf) ts no_trees) ≡ true
 condition_value at _ (two t u h i) = refl
 
-literal_value : (at : At) (l : _) (ts body : Trees) → IsFormed W64 AreNamed (form at (Op.Literal l) ts body) → is_expression (form at (Op.Literal l) ts body) ≡ true
+literal_value : (at : At) (l : _) (ts body : Trees) → Formed (form at (Op.Literal l) ts body) → is_expression (form at (Op.Literal l) ts body) ≡ true
 literal_value at l no_trees no_trees h = refl
 literal_value at l no_trees (tree t ts) h = absurd h
 literal_value at l (tree t ts) bs h = absurd h
 
-value_made : (at : At) (op : Op) (ts body : Trees) → IsBuilt op → SettledFit op ts → BodyFit (body_of op) body → is_value (role_of op) ≡ true → is_expression (form at op ts body) ≡ true
-unfolding parameters_of
-value_made at (Op.Plain op) ts body i h b e = subst (λ body. is_expression (form at (Op.Plain op) ts body) ≡ true) (sym b) (plain_made op ts h).0
-value_made at (Op.Literal l) ts body i h b e = literal_value at l ts body (form_made at (Op.Literal l) ts body i h b)
-value_made at (Op.Special Special.CondRefOf) ts body i h b e = subst (λ body. is_expression (form at (Op.Special Special.CondRefOf) ts body) ≡ true) (sym b) (condition_value at ts (two_of place target ts h))
-value_made at (Op.Special Special.Buffer) ts body i h b e = buffer_value at ts body (form_made at (Op.Special Special.Buffer) ts body i h b)
-value_made at (Op.Special Special.Package) ts body i h b e = package_value at ts body (form_made at (Op.Special Special.Package) ts body i h b)
-value_made at (Op.Symbolic symbol) ts body i h b e = absurd i
-value_made at (Op.Declaration op) ts body i h b e = absurd (declaration_value op e)
-value_made at (Op.Control op) ts body i h b e = absurd (control_value op e)
+assign_value : (at : At) (ts : Trees) → Two place expression ts → is_expression (form at (Op.Symbolic Symbolic.Assign) ts no_trees) ≡ true
+assign_value at _ (two t u h i) = refl
 
-pub form_fit : (op : Op) (at : Place) (gs bs : Shaped Plans) → IsBuilt op → (gs.faults ≡ [] → PlansFit (parameters_of op) gs.made) → (bs.faults ≡ [] → PlansAs (BodyFit (body_of op)) bs.made) → (form_shape op at gs bs).faults ≡ []
+assign_by_value : (at : At) (op : Compound) (ts : Trees) → Two place expression ts → is_expression (form at (Op.Symbolic (Symbolic.AssignBy op)) ts no_trees) ≡ true
+assign_by_value at op _ (two t u h i) = refl
+
+value_made : (at : At) (op : Op) (ts body : Trees) → SettledFit op ts → BodyFit (body_of op) body → is_value (role_of op) ≡ true → is_expression (form at op ts body) ≡ true
+unfolding parameters_of
+value_made at (Op.Plain op) ts body h b e = subst (λ body. is_expression (form at (Op.Plain op) ts body) ≡ true) (sym b) (plain_made op ts h).0
+value_made at (Op.Literal l) ts body h b e = literal_value at l ts body (form_made at (Op.Literal l) ts body h b)
+value_made at (Op.Special Special.CondRefOf) ts body h b e = subst (λ body. is_expression (form at (Op.Special Special.CondRefOf) ts body) ≡ true) (sym b) (condition_value at ts (two_of place target ts h))
+value_made at (Op.Special Special.Buffer) ts body h b e = buffer_value at ts body (form_made at (Op.Special Special.Buffer) ts body h b)
+value_made at (Op.Special Special.Package) ts body h b e = package_value at ts body (form_made at (Op.Special Special.Package) ts body h b)
+value_made at (Op.Symbolic (Symbolic.Operator op)) ts body h b e = subst (λ body. is_expression (form at (Op.Symbolic (Symbolic.Operator op)) ts body) ≡ true) (sym b) (symbol_made op ts h).0
+value_made at (Op.Symbolic Symbolic.Assign) ts body h b e = subst (λ body. is_expression (form at (Op.Symbolic Symbolic.Assign) ts body) ≡ true) (sym b) (assign_value at ts (two_of place expression ts h))
+value_made at (Op.Symbolic (Symbolic.AssignBy op)) ts body h b e =
+    subst (λ body. is_expression (form at (Op.Symbolic (Symbolic.AssignBy op)) ts body) ≡ true) (sym b) (assign_by_value at op ts (two_of place expression ts h))
+value_made at (Op.Declaration op) ts body h b e = absurd (declaration_value op e)
+value_made at (Op.Control op) ts body h b e = absurd (control_value op e)
+
+pub form_fit : (op : Op) (at : Place) (gs bs : Shaped Plans) → IsSpelled op → (gs.faults ≡ [] → PlansFit (parameters_of op) gs.made) → (bs.faults ≡ [] → PlansAs (BodyFit (body_of op)) bs.made) → (form_shape op at gs bs).faults ≡ []
     → PlanAs (OpFits op) (form_shape op at gs bs).made
 form_fit op at gs bs i h k e = form_as (OpFits op) op (settled op at gs.made) bs.made (λ here m n. made here (numbered_all m (settled op at gs.made)) (numbered_all n bs.made) (settled_fit op at gs.made (h (none_in gs.faults bs.faults e).0) m) (k (none_in gs.faults bs.faults e).1 n))
   where
     made : (here : At) (ts body : Trees) → SettledFit op ts → BodyFit (body_of op) body → OpFits op (form here op ts body)
-    made here ts body a b = record { value = value_made here op ts body i a b; spot = spot_made here op ts body a b; shaped = form_made here op ts body i a b }
+    made here ts body a b = record { value = value_made here op ts body a b; spot = spot_made here op ts body i a b; shaped = form_made here op ts body a b }
 
 pub role_fit : (s : Slot) (op : Op) → takes_role s (role_of op) ≡ true → (t : Tree) → OpFits op t → Fits (loose s) t
 role_fit slot.Expression op e t h = (h.value e, h.shaped)
 role_fit (slot.Constant least most) op e t h = (h.value e, h.shaped)
 role_fit slot.Element op e t h = (h.value e, h.shaped)
 role_fit slot.Place op e t h = h.spot e
-role_fit (slot.Term behind) op e t h = h.shaped
+role_fit (slot.Term run) op e t h = h.shaped
 role_fit _ op e t h = absurd cc
+
+-- what is written with a symbol, where it stands
+pub symbol_fit : (s : Slot) (at : Place) (op : Op) (gs : Shaped Plans) → IsSpelled op → PlansAs (BodyFit (body_of op)) no_plans → (gs.faults ≡ [] → PlansFit (parameters_of op) gs.made) → (symbol_shape s at op gs).faults ≡ []
+    → PlanAs (Fits (loose s)) (symbol_shape s at op gs).made
+symbol_fit s at op gs i b h e = by (takes_role s (role_of op)) refl e
+  where
+    by : (t : Bool) → takes_role s (role_of op) ≡ t → (if t then form_shape op at gs (fine no_plans) else refused 6022 at).faults ≡ [] → PlanAs (Fits (loose s)) (if t then form_shape op at gs (fine no_plans) else refused 6022 at).made
+    by true t e = λ here n. role_fit s op t (numbered here n (form_shape op at gs (fine no_plans)).made) (form_fit op at gs (fine no_plans) i h (λ f. b) e here n)
+    by false t e = absurd cc
 
 -- ---- names as they are read
 
@@ -248,7 +271,7 @@ has_call is.Name = true
 has_call is.Path = true
 has_call _ = false
 
-named_fit : (s : Slot) (at : Place) (text : List ℕ) (called : Bool) (calls : Shaped Plans) (offset : Shaped Plan) (form : Op → Shaped Plan) → IfSome (path_of text) IsUsedName → (calls.faults ≡ [] → PlansAs (AreFormedValues W64 AreNamed) calls.made)
+named_fit : (s : Slot) (at : Place) (text : List ℕ) (called : Bool) (calls : Shaped Plans) (offset : Shaped Plan) (form : Op → Shaped Plan) → IfSome (path_of text) IsUsedName → (calls.faults ≡ [] → PlansAs FormedValues calls.made)
     → (read_shape s at text (name_reading s called) calls offset form).faults ≡ [] → PlanAs (Fits (loose s)) (read_shape s at text (name_reading s called) calls offset form).made
 named_fit s at text true calls offset form path h e = by (takes_expression s) refl e
   where
@@ -269,7 +292,7 @@ begun slot.FieldElement p e h = h
 begun _ p e h = absurd cc
 
 pub read_fit : (s : Slot) (at : Place) (text : List ℕ) (m : Meaning) (called : Bool) (calls : Shaped Plans) (offset : Shaped Plan) (form : Op → Shaped Plan) → IsRightMeaning m → IfSome (path_of text) IsUsedName
-    → (has_call m ≡ true → calls.faults ≡ [] → PlansAs (AreFormedValues W64 AreNamed) calls.made)
+    → (has_call m ≡ true → calls.faults ≡ [] → PlansAs FormedValues calls.made)
     → ((op : Op) → m ≡ is.Operator op → (form op).faults ≡ [] → PlanAs (OpFits op) (form op).made)
     → (offset.faults ≡ [] → PlanAs IsElement offset.made)
     → (read_shape s at text (reading_of s m called) calls offset form).faults ≡ []

@@ -9,6 +9,7 @@ use Rattle.asl_tree.specs.declared.constant.NoConstant.{NoConstant}
 use Rattle.asl_tree.specs.declared.path.Path.{Path}
 use Rattle.asl_tree.specs.declared.program.Block.{Block}
 use Rattle.asl_tree.specs.declared.term.Op.{Op}
+use Rattle.asl_tree.specs.declared.term.Special.TheVariants as Special
 use Rattle.asl_tree.specs.declared.term.Declaration.{Declaration}
 use Rattle.asl_tree.specs.declared.term.Control.{Control}
 use Rattle.asl_parser.specs.declared.raw.Raw.{Raw}
@@ -32,9 +33,10 @@ use Rattle.asl_shape.specs.declared.fields.Due.{Due}
 use Rattle.asl_shape.specs.declared.fields.UnitName.{UnitName}
 use Rattle.asl_shape.specs.Plans.{Plan, an_integer, a_text, a_name, Plans, no_plans, plan, plan_at, join, first_plans, first_alone, number_of, is_omitted, constant_of, plans_of}
 use Rattle.asl_words.specs.Paths.{path_of}
-use Rattle.asl_words.specs.Operators.{parameters_of, body_of, offset_parameters}
-use Rattle.asl_shape.specs.Shapes.{Shaped, fine, refused, nowhere, valued, evaluated, after, checked, is_member, is_given, count, has_arguments, are_all_types, number_shape, string_shape, text_shape, path_shape, call_shape, known_plan, listed_shape, read_shape, item_shape, form_shape, method_flags, one_plan, zero_plan, is_stated, stated_parameters, settled, within, place_of, left_out, is_separator, is_listed, byte_slot, list_shape, skipped, behind_if, bare, operands, call_args, arguments, arguments_in, contents, members, terms, inside_of, is_element, field_flags, field_settled, offset_shape, meaning_in, is_field_list, begin, field_slot, named_unit, unit_behind, is_offset_plan, offset_alone, of_bits, field_part, due_behind, elements}
-use Rattle.asl_words.specs.Meanings.{item_fault, meaning_of, reading_of, takes_expression, slot_as}
+use Rattle.asl_words.specs.Operators.{parameters_of, body_of, role_of, offset_parameters}
+use Rattle.asl_shape.specs.Symbols.{symbol_of}
+use Rattle.asl_shape.specs.Shapes.{Shaped, fine, refused, nowhere, valued, evaluated, after, checked, is_member, is_given, count, has_arguments, are_all_types, number_shape, string_shape, text_shape, path_shape, call_shape, known_plan, listed_shape, read_shape, item_shape, form_shape, method_flags, one_plan, zero_plan, is_stated, stated_parameters, few_elements, settled, within, place_of, left_out, is_separator, is_listed, byte_slot, list_shape, skipped, run_after, bare, operands, call_args, arguments, arguments_in, contents, members, terms, inside_of, is_element, field_flags, field_settled, offset_shape, meaning_in, is_field_list, begin, field_slot, named_unit, unit_behind, is_offset_plan, offset_alone, of_bits, field_part, due_behind, elements}
+use Rattle.asl_words.specs.Meanings.{item_fault, meaning_of, reading_of, takes_expression, takes_role, slot_as}
 use Rattle.asl_words.specs.Texts.{is_all_text, has_form}
 use Rattle.asl_shape.specs.Forms.{block_terms, terms_of, IsBlockOf}
 use Rattle.asl_parser.specs.Within.{IsIn, IsWithin, AreWithin, IsGroupWithin}
@@ -50,7 +52,7 @@ module _ (files : ℕ) where
   string_in f place bytes = either (has_form f bytes && is_all_text bytes) (fine (a_text bytes)) (refused 6024 place) tt tt
 
   number_in : (s : Slot) (place : Place) (n : ℕ) → PlanWithin files (number_shape s place n).made
-  number_in (slot.Term behind) place n = tt
+  number_in (slot.Term run) place n = tt
   number_in s place n = either (takes_expression s) (fine (an_integer (wrapped W64 n))) (refused 6022 place) tt tt
 
   text_in : (s : Slot) (place : Place) (bytes : List ℕ) → PlanWithin files (text_shape s place bytes).made
@@ -139,6 +141,10 @@ module _ (files : ℕ) where
   return_in true place ps h k = k
   return_in false place ps h k = (h, (tt, tt), tt)
 
+  package_in : (o : Option ℕ) (place : Place) (ps : Plans) → IsIn files place → PlansWithin files ps → PlansWithin files (choose o ps (λ n. one_plan place (an_integer n)))
+  package_in None place ps h k = k
+  package_in (Some n) place ps h k = (h, tt, tt)
+
   settled_in : (o : Op) (place : Place) (ps : Plans) → IsIn files place → PlansWithin files ps → PlansWithin files (settled o place ps)
   settled_in (Op.Declaration Declaration.Method) place ps h k = behind_first place ps (method_flags ps) h k
   settled_in (Op.Declaration Declaration.Mutex) place ps h k = behind_first place ps (number_of (plan_at ps 1) % 16) h k
@@ -148,6 +154,7 @@ module _ (files : ℕ) where
   settled_in (Op.Declaration Declaration.IndexField) place ps h k = field_in 2 place ps h k
   settled_in (Op.Declaration Declaration.BankField) place ps h k = field_in 3 place ps h k
   settled_in (Op.Control Control.Return) place ps h k = return_in (is_stated (plan_at ps 0)) place ps h k
+  settled_in (Op.Special Special.Package) place ps h k = package_in (few_elements (constant_of (plan_at ps 0))) place ps h k
   settled_in _ place ps h k = k
 
   left_out_in : (place : Place) (qs : List Parameter) → IsIn files place → PlansWithin files (left_out place qs)
@@ -220,7 +227,10 @@ module _ (files : ℕ) where
       bare_in s inside (piece.number place n) h = number_in s place n
       bare_in s inside (piece.text place bytes) h = text_in s place bytes
       bare_in s inside (listed place ws) h = listed_in s place ws
-      bare_in s inside (apply place o ws) h = tt
+      bare_in s inside (apply place o ws) h =
+          let args : Shaped Plans = arguments_in (parameters_of (symbol_of o)) place inside ws in
+          either (takes_role s (role_of (symbol_of o))) (form_shape (symbol_of o) place args (fine no_plans)) (refused 6022 place)
+          (settled_in (symbol_of o) place args.made h.0 (arguments_in_within (parameters_of (symbol_of o)) place inside ws h.0 h.1), tt) tt
       bare_in s inside (item place w args body) h =
           let meaning = meaning_of w (is_given body) in
           let form : Op → Shaped Plan = λ o. form_shape o place (arguments (parameters_of o) place inside args) (contents (body_of o) (within o inside) place body) in
@@ -254,7 +264,7 @@ module _ (files : ℕ) where
       contents_in : (b : Body) (inside : Bool) (place : Place) (body : Group) → IsGroupWithin files body → PlansWithin files (contents b inside place body).made
       contents_in b inside place absent h = tt
       contents_in braces.No inside place (given ws) h = tt
-      contents_in braces.Terms inside place (given ws) h = terms_in inside false ws h
+      contents_in braces.Terms inside place (given ws) h = terms_in inside None ws h
       contents_in braces.Bytes inside place (given ws) h = list_in place (is_listed true ws) (members (byte_slot ws) inside ws) (members_in (byte_slot ws) inside ws h)
       contents_in braces.Elements inside place (given ws) h = list_in place (is_listed true ws) (members slot.Element inside ws) (members_in slot.Element inside ws h)
       contents_in braces.FieldList inside place (given ws) h = list_in place (is_field_list begin ws) (elements begin None inside ws) (elements_in begin None inside ws tt h)
@@ -276,15 +286,15 @@ module _ (files : ℕ) where
           skipped_in (is_separator w) (place_of nowhere w) (checked s (place_of nowhere w) (bare s inside w)) (members s inside ws) (place_in nowhere w main h.0)
           (checked_in s (place_of nowhere w) (bare s inside w) (bare_in s inside w h.0)) (members_in s inside ws h.1)
 
-      terms_in : (inside behind : Bool) (ws : Writtens) → AreWithin files ws → PlansWithin files (terms inside behind ws).made
-      terms_in inside behind none h = tt
-      terms_in inside behind (more w ws) h =
-          skipped_in (is_separator w) (place_of nowhere w) (checked (slot.Term behind) (place_of nowhere w) (bare (slot.Term behind) inside w)) (terms inside (behind_if behind w) ws) (place_in nowhere w main h.0)
-          (checked_in (slot.Term behind) (place_of nowhere w) (bare (slot.Term behind) inside w) (bare_in (slot.Term behind) inside w h.0)) (terms_in inside (behind_if behind w) ws h.1)
+      terms_in : (inside : Bool) (run : Option ℕ) (ws : Writtens) → AreWithin files ws → PlansWithin files (terms inside run ws).made
+      terms_in inside run none h = tt
+      terms_in inside run (more w ws) h =
+          skipped_in (is_separator w) (place_of nowhere w) (checked (slot.Term run) (place_of nowhere w) (bare (slot.Term run) inside w)) (terms inside (run_after run w) ws) (place_in nowhere w main h.0)
+          (checked_in (slot.Term run) (place_of nowhere w) (bare (slot.Term run) inside w) (bare_in (slot.Term run) inside w h.0)) (terms_in inside (run_after run w) ws h.1)
 
     body_in : (body : Group) → IsGroupWithin files body → PlansWithin files (block_terms body).made
     body_in absent h = tt
-    body_in (given ws) h = terms_in false false ws h
+    body_in (given ws) h = terms_in false None ws h
 
 -- the terms that a source makes, with errors or without, stand in the files in which its parts stand
 pub terms_within : (files : ℕ) (ws : Writtens) → AreWithin files ws → PlansWithin files (terms_of ws)

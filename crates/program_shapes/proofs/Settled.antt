@@ -1,6 +1,10 @@
 -- The arguments of a form as they stand in the tree fit where those that are written fit.
 use Rattle.std.proofs.Common.{◌≡◌, inl, inr, ℕ, ◌+◌, ◌*◌, ◌%◌, ◌<◌, ◌≤◌, Bool, true, false, [], ◌∷◌, refl, sym, subst, arith}
-use Rattle.std.specs.Prelude.{if◌then◌else◌}
+use Rattle.std.specs.Prelude.{nat_le, if◌then◌else◌, Some, None, Result, Ok, Err}
+use Rattle.std.proofs.lemmas.Bool.{leb-true}
+use Rattle.acpi_state.specs.Outcomes.{choose}
+use Rattle.asl_tree.specs.declared.constant.NoConstant.{NoConstant}
+use Rattle.asl_tree.specs.declared.term.Special.TheVariants as Special
 use Rattle.std.proofs.lemmas.Nat.{mod_below}
 use Rattle.iasl_messages.specs.declared.place.Place.{Place}
 use Rattle.asl_tree.specs.declared.term.Op.{Op}
@@ -11,9 +15,9 @@ use Rattle.asl_tree.specs.Tree.{At, Tree, Trees, no_trees}
 use Rattle.asl_tree.specs.View.{form}
 use Rattle.asl_words.specs.declared.operator.Parameter.{Parameter}
 use Rattle.asl_words.specs.declared.operator.Slot.TheVariants as slot
-use Rattle.asl_words.specs.Operators.{asked, expression, declared, used, external, constant, parameters_of}
-use Rattle.asl_shape.specs.Plans.{Plan, an_integer, omitted, a_form, Plans, no_plans, plan, number_of, plan_at}
-use Rattle.asl_shape.specs.Shapes.{settled, method_flags, field_flags, is_stated, one_plan, zero_plan, stated_parameters}
+use Rattle.asl_words.specs.Operators.{asked, optional, expression, declared, used, external, constant, parameters_of}
+use Rattle.asl_shape.specs.Plans.{Plan, an_integer, omitted, a_form, Plans, no_plans, plan, number_of, plan_at, constant_of}
+use Rattle.asl_shape.specs.Shapes.{settled, method_flags, field_flags, is_stated, one_plan, zero_plan, stated_parameters, few_elements, package_settled}
 use Rattle.program_shapes.proofs.Fits.{Fits, TreesFit, IsAtMost, IsNumber}
 use Rattle.program_shapes.proofs.Forms.{Two, two, two_of, Three, three, three_of}
 use Rattle.program_shapes.proofs.Operators.{SettledFit, ExternalFit}
@@ -76,6 +80,20 @@ external_fit place at p q n m h = by (is_stated q)
         external_two (numbered_all m (plan at p (plan place (an_integer n) no_plans))) (two_of external types (numbered_all m (plan at p (plan place (an_integer n) no_plans)))
         (fits_as (external ∷ types ∷ []) (plan at p (plan place (an_integer n) no_plans)) (h, (integer_as IsNumber n tt, tt)) m))
 
+package_fit : (place : Place) (ps : Plans) → PlansFit (optional slot.Expression ∷ []) ps → PlansAs (TreesFit (optional slot.Expression ∷ [])) (package_settled place ps)
+package_fit place ps h = by (constant_of (plan_at ps 0))
+  where
+    alone : (n : ℕ) → n ≤ 255 → PlansAs (TreesFit (optional slot.Expression ∷ [])) (one_plan place (an_integer n))
+    alone n le = fits_as (optional slot.Expression ∷ []) (one_plan place (an_integer n)) (inl (integer_as (Fits slot.Expression) n (refl, omega (arith, le))), tt)
+
+    if_few : (n : ℕ) (b : Bool) → nat_le n 255 ≡ b → PlansAs (TreesFit (optional slot.Expression ∷ [])) (choose (if b then Some n else None) ps (λ n. one_plan place (an_integer n)))
+    if_few n true e = alone n (leb-true n 255 e)
+    if_few n false e = fits_as (optional slot.Expression ∷ []) ps h
+
+    by : (r : Result ℕ NoConstant) → PlansAs (TreesFit (optional slot.Expression ∷ [])) (choose (few_elements r) ps (λ n. one_plan place (an_integer n)))
+    by (Ok n) = if_few n (nat_le n 255) refl
+    by (Err e) = fits_as (optional slot.Expression ∷ []) ps h
+
 pub settled_fit : (op : Op) (place : Place) (ps : Plans) → PlansFit (parameters_of op) ps → PlansAs (SettledFit op) (settled op place ps)
 unfolding parameters_of
 settled_fit (Op.Declaration Declaration.Method) place no_plans h = absurd h
@@ -114,4 +132,5 @@ settled_fit (Op.Declaration Declaration.BankField) place (plan at p (plan b q (p
     let flags : ℕ = field_flags 3 ps in
     let few : flags ≤ 255 = field_flags_fit (number_of (plan_at ps 3)) (number_of (plan_at ps 4)) (number_of (plan_at ps 5)) in
     fits_as (used ∷ used ∷ expression ∷ byte ∷ []) (plan at p (plan b q (plan c r (plan place (an_integer flags) no_plans)))) (h.0, (h.1.0, (h.1.1.0, (integer_as (IsAtMost 255) flags few, tt))))
+settled_fit (Op.Special Special.Package) place ps h = package_fit place ps h
 settled_fit op place ps h = fits_as (parameters_of op) ps h

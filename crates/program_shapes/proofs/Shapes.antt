@@ -1,5 +1,5 @@
 -- A source without errors has a shape: each part of it fits where it stands.
-use Rattle.std.proofs.Common.{◌≡◌, inl, inr, ℕ, suc, ◌+◌, ◌<◌, ◌≤◌, Bool, true, false, List, [], ◌∷◌, ◌++◌, length, zero, Option, Some, None, refl, ap, subst, arith}
+use Rattle.std.proofs.Common.{◌≡◌, inl, inr, ℕ, suc, ◌+◌, ◌<◌, ◌≤◌, Bool, true, false, List, [], ◌∷◌, ◌++◌, length, zero, Option, Some, None, refl, sym, ap, subst, arith}
 use Rattle.std.specs.Prelude.{nat_le, not, ◌||◌, if◌then◌else◌}
 use Rattle.std.proofs.lemmas.List.{length-append}
 use Rattle.iasl_messages.specs.declared.place.Place.{Place}
@@ -13,7 +13,7 @@ use Rattle.asl_tree.specs.Names.{single_in}
 use Rattle.asl_tree.specs.Tree.{Tree, Integer, String, Item, UnitName as FieldName, Trees, no_trees, tree, count}
 use Rattle.asl_tree.specs.View.{body_bytes, items_in, listed as bytes_listed}
 use Rattle.aml_code.specs.Fronts.{IsUsedName, AreSegments, is_segment}
-use Rattle.named_sessions.specs.Shaped.{IsFormed, AreFormed, AreFormedElements, AreFormedValues, AreNamed}
+use Rattle.named_sessions.specs.Shaped.{AreNamed}
 use Rattle.asl_words.specs.declared.operator.Parameter.{Parameter}
 use Rattle.asl_words.specs.declared.operator.Slot.{Slot}
 use Rattle.asl_words.specs.declared.operator.Slot.TheVariants as slot
@@ -29,18 +29,20 @@ use Rattle.asl_shape.specs.declared.fields.UnitName.{UnitName}
 use Rattle.asl_parser.specs.Written as piece
 use Rattle.asl_parser.specs.Written.{Written, Writtens, Group, item, apply, listed, comma, semicolon, empty, none, more, absent, given}
 use Rattle.asl_shape.specs.Plans.{Plan, omitted, a_name, a_unit, a_skip, an_offset, Plans, no_plans, plan, join, number_of, how_many}
-use Rattle.asl_shape.specs.Shapes.{Shaped, fine, refused, nowhere, is_given, is_empty, is_separator, inside_of, has_arguments, takes, none_empty, is_call, left_out, evaluated, checked, place_of, joined, skipped, list_shape, is_listed, byte_slot, behind_if, within, form_shape, bare, operands, call_args, arguments, arguments_in, contents, members, terms, read_shape, string_shape, fault_at, offset_shape, meaning_in, is_field_list, begin, field_slot, named_unit, unit_behind, offset_alone, of_bits, field_part, due_behind, elements}
+use Rattle.asl_shape.specs.Shapes.{Shaped, fine, refused, nowhere, is_given, is_empty, is_separator, inside_of, has_arguments, takes, none_empty, is_call, left_out, evaluated, checked, place_of, joined, skipped, list_shape, is_listed, byte_slot, run_after, within, form_shape, bare, operands, call_args, arguments, arguments_in, contents, members, terms, read_shape, string_shape, fault_at, offset_shape, meaning_in, is_field_list, begin, field_slot, named_unit, unit_behind, offset_alone, of_bits, field_part, due_behind, elements}
 use Rattle.asl_words.specs.Meanings.{meaning_of, may_end, reading_of, slot_as, is_space_word}
 use Rattle.asl_shape.specs.Shapes as shapes
+use Rattle.asl_shape.specs.Symbols.{symbol_of}
+use Rattle.asl_parser.specs.declared.raw.Infix.{Infix}
 use Rattle.program_shapes.specs.Kept.{IsKept, AreArguments, EachArgument, AreMembers, EachMember}
-use Rattle.program_shapes.proofs.Fits.{Fits, IsAtMost, IsNumber, IsElement}
+use Rattle.program_shapes.proofs.Fits.{Fits, IsAtMost, IsNumber, IsElement, Formed, FormedValues, FormedElements, FormedTerms}
 use Rattle.program_shapes.proofs.Forms.{ListFit}
 use Rattle.program_shapes.proofs.Operators.{BodyFit}
-use Rattle.program_shapes.proofs.Words.{path_ok, meaning_ok, both_true, IsRightMeaning}
+use Rattle.program_shapes.proofs.Words.{path_ok, meaning_ok, symbol_spelled, both_true, IsRightMeaning}
 use Rattle.asl_numbers.specs.Numbers.{numbered, numbered_all}
 use Rattle.program_shapes.proofs.Plans.{PlanAs, PlansAs, PlanTakes, PlansFit, none_as, more_as, count_as}
 use Rattle.program_shapes.proofs.Evaluated.{loose, checked_fit}
-use Rattle.program_shapes.proofs.Parts.{none_in, number_fit, text_fit, string_fit, listed_fit, form_fit, read_fit, item_fit, has_call}
+use Rattle.program_shapes.proofs.Parts.{none_in, number_fit, text_fit, string_fit, listed_fit, form_fit, symbol_fit, read_fit, item_fit, has_call}
 
 not_true : (b : Bool) → not b ≡ true → b ≡ false
 not_true true e = absurd cc
@@ -265,6 +267,14 @@ next_fits Due.Comma unit place separator shape u h e = tt
 right_of : (m : Meaning) (op : Op) → m ≡ is.Operator op → IsRightMeaning m → IsRightMeaning (is.Operator op)
 right_of m op e h = subst IsRightMeaning e h
 
+-- no braces stand behind a symbol
+symbol_body : (o : Infix) → body_of (symbol_of o) ≡ braces.No
+symbol_body Infix.Index = refl
+symbol_body _ = refl
+
+no_body : (o : Infix) → PlansAs (BodyFit (body_of (symbol_of o))) no_plans
+no_body o = subst (λ b. PlansAs (BodyFit b) no_plans) (sym (symbol_body o)) (none_as (BodyFit braces.No) refl)
+
 -- ---- the whole
 
 mutual
@@ -272,7 +282,8 @@ mutual
   bare_fit s inside (piece.number at n) k sep emp e = number_fit s at n e
   bare_fit s inside (piece.text at bytes) k sep emp e = text_fit s at bytes e
   bare_fit s inside (listed at ws) k sep emp e = listed_fit s at ws e
-  bare_fit s inside (apply at o ws) k sep emp e = absurd cc
+  bare_fit s inside (apply at o ws) k sep emp e =
+      symbol_fit s at (symbol_of o) (arguments_in (parameters_of (symbol_of o)) at inside ws) (symbol_spelled o) (no_body o) (λ f. each_fit (parameters_of (symbol_of o)) at inside ws k.0 k.1 f) e
   bare_fit s inside (item at w args body) k sep emp e =
       let m : Meaning = meaning_of w (is_given body) in
       let form : Op → Shaped Plan = λ o. form_shape o at (arguments (parameters_of o) at inside args) (contents (body_of o) (within o inside) at body) in
@@ -290,18 +301,18 @@ mutual
   bare_fit s inside semicolon k sep emp e = absurd cc
   bare_fit s inside empty k sep emp e = absurd cc
 
-  calls_fit : (inside : Bool) (args : Group) → AreArguments args → none_empty (inside_of args) ≡ true → (call_args inside args).faults ≡ [] → PlansAs (AreFormedValues W64 AreNamed) (call_args inside args).made
-  calls_fit inside absent k t e = none_as (AreFormedValues W64 AreNamed) tt
+  calls_fit : (inside : Bool) (args : Group) → AreArguments args → none_empty (inside_of args) ≡ true → (call_args inside args).faults ≡ [] → PlansAs FormedValues (call_args inside args).made
+  calls_fit inside absent k t e = none_as FormedValues tt
   calls_fit inside (given ws) k t e = values_fit inside ws k t e
 
-  values_fit : (inside : Bool) (ws : Writtens) → EachArgument ws → none_empty ws ≡ true → (operands slot.Expression inside ws).faults ≡ [] → PlansAs (AreFormedValues W64 AreNamed) (operands slot.Expression inside ws).made
-  values_fit inside none k t e = none_as (AreFormedValues W64 AreNamed) tt
+  values_fit : (inside : Bool) (ws : Writtens) → EachArgument ws → none_empty ws ≡ true → (operands slot.Expression inside ws).faults ≡ [] → PlansAs FormedValues (operands slot.Expression inside ws).made
+  values_fit inside none k t e = none_as FormedValues tt
   values_fit inside (more w ws) k t e =
       let first : Shaped Plan = checked slot.Expression (place_of nowhere w) (bare slot.Expression inside w) in
       let rest : Shaped Plans = operands slot.Expression inside ws in
       let f = none_in first.faults rest.faults e in
       let g = both_true (not (is_empty w)) (none_empty ws) t in
-      more_as (AreFormedValues W64 AreNamed) (AreFormedValues W64 AreNamed) (Fits slot.Expression) (place_of nowhere w) first.made rest.made (λ t ts h i. (h.0, h.1, i))
+      more_as FormedValues FormedValues (Fits slot.Expression) (place_of nowhere w) first.made rest.made (λ t ts h i. (h.0, h.1, i))
       (checked_fit slot.Expression (place_of nowhere w) (bare slot.Expression inside w) (λ h. bare_fit slot.Expression inside w k.0 k.1 (not_true (is_empty w) g.0) h) f.0) (values_fit inside ws k.2 g.1 f.1)
 
   arguments_fit : (qs : List Parameter) (at : Place) (inside : Bool) (args : Group) → AreArguments args → takes qs (inside_of args) ≡ true → (arguments qs at inside args).faults ≡ [] → PlansFit qs (arguments qs at inside args).made
@@ -325,7 +336,7 @@ mutual
   contents_fit braces.FieldList inside at absent k e = none_as AreListed tt
   contents_fit braces.Elements inside at absent k e = none_as (BodyFit braces.Elements) (tt, omega arith)
   contents_fit braces.No inside at (given ws) k e = none_as (BodyFit braces.No) refl
-  contents_fit braces.Terms inside at (given ws) k e = terms_fit inside false ws k.0 e
+  contents_fit braces.Terms inside at (given ws) k e = terms_fit inside None ws k.0 e
   contents_fit braces.Bytes inside at (given ws) k e = list_fit (BodyFit braces.Bytes) (is_listed true ws) at (members (byte_slot ws) inside ws) (λ f. bytes_fit inside ws k.0 k.1 (λ g. octets_fit inside ws k.0 g) f) e
   contents_fit braces.FieldList inside at (given ws) k e = list_fit AreListed (is_field_list begin ws) at (elements begin None inside ws) (λ f. parts_fit begin None inside ws tt k.0 f) e
   contents_fit braces.Elements inside at (given ws) k e =
@@ -350,10 +361,10 @@ mutual
       let fits : UnitFits next = next_fits due unit at (is_separator w) shape u (λ sep g. checked_fit (field_slot due) at (bare (field_slot due) inside w) (λ h. bare_fit (field_slot due) inside w k.0 sep k.1 h) g) f.0 in
       part_fit due unit at (is_separator w) shape rest.made u (parts_fit (due_behind due w) next inside ws fits k.2 f.1)
 
-  elements_fit : (inside : Bool) (ws : Writtens) → EachMember ws → (members slot.Element inside ws).faults ≡ [] → PlansAs (AreFormedElements W64 AreNamed) (members slot.Element inside ws).made
-  elements_fit inside none k e = none_as (AreFormedElements W64 AreNamed) tt
+  elements_fit : (inside : Bool) (ws : Writtens) → EachMember ws → (members slot.Element inside ws).faults ≡ [] → PlansAs FormedElements (members slot.Element inside ws).made
+  elements_fit inside none k e = none_as FormedElements tt
   elements_fit inside (more w ws) k e =
-      skipped_fit (AreFormedElements W64 AreNamed) (Fits slot.Element) (is_separator w) (place_of nowhere w) (checked slot.Element (place_of nowhere w) (bare slot.Element inside w)) (members slot.Element inside ws) (λ t ts h i. (h, i))
+      skipped_fit FormedElements (Fits slot.Element) (is_separator w) (place_of nowhere w) (checked slot.Element (place_of nowhere w) (bare slot.Element inside w)) (members slot.Element inside ws) (λ t ts h i. (h, i))
       (λ sep f. checked_fit slot.Element (place_of nowhere w) (bare slot.Element inside w) (λ h. bare_fit slot.Element inside w k.0 sep k.1 h) f) (λ f. elements_fit inside ws k.2 f) e
 
   octets_fit : (inside : Bool) (ws : Writtens) → EachMember ws → (members (slot.Constant 0 255) inside ws).faults ≡ [] → PlansAs AreNumbers (members (slot.Constant 0 255) inside ws).made
@@ -363,13 +374,13 @@ mutual
       (λ t ts h i. (is_number 255 t h, i))
       (λ sep f. checked_fit (slot.Constant 0 255) (place_of nowhere w) (bare (slot.Constant 0 255) inside w) (λ h. bare_fit (slot.Constant 0 255) inside w k.0 sep k.1 h) f) (λ f. octets_fit inside ws k.2 f) e
 
-  pub terms_fit : (inside behind : Bool) (ws : Writtens) → EachMember ws → (terms inside behind ws).faults ≡ [] → PlansAs (AreFormed W64 AreNamed) (terms inside behind ws).made
-  terms_fit inside behind none k e = none_as (AreFormed W64 AreNamed) tt
-  terms_fit inside behind (more w ws) k e =
-      skipped_fit (AreFormed W64 AreNamed) (IsFormed W64 AreNamed) (is_separator w) (place_of nowhere w) (checked (slot.Term behind) (place_of nowhere w) (bare (slot.Term behind) inside w)) (terms inside (behind_if behind w) ws) (λ t ts h i. (h, i))
-      (λ sep f. checked_fit (slot.Term behind) (place_of nowhere w) (bare (slot.Term behind) inside w) (λ h. bare_fit (slot.Term behind) inside w k.0 sep k.1 h) f) (λ f. terms_fit inside (behind_if behind w) ws k.2 f) e
+  pub terms_fit : (inside : Bool) (run : Option ℕ) (ws : Writtens) → EachMember ws → (terms inside run ws).faults ≡ [] → PlansAs FormedTerms (terms inside run ws).made
+  terms_fit inside run none k e = none_as FormedTerms tt
+  terms_fit inside run (more w ws) k e =
+      skipped_fit FormedTerms Formed (is_separator w) (place_of nowhere w) (checked (slot.Term run) (place_of nowhere w) (bare (slot.Term run) inside w)) (terms inside (run_after run w) ws) (λ t ts h i. (h, i))
+      (λ sep f. checked_fit (slot.Term run) (place_of nowhere w) (bare (slot.Term run) inside w) (λ h. bare_fit (slot.Term run) inside w k.0 sep k.1 h) f) (λ f. terms_fit inside (run_after run w) ws k.2 f) e
 
 -- the terms of a block
-pub in_braces : (body : Group) → AreMembers body → (terms false false (inside_of body)).faults ≡ [] → PlansAs (AreFormed W64 AreNamed) (terms false false (inside_of body)).made
-in_braces absent k e = none_as (AreFormed W64 AreNamed) tt
-in_braces (given ws) k e = terms_fit false false ws k.0 e
+pub in_braces : (body : Group) → AreMembers body → (terms false None (inside_of body)).faults ≡ [] → PlansAs FormedTerms (terms false None (inside_of body)).made
+in_braces absent k e = none_as FormedTerms tt
+in_braces (given ws) k e = terms_fit false None ws k.0 e

@@ -1,5 +1,5 @@
 -- The table of a source in which nothing is wrong does what the source says.
-use Rattle.std.proofs.Common.{◌≡◌, ◌+◌, ◌≤◌, List, [], length, ◌++◌, arith, length-append, true}
+use Rattle.std.proofs.Common.{◌≡◌, ℕ, ◌+◌, ◌≤◌, List, [], length, ◌++◌, arith, length-append, true, sym, ◌∙◌, subst}
 use Rattle.std.proofs.lemmas.Nat.{mod_below}
 use Rattle.acpi_values.specs.declared.width.Width.TheVariants.{W64}
 use Rattle.aml_code.specs.Header.{header_length, checksum_of, header_with}
@@ -8,6 +8,18 @@ use Rattle.aml_sessions.proofs.Tables.{definition_is, is_header}
 use Rattle.named_sessions.specs.Shaped.{AreFormed, AreNamed, AreShaped}
 use Rattle.named_sessions.specs.Core.{core_of}
 use Rattle.named_sessions.proofs.Main.{is_faithful}
+use Rattle.named_sessions.proofs.Terms.{formed_terms}
+use Rattle.acpi_names.specs.Terms.{are_terms}
+use Rattle.acpi_state.specs.Sessions.{present_ones}
+use Rattle.asl_meaning.specs.Declarations.{known_of, externals}
+use Rattle.aml_meaning.specs.ByteSession.{IsFaithful}
+use Rattle.aml_sessions.specs.Ready.{AreItems}
+use Rattle.asl_lower.specs.Nodes.{named_all}
+use Rattle.asl_lower.proofs.Named.{same_named}
+use Rattle.asl_lower.proofs.Declared.{same_known, same_externals}
+use Rattle.asl_lower.proofs.Errors.{no_name_errors, no_type_errors}
+use Rattle.asl_tree.specs.Tree.{Trees}
+use Rattle.program_shapes.proofs.Lowered.{all_named}
 use Rattle.asl_parser.specs.declared.raw.Raw.{Raw}
 use Rattle.asl_parser.specs.Written.{writtens}
 use Rattle.asl_shape.specs.Plans.{plan_at, number_of}
@@ -20,27 +32,42 @@ use Rattle.program_shapes.proofs.Blocks.{terms_as, room_in}
 use Rattle.program_shapes.proofs.Headers.{HaveRoom}
 
 -- its terms are formed
-pub terms_are_formed : (items : List Raw) → errors_at items ≡ [] → IsKeptSource (writtens items) → AreFormed W64 AreNamed (terms_in items)
+pub terms_are_formed : (items : List Raw) → errors_at items ≡ [] → IsKeptSource (writtens items) → AreFormed W64 AreNamed (Unit {0}) (terms_in items)
 unfolding errors_at
 terms_are_formed items e k = terms_as (writtens items) e k 0
 
--- and shaped, where nothing is wrong with the lists of fields
-pub terms_are_shaped : (items : List Raw) → errors_at items ≡ [] → layouts_in items ≡ [] → IsKeptSource (writtens items) → AreShaped W64 (terms_in items)
+-- and, with their symbols named, shaped where nothing is wrong with the lists of fields
+pub core_is_shaped : (items : List Raw) → errors_at items ≡ [] → layouts_in items ≡ [] → IsKeptSource (writtens items) → AreShaped W64 (named_all (terms_in items))
 unfolding errors_at
-terms_are_shaped items e l k = terms_laid W64 (terms_in items) (terms_as (writtens items) e k 0) (plans_laid 0 (terms_of (writtens items)) l)
+core_is_shaped items e l k = all_named W64 (AreItems 0) (terms_in items) (terms_laid W64 (Unit {0}) (terms_in items) (terms_as (writtens items) e k 0) (plans_laid 0 (terms_of (writtens items)) l))
+
+-- what does as a program in which symbols are named does as the program
+lowered_faithful : (program : Trees) (bytes : List ℕ) → are_terms program ≡ true → IsFaithful W64 (known_of (named_all program)) (externals (named_all program)) (named_all program) bytes
+    → IsFaithful W64 (known_of program) (externals program) program bytes
+lowered_faithful program bytes terms faithful =
+    let known : IsFaithful W64 (known_of program) (externals (named_all program)) (named_all program) bytes
+    = subst (λ known. IsFaithful W64 known (externals (named_all program)) (named_all program) bytes) (same_known program terms) faithful in
+    let both : IsFaithful W64 (known_of program) (externals program) (named_all program) bytes = subst (λ names. IsFaithful W64 (known_of program) names (named_all program) bytes) (same_externals program terms) known in
+    record {
+      same = λ present n answers requests asked. sym (same_named W64 (known_of program) program (present_ones (externals program) present) n answers requests) ∙ both.same present n answers requests asked;
+      whole = both.whole;
+    }
 
 pub does_as : (items : List Raw) → IsRight items → IsKeptSource (writtens items) → length (table_in items) ≤ 16777216 → IsTableOf items (table_in items)
 unfolding errors_at
 does_as items right kept within =
     let fields = fields_in items in
     let program = terms_in items in
-    let content = encoded_all W64 true (core_of program) in
+    let core = named_all program in
+    let content = encoded_all W64 true (core_of core) in
     let size = header_length + length content in
     let header = header_with fields size (checksum_of (header_with fields size 0 ++ content)) in
     let small : length content ≤ 16777216 = omega (arith, within, length-append header content) in
+    let terms : are_terms program ≡ true = formed_terms W64 AreNamed (Unit {0}) program (terms_are_formed items right.form kept) in
     let room : HaveRoom (args_of (writtens items)) = room_in (writtens items) right.form kept in
     let signature : length fields.signature ≡ 4 = room.signature in
     record {
       header = is_header fields content signature (omega (arith, small)) (mod_below (number_of (plan_at (args_of (writtens items)) 5)) 4294967296 (omega arith));
-      faithful = is_faithful W64 true program (table_in items) (terms_are_shaped items right.form right.layouts kept) right.names right.counts (omega (arith, small)) (definition_is fields content signature (omega (arith, small)));
+      faithful = lowered_faithful program (table_in items) terms
+          (is_faithful W64 true core (table_in items) (core_is_shaped items right.form right.layouts kept) (no_name_errors program terms right.names) (no_type_errors program terms right.counts) (omega (arith, small)) (definition_is fields content signature (omega (arith, small))));
     }

@@ -15,8 +15,11 @@ use Rattle.asl_words.specs.declared.meaning.Meaning.{Meaning}
 use Rattle.asl_words.specs.declared.meaning.Meaning.TheVariants as is
 use Rattle.asl_words.specs.Operators.{operators, words, row_in, named_in, op_in, known_in, operator_of, word_of, is_filled}
 use Rattle.asl_words.specs.declared.operator.Operator.{Operator}
-use Rattle.asl_tree.specs.declared.term.Control.TheVariants as Control
-use Rattle.program_shapes.proofs.Operators.{IsBuilt}
+use Rattle.asl_tree.specs.declared.term.Symbolic.TheVariants as Symbolic
+use Rattle.asl_parser.specs.declared.raw.Infix.{Infix}
+use Rattle.acpi_values.specs.declared.operator.DataOp.TheVariants as DataOp
+use Rattle.acpi_values.specs.declared.operator.Plain.{Plain}
+use Rattle.asl_shape.specs.Symbols.{symbol_of}
 use Rattle.asl_words.specs.Paths.{is_lead, is_name_byte, is_dot, is_path, segment_with, segment_of, with_first, words_of, behind_segment, segments_of, segments_in, rest_segments, path_with, carets, relative_path, path_of}
 use Rattle.asl_words.specs.Meanings.{meaning_of, name_or_unknown, known_as}
 
@@ -128,6 +131,11 @@ found_ok good test (row ∷ rows) h = by (test row) (found_ok good test rows (bo
     by true k = (both_true (good row) (list_all good rows) h).0
     by false k = k
 
+-- an operator that can be written: no symbol stands for DerefOf
+abbrev pub IsSpelled : Op → Type 0
+IsSpelled (Op.Symbolic (Symbolic.Operator (Plain.Data DataOp.DerefOf))) = ⊥
+IsSpelled op = Unit {0}
+
 -- a slot, or a number of one byte
 abbrev pub IsRightKnown : Known → Type 0
 IsRightKnown (known.Local i) = i < 8
@@ -136,20 +144,22 @@ IsRightKnown (known.Word kind n) = n ≤ 255
 IsRightKnown _ = Unit {0}
 
 abbrev pub IsRightMeaning : Meaning → Type 0
-IsRightMeaning (is.Operator op) = IsBuilt op
+IsRightMeaning (is.Operator op) = IsSpelled op
 IsRightMeaning (is.Known known) = IsRightKnown known
 IsRightMeaning _ = Unit {0}
 
 -- the same, computed
-abbrev is_built : Op → Bool
-is_built (Op.Control Control.ElseIf) = false
-is_built (Op.Symbolic symbol) = false
-is_built op = true
+abbrev is_word : Op → Bool
+is_word (Op.Symbolic symbol) = false
+is_word op = true
 
-built : (op : Op) → is_built op ≡ true → IsBuilt op
-built (Op.Control Control.ElseIf) e = absurd cc
-built (Op.Symbolic symbol) e = absurd cc
-built op e = tt
+word_spelled : (op : Op) → is_word op ≡ true → IsSpelled op
+word_spelled (Op.Symbolic symbol) e = absurd cc
+word_spelled op e = tt
+
+pub symbol_spelled : (o : Infix) → IsSpelled (symbol_of o)
+symbol_spelled Infix.Index = tt
+symbol_spelled _ = tt
 
 abbrev is_right : Known → Bool
 is_right (known.Local i) = nat_le (suc i) 8
@@ -165,25 +175,25 @@ right known.Debug e = tt
 right known.Offset e = tt
 right known.LeftOut e = tt
 
-all_built : list_all (λ row. is_built row.op) operators ≡ true
+all_words : list_all (λ row. is_word row.op) operators ≡ true
 unfolding operators
-all_built = refl
+all_words = refl
 
 all_right : list_all (λ row. is_right row.known) words ≡ true
 unfolding words
 all_right = refl
 
-operator_ok : (o : Option Operator) → IfSome o (λ row. is_built row.op ≡ true) → IfSome (op_in o) IsBuilt
+operator_ok : (o : Option Operator) → IfSome o (λ row. is_word row.op ≡ true) → IfSome (op_in o) IsSpelled
 operator_ok None h = tt
-operator_ok (Some row) h = built row.op h
+operator_ok (Some row) h = word_spelled row.op h
 
 known_ok : (o : Option Named) → IfSome o (λ row. is_right row.known ≡ true) → IfSome (known_in o) IsRightKnown
 known_ok None h = tt
 known_ok (Some row) h = right row.known h
 
-operators_ok : (text : List ℕ) → IfSome (operator_of text) IsBuilt
+operators_ok : (text : List ℕ) → IfSome (operator_of text) IsSpelled
 unfolding operator_of row_in
-operators_ok text = operator_ok (row_in operators text) (found_ok (λ row. is_built row.op) (λ row. is_filled row.word text) operators all_built)
+operators_ok text = operator_ok (row_in operators text) (found_ok (λ row. is_word row.op) (λ row. is_filled row.word text) operators all_words)
 
 words_ok : (text : List ℕ) → IfSome (word_of text) IsRightKnown
 unfolding word_of named_in
@@ -205,7 +215,7 @@ name_means text has_body = by (is_path text) (nat_le (length text) 4 && not has_
 pub meaning_ok : (text : List ℕ) (has_body : Bool) → IsRightMeaning (meaning_of text has_body)
 meaning_ok text has_body = by (operator_of text) (word_of text) (operators_ok text) (words_ok text)
   where
-    by : (o : Option Op) (w : Option Known) → IfSome o IsBuilt → IfSome w IsRightKnown → IsRightMeaning (choose o (choose w (name_or_unknown text has_body) known_as) is.Operator)
+    by : (o : Option Op) (w : Option Known) → IfSome o IsSpelled → IfSome w IsRightKnown → IsRightMeaning (choose o (choose w (name_or_unknown text has_body) known_as) is.Operator)
     by (Some op) w h k = h
     by None (Some known) h k = known_means known k
     by None None h k = name_means text has_body

@@ -1,17 +1,21 @@
 -- What the parser keeps of its tree.
-use Rattle.std.specs.Prelude.{◌≡◌, ◌<◌, ◌≤◌, false, length}
+use Rattle.std.specs.Prelude.{◌≡◌, ◌<◌, ◌≤◌, true, false, length}
 use Rattle.acpi_values.specs.Widths.{ones_of}
 use Rattle.acpi_values.specs.declared.width.Width.TheVariants.{W64}
 use Rattle.asl_parser.specs.Written as piece
-use Rattle.asl_parser.specs.Written.{Written, Writtens, Group, item, none, more, absent, given}
-use Rattle.asl_shape.specs.Shapes.{is_empty, is_separator}
+use Rattle.asl_parser.specs.Written.{Written, Writtens, Group, item, apply, none, more, absent, given}
+use Rattle.asl_words.specs.Operators.{parameters_of}
+use Rattle.asl_shape.specs.Symbols.{symbol_of}
+use Rattle.asl_shape.specs.Shapes.{is_empty, is_separator, takes}
 use Rattle.asl_shape.specs.Shapes as shapes
 
--- no argument is a comma or semicolon, nothing in braces is left out, and there is less of all than 2^64
+-- no argument is a comma or semicolon, a symbol has the operands that it asks for, nothing in braces is left out, and there is
+-- less of all than 2^64
 abbrev mutual
   pub IsKept : Written → Type 0
   IsKept (piece.text place bytes) = length bytes < ones_of W64
   IsKept (item place word args body) = AreArguments args × AreMembers body
+  IsKept (apply place op args) = EachArgument args × (takes (parameters_of (symbol_of op)) args ≡ true)
   IsKept _ = Unit {0}
 
   pub AreArguments : Group → Type 0

@@ -8,6 +8,7 @@ use Rattle.aml_meaning.specs.Encoded.{encoded_all}
 use Rattle.aml_meaning.specs.ByteSession.{IsFaithful}
 use Rattle.acpi_names.specs.Errors.{name_errors, type_errors}
 use Rattle.named_sessions.specs.Core.{core_of}
+use Rattle.asl_lower.specs.Nodes.{named_all}
 use Rattle.asl_parser.specs.declared.raw.Raw.{Raw}
 use Rattle.asl_parser.specs.Written.{writtens}
 use Rattle.asl_shape.specs.Plans.{Plans, plan_at, text_of, number_of}
@@ -16,6 +17,7 @@ use Rattle.asl_numbers.specs.Numbers.{numbered_all}
 use Rattle.iasl_messages.specs.declared.message.Message.{Message}
 use Rattle.statement_checks.specs.Statements.{errors_of_statements}
 use Rattle.field_checks.specs.Lists.{all_errors}
+use Rattle.region_checks.specs.Regions.{region_errors}
 
 -- its terms, each node with its number
 abbrev pub terms_in : List Raw → Trees
@@ -28,6 +30,10 @@ statements_in items = errors_of_statements (terms_of (writtens items))
 -- what is wrong with the lists of its fields
 abbrev pub layouts_in : List Raw → List Message
 layouts_in items = all_errors (terms_of (writtens items))
+
+-- what is wrong with the accesses of its fields to their regions
+abbrev pub regions_in : List Raw → List Message
+regions_in items = region_errors (terms_in items) (terms_of (writtens items))
 
 -- what the arguments of a definition block say of the table's header (ACPI Specification 6.4, 19.6.29)
 abbrev pub stated_by : Plans → HeaderFields
@@ -42,18 +48,19 @@ stated_by args = record {
 abbrev pub fields_in : List Raw → HeaderFields
 fields_in items = stated_by (args_of (writtens items))
 
--- its table: the header, and the bytes of its terms with their names spelled
+-- its table: the header, and the bytes of its terms with their symbols named and their names spelled
 abbrev pub table_in : List Raw → List ℕ
-table_in items = table_bytes (fields_in items) (encoded_all W64 true (core_of (terms_in items)))
+table_in items = table_bytes (fields_in items) (encoded_all W64 true (core_of (named_all (terms_in items))))
 
--- nothing is wrong with its form, its names, how many arguments its calls have, its statements, and the lists of its
--- fields
+-- nothing is wrong with its form, its names, how many arguments its calls have, its statements, the lists of its fields,
+-- and their accesses
 pub record IsRight (items : List Raw) : Type 0 where
   pub form : errors_at items ≡ []
   pub names : name_errors (terms_in items) ≡ []
   pub counts : type_errors (terms_in items) ≡ []
   pub statements : statements_in items ≡ []
   pub layouts : layouts_in items ≡ []
+  pub regions : regions_in items ≡ []
 
 -- for every bound, answers and calls that may be asked, whatever other tables are there, every session over the bytes is the program's
 abbrev pub DoesAs : Trees → List ℕ → Type 0

@@ -20,9 +20,13 @@ number_nodes-loop-at-preserved t c =
     node_numbered c.args.first c.args.nodes.now.items c.loop-at.nodes.items c.loop-at.at c.loop-at.next c.in_ok-term.behind c.index_mut.result.now _ _ lt c.index_mut.ensures.value c.loop-at.invariant refl place
     (λ here. c.in_ok-term.ensures.tree here ∙ ap (λ n. numbered here n (plan_of c.replace-term.result)) number ∙ ap (λ x. numbered here (suc c.loop-at.next) (plan_of x)) term)
     (c.in_ok-term.ensures.next ∙ ap (λ n. n + inside (plan_of c.replace-term.result)) number ∙ ap (λ x. suc c.loop-at.next + inside (plan_of x)) term)
+    (c.in_ok-term.ensures.plan ∙ ap plan_of term)
 
 pub number_nodes-returns-clause-next : goal.number_nodes-returns-clause-next
 number_nodes-returns-clause-next t c = all_counted c.args.first c.args.nodes.now.items c.loop-at.nodes.items c.loop-at.at c.loop-at.next (omega (arith, c.loop-at-test.false, c.len.ensures)) c.loop-at.invariant
 
 pub number_nodes-returns-clause-trees : goal.number_nodes-returns-clause-trees
 number_nodes-returns-clause-trees t c = all_numbered c.args.first c.args.nodes.now.items c.loop-at.nodes.items c.loop-at.at c.loop-at.next (omega (arith, c.loop-at-test.false, c.len.ensures)) c.loop-at.invariant
+
+pub number_nodes-returns-clause-plans : goal.number_nodes-returns-clause-plans
+number_nodes-returns-clause-plans t c = c.loop-at.invariant.plans

@@ -1,9 +1,10 @@
 use Rattle.std.proofs.Common.{◌≡◌, ◌++◌, append-nil, slice_get, Some, ◌+◌, arith, drop, get_or, ap, sym, ◌∙◌}
-use Rattle.asl_shape.specs.Shapes.{nowhere}
-use Rattle.asl_shape.specs.AtRaw.{shape_at, bare_at, member_at, one_at, behind_if_at, terms_at, part_at, unit_at, due_behind_at}
+use Rattle.asl_shape.specs.Shapes.{nowhere, one_plan}
+use Rattle.asl_shape.specs.AtRaw.{shape_at, bare_at, member_at, one_at, run_after_at, terms_at, part_at, unit_at, due_behind_at}
 use Rattle.asl_shape.specs.Plans.{plans_of, join}
 use Rattle.asl_words.specs.declared.operator.Slot.TheVariants as slot
 use Rattle.asl_words.specs.Meanings.{slot_as}
+use Rattle.asl_shape.proofs.Terms.{omitted_term}
 use Rattle.asl_shape.proofs.Shapes.{bare_item, operand_faults, operand_made, list_faults, list_made, run_faults, run_made, item_smaller, argument_some_faults, argument_some_made, left_faults, left_made, argument_faults, argument_made, got_some, got_none}
 use Rattle.asl_shape.proofs.FieldSteps.{element_faults, element_made}
 use Rattle.asl_shape.proofs.tree.+shape.Goals as goal
@@ -35,14 +36,14 @@ members-loop-raw-preserved t c = record {
 pub terms-loop-raw-preserved : goal.terms-loop-raw-preserved
 terms-loop-raw-preserved t c =
     let r = c.raw-item.result in
-    let run : c.behind_if-behind.result ≡ behind_if_at c.loop-raw.behind (get_or c.args.raws.now c.loop-raw.raw-index r) = c.behind_if-behind.ensures ∙ ap (behind_if_at c.loop-raw.behind) c.raw-item.is in
+    let run : c.run_after-run.result ≡ run_after_at c.loop-raw.run (get_or c.args.raws.now c.loop-raw.raw-index r) = c.run_after-run.ensures ∙ ap (run_after_at c.loop-raw.run) c.raw-item.is in
     record {
       faults = ap (λ n. c.add_member.new.work.faults.items ++ (terms_at c.args.inside n (drop (c.loop-raw.raw-index + 1) c.args.raws.now)).faults) run
-          ∙ run_faults c.args.inside c.loop-raw.behind c.args.raws.now c.loop-raw.raw-index r c.loop-raw.work.faults.items c.add_member.new.work.faults.items _ c.loop-raw-test.true c.loop-raw.invariant.faults
-          (c.in_ok-add_member.ensures.faults ∙ ap (λ r. c.loop-raw.work.faults.items ++ (member_at (slot.Term c.loop-raw.behind) c.args.inside r).faults) c.raw-item.is);
+          ∙ run_faults c.args.inside c.loop-raw.run c.args.raws.now c.loop-raw.raw-index r c.loop-raw.work.faults.items c.add_member.new.work.faults.items _ c.loop-raw-test.true c.loop-raw.invariant.faults
+          (c.in_ok-add_member.ensures.faults ∙ ap (λ r. c.loop-raw.work.faults.items ++ (member_at (slot.Term c.loop-raw.run) c.args.inside r).faults) c.raw-item.is);
       made = ap (λ n. join (plans_of c.add_member.new.nodes.items) (terms_at c.args.inside n (drop (c.loop-raw.raw-index + 1) c.args.raws.now)).made) run
-          ∙ run_made c.args.inside c.loop-raw.behind c.args.raws.now c.loop-raw.raw-index r (plans_of c.loop-raw.nodes.items) (plans_of c.add_member.new.nodes.items) _ c.loop-raw-test.true c.loop-raw.invariant.made
-          (c.in_ok-add_member.ensures.made ∙ ap (λ r. join (plans_of c.loop-raw.nodes.items) (member_at (slot.Term c.loop-raw.behind) c.args.inside r).made) c.raw-item.is);
+          ∙ run_made c.args.inside c.loop-raw.run c.args.raws.now c.loop-raw.raw-index r (plans_of c.loop-raw.nodes.items) (plans_of c.add_member.new.nodes.items) _ c.loop-raw-test.true c.loop-raw.invariant.made
+          (c.in_ok-add_member.ensures.made ∙ ap (λ r. join (plans_of c.loop-raw.nodes.items) (member_at (slot.Term c.loop-raw.run) c.args.inside r).made) c.raw-item.is);
     }
 
 pub bare-item-requires : goal.bare-item-requires
@@ -58,13 +59,13 @@ add_argument-returns-in_ok-add-in-Some-clause-made t c =
     c.in_ok-add-in-Some.ensures.made ∙ ap (λ q. join (plans_of c.args.nodes.now.items) (one_at c.args.place c.in-Some.raw.now (shape_at q c.args.inside c.in-Some.raw.now).made)) (c.slot_as.ensures ∙ ap (slot_as c.args.parameter.slot) c.meaning_in.ensures)
     ∙ ap (λ ps. join (plans_of c.args.nodes.now.items) ps) (sym (argument_some_made c.args.parameter c.args.place c.args.inside (slice_get c.args.args.now c.args.i) c.in-Some.raw.now (got_some c.args.args.now c.args.i c.in-Some.raw.now c.in-Some.ensures.lookup.3.0 ∙ ap Some (sym c.in-Some.ensures.lookup.1))))
 
-pub add_argument-returns-in_ok-leave_out-in-None-clause-faults : goal.add_argument-returns-in_ok-leave_out-in-None-clause-faults
-add_argument-returns-in_ok-leave_out-in-None-clause-faults t c =
+pub add_argument-returns-in_ok-push-in-None-clause-faults : goal.add_argument-returns-in_ok-push-in-None-clause-faults
+add_argument-returns-in_ok-push-in-None-clause-faults t c =
     sym (append-nil c.args.work.now.faults.items) ∙ ap (λ ms. c.args.work.now.faults.items ++ ms) (sym (left_faults c.args.parameter c.args.place c.args.inside (slice_get c.args.args.now c.args.i) (got_none c.args.args.now c.args.i c.in-None.ensures.lookup.3)))
 
-pub add_argument-returns-in_ok-leave_out-in-None-clause-made : goal.add_argument-returns-in_ok-leave_out-in-None-clause-made
-add_argument-returns-in_ok-leave_out-in-None-clause-made t c =
-    c.in_ok-leave_out-in-None.ensures ∙ ap (λ ps. join (plans_of c.args.nodes.now.items) ps) (sym (left_made c.args.parameter c.args.place c.args.inside (slice_get c.args.args.now c.args.i) (got_none c.args.args.now c.args.i c.in-None.ensures.lookup.3)))
+pub add_argument-returns-in_ok-push-in-None-clause-made : goal.add_argument-returns-in_ok-push-in-None-clause-made
+add_argument-returns-in_ok-push-in-None-clause-made t c =
+    c.in_ok-push-in-None.ensures ∙ ap (λ p. join (plans_of c.args.nodes.now.items) (one_plan c.args.place p)) omitted_term ∙ ap (λ ps. join (plans_of c.args.nodes.now.items) ps) (sym (left_made c.args.parameter c.args.place c.args.inside (slice_get c.args.args.now c.args.i) (got_none c.args.args.now c.args.i c.in-None.ensures.lookup.3)))
 
 pub arguments-loop-i-preserved : goal.arguments-loop-i-preserved
 arguments-loop-i-preserved t c = record {

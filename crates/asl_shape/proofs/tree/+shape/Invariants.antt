@@ -1,4 +1,4 @@
-use Rattle.std.proofs.Common.{◌≡◌, ◌+◌, ◌*◌, ◌++◌, drop, false, None}
+use Rattle.std.proofs.Common.{◌≡◌, ◌+◌, ◌*◌, ◌++◌, drop, None}
 use Rattle.asl_shape.specs.Plans.{plans_of, join}
 use Rattle.asl_shape.specs.Sizes.{size_at, sizes_at, size_in_at}
 use Rattle.asl_shape.specs.Shapes.{begin}
@@ -36,7 +36,10 @@ abbrev pub decreases-call : goal.decreases-call
 decreases-call l = 16 * (size_in_at l.args.now) + 8
 
 abbrev pub decreases-form : goal.decreases-form
-decreases-form l = 16 * (size_in_at l.args.now + size_in_at l.body.now) + 8
+decreases-form l = 16 * (sizes_at l.args.now + size_in_at l.body.now) + 8
+
+abbrev pub decreases-symbol : goal.decreases-symbol
+decreases-symbol l = 16 * sizes_at l.args.now + 9
 
 abbrev pub decreases-read : goal.decreases-read
 decreases-read l = 16 * (size_in_at l.args.now + size_in_at l.body.now) + 9
@@ -58,8 +61,8 @@ invariant-members-loop-raw l = record {
 
 abbrev pub invariant-terms-loop-raw : goal.invariant-terms-loop-raw
 invariant-terms-loop-raw l = record {
-  faults : l.work.faults.items ++ (terms_at l.inside l.behind (drop l.raw-index l.raws)).faults ≡ l.fn.work.faults.items ++ (terms_at l.inside false l.raws).faults;
-  made : join (plans_of l.nodes.items) (terms_at l.inside l.behind (drop l.raw-index l.raws)).made ≡ join (plans_of l.fn.nodes.items) (terms_at l.inside false l.raws).made;
+  faults : l.work.faults.items ++ (terms_at l.inside l.run (drop l.raw-index l.raws)).faults ≡ l.fn.work.faults.items ++ (terms_at l.inside None l.raws).faults;
+  made : join (plans_of l.nodes.items) (terms_at l.inside l.run (drop l.raw-index l.raws)).made ≡ join (plans_of l.fn.nodes.items) (terms_at l.inside None l.raws).made;
 }
 
 abbrev pub invariant-arguments-loop-i : goal.invariant-arguments-loop-i

@@ -1,7 +1,15 @@
-use Rattle.std.proofs.Common.{◌≡◌, true, [], length, arith, sym, ap, ◌∙◌, subst}
+use Rattle.std.proofs.Common.{◌≡◌, ℕ, List, true, [], length, arith, sym, ap, ◌∙◌, subst}
 use Rattle.acpi_values.specs.declared.width.Width.TheVariants.{W64}
 use Rattle.acpi_state.specs.Objects.{lookup}
-use Rattle.asl_meaning.specs.Declarations.{declarations}
+use Rattle.asl_meaning.specs.Declarations.{Declarations, declarations, is_named, written_external}
+use Rattle.acpi_values.specs.Paths.{AbsolutePath}
+use Rattle.acpi_names.specs.Spelled.{spelled_all}
+use Rattle.asl_lower.specs.Nodes.{named_all}
+use Rattle.asl_lower.proofs.Errors.{no_name_errors, no_type_errors}
+use Rattle.aml_code.specs.Header.{fields_of}
+use Rattle.aml_meaning.specs.Encoded.{encoded_all}
+use Rattle.named_sessions.specs.Core.{core_of}
+use Rattle.iasl_tool.specs.Ready.{HasRoom}
 use Rattle.asl_tree.specs.Tree.{Trees}
 use Rattle.asl_tree.specs.View.{trees_of}
 use Rattle.acpi_names.specs.Errors.{whole_of, name_errors, type_errors}
@@ -10,15 +18,15 @@ use Rattle.acpi_names.specs.Tables.{Tabled}
 use Rattle.acpi_names.specs.Terms.{are_terms}
 use Rattle.name_checks.specs.Messages.{told_errors}
 use Rattle.name_checks.specs.Refusals.{Refuses}
-use Rattle.named_sessions.proofs.Core.{spelled_core}
+use Rattle.program_shapes.proofs.Cores.{core_lowered}
 use Rattle.named_sessions.specs.Shaped.{AreNamed}
 use Rattle.named_sessions.proofs.Terms.{formed_terms}
 use Rattle.iasl_tool.specs.Compiled.{its_table, of_table, with_others}
-use Rattle.iasl_tool.proofs.Programs.{none_told, none_behind, no_length, some_length, right_comes, stage_comes}
+use Rattle.iasl_tool.proofs.Programs.{none_told, none_behind, no_length, some_length, right_comes, like_another, stage_comes}
 use Rattle.iasl_tool.proofs.compile.compile_block.Goals as goal
 
 pub check-requires : goal.check-requires
-check-requires c = record { terms = subst (λ ns. are_terms (trees_of ns) ≡ true) (sym c.as_slice.ensures.value) (formed_terms W64 AreNamed (trees_of c.args.block.terms.items) c.requires.formed) }
+check-requires c = record { terms = subst (λ ns. are_terms (trees_of ns) ≡ true) (sym c.as_slice.ensures.value) (formed_terms W64 AreNamed (Unit {0}) (trees_of c.args.block.terms.items) c.requires.formed) }
 
 pub returns-in_ok-spell-in-Ok : goal.returns-in_ok-spell-in-Ok
 returns-in_ok-spell-in-Ok c =
@@ -29,10 +37,19 @@ returns-in_ok-spell-in-Ok c =
     let counts : type_errors terms ≡ [] = sym (ap type_errors same) ∙ c.in-Ok.ensures.right.1 in
     let agrees = subst (λ ts. Agrees c.in-Ok.names.index.paths c.in-Ok.names.index.named.items (declarations ts)) same c.in-Ok.ensures.names in
     let tabled = subst (λ ts. Tabled c.in-Ok.names.index.paths c.in-Ok.names.calls.items (lookup (whole_of ts).calls)) same c.in-Ok.ensures.calls in
-    let core = c.in_ok-spell-in-Ok.ensures (declarations terms) (whole_of terms).calls agrees (subst (λ table. Tabled c.in-Ok.names.index.paths table (lookup (whole_of terms).calls)) (sym c.as_slice-in-Ok.ensures.value) tabled) ∙ spelled_core terms in
+    let formed : are_terms terms ≡ true = formed_terms W64 AreNamed (Unit {0}) terms c.requires.formed in
+    let lowered = c.in_ok-core-in-Ok in
+    let index = c.in-Ok.names.index in
+    let core = core_lowered index.paths index.named.items c.as_slice-in-Ok.result.now terms (trees_of c.spell.new.terms.items) formed
+    (subst
+    (λ ts. (d : Declarations) (counts : List (AbsolutePath × ℕ)) → Agrees index.paths index.named.items d → Tabled index.paths c.as_slice-in-Ok.result.now (lookup counts) → trees_of c.spell.new.terms.items ≡ spelled_all (is_named d) (written_external counts) ts [])
+    lowered.ensures.terms c.in_ok-spell-in-Ok.ensures)
+    agrees (subst (λ table. Tabled index.paths table (lookup (whole_of terms).calls)) (sym c.as_slice-in-Ok.ensures.value) tabled) in
     let none : c.args.others ≡ [] = no_length c.args.others (let zero : length c.args.others ≡ 0 = grind (arith, c.is_empty.ensures, c.if-not-is_empty.false, c.others.view_is) in zero) in
-    right_comes c.write_block.result (with_others (told_errors terms) c.args.others) (of_table block.place block.signature block.file (its_table terms block)) (none_behind (told_errors terms) c.args.others (none_told terms names counts) none)
-    (c.write_block.ensures terms (record { room = c.requires.room; shaped = c.requires.shaped none; names = names; counts = counts; core = core }))
+    let room : HasRoom (fields_of lowered.core) = subst HasRoom (sym lowered.ensures.fields) c.requires.room in
+    right_comes c.write_block.result (with_others (told_errors terms) c.args.others) (of_table block.place block.signature block.file (its_table (named_all terms) block)) (none_behind (told_errors terms) c.args.others (none_told terms names counts) none)
+    (like_another c.write_block.result lowered.core.place block.place lowered.core.file block.file (fields_of lowered.core) (fields_of block) (encoded_all W64 true (core_of (named_all terms))) lowered.ensures.place lowered.ensures.file lowered.ensures.fields
+    (c.write_block.ensures (named_all terms) (record { room = room; shaped = c.requires.shaped none; names = no_name_errors terms formed names; counts = no_type_errors terms formed counts; core = core })))
 
 pub returns-then-not-is_empty : goal.returns-then-not-is_empty
 returns-then-not-is_empty c =
@@ -41,7 +58,7 @@ returns-then-not-is_empty c =
     let same : trees_of c.as_slice.result.now ≡ terms = ap trees_of c.as_slice.ensures.value in
     let names : name_errors terms ≡ [] = sym (ap name_errors same) ∙ c.in-Ok.ensures.right.0 in
     let counts : type_errors terms ≡ [] = sym (ap type_errors same) ∙ c.in-Ok.ensures.right.1 in
-    some_length c.args.others (of_table block.place block.signature block.file (its_table terms block)) (told_errors terms) (none_told terms names counts)
+    some_length c.args.others (of_table block.place block.signature block.file (its_table (named_all terms) block)) (told_errors terms) (none_told terms names counts)
     (λ e. let never : ⊥ = grind (arith, e, c.is_empty.ensures, c.if-not-is_empty.true, c.others.view_is) in never)
 
 pub returns-in_ok-with_others-in-Err : goal.returns-in_ok-with_others-in-Err
@@ -49,5 +66,5 @@ returns-in_ok-with_others-in-Err c =
     let block = c.args.block in
     let terms : Trees = trees_of block.terms.items in
     let same : trees_of c.as_slice.result.now ≡ terms = ap trees_of c.as_slice.ensures.value in
-    stage_comes c.in-Err.stage c.in_ok-refusal-in-Err.field-0 (told_errors terms) c.args.others c.in_ok-with_others-in-Err.field-0 (of_table block.place block.signature block.file (its_table terms block))
+    stage_comes c.in-Err.stage c.in_ok-refusal-in-Err.field-0 (told_errors terms) c.args.others c.in_ok-with_others-in-Err.field-0 (of_table block.place block.signature block.file (its_table (named_all terms) block))
     (subst (λ ts. Refuses c.in-Err.stage (told_errors ts)) same c.in-Err.ensures.refused) c.in_ok-refusal-in-Err.ensures c.in_ok-with_others-in-Err.ensures

@@ -1,8 +1,12 @@
-use Rattle.std.proofs.Common.{◌≡◌, List, [], ◌∷◌, sym, ap, ◌∙◌, subst}
+use Rattle.std.proofs.Common.{◌≡◌, true, List, [], ◌∷◌, sym, ap, ◌∙◌, subst}
 use Rattle.asl_tree.specs.declared.program.Block.{Block}
 use Rattle.asl_tree.specs.declared.program.Program.{Program}
 use Rattle.asl_parser.specs.declared.raw.Raw.{Raw}
 use Rattle.asl_tree.specs.View.{trees_of}
+use Rattle.acpi_values.specs.declared.width.Width.TheVariants.{W64}
+use Rattle.acpi_names.specs.Terms.{are_terms}
+use Rattle.named_sessions.specs.Shaped.{AreNamed}
+use Rattle.named_sessions.proofs.Terms.{formed_terms}
 use Rattle.asl_shape.specs.Forms.{Forms, IsBlockOf}
 use Rattle.asl_shape.specs.Plans.{plans_of}
 use Rattle.iasl_tool.proofs.Programs.{ok_block, found_block, block_room, block_formed, others_of, block_shaped, program_comes, named_in_ascii, ascii_comes}
@@ -21,11 +25,16 @@ pub compile_block-requires-clause-formed : goal.compile_block-requires-clause-fo
 compile_block-requires-clause-formed c = block_formed c.args.unit.now.items c.in_ok-block-in-Ok.block (trees_of c.number_nodes.new.nodes.items) c.in-Ok.ensures.formed.no_errors (is_block c.args.unit.now.items c.in-Ok.program c.in_ok-block-in-Ok.block c.in-Ok.ensures.formed c.in_ok-block-in-Ok.ensures) c.requires c.in-Some.ensures.trees
 
 pub compile_block-requires-clause-shaped : goal.compile_block-requires-clause-shaped
-compile_block-requires-clause-shaped c = block_shaped c.args.unit.now.items c.in_ok-block-in-Ok.block (trees_of c.number_nodes.new.nodes.items) c.in_ok-others-in-Ok.others c.in-Ok.ensures.formed.no_errors (is_block c.args.unit.now.items c.in-Ok.program c.in_ok-block-in-Ok.block c.in-Ok.ensures.formed c.in_ok-block-in-Ok.ensures) c.requires c.in-Some.ensures.trees (c.in_ok-others-in-Ok.ensures ∙ ap (λ ns. others_of (plans_of ns)) c.as_slice.ensures.value)
+compile_block-requires-clause-shaped c = block_shaped c.args.unit.now.items c.in_ok-block-in-Ok.block (trees_of c.number_nodes.new.nodes.items) c.in_ok-others-in-Some.others c.in-Ok.ensures.formed.no_errors (is_block c.args.unit.now.items c.in-Ok.program c.in_ok-block-in-Ok.block c.in-Ok.ensures.formed c.in_ok-block-in-Ok.ensures) c.requires c.in-Some.ensures.trees (c.in_ok-others-in-Some.ensures ∙ ap (λ ns. others_of (trees_of ns) (plans_of ns)) c.as_slice.ensures.value ∙ ap (others_of (trees_of c.number_nodes.new.nodes.items)) c.in-Some.ensures.plans)
 
-pub returns-in-Some-clause-value : goal.returns-in-Some-clause-value
-returns-in-Some-clause-value c =
-    program_comes c.compile_block.result c.args.unit.now.items c.in_ok-block-in-Ok.block (trees_of c.number_nodes.new.nodes.items) c.in_ok-others-in-Ok.others c.in-Ok.ensures.formed.no_errors (is_block c.args.unit.now.items c.in-Ok.program c.in_ok-block-in-Ok.block c.in-Ok.ensures.formed c.in_ok-block-in-Ok.ensures) c.in-Some.ensures.trees (c.in_ok-others-in-Ok.ensures ∙ ap (λ ns. others_of (plans_of ns)) c.as_slice.ensures.value) c.compile_block.ensures
+pub returns-in_ok-others-in-Some-clause-value : goal.returns-in_ok-others-in-Some-clause-value
+returns-in_ok-others-in-Some-clause-value c =
+    program_comes c.compile_block.result c.args.unit.now.items c.in_ok-block-in-Ok.block (trees_of c.number_nodes.new.nodes.items) c.in_ok-others-in-Some.others c.in-Ok.ensures.formed.no_errors (is_block c.args.unit.now.items c.in-Ok.program c.in_ok-block-in-Ok.block c.in-Ok.ensures.formed c.in_ok-block-in-Ok.ensures) c.in-Some.ensures.trees (c.in_ok-others-in-Some.ensures ∙ ap (λ ns. others_of (trees_of ns) (plans_of ns)) c.as_slice.ensures.value ∙ ap (others_of (trees_of c.number_nodes.new.nodes.items)) c.in-Some.ensures.plans) c.compile_block.ensures
 
-pub returns-in-Some-clause-own : goal.returns-in-Some-clause-own
-returns-in-Some-clause-own c = ascii_comes c.compile_block.result (of_items c.args.unit.now.items) (named_in_ascii c.args.unit.now.items c.requires) (returns-in-Some-clause-value c)
+pub returns-in_ok-others-in-Some-clause-own : goal.returns-in_ok-others-in-Some-clause-own
+returns-in_ok-others-in-Some-clause-own c = ascii_comes c.compile_block.result (of_items c.args.unit.now.items) (named_in_ascii c.args.unit.now.items c.requires) (returns-in_ok-others-in-Some-clause-value c)
+
+pub other_errors-requires : goal.other_errors-requires
+other_errors-requires c =
+    subst (λ ns. are_terms (trees_of ns) ≡ true) (sym c.as_slice.ensures.value) (formed_terms W64 AreNamed (Unit {0}) (trees_of c.number_nodes.new.nodes.items)
+    (block_formed c.args.unit.now.items c.in_ok-block-in-Ok.block (trees_of c.number_nodes.new.nodes.items) c.in-Ok.ensures.formed.no_errors (is_block c.args.unit.now.items c.in-Ok.program c.in_ok-block-in-Ok.block c.in-Ok.ensures.formed c.in_ok-block-in-Ok.ensures) c.requires c.in-Some.ensures.trees))

@@ -2,7 +2,8 @@ use Rattle.std.proofs.Common.{◌≡◌, length, ap, ◌∙◌, arith}
 use Rattle.std.proofs.lemmas.Grind.{common_steps}
 use Rattle.acpi_state.specs.Objects.{lookup}
 use Rattle.asl_tree.specs.View.{trees_of}
-use Rattle.name_checks.proofs.Blocks.{block_seen, block_told, none_wrong, some_wrong}
+use Rattle.name_kinds.proofs.Seeing.{block_seen}
+use Rattle.name_checks.proofs.Blocks.{block_told, none_wrong, some_wrong}
 use Rattle.name_checks.proofs.check.check.Goals as goal
 
 pub returns-then-is_empty-clause-calls : goal.returns-then-is_empty-clause-calls

@@ -6,9 +6,10 @@ use Rattle.acpi_names.specs.Mentions.{after_all}
 use Rattle.acpi_names.specs.Shown.{all_shown}
 use Rattle.acpi_names.proofs.Mentions.{after_block}
 use Rattle.name_checks.specs.Faults.{fault_as}
-use Rattle.name_checks.specs.Facts.{Knows}
+use Rattle.name_kinds.specs.Facts.{Knows}
 use Rattle.name_checks.specs.Messages.{message_of}
-use Rattle.name_checks.specs.Seen.{seen, seen_errors}
+use Rattle.name_kinds.specs.Seen.{seen}
+use Rattle.name_checks.specs.Seen.{seen_errors}
 use Rattle.name_checks.proofs.Blocks.{faults_told}
 use Rattle.name_checks.proofs.check.examine.Goals as goal
 

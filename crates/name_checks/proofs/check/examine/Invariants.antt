@@ -1,5 +1,5 @@
 use Rattle.acpi_names.specs.Shown.{all_shown}
-use Rattle.name_checks.specs.Seen.{seen}
+use Rattle.name_kinds.specs.Seen.{seen}
 use Rattle.name_checks.proofs.check.examine.Given as goal
 
 abbrev pub ghost-facts_of : goal.ghost-facts_of

@@ -1,6 +1,6 @@
 use Rattle.std.proofs.Common.{[], get_or, ap, sym, ◌∙◌}
 use Rattle.acpi_names.specs.Errors as spec
-use Rattle.name_checks.specs.Facts.{ended}
+use Rattle.name_kinds.specs.Ends.{ended}
 use Rattle.name_checks.proofs.rules.ends_at_region.Goals as goal
 
 pub returns-in-Some : goal.returns-in-Some

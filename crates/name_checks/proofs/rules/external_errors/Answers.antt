@@ -3,7 +3,7 @@ use Rattle.std.specs.Prelude.{not, is_some}
 use Rattle.acpi_state.specs.Objects.{lookup}
 use Rattle.acpi_names.specs.Errors as spec
 use Rattle.acpi_names.specs.Shown.{spot_as}
-use Rattle.name_checks.specs.Kinds.{type_as}
+use Rattle.name_kinds.specs.Kinds.{type_as}
 use Rattle.name_checks.proofs.Finding.{finds_as, finds_then}
 use Rattle.name_checks.proofs.rules.external_errors.Goals as goal
 

@@ -1,5 +1,5 @@
 use Rattle.acpi_state.specs.Objects.{lookup}
-use Rattle.name_checks.proofs.Noting.{first_here}
+use Rattle.name_kinds.proofs.Noting.{first_here}
 use Rattle.name_checks.proofs.rules.first_call.Goals as goal
 
 pub returns : goal.returns

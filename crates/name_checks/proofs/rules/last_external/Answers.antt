@@ -1,6 +1,6 @@
 use Rattle.acpi_state.specs.Objects.{lookup}
-use Rattle.name_checks.specs.Kinds.{type_as}
-use Rattle.name_checks.proofs.Noting.{look_here}
+use Rattle.name_kinds.specs.Kinds.{type_as}
+use Rattle.name_kinds.proofs.Noting.{look_here}
 use Rattle.name_checks.proofs.rules.last_external.Goals as goal
 
 pub returns : goal.returns

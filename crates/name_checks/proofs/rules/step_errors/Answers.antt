@@ -3,7 +3,7 @@ use Rattle.std.specs.Prelude.{nat_le}
 use Rattle.acpi_names.specs.Errors.{LeavesRoot, unless}
 use Rattle.acpi_names.specs.Shown.{spot_as, written_as}
 use Rattle.name_checks.proofs.Finding.{finds_as}
-use Rattle.name_checks.proofs.Noting.{read_at}
+use Rattle.name_kinds.proofs.Noting.{read_at}
 use Rattle.name_checks.proofs.rules.step_errors.Goals as goal
 
 pub returns : goal.returns

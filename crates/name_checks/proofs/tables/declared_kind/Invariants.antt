@@ -1,4 +1,0 @@
-use Rattle.name_checks.proofs.tables.declared_kind.Given as goal
-
-abbrev pub ghost-denoted : goal.ghost-denoted
-ghost-denoted g a = g.whole

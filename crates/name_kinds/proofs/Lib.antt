@@ -1,0 +1,7 @@
+pub mod Entries
+pub mod Lookups
+pub mod Places
+pub mod Noting
+pub mod Chains
+pub mod Following
+pub mod Seeing

@@ -1,0 +1,10 @@
+use Rattle.name_kinds.proofs.tables.note.Given as goal
+
+abbrev pub ghost-denoted : goal.ghost-denoted
+ghost-denoted g a = g.whole
+
+abbrev pub ghost-declared_kind : goal.ghost-declared_kind
+ghost-declared_kind g a = g.whole
+
+abbrev pub ghost-place : goal.ghost-place
+ghost-place g a = g.whole

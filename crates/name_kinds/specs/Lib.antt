@@ -1,0 +1,6 @@
+pub mod Kinds
+pub mod Tables
+pub mod Depths
+pub mod Ends
+pub mod Facts
+pub mod Seen

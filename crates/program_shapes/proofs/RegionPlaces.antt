@@ -1,0 +1,32 @@
+-- The messages on the accesses of fields stand where the fields stand.
+use Rattle.std.specs.Prelude.{ℕ, ◌<◌}
+use Rattle.std.specs.List.{All}
+use Rattle.iasl_messages.specs.declared.message.Message.{Message}
+use Rattle.asl_shape.specs.Plans.{Plans}
+use Rattle.asl_tree.specs.Tree.{Tree, Method, Container', Scope, Trees, no_trees, tree, Field, BankField, If, ElseIf, Else, While}
+use Rattle.named_sessions.specs.Places.{IsWithin, AreWithin}
+use Rattle.region_checks.specs.Places.{IsFieldWithin, AreFieldsWithin}
+use Rattle.region_checks.specs.Regions.{region_errors}
+use Rattle.region_checks.proofs.Places.{region_errors_within}
+use Rattle.program_shapes.proofs.ListPlaces.{as_all}
+
+module _ (files : ℕ) where
+  mutual
+    field_within : (t : Tree) → IsWithin files t → IsFieldWithin files t
+    field_within (Field here from region flags items) h = h.0
+    field_within (BankField here from region to bank value flags items) h = h.0
+    field_within (Method at name flags body) h = fields_within body h.1
+    field_within (Container' kind at name body) h = fields_within body h.1
+    field_within (Scope here at name body) h = fields_within body h.2
+    field_within (If test body) h = fields_within body h.1
+    field_within (ElseIf test body) h = fields_within body h.1
+    field_within (Else body) h = fields_within body h
+    field_within (While test body) h = fields_within body h.1
+    field_within _ h = tt
+
+    fields_within : (ts : Trees) → AreWithin files ts → AreFieldsWithin files ts
+    fields_within no_trees h = tt
+    fields_within (tree t ts) h = (field_within t h.0, fields_within ts h.1)
+
+pub access_errors_within : (files : ℕ) (ts : Trees) (ps : Plans) → AreWithin files ts → All (λ (m : Message). m.place.file < files) (region_errors ts ps)
+access_errors_within files ts ps h = as_all files (region_errors ts ps) (region_errors_within files ts ps (fields_within files ts h))

@@ -1,0 +1,5 @@
+pub mod Joins
+pub mod Forms
+pub mod Nodes
+pub mod Walks
+pub mod Places

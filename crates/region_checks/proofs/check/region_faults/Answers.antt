@@ -1,0 +1,11 @@
+use Rattle.std.proofs.Common.{sym, ◌∙◌, subst}
+use Rattle.asl_tree.specs.View.{trees_of}
+use Rattle.asl_shape.specs.Plans.{plans_of}
+use Rattle.asl_shape.specs.Places.{AreTold}
+use Rattle.region_checks.proofs.Places.{region_errors_within}
+use Rattle.region_checks.proofs.Walks.{block_seen_errors}
+use Rattle.region_checks.proofs.check.region_faults.Goals as goal
+
+pub returns-clause-places : goal.returns-clause-places
+returns-clause-places c files within =
+    subst (AreTold files) (sym (c.in_ok-out.ensures ∙ block_seen_errors (trees_of c.args.terms.now) (plans_of c.args.terms.now) c.requires.terms)) (region_errors_within files (trees_of c.args.terms.now) (plans_of c.args.terms.now) within)

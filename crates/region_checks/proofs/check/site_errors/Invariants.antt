@@ -1,0 +1,4 @@
+use Rattle.region_checks.proofs.check.site_errors.Given as goal
+
+abbrev pub ghost-size_of : goal.ghost-size_of
+ghost-size_of g a = g.whole

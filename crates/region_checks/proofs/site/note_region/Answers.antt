@@ -1,0 +1,11 @@
+use Rattle.std.proofs.Common.{None, ◌∙◌, arith}
+use Rattle.name_kinds.proofs.Noting.{first_set, later_kept, read_at}
+use Rattle.region_checks.proofs.site.note_region.Goals as goal
+
+pub returns-in-None-clause-noted : goal.returns-in-None-clause-noted
+returns-in-None-clause-noted c before tabled =
+    first_set c.args.index.now.paths c.args.table.now.items c.args.path c.args.size before c.len-count.ensures.distinct c.requires.within c.requires.size (read_at c.args.table.now.items c.args.path c.index.result.now None (omega (arith, c.requires.within, c.requires.size)) c.index.ensures ∙ c.in-None.is) tabled
+
+pub returns-in-Some-clause-noted : goal.returns-in-Some-clause-noted
+returns-in-Some-clause-noted c before tabled =
+    later_kept c.args.index.now.paths c.args.table.now.items c.args.path c.args.size c.in-Some.field-0 before c.len-count.ensures.distinct c.requires.within (read_at c.args.table.now.items c.args.path c.index.result.now None (omega (arith, c.requires.within, c.requires.size)) c.index.ensures ∙ c.in-Some.is) tabled

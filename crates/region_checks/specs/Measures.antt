@@ -1,0 +1,100 @@
+-- What the regions and fields of a block say beside their names, in the order of its terms, and how this goes with the
+-- mentions of names. These are the steps of the code between the nodes of a block and its sites.
+use Rattle.std.specs.Prelude.{ℕ, Bool, true, false, List, [], ◌∷◌, ◌++◌, Option, Some, None}
+use Rattle.acpi_state.specs.Access.{access_bytes}
+use Rattle.acpi_state.specs.Objects.{RegionObject}
+use Rattle.iasl_messages.specs.declared.message.Message.{Message}
+use Rattle.std.specs.Result.{result_ok}
+use Rattle.acpi_state.specs.Outcomes.{choose}
+use Rattle.asl_tree.specs.Names.{place_of}
+use Rattle.asl_tree.specs.Tree.{Tree, Method, Container', Scope, Trees, no_trees, tree, OperationRegion, Field, BankField, If, ElseIf, Else, While}
+use Rattle.asl_tree.specs.View.{items_in}
+use Rattle.asl_meaning.specs.Declarations.{As}
+use Rattle.acpi_names.specs.Errors.{ARegion}
+use Rattle.acpi_names.specs.Mentions.{Mention, Used', Declares}
+use Rattle.acpi_names.specs.Parts.{number_at}
+use Rattle.acpi_names.specs.declared.part.Part.{Part}
+use Rattle.acpi_names.specs.declared.part.Part.TheVariants as P
+use Rattle.acpi_names.specs.declared.part.What.{What}
+use Rattle.acpi_names.specs.declared.part.What.TheVariants as W
+use Rattle.acpi_names.specs.declared.part.Over.TheVariants as O
+use Rattle.asl_shape.specs.Plans.{Plan, Plans, plan_at, constant_of}
+use Rattle.region_checks.specs.declared.measure.Measure.{Measure}
+use Rattle.region_checks.specs.declared.measure.Measure.TheVariants as M
+use Rattle.region_checks.specs.Sites.{Site, RegionAt, FieldIn, body_of, rest_of, region_size, if_none, field_access}
+
+abbrev mutual
+  pub measures : Tree → Plan → List Measure
+  measures (OperationRegion at name space args) p = M.Size (region_size p) ∷ []
+  measures (Field here from region flags items) p = M.Access (field_access flags p) ∷ []
+  measures (BankField here from region to bank value flags items) p = M.Access (field_access flags p) ∷ []
+  measures (Method at name flags body) p = measures_all body (body_of p)
+  measures (Container' kind at name body) p = measures_all body (body_of p)
+  measures (Scope here at name body) p = measures_all body (body_of p)
+  measures (If test body) p = measures_all body (body_of p)
+  measures (ElseIf test body) p = measures_all body (body_of p)
+  measures (Else body) p = measures_all body (body_of p)
+  measures (While test body) p = measures_all body (body_of p)
+  measures t p = []
+
+  pub measures_all : Trees → Plans → List Measure
+  measures_all no_trees ps = []
+  measures_all (tree t ts) ps = measures t (plan_at ps 0) ++ measures_all ts (rest_of ps)
+
+-- the same by the part of a form, with the errors of its list
+abbrev pub list_measures : Option ℕ → Trees → List Message → List Measure
+list_measures None body errors = []
+list_measures (Some flags) body errors = choose (items_in body) [] (λ items. M.Access (if_none errors (access_bytes flags)) ∷ [])
+
+abbrev pub opened_measures : Bool → Trees → Plans → List Measure
+opened_measures true body plans = measures_all body plans
+opened_measures false body plans = []
+
+abbrev pub declared_measures : What → Bool → Trees → Plans → Plans → List Measure
+declared_measures (W.Region space) opens body given plans = M.Size (result_ok (constant_of (plan_at given 3))) ∷ []
+declared_measures what opens body given plans = opened_measures opens body plans
+
+abbrev pub part_measures : Part → Trees → Trees → Plans → Plans → List Message → List Measure
+part_measures (P.Declares n what opens) args body given plans errors = declared_measures what opens body given plans
+part_measures P.Scope args body given plans errors = measures_all body plans
+part_measures P.Within args body given plans errors = measures_all body plans
+part_measures (P.Units O.Region) args body given plans errors = list_measures (number_at 1 args) body errors
+part_measures (P.Units O.Bank) args body given plans errors = list_measures (number_at 3 args) body errors
+part_measures _ args body given plans errors = []
+
+-- a mention of a region that is declared, or of one that a field uses
+abbrev pub is_site : Mention → Bool
+is_site (Declares at name (As (RegionObject space offset size)) scope) = true
+is_site (Used' (ARegion here) at name scope) = true
+is_site m = false
+
+abbrev pub size_in : Option Measure → Option ℕ
+size_in (Some (M.Size size)) = size
+size_in _ = None
+
+abbrev pub access_in : Option Measure → Option ℕ
+access_in (Some (M.Access access)) = access
+access_in _ = None
+
+-- the site that a mention is, with its measure
+abbrev pub site_with : Mention → Option Measure → List Site
+site_with (Declares at name (As (RegionObject space offset size)) scope) o = RegionAt (place_of name scope) (size_in o) ∷ []
+site_with (Used' (ARegion here) at name scope) o = FieldIn here name scope (access_in o) ∷ []
+site_with m o = []
+
+abbrev pub first_measure : List Measure → Option Measure
+first_measure [] = None
+first_measure (p ∷ ps) = Some p
+
+abbrev pub rest_measures : List Measure → List Measure
+rest_measures [] = []
+rest_measures (p ∷ ps) = ps
+
+abbrev pub left_measures : Bool → List Measure → List Measure
+left_measures true ps = rest_measures ps
+left_measures false ps = ps
+
+-- mentions with their measures
+abbrev pub joined : List Mention → List Measure → List Site
+joined [] ps = []
+joined (m ∷ ms) ps = site_with m (first_measure ps) ++ joined ms (left_measures (is_site m) ps)

@@ -1,0 +1,22 @@
+-- Where the fields of a block stand.
+use Rattle.std.specs.Prelude.{ℕ}
+use Rattle.asl_parser.specs.Within.{IsIn}
+use Rattle.asl_tree.specs.Tree.{Tree, Method, Container', Scope, Trees, no_trees, tree, Field, BankField, If, ElseIf, Else, While}
+
+-- the node of each field of a region, at any depth, stands in one of so many files
+abbrev mutual
+  pub IsFieldWithin : ℕ → Tree → Type 0
+  IsFieldWithin files (Field here from region flags items) = IsIn files here.place
+  IsFieldWithin files (BankField here from region to bank value flags items) = IsIn files here.place
+  IsFieldWithin files (Method at name flags body) = AreFieldsWithin files body
+  IsFieldWithin files (Container' kind at name body) = AreFieldsWithin files body
+  IsFieldWithin files (Scope here at name body) = AreFieldsWithin files body
+  IsFieldWithin files (If test body) = AreFieldsWithin files body
+  IsFieldWithin files (ElseIf test body) = AreFieldsWithin files body
+  IsFieldWithin files (Else body) = AreFieldsWithin files body
+  IsFieldWithin files (While test body) = AreFieldsWithin files body
+  IsFieldWithin files t = Unit {0}
+
+  pub AreFieldsWithin : ℕ → Trees → Type 0
+  AreFieldsWithin files no_trees = Unit {0}
+  AreFieldsWithin files (tree t ts) = IsFieldWithin files t × AreFieldsWithin files ts

@@ -1,0 +1,50 @@
+-- The fields whose accesses are wider than their regions.
+use Rattle.std.specs.Prelude.{ℕ, List, [], ◌∷◌, ◌++◌, Option, Some, None}
+use Rattle.acpi_values.specs.Paths.{AbsolutePath}
+use Rattle.iasl_messages.specs.declared.message.Message.{Message}
+use Rattle.iasl_messages.specs.declared.place.Place.{Place}
+use Rattle.acpi_state.specs.Objects.{Object, lookup}
+use Rattle.asl_tree.specs.Tree.{Trees}
+use Rattle.asl_meaning.specs.Declarations.{nothing_declared}
+use Rattle.acpi_names.specs.Errors.{Whole, whole_of, name_end}
+use Rattle.asl_shape.specs.Plans.{Plans}
+use Rattle.asl_shape.specs.Shapes.{fault_at}
+use Rattle.field_layout.specs.Layout.{region_fault}
+use Rattle.region_checks.specs.Sites.{Site, RegionAt, FieldIn, sites_all}
+
+-- the regions whose lengths are constant
+abbrev pub sizes : List Site → List (AbsolutePath × ℕ)
+sizes [] = []
+sizes (RegionAt path (Some size) ∷ sites) = (path, size) ∷ sizes sites
+sizes (_ ∷ sites) = sizes sites
+
+-- the constant length of the region at which a name ends
+abbrev pub size_at : List (AbsolutePath × ℕ) → Option (AbsolutePath × Object) → Option ℕ
+size_at regions None = None
+size_at regions (Some end) = lookup regions end.0
+
+-- a fault of a layout, told at the field
+abbrev pub fault_told : Place → Option (ℕ × ℕ) → List Message
+fault_told place None = []
+fault_told place (Some fault) = fault_at fault.1 place ∷ []
+
+-- what is told of an access of so many bytes, as the layout of its list has it
+abbrev pub access_errors : Place → Option ℕ → Option ℕ → List Message
+access_errors place None size = []
+access_errors place (Some access) size = fault_told place (region_fault access size 0)
+
+module _ (whole : Whole) (regions : List (AbsolutePath × ℕ)) where
+  abbrev pub site_errors : Site → List Message
+  site_errors (RegionAt path size) = []
+  site_errors (FieldIn here region scope access) = access_errors here.place access (size_at regions (name_end whole region scope))
+
+  abbrev pub all_site_errors : List Site → List Message
+  all_site_errors [] = []
+  all_site_errors (site ∷ sites) = site_errors site ++ all_site_errors sites
+
+abbrev pub sited_errors : Whole → List Site → List Message
+sited_errors whole sites = all_site_errors whole (sizes sites) sites
+
+-- the errors of a block, read as trees and as plans
+abbrev pub region_errors : Trees → Plans → List Message
+region_errors terms plans = sited_errors (whole_of terms) (sites_all terms plans [] nothing_declared)

@@ -1,0 +1,163 @@
+//! Fields whose accesses are wider than their regions.
+ghost use Rattle.std.specs.Prelude.{◌≡◌, ◌++◌, ℕ, List, [], length, get_or, IfOk, OnOk, Some, None, true, if◌then◌else◌};
+ghost use Rattle.acpi_values.specs.Paths.{AbsolutePath};
+ghost use Rattle.acpi_state.specs.Objects.{lookup};
+ghost use Rattle.asl_tree.specs.View.{trees_of};
+ghost use Rattle.asl_shape.specs.Places.{AreTold};
+ghost use Rattle.asl_shape.specs.Plans.{plans_of};
+ghost use Rattle.asl_meaning.specs.Declarations.{nothing_declared};
+ghost use Rattle.acpi_names.specs.Errors.{Whole, name_end};
+ghost use Rattle.acpi_names.specs.Mentions.{after_all, block_mentions};
+ghost use Rattle.acpi_names.specs.Shown.{all_shown};
+ghost use Rattle.acpi_names.specs.Tables.{Tabled};
+ghost use Rattle.acpi_names.specs.Terms.{are_terms};
+ghost use Rattle.name_kinds.specs.Facts.{Knows};
+ghost use Rattle.name_kinds.specs.Seen.{seen};
+ghost use Rattle.region_checks.specs.Places.{AreFieldsWithin};
+ghost use Rattle.region_checks.specs.Regions.{size_at, access_errors, fault_told, site_errors as errors_of, sited_errors, region_errors};
+ghost use Rattle.region_checks.specs.Measures.{joined};
+ghost use Rattle.region_checks.specs.Shown.{site_as};
+ghost use Rattle.region_checks.specs.Sites.{sites_all};
+
+use crate::measure::{Measure, all_measures};
+use crate::site::{Site, sites, sizes};
+use acpi_names::index::names_of;
+use acpi_names::mention::Mention;
+use acpi_names::place::scope_in;
+use asl_tree::path::Path;
+use asl_tree::term::Node;
+use iasl_messages::message::{Message, Messages};
+use iasl_messages::place::Place;
+use iasl_ports::list::Text;
+use name_kinds::facts::{Facts, end, facts_of};
+use name_kinds::tables::denoted;
+use std::alloc::{AllocError, Global};
+
+// The constant length of the region at which a name ends.
+fn size_of(facts: &Facts, table: &[Option<u64>], region: &Path, scope: usize) -> Option<u64>
+    ghost whole: { Whole }
+    requires told { Knows facts.now whole }
+    requires sized { length table.now ≡ length facts.now.index.paths }
+    ensures { (regions : List (AbsolutePath × ℕ)) → Tabled facts.now.index.paths table.now (lookup regions) → result ≡ size_at regions (name_end whole region.now (get_or facts.now.index.paths scope [])) }
+{
+    let count = facts.index.paths.len();
+    match denoted(&facts.index, region, scope) {
+        None => None,
+        Some(target) => match end(facts, target) {
+            None => None,
+            Some(end) => table[scope_in(&facts.index.paths, end.path)],
+        },
+    }
+}
+
+// Whether an access has more bytes than a region.
+fn is_wider(access: Option<u64>, size: Option<u64>) -> bool
+    ensures { (place : Place) → access_errors place access size ≡ fault_told place (if result then Some (0, 6072) else None) }
+{
+    match access {
+        Some(access) => match size {
+            Some(size) => size < access,
+            None => false,
+        },
+        None => false,
+    }
+}
+
+// What is told of one field.
+fn field_errors(
+    alloc: Global,
+    out: &mut Messages,
+    place: Place,
+    access: Option<u64>,
+    size: Option<u64>,
+) -> Result<(), AllocError>
+    ensures { OnOk result (out.new ≡ out.old ++ access_errors place access size) }
+{
+    if is_wider(access, size) {
+        out.push(Message {
+            number: 6072,
+            place,
+            name: Text::new(alloc),
+        })?;
+    }
+    Ok(())
+}
+
+// What is told of one site.
+fn site_errors(
+    alloc: Global,
+    out: &mut Messages,
+    facts: &Facts,
+    table: &[Option<u64>],
+    site: Site<'_>,
+) -> Result<(), AllocError>
+    ghost whole: { Whole }
+    requires told { Knows facts.now whole }
+    requires sized { length table.now ≡ length facts.now.index.paths }
+    ensures { OnOk result ((regions : List (AbsolutePath × ℕ)) → Tabled facts.now.index.paths table.now (lookup regions) → out.new ≡ out.old ++ errors_of whole regions (site_as facts.now.index.paths site.entry)) }
+{
+    match site {
+        Site::Field {
+            here,
+            region,
+            scope,
+            access,
+        } => {
+            let size = size_of(facts, table, region, scope);
+            field_errors(alloc, out, here.place, access, size)?;
+            Ok(())
+        }
+        Site::Region { .. } => Ok(()),
+    }
+}
+
+// What is told of all sites, in order.
+fn all_site_errors(
+    alloc: Global,
+    facts: &Facts,
+    mentions: &[Mention<'_>],
+    measures: &[Measure],
+) -> Result<Messages, AllocError>
+    ghost whole: { Whole }
+    requires told { Knows facts.now whole }
+    requires all { after_all (all_shown facts.now.index.paths mentions.now) nothing_declared ≡ whole.all }
+    ensures { IfOk result (λ ms. ms ≡ sited_errors whole (joined (all_shown facts.now.index.paths mentions.now) measures.now)) }
+{
+    let sites = sites(alloc, &facts.index, mentions, measures)?;
+    let table = sizes(alloc, &facts.index, &sites)?;
+    let mut out = Messages::new(alloc);
+    for site in &sites {
+        site_errors(alloc, &mut out, facts, &table, *site)?;
+    }
+    Ok(out)
+}
+
+// What is told of a block, by what its mentions say.
+pub(crate) fn seen_faults(alloc: Global, terms: &[Node]) -> Result<Messages, AllocError>
+    ensures { IfOk result (λ ms. ms ≡ sited_errors (seen (block_mentions (trees_of terms.now) [] nothing_declared)) (sites_all (trees_of terms.now) (plans_of terms.now) [] nothing_declared)) }
+{
+    let mut measures = Vec::new(alloc);
+    all_measures(alloc, &mut measures, terms)?;
+    if measures.is_empty() {
+        return Ok(Messages::new(alloc));
+    }
+    let found = names_of(alloc, terms)?;
+    let facts = facts_of(alloc, found.index, &found.mentions)?;
+    let out = all_site_errors(alloc, &facts, &found.mentions, &measures)?;
+    Ok(out)
+}
+
+/// The fields of a block whose accesses are wider than their regions (ACPI Specification 6.4, 19.6.7, 19.6.48 and
+/// 19.6.100), in the order of the source: 6072 at each Field and BankField whose list has no error of its own, and whose
+/// access has more bytes than the constant length of the region at which its name ends, through aliases too. A region
+/// of another table, and one whose length is no constant, has no such length. A length is taken at 64 bits. The only error
+/// is want of memory, as which a list is answered that reaches behind 2^62 bits.
+#[tactic(auto, using(crate::proofs::Walks::block_seen_errors))]
+pub fn region_faults(alloc: Global, terms: &[Node]) -> Result<Messages, AllocError>
+    requires terms { are_terms (trees_of terms.now) ≡ true }
+    ensures told { IfOk result (λ ms. ms ≡ region_errors (trees_of terms.now) (plans_of terms.now)) }
+    ensures places { (files : ℕ) → AreFieldsWithin files (trees_of terms.now) → IfOk result (AreTold files) }
+{
+    let out = seen_faults(alloc, terms)?;
+    Ok(out)
+}

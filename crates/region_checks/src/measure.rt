@@ -1,0 +1,176 @@
+//! The lengths of regions, and the accesses of fields.
+ghost use Rattle.std.specs.Prelude.{◌≡◌, ◌++◌, IfOk, OnOk, length, slice_get};
+ghost use Rattle.std.specs.Option.{option_copied};
+ghost use Rattle.std.specs.Result.{result_ok};
+ghost use Rattle.acpi_state.specs.Access.{access_bytes as bytes_of};
+ghost use Rattle.asl_tree.specs.View.{trees_of};
+ghost use Rattle.acpi_names.specs.Parts.{is_item_list, is_item_term, part_of};
+ghost use Rattle.asl_shape.specs.Plans.{plan_of, plans_of, plan_at, constant_of};
+ghost use Rattle.field_checks.specs.Lists.{all_errors};
+ghost use Rattle.region_checks.specs.Measures as spec;
+ghost use Rattle.region_checks.specs.Sites.{if_none};
+
+use acpi_names::part::{Over, Part, What, number, part_for};
+use acpi_values::width::Width;
+use asl_tree::constant::constant;
+use asl_tree::term::{Node, Op, Term};
+use field_checks::check::list_faults;
+use std::alloc::{AllocError, Global};
+
+/// What a region or a field says beside its names: the constant length of a region in bytes, or the bytes of a field's
+/// accesses, where its list has no error.
+#[derive(Clone, Copy, PartialEq, Eq, Debug)]
+pub enum Measure {
+    Size(Option<u64>),
+    Access(Option<u64>),
+}
+
+// The bytes of an access by a field's flags.
+fn access_bytes(flags: u64) -> u64
+    ensures { result ≡ bytes_of flags }
+{
+    match flags % 16 {
+        2 => 2,
+        3 => 4,
+        4 => 8,
+        _ => 1,
+    }
+}
+
+fn node_at(nodes: &[Node], place: usize) -> Option<&Node>
+    ensures { option_copied result ≡ slice_get nodes.now place }
+{
+    nodes.get(place)
+}
+
+// The value of a constant.
+#[tactic(auto, using(asl_shape::proofs::Constants::constant_is))]
+fn constant_in(term: &Term) -> Option<u64>
+    ensures { result ≡ result_ok (constant_of (plan_of term.now)) }
+{
+    constant(term, Width::W64).ok()
+}
+
+// The constant length of a region by its arguments.
+#[tactic(auto, using(crate::proofs::Nodes::constant_there, crate::proofs::Nodes::constant_none))]
+fn region_size(args: &[Node]) -> Option<u64>
+    ensures { result ≡ result_ok (constant_of (plan_at (plans_of args.now) 3)) }
+{
+    match node_at(args, 3) {
+        Some(node) => constant_in(&node.term),
+        None => None,
+    }
+}
+
+fn is_item(term: &Term) -> bool
+    ensures { result ≡ is_item_term term.now }
+{
+    matches!(term, Term::Unit { .. } | Term::Skip(_) | Term::Offset(_))
+}
+
+// Whether a body lists items of a field, and nothing else.
+fn are_items(nodes: &[Node]) -> bool
+    ensures { result ≡ is_item_list (trees_of nodes.now) }
+{
+    for node in nodes {
+        if !is_item(&node.term) {
+            return false;
+        }
+    }
+    true
+}
+
+// The bytes of the accesses of one field with these flags.
+fn field_access(alloc: Global, field: &[Node], flags: u64) -> Result<Option<u64>, AllocError>
+    ensures { IfOk result (λ access. access ≡ if_none (all_errors (plans_of field.now)) (bytes_of flags)) }
+{
+    let faults = list_faults(alloc, field)?;
+    if faults.is_empty() {
+        Ok(Some(access_bytes(flags)))
+    } else {
+        Ok(None)
+    }
+}
+
+// What one field says that stands alone, and whose flags are these.
+fn list_measures(
+    alloc: Global,
+    out: &mut Vec<Measure>,
+    alone: &[Node],
+    flags: Option<u64>,
+    body: &[Node],
+) -> Result<(), AllocError>
+    ensures { OnOk result (out.new.items ≡ out.old.items ++ spec.list_measures flags (trees_of body.now) (all_errors (plans_of alone.now))) }
+{
+    let Some(flags) = flags else {
+        return Ok(());
+    };
+    if !are_items(body) {
+        return Ok(());
+    }
+    let access = field_access(alloc, alone, flags)?;
+    out.push(Measure::Access(access))?;
+    Ok(())
+}
+
+// What a form says that stands alone.
+#[cycle(walk)]
+fn form_measures(
+    alloc: Global,
+    out: &mut Vec<Measure>,
+    alone: &[Node],
+    op: Op,
+    args: &[Node],
+    body: &[Node],
+) -> Result<(), AllocError>
+    ensures { OnOk result (out.new.items ≡ out.old.items ++ spec.part_measures (part_of op (trees_of args.now) (trees_of body.now)) (trees_of args.now) (trees_of body.now) (plans_of args.now) (plans_of body.now) (all_errors (plans_of alone.now))) }
+{
+    match part_for(op, args, body) {
+        Part::Declares {
+            what: What::Region(_),
+            ..
+        } => {
+            out.push(Measure::Size(region_size(args)))?;
+            Ok(())
+        }
+        Part::Declares { opens: true, .. } | Part::Scope | Part::Within => {
+            all_measures(alloc, out, body)?;
+            Ok(())
+        }
+        Part::Units(Over::Region) => {
+            list_measures(alloc, out, alone, number(args, 1), body)?;
+            Ok(())
+        }
+        Part::Units(Over::Bank) => {
+            list_measures(alloc, out, alone, number(args, 3), body)?;
+            Ok(())
+        }
+        _ => Ok(()),
+    }
+}
+
+// What one term says.
+#[cycle(walk)]
+fn term_measures(alloc: Global, out: &mut Vec<Measure>, alone: &[Node]) -> Result<(), AllocError>
+    requires { length alone.now ≡ 1 }
+    ensures { OnOk result (out.new.items ≡ out.old.items ++ spec.measures_all (trees_of alone.now) (plans_of alone.now)) }
+{
+    match &alone[0].term {
+        Term::Form { op, args, body } => {
+            form_measures(alloc, out, alone, *op, args, body)?;
+            Ok(())
+        }
+        _ => Ok(()),
+    }
+}
+
+/// What the regions and fields of terms say, in order.
+#[cycle(walk)]
+pub fn all_measures(alloc: Global, out: &mut Vec<Measure>, nodes: &[Node]) -> Result<(), AllocError>
+    ensures { OnOk result (out.new.items ≡ out.old.items ++ spec.measures_all (trees_of nodes.now) (plans_of nodes.now)) }
+{
+    for index in 0..nodes.len() {
+        term_measures(alloc, out, &nodes[index..index + 1])?;
+    }
+    Ok(())
+}

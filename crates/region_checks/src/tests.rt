@@ -1,0 +1,397 @@
+use crate::check::{region_faults, seen_faults};
+use acpi_values::operator::{IntOp, Plain};
+use asl_tree::path::{Path, Segs};
+use asl_tree::term::{Declaration, Node, Op, Symbolic, Term};
+use iasl_messages::message::Messages;
+use iasl_messages::place::Place;
+use std::alloc::{AllocError, Global};
+use std::test::Fail;
+
+// The length of a region.
+#[derive(Clone, Copy)]
+enum Size {
+    Number(u64),
+    Add(u64, u64),
+    Plus(u64, u64),
+    Divide(u64, u64),
+    Local,
+}
+
+// A term; what a field lists is one unit of so many bits.
+#[derive(Clone, Copy)]
+enum Item {
+    Region(&'static str, Size),
+    Field(&'static str, u64, u64),
+    // A field with an Offset that goes back.
+    Back(&'static str, u64),
+    Bank(&'static str, &'static str, u64, u64),
+    Index(&'static str, &'static str, u64, u64),
+    Alias(&'static str, &'static str),
+    External(&'static str, u64),
+}
+
+// A name as it is written, with segments of four bytes.
+fn path(alloc: Global, text: &str) -> Result<Path, AllocError> {
+    let mut root = false;
+    let mut segs = Segs::new(alloc);
+    let mut seg = [b'_'; 4];
+    let mut count: usize = 0;
+    for byte in text.as_bytes() {
+        match *byte {
+            b'\\' => root = true,
+            other => {
+                if count >= 3 {
+                    seg[3] = other;
+                    segs.push(seg)?;
+                    count = 0;
+                } else {
+                    seg[count] = other;
+                    count += 1;
+                }
+            }
+        }
+    }
+    Ok(Path { root, up: 0, segs })
+}
+
+fn add(nodes: &mut Vec<Node>, line: u32, term: Term) -> Result<(), AllocError> {
+    nodes.push(Node {
+        id: 0,
+        place: Place {
+            file: 0,
+            line,
+            column: 1,
+        },
+        term,
+    })?;
+    Ok(())
+}
+
+fn add_name(alloc: Global, nodes: &mut Vec<Node>, text: &str) -> Result<(), AllocError> {
+    add(nodes, 0, Term::Name(path(alloc, text)?))
+}
+
+fn add_number(nodes: &mut Vec<Node>, number: u64) -> Result<(), AllocError> {
+    add(nodes, 0, Term::Integer(number))
+}
+
+// An operator on two numbers, with so many targets left out.
+fn operator(
+    alloc: Global,
+    op: Op,
+    first: u64,
+    second: u64,
+    targets: u32,
+) -> Result<Term, AllocError> {
+    let mut args = Vec::new(alloc);
+    add_number(&mut args, first)?;
+    add_number(&mut args, second)?;
+    for target in 0..targets {
+        add(&mut args, 0, Term::Omitted)?;
+    }
+    Ok(Term::Form {
+        op,
+        args,
+        body: Vec::new(alloc),
+    })
+}
+
+fn size_term(alloc: Global, size: Size) -> Result<Term, AllocError> {
+    match size {
+        Size::Number(number) => Ok(Term::Integer(number)),
+        Size::Add(first, second) => {
+            operator(
+                alloc,
+                Op::Plain(Plain::Number(IntOp::Add)),
+                first,
+                second,
+                1,
+            )
+        }
+        Size::Plus(first, second) => {
+            let op = Op::Symbolic(Symbolic::Operator(Plain::Number(IntOp::Add)));
+            operator(alloc, op, first, second, 0)
+        }
+        Size::Divide(first, second) => {
+            operator(
+                alloc,
+                Op::Plain(Plain::Number(IntOp::Divide)),
+                first,
+                second,
+                2,
+            )
+        }
+        Size::Local => Ok(Term::Local(0)),
+    }
+}
+
+fn declaration(
+    nodes: &mut Vec<Node>,
+    line: u32,
+    op: Declaration,
+    args: Vec<Node>,
+    body: Vec<Node>,
+) -> Result<(), AllocError> {
+    add(
+        nodes,
+        line,
+        Term::Form {
+            op: Op::Declaration(op),
+            args,
+            body,
+        },
+    )
+}
+
+fn add_item(alloc: Global, nodes: &mut Vec<Node>, line: u32, item: Item) -> Result<(), AllocError> {
+    let mut args = Vec::new(alloc);
+    let mut body = Vec::new(alloc);
+    let op = match item {
+        Item::Region(name, size) => {
+            add_name(alloc, &mut args, name)?;
+            add_number(&mut args, 1)?;
+            add_number(&mut args, 0x80)?;
+            add(&mut args, 0, size_term(alloc, size)?)?;
+            Declaration::OperationRegion
+        }
+        Item::Field(region, flags, bits) => {
+            add_name(alloc, &mut args, region)?;
+            add_number(&mut args, flags)?;
+            add(&mut body, 0, Term::Skip(bits))?;
+            Declaration::Field
+        }
+        Item::Back(region, flags) => {
+            add_name(alloc, &mut args, region)?;
+            add_number(&mut args, flags)?;
+            add(&mut body, 0, Term::Skip(8))?;
+            add(&mut body, 0, Term::Offset(0))?;
+            Declaration::Field
+        }
+        Item::Bank(region, bank, flags, bits) => {
+            add_name(alloc, &mut args, region)?;
+            add_name(alloc, &mut args, bank)?;
+            add_number(&mut args, 0)?;
+            add_number(&mut args, flags)?;
+            add(&mut body, 0, Term::Skip(bits))?;
+            Declaration::BankField
+        }
+        Item::Index(index, register, flags, bits) => {
+            add_name(alloc, &mut args, index)?;
+            add_name(alloc, &mut args, register)?;
+            add_number(&mut args, flags)?;
+            add(&mut body, 0, Term::Skip(bits))?;
+            Declaration::IndexField
+        }
+        Item::Alias(source, name) => {
+            add_name(alloc, &mut args, source)?;
+            add_name(alloc, &mut args, name)?;
+            Declaration::Alias
+        }
+        Item::External(name, object) => {
+            add_name(alloc, &mut args, name)?;
+            add_number(&mut args, object)?;
+            Declaration::External
+        }
+    };
+    declaration(nodes, line, op, args, body)
+}
+
+// Terms, the first on this line and each other on the line behind.
+fn add_items(
+    alloc: Global,
+    nodes: &mut Vec<Node>,
+    first: u32,
+    items: &[Item],
+) -> Result<(), AllocError> {
+    let mut line = first;
+    for item in items {
+        add_item(alloc, nodes, line, *item)?;
+        line = line.wrapping_add(1);
+    }
+    Ok(())
+}
+
+// Terms from line 1 on, and behind them a Device \D___ with terms from line 100 on.
+fn block(alloc: Global, outer: &[Item], inner: &[Item]) -> Result<Vec<Node>, AllocError> {
+    let mut nodes = Vec::new(alloc);
+    add_items(alloc, &mut nodes, 1, outer)?;
+    let mut args = Vec::new(alloc);
+    add_name(alloc, &mut args, "D___")?;
+    let mut body = Vec::new(alloc);
+    add_items(alloc, &mut body, 100, inner)?;
+    declaration(&mut nodes, 99, Declaration::Device, args, body)?;
+    Ok(nodes)
+}
+
+// Whether the messages are 6072 on just these lines.
+fn are_on(messages: &Messages, lines: &[u32]) -> bool {
+    if messages.len() != lines.len() {
+        return false;
+    }
+    for (index, line) in lines.iter().enumerate() {
+        match messages.get(index) {
+            Some(message) => {
+                if message.number != 6072
+                    || message.place.line != *line
+                    || !message.name.as_bytes().is_empty()
+                {
+                    return false;
+                }
+            }
+            None => return false,
+        }
+    }
+    true
+}
+
+const ANY: u64 = 0;
+
+const BYTE: u64 = 1;
+
+const WORD: u64 = 2;
+// With Lock and WriteAsOnes.
+const DWORD: u64 = 0x33;
+
+const QWORD: u64 = 4;
+
+#[test]
+fn accesses_are_no_wider_than_regions(rt: HostRuntime) -> Result<(), Fail> {
+    let alloc = rt.alloc();
+    let four = Item::Region("R___", Size::Number(4));
+    let one = Item::Region("R___", Size::Number(1));
+    let none = Item::Region("R___", Size::Number(0));
+    let cases: [(&[Item], &[u32]); 9] = [
+        (
+            &[
+                four,
+                Item::Field("R___", BYTE, 8),
+                Item::Field("R___", DWORD, 8),
+            ],
+            &[],
+        ),
+        (
+            &[
+                four,
+                Item::Field("R___", QWORD, 8),
+                Item::Field("R___", WORD, 8),
+                Item::Field("R___", QWORD, 8),
+            ],
+            &[2, 4],
+        ),
+        (
+            &[
+                one,
+                Item::Field("R___", ANY, 8),
+                Item::Field("R___", WORD, 8),
+                Item::Field("R___", DWORD, 8),
+            ],
+            &[3, 4],
+        ),
+        (
+            &[
+                none,
+                Item::Field("R___", ANY, 8),
+                Item::Field("R___", BYTE, 8),
+            ],
+            &[2, 3],
+        ),
+        // A region that is declared behind its field, and a region of another table.
+        (&[Item::Field("R___", WORD, 8), one], &[1]),
+        (
+            &[Item::External("R___", 10), Item::Field("R___", QWORD, 8)],
+            &[],
+        ),
+        // By aliases.
+        (
+            &[
+                one,
+                Item::Alias("R___", "S___"),
+                Item::Alias("S___", "T___"),
+                Item::Field("T___", WORD, 8),
+                Item::Field("S___", BYTE, 8),
+            ],
+            &[4],
+        ),
+        // A field in a bank of a region, and one behind an index.
+        (
+            &[
+                one,
+                Item::Bank("R___", "B___", WORD, 8),
+                Item::Bank("R___", "B___", BYTE, 8),
+                Item::Index("A___", "B___", QWORD, 8),
+            ],
+            &[2],
+        ),
+        // A list with another error has no second one.
+        (
+            &[
+                one,
+                Item::Field("R___", WORD, 0x1000_0000),
+                Item::Back("R___", WORD),
+                Item::Bank("R___", "B___", WORD, 0x1000_0000),
+                Item::Field("R___", WORD, 0),
+            ],
+            &[5],
+        ),
+    ];
+    for (items, lines) in cases {
+        let nodes = block(alloc, items, &[])?;
+        let messages = seen_faults(alloc, &nodes)?;
+        assert!(rt; are_on(&messages, lines));
+    }
+    Ok(())
+}
+
+#[test]
+fn a_length_is_a_constant(rt: HostRuntime) -> Result<(), Fail> {
+    let alloc = rt.alloc();
+    let cases: [(Size, &[u32]); 7] = [
+        (Size::Add(1, 1), &[3]),
+        (Size::Add(2, 2), &[]),
+        (Size::Plus(1, 1), &[3]),
+        (Size::Plus(0xFFFF_FFFF_FFFF_FFFF, 2), &[2, 3]),
+        (Size::Number(0x1_0000_0000), &[]),
+        (Size::Divide(1, 0), &[]),
+        (Size::Local, &[]),
+    ];
+    for (size, lines) in cases {
+        let items = [
+            Item::Region("R___", size),
+            Item::Field("R___", WORD, 8),
+            Item::Field("R___", DWORD, 8),
+        ];
+        let nodes = block(alloc, &items, &[])?;
+        let messages = seen_faults(alloc, &nodes)?;
+        assert!(rt; are_on(&messages, lines));
+    }
+    Ok(())
+}
+
+#[test]
+fn a_region_is_the_nearest(rt: HostRuntime) -> Result<(), Fail> {
+    let alloc = rt.alloc();
+    let one = Item::Region("R___", Size::Number(1));
+    let two = Item::Region("R___", Size::Number(2));
+    let field = Item::Field("R___", WORD, 8);
+    let from_root = Item::Field("\\R___", WORD, 8);
+    let cases: [(&[Item], &[Item], &[u32]); 4] = [
+        (&[one], &[field], &[100]),
+        (&[two, field], &[one, field, from_root], &[101]),
+        (&[one, field], &[field, two, from_root], &[2, 102]),
+        (&[Item::Field("\\D___R___", WORD, 8)], &[one], &[1]),
+    ];
+    for (outer, inner, lines) in cases {
+        let nodes = block(alloc, outer, inner)?;
+        let messages = seen_faults(alloc, &nodes)?;
+        assert!(rt; are_on(&messages, lines));
+    }
+    Ok(())
+}
+
+#[test]
+#[tactic(auto, unfolding(asl_tree::specs::View::trees_of))]
+fn an_empty_block_has_no_fault(rt: HostRuntime) -> Result<(), Fail> {
+    let messages = region_faults(rt.alloc(), &[])?;
+    assert_eq!(rt; messages.len(), 0);
+    Ok(())
+}
