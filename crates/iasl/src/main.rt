@@ -16,6 +16,8 @@ const HELP: &[u8] = b"usage: iasl [options] FILE
   -D NAME[=TEXT]  define NAME
   -P              write the preprocessed text alone
   -Pn             no preprocessor
+  -vi             print messages in the brief form
+  -we             refuse a source with a warning
   --help          this text
   --version       the version of this program
 ";

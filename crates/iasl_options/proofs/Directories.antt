@@ -1,5 +1,5 @@
 -- The directory of a file's name.
-use Rattle.std.proofs.Common.{◌≡◌, ◌⊎◌, ℕ, ◌+◌, ◌<◌, Bool, true, false, List, [], ◌∷◌, ◌++◌, length, take, drop, get_or, codes, length-append, refl, sym, ap, ◌∙◌, subst, append_assoc, append-nil, inl, inr, arith, Option, Some, None}
+use Rattle.std.proofs.Common.{◌≡◌, ℕ, ◌+◌, ◌<◌, Bool, true, false, List, [], ◌∷◌, ◌++◌, length, take, drop, get_or, codes, length-append, refl, sym, ap, ◌∙◌, subst, append_assoc, inl, inr, arith, Option, Some, None}
 use Rattle.std.specs.Prelude.{◌==◌, ◌||◌, if◌then◌else◌}
 use Rattle.std.specs.Str.{IsUtf8}
 use Rattle.std.proofs.lemmas.Str.{IsUtf8-take, IsUtf8-from_ascii, IsCharBoundary-after_ascii}

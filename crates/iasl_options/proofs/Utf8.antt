@@ -10,7 +10,7 @@ use Rattle.iasl_options.specs.declared.request.Options.{Options}
 use Rattle.iasl_options.specs.declared.request.WordsStop.{WordsStop}
 use Rattle.iasl_options.specs.declared.words.Key.{Key}
 use Rattle.iasl_options.specs.declared.words.Key.TheVariants as key
-use Rattle.iasl_options.specs.Words.{Setting, PreprocessOnly, NoPreprocessor, Prefix, Directory, Definition, File, Word, Asks, Opens, Unknown, with_value, valued, behind, begins_with_hyphen, or_valued, word_of}
+use Rattle.iasl_options.specs.Words.{Setting, PreprocessOnly, NoPreprocessor, Brief, Strict, Prefix, Directory, Definition, File, Word, Asks, Opens, Unknown, with_value, valued, behind, begins_with_hyphen, or_valued, word_of}
 use Rattle.iasl_options.specs.Asking.{Asked, Behind, with_setting, may_open, settled, behind_word, one_more, at_end, or_spoilt, asked_from, begin, asked_by}
 use Rattle.iasl_options.specs.Shown.{IsText, AreTexts, asked_of, Answers}
 
@@ -58,10 +58,12 @@ word_text : (word : List ℕ) → IsUtf8 word → WordIsText (word_of word)
 word_text word u =
     cond_text (bytes_eq word (codes "-P")) _ _ tt (
     cond_text (bytes_eq word (codes "-Pn")) _ _ tt (
+    cond_text (bytes_eq word (codes "-vi")) _ _ tt (
+    cond_text (bytes_eq word (codes "-we")) _ _ tt (
     or_text key.Prefix (behind (codes "-p") word) _ (behind_mark 45 112 word (omega arith) u) (
     or_text key.Directory (behind (codes "-I") word) _ (behind_mark 45 73 word (omega arith) u) (
     or_text key.Definition (behind (codes "-D") word) _ (behind_mark 45 68 word (omega arith) u) (
-    cond_text (begins_with_hyphen word) Unknown (Asks (File word)) tt u)))))
+    cond_text (begins_with_hyphen word) Unknown (Asks (File word)) tt u)))))))
 
 abbrev AskedText : Asked → Type 0
 AskedText asked = IsText asked.file × IsText asked.prefix
@@ -88,6 +90,8 @@ set_text asked (Directory directory) h u = h
 set_text asked (Definition name text) h u = h
 set_text asked PreprocessOnly h u = when_text asked.enabled _ h
 set_text asked NoPreprocessor h u = unless_text asked.only _ h
+set_text asked Brief h u = h
+set_text asked Strict h u = h
 set_text asked (File []) h u = tt
 set_text asked (File (c ∷ cs)) h u = unless_text (is_some asked.file) _ (u, h.1)
 

@@ -6,8 +6,8 @@ use Rattle.std.proofs.lemmas.Slice.Eq.{bytes_eq-Decides}
 use Rattle.std.proofs.lemmas.List.{take-append-drop}
 use Rattle.iasl_options.specs.declared.words.Key.{Key}
 use Rattle.iasl_options.specs.declared.words.Key.TheVariants as key
-use Rattle.iasl_options.specs.Words.{Setting, PreprocessOnly, NoPreprocessor, File, Word, Asks, Opens, Unknown, with_value, valued, behind, begins_with_hyphen, or_valued, word_of}
-use Rattle.iasl_options.specs.CommandLine.{mark, AskFor, preprocess_only, no_preprocessor, rest_of_word, source_file}
+use Rattle.iasl_options.specs.Words.{Setting, PreprocessOnly, NoPreprocessor, Brief, Strict, File, Word, Asks, Opens, Unknown, with_value, valued, behind, begins_with_hyphen, or_valued, word_of}
+use Rattle.iasl_options.specs.CommandLine.{mark, AskFor, preprocess_only, no_preprocessor, brief_messages, strict_warnings, rest_of_word, source_file}
 use Rattle.iasl_options.proofs.Values.{value_is}
 
 -- what is known of a word that is this
@@ -38,10 +38,12 @@ pub form_of : (word : List ℕ) → Form word (word_of word)
 form_of word =
     cond_form word (bytes_eq word (codes "-P")) _ _ (λ e words settings h. preprocess_only word words settings ((bytes_eq-Decides word (codes "-P")).0 e) h) (λ _.
     cond_form word (bytes_eq word (codes "-Pn")) _ _ (λ e words settings h. no_preprocessor word words settings ((bytes_eq-Decides word (codes "-Pn")).0 e) h) (λ _.
+    cond_form word (bytes_eq word (codes "-vi")) _ _ (λ e words settings h. brief_messages word words settings ((bytes_eq-Decides word (codes "-vi")).0 e) h) (λ _.
+    cond_form word (bytes_eq word (codes "-we")) _ _ (λ e words settings h. strict_warnings word words settings ((bytes_eq-Decides word (codes "-we")).0 e) h) (λ _.
     marked_form key.Prefix 45 112 word _ refl (
     marked_form key.Directory 45 73 word _ refl (
     marked_form key.Definition 45 68 word _ refl (
-    cond_form word (begins_with_hyphen word) Unknown (Asks (File word)) (λ _. tt) (λ e words settings h. source_file word words settings e h))))))
+    cond_form word (begins_with_hyphen word) Unknown (Asks (File word)) (λ _. tt) (λ e words settings h. source_file word words settings e h))))))))
 
 -- ---- the other way
 
@@ -50,6 +52,12 @@ word_preprocess_only = refl
 
 pub word_no_preprocessor : word_of (codes "-Pn") ≡ Asks NoPreprocessor
 word_no_preprocessor = refl
+
+pub word_brief : word_of (codes "-vi") ≡ Asks Brief
+word_brief = refl
+
+pub word_strict : word_of (codes "-we") ≡ Asks Strict
+word_strict = refl
 
 pub word_opens : (key : Key) → word_of (mark key) ≡ Opens key
 word_opens key.Prefix = refl

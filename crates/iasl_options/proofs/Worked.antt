@@ -7,13 +7,18 @@ use Rattle.iasl_options.specs.CommandLine.{AskFor, no_word, rest_of_word, next_w
 use Rattle.iasl_options.specs.Names.{output_name}
 
 -- a definition, and a file
-one_definition : asked_by (codes "-D" ∷ codes "A=7" ∷ codes "t.asl" ∷ []) ≡ Ok (record { file = Some (codes "t.asl"); prefix = None; directories = []; definitions = define_of (codes "A") (codes "7") ∷ []; only = false; enabled = true })
+one_definition : asked_by (codes "-D" ∷ codes "A=7" ∷ codes "t.asl" ∷ []) ≡ Ok (record { file = Some (codes "t.asl"); prefix = None; directories = []; definitions = define_of (codes "A") (codes "7") ∷ []; only = false; enabled = true; brief = false; strict = false })
 one_definition = refl
 
 -- a text with `=`, an option behind the file, and a value that looks like an option
 all_options : asked_by (codes "-DB=C=D" ∷ codes "t" ∷ codes "-P" ∷ codes "-I" ∷ codes "-P" ∷ codes "-pout" ∷ codes "-DE" ∷ [])
-    ≡ Ok (record { file = Some (codes "t"); prefix = Some (codes "out"); directories = codes "-P" ∷ []; definitions = define_of (codes "B") (codes "C=D") ∷ define_of (codes "E") [] ∷ []; only = true; enabled = true })
+    ≡ Ok (record { file = Some (codes "t"); prefix = Some (codes "out"); directories = codes "-P" ∷ []; definitions = define_of (codes "B") (codes "C=D") ∷ define_of (codes "E") [] ∷ []; only = true; enabled = true; brief = false; strict = false })
 all_options = refl
+
+-- short messages and no warnings, one of them asked for twice
+quiet_options : asked_by (codes "-we" ∷ codes "t" ∷ codes "-vi" ∷ codes "-we" ∷ [])
+    ≡ Ok (record { file = Some (codes "t"); prefix = None; directories = []; definitions = []; only = false; enabled = true; brief = true; strict = true })
+quiet_options = refl
 
 -- the words that spoil others: a second prefix, `-Pn` behind `-P`, a second file, an unknown option; a value or a file is missing
 second_prefix : asked_by (codes "-p" ∷ codes "a" ∷ codes "-p" ∷ codes "b" ∷ codes "t" ∷ []) ≡ Err 2
@@ -47,7 +52,7 @@ forms = next_word key.Definition _ _ _ _ _ refl (codes "A", codes "7", (refl, in
 good : IsGood settings
 good = record { file = (116, _, refl); prefix = omega arith; preprocessor = refl }
 
-line : IsCommandLine words (record { file = Some (codes "t.asl"); prefix = Some (codes "out"); directories = []; definitions = define_of (codes "A") (codes "7") ∷ []; only = false; enabled = true })
+line : IsCommandLine words (record { file = Some (codes "t.asl"); prefix = Some (codes "out"); directories = []; definitions = define_of (codes "A") (codes "7") ∷ []; only = false; enabled = true; brief = false; strict = false })
 line = (settings, forms, good, refl)
 
 -- names: the extension is replaced, a dot before a slash begins none, a prefix is whole

@@ -5,7 +5,7 @@ use Rattle.std.specs.List.{list_any}
 use Rattle.asl_preprocess.specs.declared.define.Define.{Define}
 use Rattle.iasl_options.specs.declared.words.Key.{Key}
 use Rattle.iasl_options.specs.declared.words.Key.TheVariants as key
-use Rattle.iasl_options.specs.Words.{Setting, PreprocessOnly, NoPreprocessor, Prefix, Directory, Definition, File, begins_with_hyphen}
+use Rattle.iasl_options.specs.Words.{Setting, PreprocessOnly, NoPreprocessor, Brief, Strict, Prefix, Directory, Definition, File, begins_with_hyphen}
 use Rattle.iasl_options.specs.Asking.{Asked, define_of}
 
 -- ---- words and settings
@@ -36,6 +36,8 @@ pub data AskFor : List (List ℕ) → List Setting → Type 0 where
   -- an option without value
   preprocess_only : (word : List ℕ) (words : List (List ℕ)) (settings : List Setting) → word ≡ codes "-P" → AskFor words settings → AskFor (word ∷ words) (PreprocessOnly ∷ settings)
   no_preprocessor : (word : List ℕ) (words : List (List ℕ)) (settings : List Setting) → word ≡ codes "-Pn" → AskFor words settings → AskFor (word ∷ words) (NoPreprocessor ∷ settings)
+  brief_messages : (word : List ℕ) (words : List (List ℕ)) (settings : List Setting) → word ≡ codes "-vi" → AskFor words settings → AskFor (word ∷ words) (Brief ∷ settings)
+  strict_warnings : (word : List ℕ) (words : List (List ℕ)) (settings : List Setting) → word ≡ codes "-we" → AskFor words settings → AskFor (word ∷ words) (Strict ∷ settings)
   -- an option whose value is the rest of its word, where something is left
   rest_of_word : (key : Key) (c : ℕ) (cs word : List ℕ) (setting : Setting) (words : List (List ℕ)) (settings : List Setting) → word ≡ mark key ++ c ∷ cs → IsValue key (c ∷ cs) setting → AskFor words settings → AskFor (word ∷ words) (setting ∷ settings)
   -- an option whose value is the next word
@@ -69,6 +71,14 @@ abbrev pub is_no_preprocessor : Setting → Bool
 is_no_preprocessor NoPreprocessor = true
 is_no_preprocessor _ = false
 
+abbrev pub is_brief : Setting → Bool
+is_brief Brief = true
+is_brief _ = false
+
+abbrev pub is_strict : Setting → Bool
+is_strict Strict = true
+is_strict _ = false
+
 -- Exactly one file, whose name is not empty; at most one prefix; not both to preprocess only and no preprocessor.
 pub record IsGood (settings : List Setting) : Type 0 where
   pub file : (c : ℕ) × (cs : List ℕ) × (flat_map file_of settings ≡ (c ∷ cs) ∷ [])
@@ -88,6 +98,8 @@ gathered settings = record {
   definitions = flat_map definition_of settings;
   only = list_any is_preprocess_only settings;
   enabled = not (list_any is_no_preprocessor settings);
+  brief = list_any is_brief settings;
+  strict = list_any is_strict settings;
 }
 
 -- ---- command lines

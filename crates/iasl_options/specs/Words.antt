@@ -10,6 +10,10 @@ use Rattle.iasl_options.specs.declared.words.Key.TheVariants as key
 pub data Setting : Type 0 where
   PreprocessOnly : Setting
   NoPreprocessor : Setting
+  -- messages in the brief form
+  Brief : Setting
+  -- a source with a warning is refused
+  Strict : Setting
   -- the front of the output names
   Prefix : List ℕ → Setting
   -- a further directory for includes
@@ -60,7 +64,9 @@ abbrev pub word_of : List ℕ → Word
 word_of word =
     cond (bytes_eq word (codes "-P")) (Asks PreprocessOnly) (
     cond (bytes_eq word (codes "-Pn")) (Asks NoPreprocessor) (
+    cond (bytes_eq word (codes "-vi")) (Asks Brief) (
+    cond (bytes_eq word (codes "-we")) (Asks Strict) (
     or_valued key.Prefix (behind (codes "-p") word) (
     or_valued key.Directory (behind (codes "-I") word) (
     or_valued key.Definition (behind (codes "-D") word) (
-    other word)))))
+    other word)))))))

@@ -18,6 +18,8 @@ pub(crate) struct Draft {
     defines: Defines,
     only: bool,
     enabled: bool,
+    brief: bool,
+    strict: bool,
 }
 
 // What one more word does: the option that then waits for its value, or that no words make them good any more.
@@ -39,6 +41,8 @@ impl Draft {
             defines: Defines::new(alloc),
             only: false,
             enabled: true,
+            brief: false,
+            strict: false,
         }
     }
 
@@ -71,6 +75,8 @@ impl Draft {
                 }
                 self.enabled = false;
             }
+            Setting::Brief => self.brief = true,
+            Setting::Strict => self.strict = true,
             Setting::File(file) => {
                 if file.is_empty() || self.file.is_some() {
                     return Ok(false);
@@ -136,6 +142,8 @@ impl Draft {
                 defines: self.defines,
                 only: self.only,
                 enabled: self.enabled,
+                brief: self.brief,
+                strict: self.strict,
             }),
             _ => Err(WordsStop::Bad { word: count }),
         }

@@ -20,6 +20,10 @@ pub struct Options {
     pub only: bool,
     /// Whether the preprocessor is on (it is off with `-Pn`).
     pub enabled: bool,
+    /// Whether messages are printed in the brief form (`-vi`).
+    pub brief: bool,
+    /// Whether a source with a warning is refused (`-we`).
+    pub strict: bool,
 }
 
 /// Why words give no options.

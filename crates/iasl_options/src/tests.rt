@@ -46,6 +46,8 @@ struct Good {
     defines: &'static [(&'static [u8], &'static [u8])],
     only: bool,
     enabled: bool,
+    brief: bool,
+    strict: bool,
 }
 
 fn has_prefix(options: &Options, wanted: Option<&[u8]>) -> bool {
@@ -63,6 +65,8 @@ fn ask_for(options: &Options, row: &Good) -> bool {
         && define(&options.defines, row.defines)
         && options.only == row.only
         && options.enabled == row.enabled
+        && options.brief == row.brief
+        && options.strict == row.strict
 }
 
 // What `t.asl` alone asks for.
@@ -74,6 +78,8 @@ const PLAIN: Good = Good {
     defines: &[],
     only: false,
     enabled: true,
+    brief: false,
+    strict: false,
 };
 
 #[test]
@@ -133,6 +139,23 @@ fn good_words(rt: HostRuntime) -> Result<(), AllocError> {
             enabled: false,
             ..PLAIN
         },
+        Good {
+            words: &["-vi", "t.asl", "-vi"],
+            brief: true,
+            ..PLAIN
+        },
+        Good {
+            words: &["-we", "-P", "t.asl", "-we"],
+            only: true,
+            strict: true,
+            ..PLAIN
+        },
+        Good {
+            words: &["-p", "-we", "-I-vi", "t.asl"],
+            prefix: Some(b"-we"),
+            dirs: &[b"-vi"],
+            ..PLAIN
+        },
     ];
     for row in &rows {
         let same = match asked(rt.alloc(), row.words)? {
@@ -146,7 +169,7 @@ fn good_words(rt: HostRuntime) -> Result<(), AllocError> {
 
 #[test]
 fn bad_words(rt: HostRuntime) -> Result<(), AllocError> {
-    let rows: [(&[&str], usize); 21] = [
+    let rows: [(&[&str], usize); 24] = [
         (&[], 0),
         (&["-P"], 1),
         (&[""], 0),
@@ -166,7 +189,10 @@ fn bad_words(rt: HostRuntime) -> Result<(), AllocError> {
         (&["t.asl", "--generate", "2"], 1),
         (&["--generate", "2"], 0),
         (&["-l", "t.asl"], 0),
-        (&["-tc", "-vi", "-we", "-oa", "-of", "-oi", "-on"], 0),
+        (&["-vi", "-we", "-tc", "-oa", "-of", "-oi", "-on"], 2),
+        (&["-v", "t.asl"], 0),
+        (&["t.asl", "-vi", "-wea"], 2),
+        (&["-vi", "-we"], 2),
         (&["-i", "-d", "t.asl"], 0),
     ];
     for (words, wanted) in &rows {

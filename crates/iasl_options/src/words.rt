@@ -21,6 +21,8 @@ pub(crate) enum Key {
 pub(crate) enum Setting<'a> {
     PreprocessOnly,
     NoPreprocessor,
+    Brief,
+    Strict,
     Prefix(&'a [u8]),
     Directory(&'a [u8]),
     Definition { name: &'a [u8], text: &'a [u8] },
@@ -132,6 +134,12 @@ pub(crate) fn word_of(word: &[u8]) -> Word<'_>
     }
     if word == b"-Pn".as_slice() {
         return Word::Asks(Setting::NoPreprocessor);
+    }
+    if word == b"-vi".as_slice() {
+        return Word::Asks(Setting::Brief);
+    }
+    if word == b"-we".as_slice() {
+        return Word::Asks(Setting::Strict);
     }
     if let Some(value) = behind(b"-p", word) {
         return valued(Key::Prefix, value);

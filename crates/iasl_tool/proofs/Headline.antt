@@ -1,8 +1,8 @@
 -- A source that is read is put as a table that does what the source says.
-use Rattle.std.proofs.Common.{◌≡◌, ℕ, ◌≤◌, Bool, true, false, refl, subst, ◌⊎◌, inl, inr, Err, List, [], ◌∷◌, length, Option, Some, None, Result, Ok, ap, sym, ◌∙◌, arith}
+use Rattle.std.proofs.Common.{◌≡◌, ℕ, ◌≤◌, Bool, true, false, refl, subst, ◌⊎◌, inl, inr, Err, List, [], ◌∷◌, length, Option, Some, None, Result, Ok, ap, sym, ◌∙◌, append-nil, arith}
 use Rattle.std.proofs.lemmas.Bool.{le-leb}
 use Rattle.std.proofs.lemmas.Bool.Decides.{nat_tests}
-use Rattle.std.specs.Prelude.{◌<◌, ◌^◌, nat_le, cond, map, ◌++◌, if◌then◌else◌}
+use Rattle.std.specs.Prelude.{◌<◌, ◌^◌, nat_le, ◌&&◌, cond, map, ◌++◌, if◌then◌else◌}
 use Rattle.iasl_ports.specs.Gained.{Named, Gains}
 use Rattle.iasl_ports.specs.Delivery.{Answer, due_of, status_of}
 use Rattle.iasl_messages.specs.declared.place.Line.{Line}
@@ -40,10 +40,11 @@ use Rattle.aml_writer.specs.Written.{most_table_bytes}
 use Rattle.iasl_tool.specs.declared.compile.Compiled.{Compiled}
 use Rattle.iasl_tool.specs.declared.compile.Compiled.TheVariants.{Table, Refused}
 use Rattle.iasl_tool.specs.Compiled.{own_in, others_in, of_data, of_source, of_lines, of_items, of_terms, of_table, unless_wrong, with_others, of_outcome, of_tokens, too_long}
-use Rattle.iasl_tool.specs.Due.{table_name, is_fetched, made_file, in_use, answer_to_text, answer_to_compiled, answer_to_preprocessed, answer_to_file, answer_to_asked, answer_for}
-use Rattle.iasl_tool.specs.Headline.{Request, table_of, data_file_of, NamesLines, NamesSource, NamesData, PutsFaithfulTable, PutsDataTable, AreItsTables, WritesItsTable, WritesItsDataTable, only_by, asks_for_text}
+use Rattle.iasl_tool.specs.Due.{table_name, is_fetched, made_file, in_use, refusal, made_or_in_use, has_warning, answer_to_text, answer_to_compiled, answer_to_preprocessed, answer_to_file, answer_to_asked, answer_for}
+use Rattle.iasl_tool.specs.Headline.{Request, table_of, data_file_of, LetsPass, NamesLines, NamesSource, NamesData, PutsFaithfulTable, PutsDataTable, AreItsTables, WritesItsTable, WritesItsDataTable, only_by, asks_for_text}
 use Rattle.iasl_tool.proofs.Programs.{none_told, none_behind, none_of_others, both_right, some_behind}
 use Rattle.iasl_tool.proofs.Sizes.{given_sizes}
+use Rattle.iasl_tool.proofs.Strict.{is_passed, lets_pass}
 
 abbrev signature_of : List Raw → List ℕ
 signature_of items = (fields_in items).signature
@@ -57,9 +58,13 @@ items_are items right within =
     ∙ ap (λ es. unless_wrong es (of_table place (signature_of items) (own_in items) (table_in items))) (none_behind (told_errors (terms_in items)) (others_in items) (none_told (terms_in items) right.names right.counts) (both_right items right.statements right.layouts right.regions))
     ∙ ap (λ c. if c then Table (signature_of items) (own_in items) (table_in items) [] else Refused (too_long place ∷ [])) le
 
--- what is due of a source whose table's name is free
+-- what is due of a source in which no warning refuses its table, whose name is free
 abbrev due_table : Request → List (List ℕ) → List Message → List Raw → Answer
-due_table request files notes items = made_file files (notes ++ []) (table_line (table_of request items) (signature_of items) (length (table_in items))) (table_of request items) (table_in items)
+due_table request files notes items = made_file request.asked.brief files (notes ++ []) (table_line (table_of request items) (signature_of items) (length (table_in items))) (table_of request items) (table_in items)
+
+-- what is due of a source in which no warning refuses its table
+abbrev named_table : Request → List (List ℕ) → List Message → List Raw → Answer
+named_table request files notes items = cond (is_fetched files (table_of request items)) (in_use (table_of request items)) (due_table request files notes items)
 
 -- what is due of lines that are read
 given_is : (words : List (List ℕ)) (told : List Named) (request : Request) (h : NamesLines words told request) (it : Compiled) → of_source h.lines ≡ it → answer_for words told ≡ Some (answer_to_compiled request.asked request.file h.files h.notes it)
@@ -77,6 +82,7 @@ answer_is words told request items h =
     let lines = h.named.lines in
     let table : of_lines lines ≡ Table (signature_of items) (own_in items) (table_in items) [] = ap of_tokens (cut_is_tokens lines h.tokens h.tokens_are) ∙ ap (of_outcome h.tokens) (spelled_is_outcome items h.tokens h.spelled h.shallow h.low) ∙ items_are items h.right h.table_within in
     given_is words told request h.named (Table (signature_of items) (own_in items) (table_in items) []) (ap (λ c. cond c (of_data (compiled lines)) (of_lines lines)) h.is_asl ∙ table)
+    ∙ ap (λ c. Some (cond c (refusal request.asked.brief h.named.files (h.named.notes ++ [])) (named_table request h.named.files h.named.notes items))) (is_passed request.asked (h.named.notes ++ []) (subst (LetsPass request.asked) (sym (append-nil h.named.notes)) h.notes_pass))
     ∙ ap (λ c. Some (cond c (in_use (table_of request items)) (due_table request h.named.files h.named.notes items))) h.name_is_free
 
 -- the parser keeps what it reads
@@ -99,14 +105,19 @@ puts_faithful_table words told request items h =
 
 -- ---- data tables
 
--- what is due of a data table whose file's name is free
+-- what is due of a data table that no warning refuses, whose file's name is free
 abbrev due_data : Request → List (List ℕ) → List Message → DataTable → Answer
-due_data request files notes table = made_file files (notes ++ table.notes) (table_line (data_file_of request) table.signature (length (joined table.pieces))) (data_file_of request) (joined table.pieces)
+due_data request files notes table = made_file request.asked.brief files (notes ++ table.notes) (table_line (data_file_of request) table.signature (length (joined table.pieces))) (data_file_of request) (joined table.pieces)
+
+-- what is due of a data table that no warning refuses
+abbrev named_data : Request → List (List ℕ) → List Message → DataTable → Answer
+named_data request files notes table = cond (is_fetched files (data_file_of request)) (in_use (data_file_of request)) (due_data request files notes table)
 
 data_is : (words : List (List ℕ)) (told : List Named) (request : Request) (table : DataTable) (h : NamesData words told request table) → answer_for words told ≡ Some (due_data request h.named.files h.named.notes table)
 data_is words told request table h =
     let lines = h.named.lines in
     given_is words told request h.named (Table table.signature [] (joined table.pieces) table.notes) (ap (λ c. cond c (of_data (compiled lines)) (of_lines lines)) h.is_data ∙ ap of_data h.table_is)
+    ∙ ap (λ c. Some (cond c (refusal request.asked.brief h.named.files (h.named.notes ++ table.notes)) (named_data request h.named.files h.named.notes table))) (is_passed request.asked (h.named.notes ++ table.notes) h.notes_pass)
     ∙ ap (λ c. Some (cond c (in_use (data_file_of request)) (due_data request h.named.files h.named.notes table))) h.name_is_free
 
 pub puts_data_table : (words : List (List ℕ)) (told : List Named) (request : Request) (table : DataTable) (h : NamesData words told request table) → PutsDataTable words told request table h.named.lines
@@ -151,9 +162,9 @@ status_with words told k it = status_of (Some (answer_to_compiled k.request.aske
 
 module _ (words : List (List ℕ)) (told : List Named) where
   by_name : (k : Known words told) (asl : is_data_table k.named.lines ≡ false) (tokens : List Token) (items : List Raw) (c : Bool) → tokens_of k.named.lines ≡ Ok tokens → outcome tokens ≡ read items → IsRight items → nat_le (length (table_in items)) most_table_bytes ≡ true
-      → is_fetched k.named.files (table_of k.request items) ≡ c → status_of (Some (cond c (in_use (table_of k.request items)) (due_table k.request k.named.files k.named.notes items))) ≡ 0 → Found words told
-  by_name k asl tokens items true et eo es ec en h = absurd (omega (arith, h))
-  by_name k asl tokens items false et eo es ec en h = a_source k.request items (record {
+      → LetsPass k.request.asked k.named.notes → is_fetched k.named.files (table_of k.request items) ≡ c → status_of (Some (cond c (in_use (table_of k.request items)) (due_table k.request k.named.files k.named.notes items))) ≡ 0 → Found words told
+  by_name k asl tokens items true et eo es ec ep en h = absurd (omega (arith, h))
+  by_name k asl tokens items false et eo es ec ep en h = a_source k.request items (record {
     named = k.named;
     tokens = tokens;
     is_asl = asl;
@@ -163,12 +174,19 @@ module _ (words : List (List ℕ)) (told : List Named) where
     low = (is_not_deep tokens (Ok (record { items = items })) eo).1;
     right = es;
     table_within = grind (arith, nat_tests);
+    notes_pass = ep;
     name_is_free = en;
   })
 
+  by_notes : (k : Known words told) (asl : is_data_table k.named.lines ≡ false) (tokens : List Token) (items : List Raw) (c : Bool) → tokens_of k.named.lines ≡ Ok tokens → outcome tokens ≡ read items → IsRight items → nat_le (length (table_in items)) most_table_bytes ≡ true
+      → (k.request.asked.strict && has_warning (k.named.notes ++ [])) ≡ c → status_of (Some (cond c (refusal k.request.asked.brief k.named.files (k.named.notes ++ [])) (named_table k.request k.named.files k.named.notes items))) ≡ 0 → Found words told
+  by_notes k asl tokens items true et eo es ec ep h = absurd (omega (arith, h))
+  by_notes k asl tokens items false et eo es ec ep h =
+      by_name k asl tokens items (is_fetched k.named.files (table_of k.request items)) et eo es ec (subst (LetsPass k.request.asked) (append-nil k.named.notes) (lets_pass k.request.asked (k.named.notes ++ []) ep)) refl h
+
   by_table : (k : Known words told) (asl : is_data_table k.named.lines ≡ false) (tokens : List Token) (items : List Raw) (c : Bool) → tokens_of k.named.lines ≡ Ok tokens → outcome tokens ≡ read items → IsRight items → nat_le (length (table_in items)) most_table_bytes ≡ c
       → status_with words told k (if c then Table (signature_of items) (own_in items) (table_in items) [] else Refused (too_long (block_place (writtens items)) ∷ [])) ≡ 0 → Found words told
-  by_table k asl tokens items true et eo es ec h = by_name k asl tokens items (is_fetched k.named.files (table_of k.request items)) et eo es ec refl h
+  by_table k asl tokens items true et eo es ec h = by_notes k asl tokens items (k.request.asked.strict && has_warning (k.named.notes ++ [])) et eo es ec refl h
   by_table k asl tokens items false et eo es ec h = absurd (omega (arith, h))
 
   by_names : (k : Known words told) (asl : is_data_table k.named.lines ≡ false) (tokens : List Token) (items : List Raw) (ms : List Message) → tokens_of k.named.lines ≡ Ok tokens → outcome tokens ≡ read items → errors_at items ≡ [] → with_others (told_errors (terms_in items)) (others_in items) ≡ ms
@@ -197,13 +215,18 @@ module _ (words : List (List ℕ)) (told : List Named) where
 
   -- ---- a data table
 
-  by_data_name : (k : Known words told) (table : DataTable) (c : Bool) → is_data_table k.named.lines ≡ true → compiled k.named.lines ≡ Ok table → is_fetched k.named.files (data_file_of k.request) ≡ c
+  by_data_name : (k : Known words told) (table : DataTable) (c : Bool) → is_data_table k.named.lines ≡ true → compiled k.named.lines ≡ Ok table → LetsPass k.request.asked (k.named.notes ++ table.notes) → is_fetched k.named.files (data_file_of k.request) ≡ c
       → status_of (Some (cond c (in_use (data_file_of k.request)) (due_data k.request k.named.files k.named.notes table))) ≡ 0 → Found words told
-  by_data_name k table true kind et en h = absurd (omega (arith, h))
-  by_data_name k table false kind et en h = a_data_table k.request table (record { named = k.named; is_data = kind; table_is = et; name_is_free = en })
+  by_data_name k table true kind et ep en h = absurd (omega (arith, h))
+  by_data_name k table false kind et ep en h = a_data_table k.request table (record { named = k.named; is_data = kind; table_is = et; notes_pass = ep; name_is_free = en })
+
+  by_data_notes : (k : Known words told) (table : DataTable) (c : Bool) → is_data_table k.named.lines ≡ true → compiled k.named.lines ≡ Ok table → (k.request.asked.strict && has_warning (k.named.notes ++ table.notes)) ≡ c
+      → status_of (Some (cond c (refusal k.request.asked.brief k.named.files (k.named.notes ++ table.notes)) (named_data k.request k.named.files k.named.notes table))) ≡ 0 → Found words told
+  by_data_notes k table true kind et ep h = absurd (omega (arith, h))
+  by_data_notes k table false kind et ep h = by_data_name k table (is_fetched k.named.files (data_file_of k.request)) kind et (lets_pass k.request.asked (k.named.notes ++ table.notes) ep) refl h
 
   by_answer : (k : Known words told) (answer : DataAnswer) → is_data_table k.named.lines ≡ true → compiled k.named.lines ≡ answer → status_with words told k (of_data answer) ≡ 0 → Found words told
-  by_answer k (Ok table) kind et h = by_data_name k table (is_fetched k.named.files (data_file_of k.request)) kind et refl h
+  by_answer k (Ok table) kind et h = by_data_notes k table (k.request.asked.strict && has_warning (k.named.notes ++ table.notes)) kind et refl h
   by_answer k (Err faults) kind et h = absurd (omega (arith, h))
 
   by_kind : (k : Known words told) (c : Bool) → is_data_table k.named.lines ≡ c → status_with words told k (cond c (of_data (compiled k.named.lines)) (of_lines k.named.lines)) ≡ 0 → Found words told
@@ -256,13 +279,19 @@ Settled None = Unit {0}
 Settled (Some answer) = (answer.status ≡ 0) ⊎ (answer.due ≡ [])
 
 module _ (words : List (List ℕ)) (told : List Named) where
-  named_settled : (c : Bool) (files : List (List ℕ)) (notes : List Message) (line name bytes : List ℕ) → Settled (Some (cond c (in_use name) (made_file files notes line name bytes)))
-  named_settled true files notes line name bytes = inr refl
-  named_settled false files notes line name bytes = inl refl
+  named_settled : (brief c : Bool) (files : List (List ℕ)) (notes : List Message) (line name bytes : List ℕ) → Settled (Some (cond c (in_use name) (made_file brief files notes line name bytes)))
+  named_settled brief true files notes line name bytes = inr refl
+  named_settled brief false files notes line name bytes = inl refl
+
+  strict_settled : (brief c : Bool) (files : List (List ℕ)) (notes : List Message) (answer : Answer) → Settled (Some answer) → Settled (Some (cond c (refusal brief files notes) answer))
+  strict_settled brief true files notes answer h = inr refl
+  strict_settled brief false files notes answer h = h
 
   compiled_settled : (asked : Asked) (file : List ℕ) (files : List (List ℕ)) (notes : List Message) (it : Compiled) → Settled (Some (answer_to_compiled asked file files notes it))
   compiled_settled asked file files notes (Table signature own bytes told) =
-      named_settled (is_fetched files (table_name asked file own)) files (notes ++ told) (table_line (table_name asked file own) signature (length bytes)) (table_name asked file own) bytes
+      let name = table_name asked file own in
+      let line = table_line name signature (length bytes) in
+      strict_settled asked.brief (asked.strict && has_warning (notes ++ told)) files (notes ++ told) (made_or_in_use asked.brief files (notes ++ told) line name bytes) (named_settled asked.brief (is_fetched files name) files (notes ++ told) line name bytes)
   compiled_settled asked file files notes (Refused messages) = inr refl
 
   lines_settled : (asked : Asked) (file : List ℕ) (files : List (List ℕ)) (lines : List Line) (notes : List Message) (c : Bool) → c ≡ false → Settled (Some (cond c (answer_to_text asked file files lines notes) (answer_to_compiled asked file files notes (of_source lines))))

@@ -6,5 +6,6 @@ pub mod Sorting
 pub mod Texts
 pub mod Sizes
 pub mod Readings
+mod Strict
 pub mod Headline
 pub mod Results

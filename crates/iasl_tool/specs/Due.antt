@@ -1,5 +1,5 @@
 -- What a call is to end with: its status, the text of the console, and the files to put.
-use Rattle.std.specs.Prelude.{ℕ, Bool, false, cond, List, [], ◌∷◌, ◌++◌, length, codes, Some, None, Result, Ok, Err}
+use Rattle.std.specs.Prelude.{ℕ, Bool, ◌&&◌, cond, List, [], ◌∷◌, ◌++◌, length, codes, Some, None, Result, Ok, Err}
 use Rattle.std.specs.declared.option.Option.{Option}
 use Rattle.std.specs.List.{list_any}
 use Rattle.iasl_ports.specs.Gained.{Named}
@@ -7,6 +7,8 @@ use Rattle.iasl_ports.specs.Fetched.{same_name}
 use Rattle.iasl_ports.specs.Delivery.{Answer}
 use Rattle.iasl_messages.specs.declared.place.Line.{Line}
 use Rattle.iasl_messages.specs.declared.message.Message.{Message}
+use Rattle.iasl_messages.specs.declared.severity.Severity.TheVariants.{Warning}
+use Rattle.iasl_messages.specs.Severity.{severity_of, is_same}
 use Rattle.iasl_messages.specs.Order.{sorted_messages}
 use Rattle.iasl_messages.specs.Console.{messages_text, summary_line, table_line, preprocessed_line}
 use Rattle.asl_preprocess.specs.Preprocess.{Preprocessed, Given, Stopped, Absent, preprocessed}
@@ -16,17 +18,17 @@ use Rattle.iasl_tool.specs.declared.compile.Compiled.{Compiled}
 use Rattle.iasl_tool.specs.declared.compile.Compiled.TheVariants.{Table, Refused}
 use Rattle.iasl_tool.specs.Compiled.{of_source}
 
--- the messages in order, a line of what was made, and how many messages there are
-abbrev pub console_text : List (List ℕ) → List Message → List ℕ → List ℕ
-console_text files messages made = messages_text files false (sorted_messages messages) ++ made ++ summary_line (sorted_messages messages)
+-- the messages in order, in the brief form or the full one, a line of what was made, and how many messages there are
+abbrev pub console_text : Bool → List (List ℕ) → List Message → List ℕ → List ℕ
+console_text brief files messages made = messages_text files brief (sorted_messages messages) ++ made ++ summary_line (sorted_messages messages)
 
--- of a source with these errors and notes: no file
-abbrev pub refusal : List (List ℕ) → List Message → Answer
-refusal files messages = record { status = 1; text = console_text files messages []; due = [] }
+-- of a source that is refused, with these errors and notes: no file
+abbrev pub refusal : Bool → List (List ℕ) → List Message → Answer
+refusal brief files messages = record { status = 1; text = console_text brief files messages []; due = [] }
 
 -- of a file that is made: the file, and the line that tells of it
-abbrev pub made_file : List (List ℕ) → List Message → List ℕ → List ℕ → List ℕ → Answer
-made_file files notes line name bytes = record { status = 0; text = console_text files notes line; due = (name, bytes) ∷ [] }
+abbrev pub made_file : Bool → List (List ℕ) → List Message → List ℕ → List ℕ → List ℕ → Answer
+made_file brief files notes line name bytes = record { status = 0; text = console_text brief files notes line; due = (name, bytes) ∷ [] }
 
 -- of an output that has the name of a file that was fetched
 abbrev pub in_use : List ℕ → Answer
@@ -36,8 +38,20 @@ abbrev pub is_fetched : List (List ℕ) → List ℕ → Bool
 is_fetched files name = list_any (λ file. same_name file name) files
 
 -- a file that is made, if its name is not in use
-abbrev pub made_or_in_use : List (List ℕ) → List Message → List ℕ → List ℕ → List ℕ → Answer
-made_or_in_use files notes line name bytes = cond (is_fetched files name) (in_use name) (made_file files notes line name bytes)
+abbrev pub made_or_in_use : Bool → List (List ℕ) → List Message → List ℕ → List ℕ → List ℕ → Answer
+made_or_in_use brief files notes line name bytes = cond (is_fetched files name) (in_use name) (made_file brief files notes line name bytes)
+
+-- whether one of the messages is a warning
+abbrev pub has_warning : List Message → Bool
+has_warning messages = list_any (λ message. is_same Warning (severity_of message.number)) messages
+
+-- an answer with a file, if no warning among the notes refuses it
+abbrev pub unless_strict : Asked → List (List ℕ) → List Message → Answer → Answer
+unless_strict asked files notes answer = cond (asked.strict && has_warning notes) (refusal asked.brief files notes) answer
+
+-- a file that is made, if no warning refuses it and its name is not in use
+abbrev pub made_or_refused : Asked → List (List ℕ) → List Message → List ℕ → List ℕ → List ℕ → Answer
+made_or_refused asked files notes line name bytes = unless_strict asked files notes (made_or_in_use asked.brief files notes line name bytes)
 
 -- the name of the table's file, where its block states a name of its own
 abbrev pub table_name : Asked → List ℕ → List ℕ → List ℕ
@@ -54,12 +68,12 @@ text_of_lines (line ∷ lines) = line.text ++ 10 ∷ text_of_lines lines
 
 -- of preprocessed lines that are all that is asked for
 abbrev pub answer_to_text : Asked → List ℕ → List (List ℕ) → List Line → List Message → Answer
-answer_to_text asked file files lines notes = made_or_in_use files notes (preprocessed_line (text_name asked file)) (text_name asked file) (text_of_lines lines)
+answer_to_text asked file files lines notes = made_or_refused asked files notes (preprocessed_line (text_name asked file)) (text_name asked file) (text_of_lines lines)
 
 abbrev pub answer_to_compiled : Asked → List ℕ → List (List ℕ) → List Message → Compiled → Answer
 answer_to_compiled asked file files notes (Table signature own bytes told) =
-    made_or_in_use files (notes ++ told) (table_line (table_name asked file own) signature (length bytes)) (table_name asked file own) bytes
-answer_to_compiled asked file files notes (Refused messages) = refusal files (notes ++ messages)
+    made_or_refused asked files (notes ++ told) (table_line (table_name asked file own) signature (length bytes)) (table_name asked file own) bytes
+answer_to_compiled asked file files notes (Refused messages) = refusal asked.brief files (notes ++ messages)
 
 -- of lines, with the files that they are of and the notes of the preprocessor
 abbrev pub answer_to_lines : Asked → List ℕ → List (List ℕ) → List Line → List Message → Answer
@@ -68,7 +82,7 @@ answer_to_lines asked file files lines notes = cond asked.only (answer_to_text a
 -- none where the main file is not there
 abbrev pub answer_to_preprocessed : Asked → List ℕ → Preprocessed → Option Answer
 answer_to_preprocessed asked file (Given files lines notes) = Some (answer_to_lines asked file files lines notes)
-answer_to_preprocessed asked file (Stopped message files) = Some (refusal files (message ∷ []))
+answer_to_preprocessed asked file (Stopped message files) = Some (refusal asked.brief files (message ∷ []))
 answer_to_preprocessed asked file Absent = None
 
 -- of words that are not good

@@ -1,9 +1,11 @@
 -- What a call does with a source that is read.
-use Rattle.std.specs.Prelude.{◌≡◌, ◌⊎◌, ℕ, ◌≤◌, Bool, true, false, List, [], ◌∷◌, length, Option, Some, Result, Ok, Err}
+use Rattle.std.specs.Prelude.{◌≡◌, ◌⊎◌, ℕ, ◌≤◌, Bool, true, false, List, [], ◌∷◌, ◌++◌, length, All, Option, Some, Result, Ok, Err}
 use Rattle.iasl_ports.specs.Gained.{Named, Gains}
 use Rattle.iasl_ports.specs.Delivery.{due_of, status_of}
 use Rattle.iasl_messages.specs.declared.place.Line.{Line}
 use Rattle.iasl_messages.specs.declared.message.Message.{Message}
+use Rattle.iasl_messages.specs.declared.severity.Severity.TheVariants.{Warning}
+use Rattle.iasl_messages.specs.Severity.{severity_of}
 use Rattle.asl_preprocess.specs.Preprocess.{Given, preprocessed}
 use Rattle.asl_lexer.specs.declared.token.Token.{Token}
 use Rattle.asl_lexer.specs.Cut.{IsCut}
@@ -47,9 +49,13 @@ pub record NamesLines (words : List (List ℕ)) (told : List Named) (request : R
   pub compiles : request.asked.only ≡ false
   pub lines_are : preprocessed told request.file request.asked.directories request.asked.definitions request.asked.enabled ≡ Given files lines notes
 
+-- what words ask for lets these notes pass: where it asks that warnings refuse a source, none of them is a warning
+abbrev pub LetsPass : Asked → List Message → Type 0
+LetsPass asked notes = asked.strict ≡ true → All (λ note. severity_of note.number ≡ Warning → ⊥) notes
+
 -- The words are a command line that asks for a compilation of this file; its lines, with those of its includes, are no data table and are
--- cut into tokens that spell this source, nowhere too deep; nothing is wrong with it, and its table is not too long; and the name of the
--- table's file is not that of a file that was fetched.
+-- cut into tokens that spell this source, nowhere too deep; nothing is wrong with it, and its table is not too long; none of its notes is a
+-- warning, where warnings refuse a source; and the name of the table's file is not that of a file that was fetched.
 pub record NamesSource (words : List (List ℕ)) (told : List Named) (request : Request) (items : List Raw) : Type 0 where
   pub named : NamesLines words told request
   pub tokens : List Token
@@ -60,14 +66,17 @@ pub record NamesSource (words : List (List ℕ)) (told : List Named) (request : 
   pub low : IsLow limit (marks 0 tokens)
   pub right : IsRight items
   pub table_within : length (table_in items) ≤ most_table_bytes
+  pub notes_pass : LetsPass request.asked named.notes
   pub name_is_free : is_fetched named.files (table_of request items) ≡ false
 
 -- The words are a command line that asks for a compilation of this file; its lines are a data table in whose text there is no fault, with
--- this table; and the name of the table's file is not that of a file that was fetched.
+-- this table; none of its notes and the table's is a warning, where warnings refuse a source; and the name of the table's file is not that
+-- of a file that was fetched.
 pub record NamesData (words : List (List ℕ)) (told : List Named) (request : Request) (table : DataTable) : Type 0 where
   pub named : NamesLines words told request
   pub is_data : is_data_table named.lines ≡ true
   pub table_is : compiled named.lines ≡ Ok table
+  pub notes_pass : LetsPass request.asked (named.notes ++ table.notes)
   pub name_is_free : is_fetched named.files (data_file_of request) ≡ false
 
 -- the call puts the source's table, and nothing else; the table has the source's header and does what the source says

@@ -5,7 +5,9 @@ ghost use Rattle.iasl_runs.specs.Ends.{files_seen, Decides};
 ghost use Rattle.asl_preprocess.specs.Sound.{IsGoodLine, IsGoodNote};
 ghost use Rattle.iasl_options.specs.Shown.{AreTexts, asked_of};
 ghost use Rattle.iasl_tool.specs.Compiled.{AreWithin, of_source};
-ghost use Rattle.iasl_tool.specs.Due.{console_text, refusal, made_file, in_use, is_fetched, made_or_in_use, text_of_lines, answer_to_text, answer_to_compiled, answer_to_lines, answer_to_file, table_name, usage, answer_for};
+ghost use Rattle.iasl_tool.specs.Due.{console_text, refusal, made_file, in_use, is_fetched, has_warning, made_or_refused, text_of_lines, answer_to_text, answer_to_compiled, answer_to_lines, answer_to_file, table_name, usage, answer_for};
+ghost use Rattle.iasl_messages.specs.declared.severity.Severity.TheVariants.{Warning};
+ghost use Rattle.iasl_messages.specs.Severity.{severity_of, is_same};
 ghost use Rattle.iasl_messages.specs.Console.{table_line};
 ghost use Rattle.std.specs.Str.{IsAscii};
 
@@ -16,6 +18,7 @@ use iasl_messages::console::{preprocessed_line, render, summary, table_line};
 use iasl_messages::message::Messages;
 use iasl_messages::order::sort;
 use iasl_messages::place::{Line, Lines};
+use iasl_messages::severity::{Severity, severity_of};
 use iasl_options::command_line::options;
 use iasl_options::names::{file_name, output_name, table_name};
 use iasl_options::request::{Options, WordsStop};
@@ -31,33 +34,34 @@ fn push_text(text: &mut Vec<u8>, line: &Text) -> Result<(), AllocError>
     text.extend_from_slice(line.as_bytes())
 }
 
-// The messages in order, a line of what was made, and how many messages there are.
+// The messages in order, in the brief form or the full one, a line of what was made, and how many messages there are.
 fn console_text(
     alloc: Global,
+    brief: bool,
     files: &Texts,
     messages: Messages,
     made: &Text,
 ) -> Result<Text, AllocError>
     requires { AreWithin (length files.now) messages }
-    ensures { IfOk result (λ text. text ≡ console_text files.now messages made.now) }
+    ensures { IfOk result (λ text. text ≡ console_text brief files.now messages made.now) }
 {
     let messages = sort(alloc, messages)?;
     let mut text = Vec::new(alloc);
-    push_text(&mut text, &render(alloc, &messages, files, false)?)?;
+    push_text(&mut text, &render(alloc, &messages, files, brief)?)?;
     push_text(&mut text, made)?;
     push_text(&mut text, &summary(alloc, &messages)?)?;
     Text::from_vec(alloc, text)
 }
 
-// What is due of a source with these errors and notes.
-fn refuse(alloc: Global, files: &Texts, messages: Messages) -> Result<Due, AllocError>
+// What is due of a source that is refused, with these errors and notes.
+fn refuse(alloc: Global, brief: bool, files: &Texts, messages: Messages) -> Result<Due, AllocError>
     requires { AreWithin (length files.now) messages }
-    ensures due { IfOk result (λ due. answer_of due ≡ refusal files.now messages) }
+    ensures due { IfOk result (λ due. answer_of due ≡ refusal brief files.now messages) }
     ensures settled { IfOk result IsSettled }
 {
     Ok(Due {
         status: 1,
-        text: console_text(alloc, files, messages, &Text::new(alloc))?,
+        text: console_text(alloc, brief, files, messages, &Text::new(alloc))?,
         files: Vec::new(alloc),
     })
 }
@@ -73,6 +77,7 @@ fn one_file(alloc: Global, name: String, bytes: Vec<u8>) -> Result<Vec<OutFile>,
 // What is due of a file that is made.
 fn make_file(
     alloc: Global,
+    brief: bool,
     files: &Texts,
     notes: Messages,
     line: &Text,
@@ -80,12 +85,12 @@ fn make_file(
     bytes: Vec<u8>,
 ) -> Result<Due, AllocError>
     requires { AreWithin (length files.now) notes }
-    ensures due { IfOk result (λ due. answer_of due ≡ made_file files.now notes line.now (string_bytes name) bytes.items) }
+    ensures due { IfOk result (λ due. answer_of due ≡ made_file brief files.now notes line.now (string_bytes name) bytes.items) }
     ensures settled { IfOk result IsSettled }
 {
     Ok(Due {
         status: 0,
-        text: console_text(alloc, files, notes, line)?,
+        text: console_text(alloc, brief, files, notes, line)?,
         files: one_file(alloc, name, bytes)?,
     })
 }
@@ -113,9 +118,27 @@ fn is_fetched(files: &[Text], name: &[u8]) -> bool
     files.iter().any(|file| file.as_bytes() == name)
 }
 
-// What is due of a file that is made, if its name is not in use.
+// Whether the message of this number is a warning.
+fn is_warning(number: u16) -> bool
+    ensures { result ≡ is_same Warning (severity_of number) }
+{
+    matches!(severity_of(number), Severity::Warning)
+}
+
+// Whether one of the messages is a warning.
+fn has_warning(messages: &Messages) -> bool
+    ensures { result ≡ has_warning messages.now }
+{
+    messages
+        .as_slice()
+        .iter()
+        .any(|message| is_warning(message.number))
+}
+
+// What is due of a file that is made, if no warning refuses it and its name is not in use.
 fn make_or_refuse(
     alloc: Global,
+    options: &Options,
     files: &Texts,
     notes: Messages,
     line: &Text,
@@ -123,13 +146,15 @@ fn make_or_refuse(
     bytes: Vec<u8>,
 ) -> Result<Due, AllocError>
     requires { AreWithin (length files.now) notes }
-    ensures due { IfOk result (λ due. answer_of due ≡ made_or_in_use files.now notes line.now (string_bytes name) bytes.items) }
+    ensures due { IfOk result (λ due. answer_of due ≡ made_or_refused (asked_of options.now) files.now notes line.now (string_bytes name) bytes.items) }
     ensures settled { IfOk result IsSettled }
 {
-    if is_fetched(files.as_slice(), name.as_bytes()) {
+    if options.strict && has_warning(&notes) {
+        refuse(alloc, options.brief, files, notes)
+    } else if is_fetched(files.as_slice(), name.as_bytes()) {
         refuse_name(alloc, &name)
     } else {
-        make_file(alloc, files, notes, line, name, bytes)
+        make_file(alloc, options.brief, files, notes, line, name, bytes)
     }
 }
 
@@ -161,7 +186,7 @@ fn make_text(
     let name = output_name(alloc, options, ".i")?;
     let line = preprocessed_line(alloc, name.as_bytes())?;
     let text = text_of_lines(alloc, lines.list.as_slice())?;
-    make_or_refuse(alloc, &lines.files, notes, &line, name, text)
+    make_or_refuse(alloc, options, &lines.files, notes, &line, name, text)
 }
 
 // What is due of a table.
@@ -177,7 +202,7 @@ fn make_table(
     requires texts { AreTexts options.now }
     requires own { IsAscii own.now }
     requires notes { AreWithin (length files.now) notes }
-    ensures due { IfOk result (λ due. answer_of due ≡ made_or_in_use files.now notes (table_line (table_name (asked_of options.now) options.now.file own.now) signature.now (length bytes.now)) (table_name (asked_of options.now) options.now.file own.now) bytes.now) }
+    ensures due { IfOk result (λ due. answer_of due ≡ made_or_refused (asked_of options.now) files.now notes (table_line (table_name (asked_of options.now) options.now.file own.now) signature.now (length bytes.now)) (table_name (asked_of options.now) options.now.file own.now) bytes.now) }
     ensures settled { IfOk result IsSettled }
 {
     let name = table_name(alloc, options, own)?;
@@ -188,7 +213,15 @@ fn make_table(
         signature.as_bytes(),
         bytes.len() as u64,
     )?;
-    make_or_refuse(alloc, files, notes, &line, name, bytes.to_vec(alloc)?)
+    make_or_refuse(
+        alloc,
+        options,
+        files,
+        notes,
+        &line,
+        name,
+        bytes.to_vec(alloc)?,
+    )
 }
 
 // What is due of lines that are compiled.
@@ -221,7 +254,12 @@ fn make_compiled(
             &own,
             &bytes,
         ),
-        Compiled::Refused(messages) => refuse(alloc, &lines.files, both(notes, messages)?),
+        Compiled::Refused(messages) => refuse(
+            alloc,
+            options.brief,
+            &lines.files,
+            both(notes, messages)?,
+        ),
     }
 }
 
@@ -270,6 +308,7 @@ fn answer<F: Files>(alloc: Global, options: &Options, files: &mut F) -> Result<D
         Ok(given) => Ok(answer_to_lines(alloc, options, given)?),
         Err(PreStop::Refused { message, files }) => Ok(refuse(
             alloc,
+            options.brief,
             &files,
             one_message(alloc, message)?,
         )?),

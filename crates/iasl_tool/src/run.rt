@@ -22,7 +22,7 @@ const STOP_TEXTS: StopTexts<'static> = StopTexts {
 };
 
 /// Compiles the source that the words name, of ASL or of a data table, and puts its table, or with `-P` its preprocessed text (docs/OPTIONS.md). It
-/// answers 0 where that was done; 1 where the source has errors; 2 where the words are not good, or the output has the name of a file
+/// answers 0 where that was done; 1 where the source has errors, or with `-we` a warning; 2 where the words are not good, or the output has the name of a file
 /// that was fetched; 3 where the file is absent, or a file could not be read, put or written; 4 where there was no memory.
 /// With 1 and 2 no file is put.
 pub fn iasl<F: Files, O: Outputs, C: Sink>(

@@ -1,4 +1,5 @@
 mod data;
+mod options;
 mod rows;
 
 use crate::run::iasl;

@@ -70,9 +70,10 @@ Reserved : 00000000
 const MCFG_TABLE: &[u8] =
     b"MCFG<\x00\x00\x00\x01\xB6OEMX00TABLE001\x01\x00\x00\x00INTL\x05\x01!\x20\x00\x00\x00\x00\x00\x00\x00\x00\x00\x00\x00\xE0\x00\x00\x00\x00\x00\x00\x00\xFF\x00\x00\x00\x00";
 
-// A text in parts, and what comes of it: the status, the table, and what is told.
+// Words, a text in parts, and what comes of it: the status, the table, and what is told.
 #[derive(Drop)]
 struct DataRow {
+    words: &'static [&'static str],
     parts: [&'static [u8]; 3],
     status: u8,
     names: &'static [&'static [u8]],
@@ -84,6 +85,7 @@ struct DataRow {
 fn data_tables(rt: HostRuntime) -> Result<(), AllocError> {
     let rows = [
         DataRow {
+            words: &["t.asl"],
             parts: [HPET, TICKS, PROTECT],
             status: 0,
             names: &[b"t.aml"],
@@ -91,6 +93,7 @@ fn data_tables(rt: HostRuntime) -> Result<(), AllocError> {
             told: b"t.aml: HPET, 56 bytes\n0 errors, 0 warnings, 0 remarks\n",
         },
         DataRow {
+            words: &["t.asl"],
             parts: [HPET, TICKS, OTHER_PROTECT],
             status: 1,
             names: &[],
@@ -98,6 +101,7 @@ fn data_tables(rt: HostRuntime) -> Result<(), AllocError> {
             told: b"t.asl:20:1: error 6096: decoded line disagrees\n1 errors, 0 warnings, 0 remarks\n",
         },
         DataRow {
+            words: &["t.asl"],
             parts: [HPET, OTHER_TICKS, PROTECT],
             status: 0,
             names: &[b"t.aml"],
@@ -105,6 +109,15 @@ fn data_tables(rt: HostRuntime) -> Result<(), AllocError> {
             told: b"t.asl:18:1: warning 3005: label differs\nt.aml: HPET, 56 bytes\n0 errors, 1 warnings, 0 remarks\n",
         },
         DataRow {
+            words: &["-we", "t.asl"],
+            parts: [HPET, OTHER_TICKS, PROTECT],
+            status: 1,
+            names: &[],
+            bodies: &[],
+            told: b"t.asl:18:1: warning 3005: label differs\n0 errors, 1 warnings, 0 remarks\n",
+        },
+        DataRow {
+            words: &["t.asl"],
             parts: [MCFG, LAST_BUS, b""],
             status: 0,
             names: &[b"t.aml"],
@@ -112,6 +125,7 @@ fn data_tables(rt: HostRuntime) -> Result<(), AllocError> {
             told: b"t.aml: MCFG, 60 bytes\n0 errors, 0 warnings, 0 remarks\n",
         },
         DataRow {
+            words: &["t.asl"],
             parts: [MCFG, WIDE_BUS, b""],
             status: 1,
             names: &[],
@@ -129,7 +143,7 @@ fn data_tables(rt: HostRuntime) -> Result<(), AllocError> {
         for part in &row.parts {
             text.extend_from_slice(part)?;
         }
-        let ran = run(rt.alloc(), &["t.asl"], &text, &none)?;
+        let ran = run(rt.alloc(), row.words, &text, &none)?;
         assert_eq!(rt; ran.status, row.status);
         assert!(rt; are(ran.outs.names(), row.names));
         assert!(rt; are(ran.outs.bodies(), row.bodies));
