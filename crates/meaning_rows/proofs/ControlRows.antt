@@ -1,15 +1,16 @@
 -- Worked sessions of control flow, computed from the definitions alone.
-use Rattle.std.proofs.Common.{◌≡◌, ℕ, true, false, List, [], ◌∷◌, refl}
+use Rattle.std.proofs.Common.{◌≡◌, ℕ, true, false, List, [], ◌∷◌, ◌++◌, refl}
 use Rattle.acpi_values.specs.declared.width.Width.TheVariants.{W64}
 use Rattle.acpi_values.specs.declared.operator.IntOp.TheVariants as IntOp
 use Rattle.acpi_values.specs.declared.operator.DataOp.TheVariants as DataOp
 use Rattle.acpi_values.specs.declared.operator.Plain.TheVariants as Plain
+use Rattle.acpi_values.specs.declared.fault.Fault.TheVariants as Fault
 use Rattle.acpi_values.specs.Values as V
 use Rattle.acpi_values.specs.Values.{Value, Data}
-use Rattle.acpi_state.specs.Outcomes.{Normal, Gives, Unfinished, Done, Stopped}
+use Rattle.acpi_state.specs.Outcomes.{Normal, Gives, Unfinished, Done, Stopped, Faulted}
 use Rattle.acpi_state.specs.Forms.{LocalSlot, ArgSlot}
 use Rattle.acpi_state.specs.Sessions.{Report, Request}
-use Rattle.asl_tree.specs.Tree.{Tree, Integer, InSlot, Omitted, Call, Apply, Return, Method, If, While, Break, Continue, Trees, no_trees, tree}
+use Rattle.asl_tree.specs.Tree.{Tree, Integer, InSlot, Omitted, Use, Call, Apply, Name, Return, Method, If, While, Break, Continue, Trees, no_trees, tree}
 use Rattle.asl_meaning.specs.Declarations.{known_of}
 use Rattle.asl_meaning.specs.SourceSession.{source_session}
 use Rattle.aml_meaning.specs.Encoded.{encoded_all}
@@ -99,3 +100,27 @@ two_turns = refl
 three_turns : by_bytes nested 3 (call_with 0x57 []) ≡ by_source nested 3 (call_with 0x57 [])
 unfolding code_front
 three_turns = refl
+
+-- Name (X, 0)  Method (S, 2) {Arg0 = Arg1}  Method (G) {Return (X)}
+-- Method (M) {Local0 = 0 While (Local0 < 3) {Local0++ S (RefOf (X), Local0)} Local1 = 1 / 0}: what stands at X outlives the fault
+abbrev stored_through : Trees
+stored_through =
+    list_of (Name at (one_segment 0x58) (Integer 0)
+    ∷ Method at (one_segment 0x53) 2 (list_of (store (InSlot (ArgSlot 1)) (InSlot (ArgSlot 0)) ∷ []))
+    ∷ Method at (one_segment 0x47) 0 (list_of (Return (Use at (one_segment 0x58)) ∷ []))
+    ∷ Method at (one_segment 0x4D) 0
+    (list_of (store (Integer 0) (local 0)
+    ∷ While (Apply (Plain.Number IntOp.LLess) (list_of (local 0 ∷ Integer 3 ∷ [])) no_trees)
+    (list_of (Apply (Plain.Data DataOp.Increment) (list_of (local 0 ∷ [])) no_trees
+    ∷ Call at (one_segment 0x53) (list_of (Apply (Plain.Data DataOp.RefOf) (list_of (Use at (one_segment 0x58) ∷ [])) no_trees ∷ local 0 ∷ [])) ∷ []))
+    ∷ Apply (Plain.Number IntOp.Divide) (list_of (Integer 1 ∷ Integer 0 ∷ [])) (list_of (Omitted ∷ local 1 ∷ [])) ∷ [])) ∷ [])
+
+abbrev stores_and_reads : List Request
+stores_and_reads = call_with 0x4D [] ++ call_with 0x47 []
+
+loop_and_fault : results (by_bytes stored_through 3 stores_and_reads) ≡ Done (Normal false) ∷ Stopped (Faulted Fault.DivideByZero) ∷ Done (Gives (number 3)) ∷ []
+unfolding code_front
+loop_and_fault = refl
+
+loop_and_fault_in_source : results (by_source stored_through 3 stores_and_reads) ≡ Done (Normal false) ∷ Stopped (Faulted Fault.DivideByZero) ∷ Done (Gives (number 3)) ∷ []
+loop_and_fault_in_source = refl
