@@ -1,10 +1,11 @@
--- A program with its names as they stand in the bytes, where no name is shortened.
+-- A program with its names as they stand in the bytes, shortened or not.
 use Rattle.std.specs.Prelude.{Bool, []}
 use Rattle.acpi_values.specs.Paths.{AbsolutePath}
 use Rattle.acpi_state.specs.Outcomes.{choose}
 use Rattle.asl_tree.specs.declared.path.Path.{Path}
-use Rattle.asl_tree.specs.Names.{place_of, denoted, spelled_name, spelled_element}
+use Rattle.asl_tree.specs.Names.{place_of, denoted, spelled_name}
 use Rattle.asl_meaning.specs.Declarations.{ExternalType}
+use Rattle.acpi_names.specs.Shortest.{spelled_use, spelled_item}
 use Rattle.asl_tree.specs.Tree.{Tree, Use, Call, Apply, Buffer, Package, VarPackage, CondRefOf, Return, Name, Alias, External, Method, Container', Scope, Trees, no_trees, tree, OperationRegion, Field, IndexField, BankField, CreateField, If, ElseIf, Else, While, Operated, Assigned, AssignedBy}
 
 module _ (has : AbsolutePath → Bool) where
@@ -12,17 +13,19 @@ module _ (has : AbsolutePath → Bool) where
   abbrev pub inner_scope : Path → AbsolutePath → AbsolutePath
   inner_scope name scope = choose (denoted has name scope) [] (λ path. path)
 
+module _ (shorten : Bool) (has : AbsolutePath → Bool) where
   -- an element of a Package, which is spelled as this where it is no name
   abbrev pub element_spelled : Tree → Tree → AbsolutePath → Tree
-  element_spelled (Use at name) other scope = Use at (spelled_element has name scope)
+  element_spelled (Use at name) other scope = Use at (spelled_item has shorten name scope)
   element_spelled t other scope = other
 
-module _ (has : AbsolutePath → Bool) (says : AbsolutePath → ExternalType → ExternalType) where
-  -- declared names stay as they are written, and an External says its type and its arity
+module _ (shorten : Bool) (has : AbsolutePath → Bool) (says : AbsolutePath → ExternalType → ExternalType) where
+  -- declared names stay as they are written, the name of a Scope is never shortened, and an External says its type and
+  -- its arity
   abbrev mutual
     pub spelled : Tree → AbsolutePath → Tree
-    spelled (Use at name) scope = Use at (spelled_name has name scope)
-    spelled (Call at name args) scope = Call at (spelled_name has name scope) (spelled_all args scope)
+    spelled (Use at name) scope = Use at (spelled_use has shorten name scope)
+    spelled (Call at name args) scope = Call at (spelled_use has shorten name scope) (spelled_all args scope)
     spelled (Apply op args targets) scope = Apply op (spelled_all args scope) (spelled_all targets scope)
     spelled (Operated op args) scope = Operated op (spelled_all args scope)
     spelled (Assigned target value) scope = Assigned (spelled target scope) (spelled value scope)
@@ -36,15 +39,15 @@ module _ (has : AbsolutePath → Bool) (says : AbsolutePath → ExternalType →
     spelled (Else body) scope = Else (spelled_all body scope)
     spelled (While test body) scope = While (spelled test scope) (spelled_all body scope)
     spelled (OperationRegion at name space args) scope = OperationRegion at name space (spelled_all args scope)
-    spelled (Field here from region flags items) scope = Field here from (spelled_name has region scope) flags items
+    spelled (Field here from region flags items) scope = Field here from (spelled_use has shorten region scope) flags items
     spelled (IndexField here from index to register flags items) scope =
-        IndexField here from (spelled_name has index scope) to (spelled_name has register scope) flags items
+        IndexField here from (spelled_use has shorten index scope) to (spelled_use has shorten register scope) flags items
     spelled (BankField here from region to bank value flags items) scope =
-        BankField here from (spelled_name has region scope) to (spelled_name has bank scope) (spelled value scope) flags items
+        BankField here from (spelled_use has shorten region scope) to (spelled_use has shorten bank scope) (spelled value scope) flags items
     spelled (CreateField form args at name) scope = CreateField form (spelled_all args scope) at name
     spelled (Return value) scope = Return (spelled value scope)
     spelled (Name at name value) scope = Name at name (spelled value scope)
-    spelled (Alias from source at name) scope = Alias from (spelled_name has source scope) at name
+    spelled (Alias from source at name) scope = Alias from (spelled_use has shorten source scope) at name
     spelled (External here at name type parameters) scope =
         let e = says (place_of name scope) (record { type = type; parameters = parameters }) in External here at name e.type e.parameters
     spelled (Method at name flags body) scope = Method at name flags (spelled_all body (place_of name scope))
@@ -58,4 +61,4 @@ module _ (has : AbsolutePath → Bool) (says : AbsolutePath → ExternalType →
 
     pub spelled_elements : Trees → AbsolutePath → Trees
     spelled_elements no_trees scope = no_trees
-    spelled_elements (tree t ts) scope = tree (element_spelled has t (spelled t scope) scope) (spelled_elements ts scope)
+    spelled_elements (tree t ts) scope = tree (element_spelled shorten has t (spelled t scope) scope) (spelled_elements ts scope)

@@ -2,6 +2,8 @@
 use Rattle.std.specs.Prelude.{ℕ, ◌-◌, ◌*◌, ◌%◌, Bool, nat_eq, if◌then◌else◌, List, [], ◌∷◌, ◌++◌, Option, Some, None}
 use Rattle.byteorder.specs.Endian.{little_bytes}
 use Rattle.acpi_values.specs.declared.width.Width.{Width}
+use Rattle.acpi_values.specs.Integers.{wrapped}
+use Rattle.acpi_values.specs.Revisions.{width_of}
 use Rattle.asl_tree.specs.declared.term.Literal.{Literal}
 use Rattle.asl_tree.specs.FieldItems.{FieldItem, UnitItem, SkipItem, OffsetItem, behind_item}
 use Rattle.asl_tree.specs.Tree.{Tree, Integer, Constant, String, InSlot, Debug, Omitted, Raw, Use, Call, Apply, Buffer, Package, VarPackage, CondRefOf, Return, Name, Alias, External, Method, Mutex, Event, Container', Scope, Fill, Misshapen, Operated, Assigned, AssignedBy, Trees, no_trees, tree, UnitName, OperationRegion, Field, IndexField, BankField, CreateField, If, ElseIf, Else, While, Break, Continue, Item}
@@ -11,7 +13,6 @@ use Rattle.aml_code.specs.Encoding.{bit_count_bytes, packed, integer_bytes, name
 use Rattle.aml_code.specs.Header.{table_bytes, fields_of}
 use Rattle.asl_tree.specs.declared.program.Block.{Block}
 use Rattle.asl_tree.specs.View.{trees_of}
-use Rattle.acpi_values.specs.declared.width.Width.TheVariants.{W64}
 
 -- an item of a field's list that stands at a bit; an Offset is written as the gap that it makes, if there is one
 abbrev pub item_bytes : ℕ → FieldItem UnitName → List ℕ
@@ -49,10 +50,10 @@ abbrev pub parameter_count : Option ℕ → ℕ
 parameter_count None = 0
 parameter_count (Some n) = n
 
--- integers of a width are in the short form where `short` is true
+-- an integer is written as its low bits, as many as the width has; those of the width are in the short form where `short` is true
 abbrev mutual
   pub encoded : Width → Bool → Tree → List ℕ
-  encoded width short (Integer number) = integer_bytes width short number
+  encoded width short (Integer number) = integer_bytes width short (wrapped width number)
   encoded width short (Constant literal) = literal_bytes literal
   encoded width short (String text) = code_bytes StringCode ++ (text ++ 0x00 ∷ [])
   encoded width short (InSlot slot) = code_bytes (SlotCode slot)
@@ -106,6 +107,6 @@ abbrev mutual
   encoded_all width short no_trees = []
   encoded_all width short (tree term terms) = encoded width short term ++ encoded_all width short terms
 
--- a block as a table; until tables of 32 bits are written the width is 64
+-- a block as a table, at the width that its revision gives
 abbrev pub encoded_block : Bool → Block → List ℕ
-encoded_block short block = table_bytes (fields_of block) (encoded_all W64 short (trees_of block.terms.items))
+encoded_block short block = table_bytes (fields_of block) (encoded_all (width_of block.revision) short (trees_of block.terms.items))

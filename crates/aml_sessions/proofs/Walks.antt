@@ -12,6 +12,7 @@ use Rattle.acpi_values.specs.Operators.{Letter, Valued, Kept, Placed, Used, Row,
 use Rattle.acpi_values.specs.Operators as L
 use Rattle.acpi_values.specs.Widths.{ones_of}
 use Rattle.acpi_values.specs.Integers.{wrapped}
+use Rattle.acpi_values.proofs.Wraps.{wrapped_fits, wrapped_again}
 use Rattle.acpi_state.specs.Objects.{Object, DataObject, MethodObject, ContainerObject, MutexObject, EventObject, AliasObject, Container, OfRoot, Device, ThermalZone, PowerResource, Processor}
 use Rattle.acpi_state.specs.Activations.{create}
 use Rattle.acpi_state.specs.Outcomes.{Flow, Normal, Gives, Unfinished, Run, done, stop, then_run, act, choose, value_of, on_flow}
@@ -93,7 +94,7 @@ module _ (given : Setting) where
   EA ts = encoded_all given.width given.short ts
 
   abbrev Ready : Tree → AbsolutePath → Type 0
-  Ready t scope = IsReady given.width given.known t scope
+  Ready t scope = IsReady given.known t scope
 
   literal_some : (literal : Literal) → 1 ≤ length (literal_bytes literal)
   literal_some Literal.Zero = omega arith
@@ -105,7 +106,7 @@ module _ (given : Setting) where
 
   -- every ready term has a byte
   pub encoded_some : (t : Tree) (scope : AbsolutePath) → Ready t scope → 1 ≤ length (E t)
-  encoded_some (Integer number) scope ready = (is_integer given.width given.short number).some
+  encoded_some (Integer number) scope ready = (is_integer given.width given.short (wrapped given.width number)).some
   encoded_some (Constant literal) scope ready = literal_some literal
   encoded_some (String text) scope ready = omega arith
   encoded_some (InSlot slot) scope ready = omega arith
@@ -147,7 +148,7 @@ module _ (given : Setting) where
   encoded_some (ElseIf test body) scope ready = absurd ready
   encoded_some Misshapen scope ready = absurd ready
 
-  element_some : (t : Tree) (scope : AbsolutePath) → ElementReady given.width given.known t (Ready t scope) → 1 ≤ length (E t)
+  element_some : (t : Tree) (scope : AbsolutePath) → ElementReady given.known t (Ready t scope) → 1 ≤ length (E t)
   element_some (Use at name) scope ready = name_some name ready.used
   element_some (Integer number) scope ready = encoded_some (Integer number) scope ready.1
   element_some t scope ready = encoded_some t scope ready.1
@@ -159,7 +160,7 @@ module _ (given : Setting) where
 
   -- an element that is no name begins as no name
   constant_no_place : (t : Tree) (rest : List ℕ) → is_constant t ≡ true → NoPlace (E t ++ rest)
-  constant_no_place (Integer number) rest e = (is_integer given.width given.short number).no_place rest
+  constant_no_place (Integer number) rest e = (is_integer given.width given.short (wrapped given.width number)).no_place rest
   constant_no_place (Constant literal) rest e = literal_no_place literal rest
   constant_no_place (String text) rest e = code_no_place StringCode tt refl (text ++ 0x00 ∷ []) rest
   constant_no_place (Buffer size bytes) rest e = code_no_place BufferCode tt refl (packed (E size ++ bytes)) rest
@@ -226,9 +227,9 @@ module _ (given : Setting) where
 
   -- an operand as its letter asks
   agree_letter : (letter : Letter) (t : Tree) (scope : AbsolutePath) (rest : List ℕ) (w : Walk) (m : SourceRun Flow) (spot : SourceRun Spot) →
-      LetterReady given.width given.known letter t ((is_expression t ≡ true) × Ready t scope) (IsSpot given.width given.known t scope) scope →
+      LetterReady given.known letter t ((is_expression t ≡ true) × Ready t scope) (IsSpot given.known t scope) scope →
       ((is_expression t ≡ true) × Ready t scope → Agree (as_bytes given) Any (λ v. (v, rest)) (then_run m value_of) (B.operand w (E t ++ rest) scope)) →
-      (IsSpot given.width given.known t scope → Agree (as_bytes given) Any (λ p. (p, rest)) spot (B.spot w (E t ++ rest) scope)) →
+      (IsSpot given.known t scope → Agree (as_bytes given) Any (λ p. (p, rest)) spot (B.spot w (E t ++ rest) scope)) →
       Agree (as_bytes given) Any (λ o. (o, rest)) (S.operand_by given.width given.known letter t m spot scope) (B.lettered w letter (E t ++ rest) scope)
   agree_letter Valued t scope rest w m spot ready hv hs =
       agree_then (as_bytes given) Any (λ o. (o, rest)) _ (hv ready) (λ v any. agree_done (as_bytes given) Any (λ o. (o, rest)) (OfValue v) tt)
@@ -267,9 +268,11 @@ module _ (given : Setting) (turns : ℕ) (call : AbsolutePath → List Value →
   R t scope due = S.run given.width given.known turns call t scope due
 
   -- an integer at the front
-  agree_integer : (number n : ℕ) (rest : List ℕ) (scope : AbsolutePath) (due : Bool) → number ≤ ones_of given.width → Agree (as_bytes given) EndsExpression (λ f. (f, rest)) (R (Integer number) scope due) (W (suc n) (integer_bytes given.width given.short number ++ rest) scope due)
-  agree_integer number n rest scope due le =
-      agree_to (as_bytes given) (ap (λ o. choose o (B.other_term given.width turns call' (W n) due scope (integer_bytes given.width given.short number ++ rest)) (λ r. done (Gives (Data (V.Integer (wrapped given.width r.0))), r.1))) (integer_reads given.width given.short number le rest))
+  agree_integer : (number n : ℕ) (rest : List ℕ) (scope : AbsolutePath) (due : Bool) → Agree (as_bytes given) EndsExpression (λ f. (f, rest)) (R (Integer number) scope due) (W (suc n) (integer_bytes given.width given.short (wrapped given.width number) ++ rest) scope due)
+  agree_integer number n rest scope due =
+      let low = wrapped given.width number in
+      agree_to (as_bytes given) (ap (λ o. choose o (B.other_term given.width turns call' (W n) due scope (integer_bytes given.width given.short low ++ rest)) (λ r. done (Gives (Data (V.Integer (wrapped given.width r.0))), r.1))) (integer_reads given.width given.short low (wrapped_fits given.width number) rest)
+      ∙ ap (λ k. done (Gives (Data (V.Integer k)), rest)) (wrapped_again given.width number))
       (agree_done (as_bytes given) EndsExpression (λ f. (f, rest)) (Gives (Data (V.Integer (wrapped given.width number)))) tt)
 
   agree_literal : (literal : Literal) (n : ℕ) (rest : List ℕ) (scope : AbsolutePath) (due : Bool) → Agree (as_bytes given) EndsExpression (λ f. (f, rest)) (R (Constant literal) scope due) (W (suc n) (literal_bytes literal ++ rest) scope due)
@@ -306,7 +309,7 @@ module _ (given : Setting) (turns : ℕ) (call : AbsolutePath → List Value →
       (agree_plain given op _ (λ rs. S.store_all given.width given.known turns call targets rs scope) (W n) (row_of op).operands (count targets) after (EA given targets ++ rest) rest scope ho ht)
 
   -- a place, of which a name may lead nowhere
-  agree_cond : (t : Tree) (scope : AbsolutePath) (n : ℕ) (rest : List ℕ) → CondReady given.known t (IsSpot given.width given.known t scope) scope → (IsSpot given.width given.known t scope → Agree (as_bytes given) Any (λ p. (p, rest)) (S.spot given.width given.known turns call t scope) (B.spot (W n) (E given t ++ rest) scope)) →
+  agree_cond : (t : Tree) (scope : AbsolutePath) (n : ℕ) (rest : List ℕ) → CondReady given.known t (IsSpot given.known t scope) scope → (IsSpot given.known t scope → Agree (as_bytes given) Any (λ p. (p, rest)) (S.spot given.width given.known turns call t scope) (B.spot (W n) (E given t ++ rest) scope)) →
       Agree (as_bytes given) Any (λ o. (o, rest)) (S.cond_by given.width given.known t (S.spot given.width given.known turns call t scope) scope) (B.cond_spot given.width (W n) (E given t ++ rest) scope)
   agree_cond (Use at name) scope n rest ready h =
       agree_to (as_bytes given) (lead_step name rest (B.cond_name given.width scope) _ ready.used)
@@ -318,7 +321,7 @@ module _ (given : Setting) (turns : ℕ) (call : AbsolutePath → List Value →
   agree_cond t scope n rest ready h = absurd ready
 
   -- an element of a Package
-  agree_element : (t : Tree) (scope : AbsolutePath) (n : ℕ) (rest : List ℕ) → ElementReady given.width given.known t (Ready given t scope) →
+  agree_element : (t : Tree) (scope : AbsolutePath) (n : ℕ) (rest : List ℕ) → ElementReady given.known t (Ready given t scope) →
       (is_expression t ≡ true → Ready given t scope → Agree (as_bytes given) Any (λ v. (v, rest)) (then_run (R t scope false) value_of) (B.operand (W n) (E given t ++ rest) scope)) →
       Agree (as_bytes given) Any (λ v. (v, rest)) (S.element_by given.width given.known t (R t scope false) scope) (B.element_at given.width (W n) (E given t ++ rest) scope)
   agree_element (Use at name) scope n rest ready h =
@@ -342,7 +345,7 @@ module _ (given : Setting) (turns : ℕ) (call : AbsolutePath → List Value →
   mutual
     pub agree_run : (t : Tree) (scope : AbsolutePath) (due : Bool) (n : ℕ) (rest : List ℕ) → Ready given t scope → length (E given t) ≤ n → n + 4 < 2 ^ 28 → Agree (as_bytes given) (EndsAs (is_expression t)) (λ f. (f, rest)) (R t scope due) (W n (E given t ++ rest) scope due)
     agree_run t scope due zero rest ready le fits = absurd (omega (arith, encoded_some given t scope ready, le))
-    agree_run (Integer number) scope due (suc n) rest ready le fits = agree_integer number n rest scope due ready
+    agree_run (Integer number) scope due (suc n) rest ready le fits = agree_integer number n rest scope due
     agree_run (Constant literal) scope due (suc n) rest ready le fits = agree_literal literal n rest scope due
     agree_run (String text) scope due (suc n) rest ready le fits =
         agree_to (as_bytes given)
@@ -500,7 +503,7 @@ module _ (given : Setting) (turns : ℕ) (call : AbsolutePath → List Value →
         ∙ ap (followed_by rest) (name_step name (EA given body) (λ name body. then_run (B.find name scope) (λ path. B.body_terms (W n) path body)) ready.1.used.is_name))
         (agree_followed given rest
         (agree_then (as_bytes given) Any (λ f. f) _ (agree_find given name scope ready.0 ready.1)
-        (λ path is. agree_terms body path false n (length (EA given body)) (subst (AreReady given.width given.known body) (sym is) ready.2) shorter (le_refl _) (omega (arith, fits)))))
+        (λ path is. agree_terms body path false n (length (EA given body)) (subst (AreReady given.known body) (sym is) ready.2) shorter (le_refl _) (omega (arith, fits)))))
     agree_run (If test body) scope due (suc n) rest ready le fits =
         let content = E given test ++ EA given body in
         let inside : length content ≤ n = omega (arith, le, length-append (package_length_bytes (length content)) content) in
@@ -610,7 +613,7 @@ module _ (given : Setting) (turns : ℕ) (call : AbsolutePath → List Value →
     agree_run Misshapen scope due (suc n) rest ready le fits = absurd ready
 
     -- a term that stands for a place
-    pub agree_spot : (t : Tree) (scope : AbsolutePath) (n : ℕ) (rest : List ℕ) → IsSpot given.width given.known t scope → length (E given t) ≤ n → n + 4 < 2 ^ 28 → Agree (as_bytes given) Any (λ p. (p, rest)) (S.spot given.width given.known turns call t scope) (B.spot (W n) (E given t ++ rest) scope)
+    pub agree_spot : (t : Tree) (scope : AbsolutePath) (n : ℕ) (rest : List ℕ) → IsSpot given.known t scope → length (E given t) ≤ n → n + 4 < 2 ^ 28 → Agree (as_bytes given) Any (λ p. (p, rest)) (S.spot given.width given.known turns call t scope) (B.spot (W n) (E given t ++ rest) scope)
     agree_spot Omitted scope n rest ready le fits =
         agree_to (as_bytes given) (opcode_step OmittedCode rest (with_front (name_front (code_bytes OmittedCode ++ rest)) (B.named_spot scope)) (B.spot_of_code (W n) (code_bytes OmittedCode ++ rest) scope) tt) (agree_done (as_bytes given) Any (λ p. (p, rest)) Nowhere tt)
     agree_spot Debug scope n rest ready le fits =
@@ -628,14 +631,14 @@ module _ (given : Setting) (turns : ℕ) (call : AbsolutePath → List Value →
         agree_to (as_bytes given)
         (ap (λ bs. B.spot (W (suc n)) bs scope) (apply_bytes given op args targets rest)
         ∙ opcode_step (PlainCode op) after _ (B.spot_of_code (W (suc n)) (code_bytes (PlainCode op) ++ after) scope) ready.0)
-        (agree_spot_form given (spot_form op) (AreOperands given.width given.known (row_of op).operands args scope × (count targets ≡ (row_of op).targets) × AreSpots given.width given.known targets scope) (IsAlone given.width given.known args targets scope) _ _ (W (suc n)) (code_bytes (PlainCode op) ++ after) after rest scope ready.1
+        (agree_spot_form given (spot_form op) (AreOperands given.known (row_of op).operands args scope × (count targets ≡ (row_of op).targets) × AreSpots given.known targets scope) (IsAlone given.known args targets scope) _ _ (W (suc n)) (code_bytes (PlainCode op) ++ after) after rest scope ready.1
         (λ whole. agree_apply op args targets scope false n rest ready.0 whole.1
         (agree_operands (row_of op).operands args scope n (EA given targets ++ rest) whole.0 inside.0 (omega (arith, fits)))
         (λ rs. agree_spots targets rs scope n rest whole.2 inside.1 (omega (arith, fits))))
         (λ alone. agree_alone args targets scope (suc n) rest alone (omega (arith, inside.0)) fits))
     agree_spot t scope n rest ready le fits = absurd ready
 
-    agree_alone : (args targets : Trees) (scope : AbsolutePath) (n : ℕ) (rest : List ℕ) → IsAlone given.width given.known args targets scope → length (EA given args) ≤ n → n + 4 < 2 ^ 28 → Agree (as_bytes given) Any (λ v. (v, rest)) (S.first_value given.width given.known turns call args scope) (B.operand (W n) (EA given args ++ (EA given targets ++ rest)) scope)
+    agree_alone : (args targets : Trees) (scope : AbsolutePath) (n : ℕ) (rest : List ℕ) → IsAlone given.known args targets scope → length (EA given args) ≤ n → n + 4 < 2 ^ 28 → Agree (as_bytes given) Any (λ v. (v, rest)) (S.first_value given.width given.known turns call args scope) (B.operand (W n) (EA given args ++ (EA given targets ++ rest)) scope)
     agree_alone (tree t no_trees) no_trees scope n rest ready le fits =
         agree_to (as_bytes given) (ap (λ bs. B.operand (W n) bs scope) (append_assoc (E given t) [] rest))
         (agree_operand given (is_expression t) (R t scope false) (W n) (E given t ++ rest) rest scope ready.0 (agree_run t scope false n rest ready.1 (omega (arith, le, length-append (E given t) [])) fits))
@@ -643,7 +646,7 @@ module _ (given : Setting) (turns : ℕ) (call : AbsolutePath → List Value →
     agree_alone (tree t (tree u us)) targets scope n rest ready le fits = absurd ready
     agree_alone no_trees targets scope n rest ready le fits = absurd ready
 
-    pub agree_operands : (letters : List Letter) (ts : Trees) (scope : AbsolutePath) (n : ℕ) (rest : List ℕ) → AreOperands given.width given.known letters ts scope → length (EA given ts) ≤ n → n + 4 < 2 ^ 28 → Agree (as_bytes given) Any (λ os. (os, rest)) (S.operands given.width given.known turns call letters ts scope) (B.operands (W n) letters (EA given ts ++ rest) scope)
+    pub agree_operands : (letters : List Letter) (ts : Trees) (scope : AbsolutePath) (n : ℕ) (rest : List ℕ) → AreOperands given.known letters ts scope → length (EA given ts) ≤ n → n + 4 < 2 ^ 28 → Agree (as_bytes given) Any (λ os. (os, rest)) (S.operands given.width given.known turns call letters ts scope) (B.operands (W n) letters (EA given ts ++ rest) scope)
     agree_operands [] no_trees scope n rest ready le fits = agree_done (as_bytes given) Any (λ os. (os, rest)) [] tt
     agree_operands [] (tree t ts) scope n rest ready le fits = absurd ready
     agree_operands (letter ∷ letters) no_trees scope n rest ready le fits = absurd ready
@@ -658,7 +661,7 @@ module _ (given : Setting) (turns : ℕ) (call : AbsolutePath → List Value →
         (λ o any. agree_then (as_bytes given) Any (λ os. (os, rest)) _ (agree_operands letters ts scope n rest ready.1 (omega (arith, whole, le)) fits)
         (λ os any. agree_done (as_bytes given) Any (λ os. (os, rest)) (o ∷ os) tt)))
 
-    pub agree_spots : (ts : Trees) (rs : List Value) (scope : AbsolutePath) (n : ℕ) (rest : List ℕ) → AreSpots given.width given.known ts scope → length (EA given ts) ≤ n → n + 4 < 2 ^ 28 → Agree (as_bytes given) Any (λ u. rest) (S.store_all given.width given.known turns call ts rs scope) (B.store_all given.width (W n) (count ts) rs (EA given ts ++ rest) scope)
+    pub agree_spots : (ts : Trees) (rs : List Value) (scope : AbsolutePath) (n : ℕ) (rest : List ℕ) → AreSpots given.known ts scope → length (EA given ts) ≤ n → n + 4 < 2 ^ 28 → Agree (as_bytes given) Any (λ u. rest) (S.store_all given.width given.known turns call ts rs scope) (B.store_all given.width (W n) (count ts) rs (EA given ts ++ rest) scope)
     agree_spots no_trees rs scope n rest ready le fits = agree_done (as_bytes given) Any (λ u. rest) tt tt
     agree_spots (tree t ts) [] scope n rest ready le fits = agree_fault (as_bytes given) Any (λ u. rest) _
     agree_spots (tree t ts) (r ∷ rs) scope n rest ready le fits =
@@ -667,7 +670,7 @@ module _ (given : Setting) (turns : ℕ) (call : AbsolutePath → List Value →
         (agree_then (as_bytes given) Any (λ u. rest) _ (agree_spot t scope n (EA given ts ++ rest) ready.0 (omega (arith, whole, le)) fits)
         (λ p any. agree_then (as_bytes given) Any (λ u. rest) _ (agree_act (as_bytes given) (store given.width p r)) (λ u any. agree_spots ts rs scope n rest ready.1 (omega (arith, whole, le)) fits)))
 
-    pub agree_values : (ts : Trees) (scope : AbsolutePath) (n : ℕ) (rest : List ℕ) → AreValues given.width given.known ts scope → length (EA given ts) ≤ n → n + 4 < 2 ^ 28 → Agree (as_bytes given) (λ vs. length vs ≡ count ts) (λ vs. (vs, rest)) (S.values given.width given.known turns call ts scope) (B.values (W n) (count ts) (EA given ts ++ rest) scope)
+    pub agree_values : (ts : Trees) (scope : AbsolutePath) (n : ℕ) (rest : List ℕ) → AreValues given.known ts scope → length (EA given ts) ≤ n → n + 4 < 2 ^ 28 → Agree (as_bytes given) (λ vs. length vs ≡ count ts) (λ vs. (vs, rest)) (S.values given.width given.known turns call ts scope) (B.values (W n) (count ts) (EA given ts ++ rest) scope)
     agree_values no_trees scope n rest ready le fits = agree_done (as_bytes given) (λ vs. length vs ≡ 0) (λ vs. (vs, rest)) [] refl
     agree_values (tree t ts) scope n rest ready le fits =
         let whole = length-append (E given t) (EA given ts) in
@@ -678,7 +681,7 @@ module _ (given : Setting) (turns : ℕ) (call : AbsolutePath → List Value →
         (λ v any. agree_then (as_bytes given) (λ vs. length vs ≡ count (tree t ts)) (λ vs. (vs, rest)) _ (agree_values ts scope n rest ready.2 (omega (arith, whole, le)) fits)
         (λ vs size. agree_done (as_bytes given) (λ vs. length vs ≡ count (tree t ts)) (λ vs. (vs, rest)) (v ∷ vs) (ap suc size))))
 
-    pub agree_elements : (ts : Trees) (scope : AbsolutePath) (n k : ℕ) → AreElements given.width given.known ts scope → length (EA given ts) ≤ n → length (EA given ts) ≤ k → n + 4 < 2 ^ 28 → Agree (as_bytes given) Any (λ es. es) (S.elements given.width given.known turns call ts scope) (B.elements given.width (W n) k (EA given ts) scope)
+    pub agree_elements : (ts : Trees) (scope : AbsolutePath) (n k : ℕ) → AreElements given.known ts scope → length (EA given ts) ≤ n → length (EA given ts) ≤ k → n + 4 < 2 ^ 28 → Agree (as_bytes given) Any (λ es. es) (S.elements given.width given.known turns call ts scope) (B.elements given.width (W n) k (EA given ts) scope)
     agree_elements no_trees scope n k ready le le' fits = agree_done (as_bytes given) Any (λ es. es) no_elements tt
     agree_elements (tree t ts) scope n zero ready le le' fits = absurd (omega (arith, element_some given t scope ready.0, le', length-append (E given t) (EA given ts)))
     agree_elements (tree t ts) scope n (suc k) ready le le' fits =
@@ -690,7 +693,7 @@ module _ (given : Setting) (turns : ℕ) (call : AbsolutePath → List Value →
         (λ v any. agree_then (as_bytes given) Any (λ es. es) _ (agree_elements ts scope n k ready.1 (omega (arith, whole, le)) (omega (arith, whole, some, le')) fits)
         (λ es any. agree_done (as_bytes given) Any (λ es. es) (element v es) tt)))
 
-    pub agree_terms : (ts : Trees) (scope : AbsolutePath) (due : Bool) (n k : ℕ) → AreReady given.width given.known ts scope → length (EA given ts) ≤ n → length (EA given ts) ≤ k → n + 4 < 2 ^ 28 → Agree (as_bytes given) Any (λ f. f) (S.run_all given.width given.known turns call ts scope due) (B.walk_all (W n) k (EA given ts) scope due)
+    pub agree_terms : (ts : Trees) (scope : AbsolutePath) (due : Bool) (n k : ℕ) → AreReady given.known ts scope → length (EA given ts) ≤ n → length (EA given ts) ≤ k → n + 4 < 2 ^ 28 → Agree (as_bytes given) Any (λ f. f) (S.run_all given.width given.known turns call ts scope due) (B.walk_all (W n) k (EA given ts) scope due)
     agree_terms no_trees scope due n k ready le le' fits = agree_done (as_bytes given) Any (λ f. f) (Normal false) tt
     agree_terms (tree t ts) scope due n zero ready le le' fits = absurd (omega (arith, encoded_some given t scope ready.0, le', length-append (E given t) (EA given ts)))
     agree_terms (tree t ts) scope due n (suc k) ready le le' fits =

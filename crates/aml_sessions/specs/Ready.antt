@@ -1,9 +1,6 @@
 -- What a core tree must be so that its bytes mean what it means.
 use Rattle.std.specs.Prelude.{ℕ, ◌≡◌, ◌<◌, ◌≤◌, ◌^◌, Bool, true, false, nat_eq, List, [], ◌∷◌, length, Some, ◌-◌, ◌*◌}
-use Rattle.acpi_values.specs.declared.width.Width.{Width}
-use Rattle.acpi_values.specs.declared.width.Width.TheVariants.{W64}
 use Rattle.acpi_values.specs.Paths.{AbsolutePath}
-use Rattle.acpi_values.specs.Widths.{ones_of}
 use Rattle.acpi_values.specs.Operators.{Letter, Valued, Kept, Placed, Used, Row, row_of}
 use Rattle.acpi_values.specs.Operators as L
 use Rattle.acpi_state.specs.Objects.{Object, DataObject, MethodObject, MutexObject, EventObject, ContainerObject, Container, OfRoot, PowerResource, Processor, operand_count, is_method, RegionObject, UnitObject, BufferFieldObject}
@@ -148,7 +145,7 @@ module _ (known : Known) where
   CondReady (Use at name) spot scope = IsSought name scope
   CondReady t spot scope = spot
 
-module _ (width : Width) (known : Known) where
+module _ (known : Known) where
   -- an operand as its letter asks, given that the term is ready as an expression, and as a place
   abbrev pub LetterReady : Letter → Tree → Type 0 → Type 0 → AbsolutePath → Type 0
   LetterReady Valued t value spot scope = value
@@ -164,7 +161,7 @@ module _ (width : Width) (known : Known) where
   -- numbers fit their bits, names can be written and are found, and each form has what it asks for
   abbrev mutual
     pub IsReady : Tree → AbsolutePath → Type 0
-    IsReady (Integer number) scope = number ≤ ones_of width
+    IsReady (Integer number) scope = Unit {0}
     IsReady (Constant literal) scope = Unit {0}
     IsReady (String text) scope = IsText text
     IsReady (InSlot slot) scope = IsSlot slot
@@ -251,10 +248,10 @@ module _ (width : Width) (known : Known) where
     AreReady no_trees scope = Unit {0}
     AreReady (tree term terms) scope = IsReady term scope × AreReady terms scope
 
--- the header's texts have room, and the terms are ready; until tables of 32 bits are written the width is 64
+-- the header's texts have room, and the terms are ready
 pub record IsReadyBlock (known : Known) (block : Block) : Type 0 where
   pub signature : length block.signature ≡ 4
   pub oem_id : length block.oem_id ≤ 6
   pub table_id : length block.table_id ≤ 8
   pub oem_revision : block.oem_revision < 2 ^ 32
-  pub terms : AreReady W64 known (trees_of block.terms.items) []
+  pub terms : AreReady known (trees_of block.terms.items) []

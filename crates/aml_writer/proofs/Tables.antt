@@ -5,7 +5,6 @@ use Rattle.std.proofs.lemmas.Bool.Decides.{nat_tests}
 use Rattle.std.proofs.lemmas.List.{reverse-reverse}
 use Rattle.iasl_messages.specs.declared.place.Line.{Line}
 use Rattle.iasl_messages.specs.declared.place.Piece.{Piece}
-use Rattle.acpi_values.specs.declared.width.Width.TheVariants.{W64}
 use Rattle.acpi_values.specs.Paths.{AbsolutePath}
 use Rattle.acpi_values.specs.Operators.{Letter, Valued, Kept, Placed, Used, row_of}
 use Rattle.acpi_values.specs.Operators as L
@@ -34,8 +33,10 @@ use Rattle.aml_code.specs.Header.{header_length, header_with, checksum_of, field
 use Rattle.aml_meaning.specs.ByteSession.{IsFaithful}
 use Rattle.aml_sessions.specs.Ready.{IsReady, IsSpot, IsAlone, AreOperands, AreSpots, AreValues, AreElements, AreReady, LetterReady, SpotReady, ElementReady, CondReady, IsReadyBlock}
 use Rattle.aml_sessions.proofs.Sessions.{faithful}
-use Rattle.aml_sessions.proofs.Tables.{definition_is, length_is, is_header}
+use Rattle.aml_sessions.proofs.Tables.{definition_is, width_is, length_is, is_header}
 use Rattle.aml_writer.specs.Sizes.{most_content_bytes}
+use Rattle.aml_writer.specs.declared.style.IntegerStyle.{IntegerStyle}
+use Rattle.aml_writer.specs.Styles.{style_of}
 use Rattle.aml_writer.specs.Leaves.{Leaf, leaf_of, leaves_of, operand_bytes, first_letter, letters_behind}
 use Rattle.aml_writer.specs.Codes.{letters_of}
 use Rattle.aml_writer.specs.Items.{written_items}
@@ -58,7 +59,7 @@ by_spot OfInside A B h f g = g h
 by_spot NoSpot A B h f g = absurd h
 
 module _ (known : Known) where
-  letter_whole : (letter : Letter) (t : Tree) (scope : AbsolutePath) (A B : Type 0) → LetterReady W64 known letter t A B scope → (A → IsWhole t) → (B → IsWhole t) → IsWhole t
+  letter_whole : (letter : Letter) (t : Tree) (scope : AbsolutePath) (A B : Type 0) → LetterReady known letter t A B scope → (A → IsWhole t) → (B → IsWhole t) → IsWhole t
   letter_whole Valued t scope A B h f g = f h
   letter_whole Kept t scope A B h f g = f h
   letter_whole Placed t scope A B h f g = g h
@@ -71,12 +72,12 @@ module _ (known : Known) where
   cond_whole (Use at name) scope A h f = h.used.is_name
   cond_whole _ scope A h f = f h
 
-  element_whole : (t : Tree) (A : Type 0) → ElementReady W64 known t A → (A → IsWhole t) → IsWhole t
+  element_whole : (t : Tree) (A : Type 0) → ElementReady known t A → (A → IsWhole t) → IsWhole t
   element_whole (Use at name) A h f = h.used.is_name
   element_whole _ A h f = f h.1
 
   mutual
-    ready_whole : (t : Tree) (scope : AbsolutePath) → IsReady W64 known t scope → IsWhole t
+    ready_whole : (t : Tree) (scope : AbsolutePath) → IsReady known t scope → IsWhole t
     ready_whole (InSlot slot) scope h = h
     ready_whole Omitted scope h = absurd h
     ready_whole (Raw size number) scope h = absurd h
@@ -86,7 +87,7 @@ module _ (known : Known) where
     ready_whole (Buffer size bytes) scope h = ready_whole size scope h.1
     ready_whole (Package n elements) scope h = elements_whole elements scope h.1
     ready_whole (VarPackage size elements) scope h = (ready_whole size scope h.1, elements_whole elements scope h.2)
-    ready_whole (CondRefOf place target) scope h = (cond_whole place scope (IsSpot W64 known place scope) h.0 (spot_whole place scope), spot_whole target scope h.1)
+    ready_whole (CondRefOf place target) scope h = (cond_whole place scope (IsSpot known place scope) h.0 (spot_whole place scope), spot_whole target scope h.1)
     ready_whole (Return value) scope h = ready_whole value scope h.1
     ready_whole (Name at name value) scope h = (h.0.written, ready_whole value scope h.2)
     ready_whole (Alias from source at name) scope h = (h.1.used.is_name, h.2.written)
@@ -113,7 +114,7 @@ module _ (known : Known) where
     ready_whole (ElseIf test body) scope h = absurd h
     ready_whole _ scope h = tt
 
-    spot_whole : (t : Tree) (scope : AbsolutePath) → IsSpot W64 known t scope → IsWhole t
+    spot_whole : (t : Tree) (scope : AbsolutePath) → IsSpot known t scope → IsWhole t
     spot_whole Omitted scope h = tt
     spot_whole Debug scope h = tt
     spot_whole (InSlot slot) scope h = h
@@ -122,29 +123,29 @@ module _ (known : Known) where
         by_spot (spot_form op) _ _ h.1 (λ k. (operands_whole (row_of op).operands args scope k.0, spots_whole targets scope k.2)) (alone_whole args targets scope)
     spot_whole _ scope h = absurd h
 
-    alone_whole : (args targets : Trees) (scope : AbsolutePath) → IsAlone W64 known args targets scope → AreWhole args × AreWhole targets
+    alone_whole : (args targets : Trees) (scope : AbsolutePath) → IsAlone known args targets scope → AreWhole args × AreWhole targets
     alone_whole (tree t no_trees) no_trees scope h = ((ready_whole t scope h.1, tt), tt)
     alone_whole _ _ scope h = absurd h
 
-    operands_whole : (letters : List Letter) (ts : Trees) (scope : AbsolutePath) → AreOperands W64 known letters ts scope → AreWhole ts
+    operands_whole : (letters : List Letter) (ts : Trees) (scope : AbsolutePath) → AreOperands known letters ts scope → AreWhole ts
     operands_whole [] no_trees scope h = tt
     operands_whole (letter ∷ letters) (tree t ts) scope h =
         (letter_whole letter t scope _ _ h.0 (λ k. ready_whole t scope k.1) (spot_whole t scope), operands_whole letters ts scope h.1)
     operands_whole _ _ scope h = absurd h
 
-    spots_whole : (ts : Trees) (scope : AbsolutePath) → AreSpots W64 known ts scope → AreWhole ts
+    spots_whole : (ts : Trees) (scope : AbsolutePath) → AreSpots known ts scope → AreWhole ts
     spots_whole no_trees scope h = tt
     spots_whole (tree t ts) scope h = (spot_whole t scope h.0, spots_whole ts scope h.1)
 
-    values_whole : (ts : Trees) (scope : AbsolutePath) → AreValues W64 known ts scope → AreWhole ts
+    values_whole : (ts : Trees) (scope : AbsolutePath) → AreValues known ts scope → AreWhole ts
     values_whole no_trees scope h = tt
     values_whole (tree t ts) scope h = (ready_whole t scope h.1, values_whole ts scope h.2)
 
-    elements_whole : (ts : Trees) (scope : AbsolutePath) → AreElements W64 known ts scope → AreWhole ts
+    elements_whole : (ts : Trees) (scope : AbsolutePath) → AreElements known ts scope → AreWhole ts
     elements_whole no_trees scope h = tt
-    elements_whole (tree t ts) scope h = (element_whole t (IsReady W64 known t scope) h.0 (ready_whole t scope), elements_whole ts scope h.1)
+    elements_whole (tree t ts) scope h = (element_whole t (IsReady known t scope) h.0 (ready_whole t scope), elements_whole ts scope h.1)
 
-    all_whole : (ts : Trees) (scope : AbsolutePath) → AreReady W64 known ts scope → AreWhole ts
+    all_whole : (ts : Trees) (scope : AbsolutePath) → AreReady known ts scope → AreWhole ts
     all_whole no_trees scope h = tt
     all_whole (tree t ts) scope h = (ready_whole t scope h.0, all_whole ts scope h.1)
 
@@ -229,22 +230,22 @@ row_leaves m (D.more_of-Node id place term rest) =
     ap (λ leaf. leaf ∷ leaves_of (D.items-the_row-Node _ rest)) (leaf_is (record { id = id; place = place }) term)
     ∙ ap (λ leaves. tree_leaf (tree_of (record { id = id; place = place }) term) ∷ leaves) (row_leaves _ rest)
 
-module _ (short : Bool) where
+module _ (style : IntegerStyle) where
   -- the body's terms are written where they are a part of the form
-  by_body : (op : Op) (args : List Leaf) (front : List ℕ) (leaves : List Leaf) (body : Trees) (content content' list : List ℕ) → BodyWhole op body → (AreWhole body → content ≡ content') → formed_bytes short (is_field op) op args front leaves content list ≡ formed_bytes short (is_field op) op args front leaves content' list
+  by_body : (op : Op) (args : List Leaf) (front : List ℕ) (leaves : List Leaf) (body : Trees) (content content' list : List ℕ) → BodyWhole op body → (AreWhole body → content ≡ content') → formed_bytes style (is_field op) op args front leaves content list ≡ formed_bytes style (is_field op) op args front leaves content' list
   by_body (Op.Special Special.Buffer) args front leaves body content content' list h f = refl
   by_body (Op.Declaration Declaration.Field) args front leaves body content content' list h f = refl
   by_body (Op.Declaration Declaration.IndexField) args front leaves body content content' list h f = refl
   by_body (Op.Declaration Declaration.BankField) args front leaves body content content' list h f = refl
-  by_body op args front leaves body content content' list h f = ap (λ bs. formed_bytes short (is_field op) op args front leaves bs list) (f h)
+  by_body op args front leaves body content content' list h f = ap (λ bs. formed_bytes style (is_field op) op args front leaves bs list) (f h)
 
-  formed_written : (at : At) (op : Op) (args body : Trees) (front content list : List ℕ) → IsWhole (form at op args body) → (AreWhole args → front ≡ trees_bytes short (letters_of op) args) → (AreWhole body → content ≡ encoded_all W64 short body) → IsWritten 0 list (items_in body) →
-      formed_bytes short (is_field op) op (tree_leaves args) front (tree_leaves body) content list ≡ encoded W64 short (form at op args body)
+  formed_written : (at : At) (op : Op) (args body : Trees) (front content list : List ℕ) → IsWhole (form at op args body) → (AreWhole args → front ≡ trees_bytes style (letters_of op) args) → (AreWhole body → content ≡ encoded_all style.width style.short body) → IsWritten 0 list (items_in body) →
+      formed_bytes style (is_field op) op (tree_leaves args) front (tree_leaves body) content list ≡ encoded style.width style.short (form at op args body)
   formed_written at op args body front content list h f g w =
       let k = form_whole at op args body h in
-      ap (λ bs. formed_bytes short (is_field op) op (tree_leaves args) bs (tree_leaves body) content list) (f k.0)
-      ∙ by_body op (tree_leaves args) (trees_bytes short (letters_of op) args) (tree_leaves body) body content (encoded_all W64 short body) list k.1 g
-      ∙ form_is short at op args body list h w
+      ap (λ bs. formed_bytes style (is_field op) op (tree_leaves args) bs (tree_leaves body) content list) (f k.0)
+      ∙ by_body op (tree_leaves args) (trees_bytes style (letters_of op) args) (tree_leaves body) body content (encoded_all style.width style.short body) list k.1 g
+      ∙ form_is style at op args body list h w
 
   local_written : (base i : ℕ) → base + i < 256 → ((base + i) % 256) ∷ [] ≡ (base + i) ∷ []
   local_written base i lt = ap (λ n. n ∷ []) (omega arith)
@@ -252,63 +253,65 @@ module _ (short : Bool) where
   mutual
     unfolding tree_of term_bytes
 
-    written : (at : At) (t : Term) → IsWhole (tree_of at t) → term_bytes short t ≡ encoded W64 short (tree_of at t)
+    written : (at : At) (t : Term) → IsWhole (tree_of at t) → term_bytes style t ≡ encoded style.width style.short (tree_of at t)
     written at (D.Local index) h = local_written 0x60 index (omega (arith, h))
     written at (D.Arg index) h = local_written 0x68 index (omega (arith, h))
     written at (D.Name path) h = name_written path h
     written at (D.Call' path shape args) h =
-        ap (λ bs. bs ++ row_bytes short [] args) (name_written path h.0) ∙ ap (λ bs. name_bytes path ++ bs) (row_written [] args h.1 ∙ all_is short (row_trees args))
+        ap (λ bs. bs ++ row_bytes style [] args) (name_written path h.0) ∙ ap (λ bs. name_bytes path ++ bs) (row_written [] args h.1 ∙ all_is style (row_trees args))
     written at (D.Form' op shape args shape' body) h =
-        ap (λ leaves. whole_form short op leaves (row_bytes short (letters_of op) args) (leaves_of (D.items-the_row-Node _ body)) (row_bytes short [] body) (written_items 0 (D.items-the_row-Node _ body))) (row_leaves _ args)
-        ∙ ap (λ leaves. whole_form short op (tree_leaves (row_trees args)) (row_bytes short (letters_of op) args) leaves (row_bytes short [] body) (written_items 0 (D.items-the_row-Node _ body))) (row_leaves _ body)
-        ∙ formed_parts short op (tree_leaves (row_trees args)) (row_bytes short (letters_of op) args) (tree_leaves (row_trees body)) (row_bytes short [] body) (written_items 0 (D.items-the_row-Node _ body))
-        ∙ formed_written at op (row_trees args) (row_trees body) (row_bytes short (letters_of op) args) (row_bytes short [] body) (written_items 0 (D.items-the_row-Node _ body)) h (row_written (letters_of op) args) (λ w. row_written [] body w ∙ all_is short (row_trees body)) (items_written 0 _ body)
+        ap (λ leaves. whole_form style op leaves (row_bytes style (letters_of op) args) (leaves_of (D.items-the_row-Node _ body)) (row_bytes style [] body) (written_items 0 (D.items-the_row-Node _ body))) (row_leaves _ args)
+        ∙ ap (λ leaves. whole_form style op (tree_leaves (row_trees args)) (row_bytes style (letters_of op) args) leaves (row_bytes style [] body) (written_items 0 (D.items-the_row-Node _ body))) (row_leaves _ body)
+        ∙ formed_parts style op (tree_leaves (row_trees args)) (row_bytes style (letters_of op) args) (tree_leaves (row_trees body)) (row_bytes style [] body) (written_items 0 (D.items-the_row-Node _ body))
+        ∙ formed_written at op (row_trees args) (row_trees body) (row_bytes style (letters_of op) args) (row_bytes style [] body) (written_items 0 (D.items-the_row-Node _ body)) h (row_written (letters_of op) args) (λ w. row_written [] body w ∙ all_is style (row_trees body)) (items_written 0 _ body)
     written at _ h = refl
 
-    row_written : (letters : List Letter) {m : _} (row : D.Row_of-Node m) → AreWhole (row_trees row) → row_bytes short letters row ≡ trees_bytes short letters (row_trees row)
+    row_written : (letters : List Letter) {m : _} (row : D.Row_of-Node m) → AreWhole (row_trees row) → row_bytes style letters row ≡ trees_bytes style letters (row_trees row)
     row_written letters D.end_of-Node h = refl
     row_written letters (D.more_of-Node id place term rest) h =
         let at : At = record { id = id; place = place } in
-        ap (λ leaf. operand_bytes (first_letter letters) leaf (term_bytes short term) ++ row_bytes short (letters_behind letters) rest) (leaf_is at term)
-        ∙ ap (λ bs. operand_bytes (first_letter letters) (tree_leaf (tree_of at term)) bs ++ row_bytes short (letters_behind letters) rest) (written at term h.0)
-        ∙ ap (λ bs. operand_bytes (first_letter letters) (tree_leaf (tree_of at term)) (encoded W64 short (tree_of at term)) ++ bs) (row_written (letters_behind letters) rest h.1)
+        ap (λ leaf. operand_bytes (first_letter letters) leaf (term_bytes style term) ++ row_bytes style (letters_behind letters) rest) (leaf_is at term)
+        ∙ ap (λ bs. operand_bytes (first_letter letters) (tree_leaf (tree_of at term)) bs ++ row_bytes style (letters_behind letters) rest) (written at term h.0)
+        ∙ ap (λ bs. operand_bytes (first_letter letters) (tree_leaf (tree_of at term)) (encoded style.width style.short (tree_of at term)) ++ bs) (row_written (letters_behind letters) rest h.1)
 
-  nodes_written : (ns : List Node) → AreWhole (trees_of ns) → nodes_bytes short [] ns ≡ encoded_all W64 short (trees_of ns)
+  nodes_written : (ns : List Node) → AreWhole (trees_of ns) → nodes_bytes style [] ns ≡ encoded_all style.width style.short (trees_of ns)
   unfolding trees_of nodes_bytes
   nodes_written [] h = refl
   nodes_written (n ∷ ns) h =
       let at : At = record { id = n.id; place = n.place } in
-      ap (λ bs. bs ++ nodes_bytes short [] ns) (written at n.term h.0) ∙ ap (λ bs. encoded W64 short (tree_of at n.term) ++ bs) (nodes_written ns h.1)
+      ap (λ bs. bs ++ nodes_bytes style [] ns) (written at n.term h.0) ∙ ap (λ bs. encoded style.width style.short (tree_of at n.term) ++ bs) (nodes_written ns h.1)
 
 -- the bytes of ready terms are their encoding
-pub ready_bytes : (known : Known) (short : Bool) (ns : List Node) → AreReady W64 known (trees_of ns) [] → nodes_bytes short [] ns ≡ encoded_all W64 short (trees_of ns)
-ready_bytes known short ns ready = nodes_written short ns (all_whole known (trees_of ns) [] ready)
+pub ready_bytes : (known : Known) (style : IntegerStyle) (ns : List Node) → AreReady known (trees_of ns) [] → nodes_bytes style [] ns ≡ encoded_all style.width style.short (trees_of ns)
+ready_bytes known style ns ready = nodes_written style ns (all_whole known (trees_of ns) [] ready)
 
 -- what a ready block's pieces join to is its table
-pub table_of : (known : Known) (externals : Names) (short : Bool) (lines : List Line) (block : Block) (pieces : List Piece) → length (nodes_bytes short [] block.terms.items) ≤ most_content_bytes → pieces ≡ table_pieces short lines block → IsKnownStart known externals → IsReadyBlock known block → IsTableOf known externals block short (joined_pieces pieces)
+pub table_of : (known : Known) (externals : Names) (short : Bool) (lines : List Line) (block : Block) (pieces : List Piece) → length (nodes_bytes (style_of block short) [] block.terms.items) ≤ most_content_bytes → pieces ≡ table_pieces (style_of block short) lines block → IsKnownStart known externals → IsReadyBlock known block → IsTableOf known externals block short (joined_pieces pieces)
 table_of known externals short lines block pieces within is start ready =
+    let style = style_of block short in
+    let width = style.width in
     let bytes = joined_pieces pieces in
     let fields = fields_of block in
-    let content = encoded_all W64 short (trees_of block.terms.items) in
-    let written_is : nodes_bytes short [] block.terms.items ≡ content = ready_bytes known short block.terms.items ready.terms in
+    let content = encoded_all width short (trees_of block.terms.items) in
+    let written_is : nodes_bytes style [] block.terms.items ≡ content = ready_bytes known style block.terms.items ready.terms in
     let size : length content ≤ most_content_bytes = subst (λ bs. length bs ≤ most_content_bytes) written_is within in
-    let joined : joined_pieces (table_pieces short lines block) ≡ table_bytes fields (nodes_bytes short [] block.terms.items) =
-    ap (λ bs. header_with fields (header_length + length (nodes_bytes short [] block.terms.items)) (checksum_of (header_with fields (header_length + length (nodes_bytes short [] block.terms.items)) 0 ++ nodes_bytes short [] block.terms.items)) ++ bs) (nodes_joined short lines block.terms.items) in
+    let joined : joined_pieces (table_pieces style lines block) ≡ table_bytes fields (nodes_bytes style [] block.terms.items) =
+    ap (λ bs. header_with fields (header_length + length (nodes_bytes style [] block.terms.items)) (checksum_of (header_with fields (header_length + length (nodes_bytes style [] block.terms.items)) 0 ++ nodes_bytes style [] block.terms.items)) ++ bs) (nodes_joined style lines block.terms.items) in
     let table : bytes ≡ table_bytes fields content = ap joined_pieces is ∙ joined ∙ ap (table_bytes fields) written_is in
     record {
       encoded = table;
       within = subst (λ bs. length bs ≤ most_table_bytes) (sym table) (let l = length_is fields content ready.signature in omega (arith, l, size));
       header = subst (λ bs. IsHeader bytes fields) table (subst (λ bs. IsHeader bs fields) (sym table) (is_header fields content ready.signature (omega (arith, size)) ready.oem_revision));
-      faithful = subst (λ bs. IsFaithful W64 known externals (trees_of block.terms.items) bs) (sym table) (faithful W64 known short externals (trees_of block.terms.items) (table_bytes fields content) start ready.terms (omega (arith, size)) (definition_is fields content ready.signature (omega (arith, size))));
+      faithful = subst (λ bs. IsFaithful width known externals (trees_of block.terms.items) bs) (sym table) (faithful width known short externals (trees_of block.terms.items) (table_bytes fields content) start ready.terms (width_is fields content ready.signature) (omega (arith, size)) (definition_is fields content ready.signature (omega (arith, size))));
     }
 
 -- the pieces in their order, with the header before them
-pub whole_pieces : (short : Bool) (lines : List Line) (block : Block) (reversed pieces : List Piece) (size check : ℕ) (header0 header : List ℕ) → reversed ≡ reverse (nodes_pieces short lines block.terms.items) → pieces ≡ reverse reversed → size ≡ length (nodes_bytes short [] block.terms.items) → header0 ≡ header_with (fields_of block) (36 + size) 0 → check ≡ checksum_of (header0 ++ joined_pieces pieces) → header ≡ header_with (fields_of block) (36 + size) check → piece_at lines block.place header ∷ pieces ≡ table_pieces short lines block
-whole_pieces short lines block reversed pieces size check header0 header ereversed epieces esize eheader0 echeck eheader =
-    let content = nodes_bytes short [] block.terms.items in
+pub whole_pieces : (style : IntegerStyle) (lines : List Line) (block : Block) (reversed pieces : List Piece) (size check : ℕ) (header0 header : List ℕ) → reversed ≡ reverse (nodes_pieces style lines block.terms.items) → pieces ≡ reverse reversed → size ≡ length (nodes_bytes style [] block.terms.items) → header0 ≡ header_with (fields_of block) (36 + size) 0 → check ≡ checksum_of (header0 ++ joined_pieces pieces) → header ≡ header_with (fields_of block) (36 + size) check → piece_at lines block.place header ∷ pieces ≡ table_pieces style lines block
+whole_pieces style lines block reversed pieces size check header0 header ereversed epieces esize eheader0 echeck eheader =
+    let content = nodes_bytes style [] block.terms.items in
     let fields = fields_of block in
-    let in_order : pieces ≡ nodes_pieces short lines block.terms.items = epieces ∙ ap reverse ereversed ∙ reverse-reverse (nodes_pieces short lines block.terms.items) in
-    let joined : joined_pieces pieces ≡ content = ap joined_pieces in_order ∙ nodes_joined short lines block.terms.items in
+    let in_order : pieces ≡ nodes_pieces style lines block.terms.items = epieces ∙ ap reverse ereversed ∙ reverse-reverse (nodes_pieces style lines block.terms.items) in
+    let joined : joined_pieces pieces ≡ content = ap joined_pieces in_order ∙ nodes_joined style lines block.terms.items in
     let whole : header ≡ header_with fields (36 + length content) (checksum_of (header_with fields (36 + length content) 0 ++ content)) =
     eheader ∙ ap (λ n. header_with fields (36 + n) check) esize
     ∙ ap (header_with fields (36 + length content)) (echeck ∙ ap (λ h. checksum_of (h ++ joined_pieces pieces)) (eheader0 ∙ ap (λ n. header_with fields (36 + n) 0) esize) ∙ ap (λ bs. checksum_of (header_with fields (36 + length content) 0 ++ bs)) joined) in

@@ -1,6 +1,6 @@
 -- The bytes of a node, form by form: an opcode, the arguments, and the body, which may be a package.
 use Rattle.std.specs.Prelude.{ℕ, suc, ◌+◌, ◌%◌, Bool, true, false, nat_le, if◌then◌else◌, List, [], ◌∷◌, ◌++◌, length, Option, Some, None}
-use Rattle.acpi_values.specs.declared.width.Width.TheVariants.{W64}
+use Rattle.acpi_values.specs.Integers.{wrapped}
 use Rattle.acpi_values.specs.Operators.{Letter}
 use Rattle.asl_tree.specs.declared.path.Path.{Path}
 use Rattle.asl_tree.specs.declared.term.Op.{Op}
@@ -13,6 +13,7 @@ use Rattle.asl_tree.specs.declared.term.Term as D
 use Rattle.asl_tree.specs.Literals.{word_number}
 use Rattle.aml_meaning.specs.Codes.{DebugCode, OmittedCode, StringCode, BufferCode, PackageCode, VarPackageCode, code_bytes}
 use Rattle.aml_code.specs.Encoding.{integer_bytes, name_bytes, package_length_bytes}
+use Rattle.aml_writer.specs.declared.style.IntegerStyle.{IntegerStyle}
 use Rattle.aml_writer.specs.Leaves.{Leaf, leaf_of, leaves_of, operand_bytes, first_letter, letters_behind, fill_bytes, is_first_left_out, stated_count}
 use Rattle.aml_writer.specs.Codes.{code_of, letters_of}
 use Rattle.aml_writer.specs.Items.{written_items}
@@ -50,15 +51,19 @@ abbrev pub package_code : Option ℕ → List ℕ
 package_code None = code_bytes VarPackageCode
 package_code (Some count) = if nat_le count 255 then code_bytes PackageCode else code_bytes VarPackageCode
 
-module _ (short : Bool) where
+module _ (style : IntegerStyle) where
+  -- an integer constant
+  abbrev pub number_bytes : ℕ → List ℕ
+  number_bytes number = integer_bytes style.width style.short (wrapped style.width number)
+
   -- the size of a Buffer, which is that of its bytes where it is left out
   abbrev pub buffer_size : List Leaf → ℕ → List ℕ → List ℕ
-  buffer_size args size front = if is_first_left_out args then integer_bytes W64 short size else front
+  buffer_size args size front = if is_first_left_out args then number_bytes size else front
 
   -- the number of elements of a Package: a byte where it is a constant and there is room
   abbrev pub count_bytes : Option ℕ → List ℕ → List ℕ
   count_bytes None front = front
-  count_bytes (Some count) front = if nat_le count 255 then (count % 256) ∷ [] else integer_bytes W64 short count
+  count_bytes (Some count) front = if nat_le count 255 then (count % 256) ∷ [] else number_bytes count
 
   -- the body of a form, of which a Buffer lists bytes, and a field its units
   abbrev pub body_part : Op → List Leaf → List ℕ → List ℕ → List ℕ
@@ -86,10 +91,10 @@ module _ (short : Bool) where
 
   unfoldable mutual
     pub term_bytes : Term → List ℕ
-    term_bytes (D.Integer number) = integer_bytes W64 short number
+    term_bytes (D.Integer number) = number_bytes number
     term_bytes (D.Text text) = code_bytes StringCode ++ (text ++ 0x00 ∷ [])
     term_bytes (D.Fill bytes) = []
-    term_bytes (D.Word word) = integer_bytes W64 short (word_number word)
+    term_bytes (D.Word word) = number_bytes (word_number word)
     term_bytes (D.Local index) = ((0x60 + index) % 256) ∷ []
     term_bytes (D.Arg index) = ((0x68 + index) % 256) ∷ []
     term_bytes D.Debug = code_bytes DebugCode

@@ -4,7 +4,7 @@ use Rattle.std.specs.Option.{ForSome}
 use Rattle.iasl_messages.specs.declared.message.Message.{Message}
 use Rattle.asl_tree.specs.declared.program.Block.{Block}
 use Rattle.asl_tree.specs.declared.program.Core.{Core}
-use Rattle.acpi_values.specs.declared.width.Width.TheVariants.{W64}
+use Rattle.acpi_values.specs.Revisions.{width_of}
 use Rattle.acpi_state.specs.Objects.{Names}
 use Rattle.asl_tree.specs.Names.{Known}
 use Rattle.asl_meaning.specs.Starts.{IsKnownStart}
@@ -13,6 +13,7 @@ use Rattle.asl_tree.specs.View.{trees_of}
 use Rattle.aml_code.specs.Header.{fields_of, IsHeader}
 use Rattle.aml_meaning.specs.Encoded.{encoded_block}
 use Rattle.aml_meaning.specs.ByteSession.{IsFaithful}
+use Rattle.aml_writer.specs.Styles.{style_of}
 use Rattle.aml_writer.specs.TermBytes.{nodes_bytes}
 use Rattle.aml_writer.specs.declared.stop.WriteStop.{WriteStop}
 use Rattle.aml_writer.specs.declared.stop.WriteStop.TheVariants.{TooLong, Memory}
@@ -26,12 +27,13 @@ abbrev pub AtBlock : Core → ℕ → (Block → Type 0) → Type 0
 AtBlock core number P = ForSome (slice_get core.program.blocks number) P
 
 -- the table of a ready block: its bytes are the block's encoding, no more than 16 MiB; they begin with the
--- header that the block states; and every session over them is the source's
+-- header that the block states; and every session over them, at the width that its
+-- revision gives, is the source's
 pub record IsTableOf (known : Known) (externals : Names) (block : Block) (short : Bool) (bytes : List ℕ) : Type 0 where
   pub encoded : bytes ≡ encoded_block short block
   pub within : length bytes ≤ most_table_bytes
   pub header : IsHeader bytes (fields_of block)
-  pub faithful : IsFaithful W64 known externals (trees_of block.terms.items) bytes
+  pub faithful : IsFaithful (width_of block.revision) known externals (trees_of block.terms.items) bytes
 
 -- whatever is known of the block's paths and of other tables, its table where it is ready
 pub record IsTable (block : Block) (short : Bool) (bytes : List ℕ) : Type 0 where
@@ -39,7 +41,7 @@ pub record IsTable (block : Block) (short : Bool) (bytes : List ℕ) : Type 0 wh
 
 -- the one message that a table which is too long gets, at its block
 pub record IsTooLong (block : Block) (short : Bool) (message : Message) : Type 0 where
-  pub passes : most_table_bytes < 36 + length (nodes_bytes short [] block.terms.items)
+  pub passes : most_table_bytes < 36 + length (nodes_bytes (style_of block short) [] block.terms.items)
   pub number : message.number ≡ 6080
   pub place : message.place ≡ block.place
   pub no_name : message.name ≡ []

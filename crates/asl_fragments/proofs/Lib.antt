@@ -1,3 +1,4 @@
 pub mod FragmentLaws
 pub mod Joined
+pub mod Skips
 mod Worked

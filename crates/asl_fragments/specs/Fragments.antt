@@ -77,7 +77,25 @@ fragments in_comment [] = []
 fragments in_comment (b ∷ bs) =
     piece_of (first_fragment in_comment (b ∷ bs)) (b ∷ bs) ∷ fragments_behind ((first_fragment in_comment (b ∷ bs)).length - 1) bs
 
+-- ---- identifiers
+
+abbrev pub identifier_by : FragmentKind → List ℕ → List (List ℕ)
+identifier_by Identifier text = text ∷ []
+identifier_by _ text = []
+
+-- the identifiers among some fragments
+abbrev pub identifiers : List Piece → List (List ℕ)
+identifiers pieces = flat_map (λ (piece : Piece). identifier_by piece.kind piece.text) pieces
+
+-- a byte that neither stands in a word nor begins a string or a comment
+abbrev pub stands_alone : ℕ → Bool
+stands_alone b = not (in_identifier b) && not (b == 34) && not (b == 47)
+
 -- ---- comments
+
+-- a byte that begins neither a string nor a comment
+abbrev pub is_plain : ℕ → Bool
+is_plain b = not (b == 34) && not (b == 47)
 
 -- a comment as blanks, one for each byte; anything else as it is
 abbrev pub blanked_by : FragmentKind → List ℕ → List ℕ

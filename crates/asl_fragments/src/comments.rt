@@ -1,11 +1,43 @@
 //! The comments of a line.
-ghost use Rattle.std.specs.Prelude.{◌≡◌, ◌++◌, ℕ, Bool, List as AList, length, IfOk, OnOk};
-ghost use Rattle.std.specs.List.{flat_map};
+ghost use Rattle.std.specs.Prelude.{◌≡◌, ◌++◌, ◌<◌, ◌≤◌, ℕ, Bool, false, List as AList, length, drop, IfOk, OnOk};
+ghost use Rattle.std.specs.List.{flat_map, prefix_len};
 ghost use Rattle.asl_fragments.specs.Fragments as spec;
 ghost use Rattle.asl_fragments.specs.Fragments.{Piece};
 
 use crate::fragment::{FragmentKind, first_fragment};
 use std::alloc::{AllocError, Global};
+
+// Whether neither a string nor a comment begins with a byte.
+fn is_plain(byte: u8) -> bool
+    ensures { result ≡ spec.is_plain byte }
+{
+    byte != b'"' && byte != b'/'
+}
+
+fn plain_length(text: &[u8]) -> usize
+    ensures count { result ≡ prefix_len spec.is_plain text.now }
+    ensures within { result ≤ length text.now }
+{
+    text.iter().take_while(|byte| is_plain(**byte)).count()
+}
+
+// How many bytes at the front of a text are looked at together, and whether they are a block comment that is left open:
+// all before the next string or comment, or a fragment.
+fn first_part(text: &[u8], in_comment: bool) -> (usize, bool)
+    requires { 0 < length text.now }
+    ensures open_ { (before : Bool) → spec.open_behind before (spec.fragments in_comment text.now) ≡ spec.open_behind result.1 (spec.fragments false (drop result.0 text.now)) }
+    ensures forward { 0 < result.0 }
+    ensures within { result.0 ≤ length text.now }
+{
+    if !in_comment {
+        let plain = plain_length(text);
+        if plain > 0 {
+            return (plain, false);
+        }
+    }
+    let fragment = first_fragment(text, in_comment);
+    (fragment.length, fragment.left_open)
+}
 
 /// Whether a block comment is open at the end of a line, which begins inside one or does not. `/*/` is not
 /// closed.
@@ -17,10 +49,10 @@ pub fn ends_in_comment(text: &[u8], in_comment: bool) -> bool
     let mut inside = in_comment;
     let mut left_open = in_comment;
     while !rest.is_empty() {
-        let fragment = first_fragment(rest, inside);
-        rest = rest.split_at(fragment.length).1;
+        let (length, open_behind) = first_part(rest, inside);
+        rest = rest.split_at(length).1;
         inside = false;
-        left_open = fragment.left_open;
+        left_open = open_behind;
     }
     left_open
 }

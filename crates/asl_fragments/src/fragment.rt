@@ -36,7 +36,7 @@ fn begins_identifier(byte: u8) -> bool
     byte.is_ascii_alphabetic() || byte == b'_'
 }
 
-fn in_identifier(byte: u8) -> bool
+pub(crate) fn in_identifier(byte: u8) -> bool
     ensures { result ≡ spec.in_identifier byte }
 {
     begins_identifier(byte) || byte.is_ascii_digit()

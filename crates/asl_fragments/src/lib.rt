@@ -3,8 +3,10 @@
 
 mod comments;
 pub mod fragment;
+mod names;
 #[cfg(test)]
 mod tests;
 
 pub use comments::{ends_in_comment, fragments_are_the_line, without_comments};
 pub use fragment::first_fragment;
+pub use names::first_identifier;

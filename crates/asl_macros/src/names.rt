@@ -1,13 +1,15 @@
 //! The replacement of names.
-ghost use Rattle.std.specs.Prelude.{◌≡◌, ◌++◌, ◌∷◌, [], ◌<◌, ◌≤◌, false, map, length, OnOk, Ok, Err};
+ghost use Rattle.std.specs.Prelude.{◌≡◌, ◌++◌, ◌∷◌, [], ◌<◌, ◌≤◌, false, true, map, length, OnOk, Ok, Err};
 ghost use Rattle.std.specs.Option.{option_copied};
 ghost use Rattle.asl_macros.specs.History.{History};
-ghost use Rattle.asl_macros.specs.Table.{Tells, text_at};
+ghost use Rattle.asl_fragments.specs.Fragments.{fragments, identifiers};
+ghost use Rattle.asl_macros.specs.Table.{Tells, AreFree, text_at};
 ghost use Rattle.asl_macros.specs.Replacement as spec;
 ghost use Rattle.asl_macros.specs.Replacement.{Adds, Gives};
 
 use crate::spot::{Spot, Within, is_name, spot_behind};
 use crate::table::Macros;
+use asl_fragments::first_identifier;
 use asl_fragments::fragment::first_fragment;
 use std::alloc::{AllocError, AllocFailed, Global};
 
@@ -154,6 +156,22 @@ fn add_text<'a>(
     Ok(())
 }
 
+// Whether no identifier of a text is defined, so that the text stays as it is.
+fn is_free(macros: &Macros, text: &[u8], in_comment: bool) -> bool
+    ensures { result ≡ true → AreFree (text_at macros.now) (identifiers (fragments in_comment text.now)) }
+{
+    let mut rest = text;
+    let mut inside = in_comment;
+    while let Some((name, behind)) = first_identifier(rest, inside) {
+        if macros.text_of(name).is_some() {
+            return false;
+        }
+        rest = behind;
+        inside = false;
+    }
+    true
+}
+
 // The text as it is, where it has room.
 fn whole(alloc: Global, text: &[u8], limit: usize) -> Result<Vec<u8>, ReplaceStop>
     ensures { Gives result limit text.now }
@@ -205,7 +223,7 @@ pub fn replace(
 ) -> Result<Vec<u8>, ReplaceStop>
     ensures { (history : History) → Tells macros.now history → Gives result limit (spec.replaced within history in_comment text.now) }
 {
-    if macros.is_empty() {
+    if is_free(macros, text, in_comment) {
         return whole(alloc, text, limit);
     }
     replace_names(alloc, macros, within, text, in_comment, limit)

@@ -1,5 +1,5 @@
 //! The table of definitions.
-ghost use Rattle.std.specs.Prelude.{◌≡◌, ◌∷◌, [], ℕ, List, None, true, OnOk, OnErr};
+ghost use Rattle.std.specs.Prelude.{◌≡◌, ◌∷◌, [], OnOk, OnErr};
 ghost use Rattle.std.specs.Option.{option_copied};
 ghost use Rattle.asl_macros.specs.History.{History, Defines, Undefines};
 ghost use Rattle.asl_macros.specs.Table.{Tells, text_at};
@@ -39,13 +39,6 @@ impl Macros {
         ensures { (history : History) → Tells self.old history → Tells self.new (Undefines name.now ∷ history) }
     {
         let _ = self.table.swap_remove(name);
-    }
-
-    /// Whether no name is defined.
-    pub fn is_empty(&self) -> bool
-        ensures { result ≡ true → (name : List ℕ) → text_at self.now name ≡ None }
-    {
-        self.table.is_empty()
     }
 
     /// The text of a name, where it is defined.

@@ -4,6 +4,7 @@ use Rattle.std.proofs.lemmas.List.{drop_all}
 use Rattle.iasl_messages.specs.declared.message.Message.{Message}
 use Rattle.asl_parser.specs.declared.raw.Raw.{Raw}
 use Rattle.asl_words.specs.declared.operator.Slot.TheVariants as slot
+use Rattle.asl_shape.specs.declared.around.Around.{Around}
 use Rattle.asl_shape.specs.declared.fields.Due.{Due}
 use Rattle.asl_shape.specs.declared.fields.UnitName.{UnitName}
 use Rattle.asl_parser.specs.Written.{writtens}
@@ -17,7 +18,7 @@ use Rattle.asl_shape.proofs.Shapes.{join_assoc, nothing_behind}
 
 -- ---- a member, by what is due
 
-pub part_begin : (unit : Option UnitName) (inside : Bool) (r : Raw) → part_at Due.Element unit inside r ≡ begin_at inside r
+pub part_begin : (unit : Option UnitName) (inside : Around) (r : Raw) → part_at Due.Element unit inside r ≡ begin_at inside r
 unfolding part_at begin_at
 part_begin unit inside r = by (is_separator_at r)
   where
@@ -25,7 +26,7 @@ part_begin unit inside r = by (is_separator_at r)
     by true = refl
     by false = refl
 
-pub part_comma : (unit : Option UnitName) (inside : Bool) (r : Raw) → part_at Due.NameComma unit inside r ≡ comma_at unit r
+pub part_comma : (unit : Option UnitName) (inside : Around) (r : Raw) → part_at Due.NameComma unit inside r ≡ comma_at unit r
 unfolding part_at comma_at
 part_comma unit inside r = by (is_separator_at r)
   where
@@ -33,15 +34,15 @@ part_comma unit inside r = by (is_separator_at r)
     by true = refl
     by false = refl
 
-pub part_bits : (unit : Option UnitName) (inside : Bool) (r : Raw) → part_at Due.Bits unit inside r ≡ bits_at unit inside r
+pub part_bits : (unit : Option UnitName) (inside : Around) (r : Raw) → part_at Due.Bits unit inside r ≡ bits_at unit inside r
 unfolding part_at bits_at
 part_bits unit inside r = refl
 
-pub part_none : (unit : Option UnitName) (inside : Bool) (r : Raw) → part_at Due.Comma unit inside r ≡ fine no_plans
+pub part_none : (unit : Option UnitName) (inside : Around) (r : Raw) → part_at Due.Comma unit inside r ≡ fine no_plans
 unfolding part_at
 part_none unit inside r = refl
 
-pub unit_begin : (unit : Option UnitName) (inside : Bool) (r : Raw) → unit_at Due.Element unit inside r ≡ unit_at begin None inside r
+pub unit_begin : (unit : Option UnitName) (inside : Around) (r : Raw) → unit_at Due.Element unit inside r ≡ unit_at begin None inside r
 unfolding unit_at
 unit_begin unit inside r = by (is_separator_at r)
   where
@@ -49,15 +50,15 @@ unit_begin unit inside r = by (is_separator_at r)
     by true = refl
     by false = refl
 
-pub unit_comma : (unit : Option UnitName) (inside : Bool) (r : Raw) → unit_at Due.NameComma unit inside r ≡ unit
+pub unit_comma : (unit : Option UnitName) (inside : Around) (r : Raw) → unit_at Due.NameComma unit inside r ≡ unit
 unfolding unit_at
 unit_comma unit inside r = refl
 
-pub unit_bits : (unit : Option UnitName) (inside : Bool) (r : Raw) → unit_at Due.Bits unit inside r ≡ None
+pub unit_bits : (unit : Option UnitName) (inside : Around) (r : Raw) → unit_at Due.Bits unit inside r ≡ None
 unfolding unit_at
 unit_bits unit inside r = refl
 
-pub unit_none : (unit : Option UnitName) (inside : Bool) (r : Raw) → unit_at Due.Comma unit inside r ≡ None
+pub unit_none : (unit : Option UnitName) (inside : Around) (r : Raw) → unit_at Due.Comma unit inside r ≡ None
 unfolding unit_at
 unit_none unit inside r = refl
 
@@ -73,23 +74,23 @@ pub ruleset part_rules = (part_begin, part_comma, part_bits, part_none, unit_beg
 
 -- ---- a begin
 
-pub begin_skip : (inside : Bool) (r : Raw) → is_separator_at r ≡ true → begin_at inside r ≡ fine no_plans
+pub begin_skip : (inside : Around) (r : Raw) → is_separator_at r ≡ true → begin_at inside r ≡ fine no_plans
 unfolding begin_at
 begin_skip inside r e = ap (λ b. field_part begin None (place_at nowhere r) b (shape_at slot.FieldElement inside r)) e
 
-pub begin_faults : (inside : Bool) (r : Raw) → is_separator_at r ≡ false → (begin_at inside r).faults ≡ (shape_at slot.FieldElement inside r).faults
+pub begin_faults : (inside : Around) (r : Raw) → is_separator_at r ≡ false → (begin_at inside r).faults ≡ (shape_at slot.FieldElement inside r).faults
 unfolding begin_at
 begin_faults inside r e = ap (λ b. (field_part begin None (place_at nowhere r) b (shape_at slot.FieldElement inside r)).faults) e
 
-pub begin_made : (inside : Bool) (r : Raw) → is_separator_at r ≡ false → (begin_at inside r).made ≡ offset_alone (place_at nowhere r) (shape_at slot.FieldElement inside r).made
+pub begin_made : (inside : Around) (r : Raw) → is_separator_at r ≡ false → (begin_at inside r).made ≡ offset_alone (place_at nowhere r) (shape_at slot.FieldElement inside r).made
 unfolding begin_at
 begin_made inside r e = ap (λ b. (field_part begin None (place_at nowhere r) b (shape_at slot.FieldElement inside r)).made) e
 
-pub unit_skip : (inside : Bool) (r : Raw) → is_separator_at r ≡ true → unit_at begin None inside r ≡ None
+pub unit_skip : (inside : Around) (r : Raw) → is_separator_at r ≡ true → unit_at begin None inside r ≡ None
 unfolding unit_at
 unit_skip inside r e = ap (λ b. unit_behind begin None (place_at nowhere r) b (shape_at slot.FieldElement inside r).made) e
 
-pub unit_named : (inside : Bool) (r : Raw) → is_separator_at r ≡ false → unit_at begin None inside r ≡ named_unit (place_at nowhere r) (shape_at slot.FieldElement inside r).made
+pub unit_named : (inside : Around) (r : Raw) → is_separator_at r ≡ false → unit_at begin None inside r ≡ named_unit (place_at nowhere r) (shape_at slot.FieldElement inside r).made
 unfolding unit_at
 unit_named inside r e = ap (λ b. unit_behind begin None (place_at nowhere r) b (shape_at slot.FieldElement inside r).made) e
 
@@ -109,11 +110,11 @@ pub ruleset comma_rules = (comma_skip, comma_missed, nothing_more)
 
 -- ---- a number of bits
 
-pub bits_faults : (unit : Option UnitName) (inside : Bool) (r : Raw) → (bits_at unit inside r).faults ≡ (shape_at (slot.Constant 0 18446744073709551615) inside r).faults
+pub bits_faults : (unit : Option UnitName) (inside : Around) (r : Raw) → (bits_at unit inside r).faults ≡ (shape_at slot.Measure inside r).faults
 unfolding bits_at
 bits_faults unit inside r = refl
 
-pub bits_made : (unit : Option UnitName) (inside : Bool) (r : Raw) → (bits_at unit inside r).made ≡ of_bits unit (place_at nowhere r) (number_of (shape_at (slot.Constant 0 18446744073709551615) inside r).made)
+pub bits_made : (unit : Option UnitName) (inside : Around) (r : Raw) → (bits_at unit inside r).made ≡ of_bits unit (place_at nowhere r) (number_of (shape_at slot.Measure inside r).made)
 unfolding bits_at
 bits_made unit inside r = refl
 
@@ -121,16 +122,16 @@ pub ruleset bits_rules = (bits_faults, bits_made)
 
 -- ---- the list from one of its members on
 
-pub element_step : (due : Due) (unit : Option UnitName) (inside : Bool) (raws : List Raw) (i : ℕ) (d : Raw) → i < length raws
+pub element_step : (due : Due) (unit : Option UnitName) (inside : Around) (raws : List Raw) (i : ℕ) (d : Raw) → i < length raws
     → elements_at due unit inside (drop i raws) ≡ followed (part_at due unit inside (get_or raws i d)) (elements_at (due_behind_at due (get_or raws i d)) (unit_at due unit inside (get_or raws i d)) inside (drop (i + 1) raws))
 unfolding elements_at writtens place_at bare_at is_separator_at due_behind_at part_at unit_at
 element_step due unit inside raws i d lt = ap (λ rs. Shapes.elements due unit inside (writtens rs)) (from_item raws i d lt)
 
-pub element_end : (due : Due) (unit : Option UnitName) (inside : Bool) (raws : List Raw) (i : ℕ) → length raws ≤ i → elements_at due unit inside (drop i raws) ≡ fine no_plans
+pub element_end : (due : Due) (unit : Option UnitName) (inside : Around) (raws : List Raw) (i : ℕ) → length raws ≤ i → elements_at due unit inside (drop i raws) ≡ fine no_plans
 unfolding elements_at writtens
 element_end due unit inside raws i le = ap (λ rs. Shapes.elements due unit inside (writtens rs)) (drop_all i raws le)
 
-pub element_faults : (due next : Due) (unit later : Option UnitName) (inside : Bool) (raws : List Raw) (i : ℕ) (d : Raw) (old new w : List Message) → i < length raws
+pub element_faults : (due next : Due) (unit later : Option UnitName) (inside : Around) (raws : List Raw) (i : ℕ) (d : Raw) (old new w : List Message) → i < length raws
     → next ≡ due_behind_at due (get_or raws i d) → later ≡ unit_at due unit inside (get_or raws i d)
     → old ++ (elements_at due unit inside (drop i raws)).faults ≡ w → new ≡ old ++ (part_at due unit inside (get_or raws i d)).faults
     → new ++ (elements_at next later inside (drop (i + 1) raws)).faults ≡ w
@@ -141,7 +142,7 @@ element_faults due next unit later inside raws i d old new w lt n u e f =
     ∙ ap (λ ms. ms ++ rest.faults) f ∙ append_assoc old (part_at due unit inside r).faults rest.faults
     ∙ ap (λ x. old ++ x.faults) (sym (element_step due unit inside raws i d lt)) ∙ e
 
-pub element_made : (due next : Due) (unit later : Option UnitName) (inside : Bool) (raws : List Raw) (i : ℕ) (d : Raw) (old new w : Plans) → i < length raws
+pub element_made : (due next : Due) (unit later : Option UnitName) (inside : Around) (raws : List Raw) (i : ℕ) (d : Raw) (old new w : Plans) → i < length raws
     → next ≡ due_behind_at due (get_or raws i d) → later ≡ unit_at due unit inside (get_or raws i d)
     → join old (elements_at due unit inside (drop i raws)).made ≡ w → new ≡ join old (part_at due unit inside (get_or raws i d)).made
     → join new (elements_at next later inside (drop (i + 1) raws)).made ≡ w

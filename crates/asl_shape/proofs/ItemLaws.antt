@@ -4,9 +4,12 @@ use Rattle.asl_parser.specs.declared.raw.Raw.{Raw}
 use Rattle.asl_tree.specs.declared.term.Op.{Op}
 use Rattle.asl_words.specs.declared.operator.Known.{Known}
 use Rattle.asl_words.specs.declared.operator.Parameter.{Parameter}
+use Rattle.asl_words.specs.declared.operator.TextMacro.{TextMacro}
 use Rattle.asl_words.specs.declared.meaning.Meaning.TheVariants as is
 use Rattle.asl_parser.specs.Written.{written, writtens}
-use Rattle.asl_words.specs.Operators.{parameters_of, offset_parameters}
+use Rattle.asl_words.specs.Operators.{parameters_of, offset_parameters, macro_parameters}
+use Rattle.asl_words.specs.Resources.{descriptor_parameters}
+use Rattle.resource_layout.specs.declared.descriptor.Descriptor.{Descriptor}
 use Rattle.asl_shape.specs.Shapes.{is_empty, count, none_empty, is_none}
 use Rattle.asl_words.specs.Meanings.{may_end}
 use Rattle.asl_shape.specs.AtRaw.{takes_at, none_empty_at, has_arguments_at, inside_at, is_call_at}
@@ -81,7 +84,19 @@ pub has_offset : (raws : List Raw) → has_arguments_at is.Offset raws ≡ takes
 unfolding has_arguments_at takes_at
 has_offset raws = refl
 
-pub ruleset has_rules = (has_operator, has_offset, has_known, has_name, has_path, has_unknown, is_none_short, is_none_long)
+pub has_macro : (m : TextMacro) (raws : List Raw) → has_arguments_at (is.Macro m) raws ≡ takes_at (macro_parameters m) raws
+unfolding has_arguments_at takes_at
+has_macro m raws = refl
+
+pub has_template : (raws : List Raw) → has_arguments_at is.Template raws ≡ is_none (writtens raws)
+unfolding has_arguments_at
+has_template raws = refl
+
+pub has_descriptor : (d : Descriptor) (raws : List Raw) → has_arguments_at (is.Descriptor d) raws ≡ takes_at (descriptor_parameters d) raws
+unfolding has_arguments_at takes_at
+has_descriptor d raws = refl
+
+pub ruleset has_rules = (has_operator, has_offset, has_macro, has_template, has_descriptor, has_known, has_name, has_path, has_unknown, is_none_short, is_none_long)
 
 pub inside_none : inside_at None ≡ []
 inside_none = refl

@@ -6,6 +6,8 @@ pub mod Leaves
 pub mod Braces
 pub mod Types
 pub mod Settled
+pub mod TextMacros
+pub mod Descriptors
 pub mod FieldLaws
 pub mod Shapes
 pub mod FieldSteps

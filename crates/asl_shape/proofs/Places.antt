@@ -16,25 +16,34 @@ use Rattle.asl_words.specs.declared.operator.Body.{Body}
 use Rattle.asl_words.specs.declared.operator.Body.TheVariants as braces
 use Rattle.asl_words.specs.declared.operator.StringForm.{StringForm}
 use Rattle.asl_words.specs.declared.operator.StringForm.TheVariants as form
+use Rattle.asl_words.specs.declared.operator.TextMacro.{TextMacro}
 use Rattle.asl_words.specs.declared.meaning.Reading.{Reading}
 use Rattle.asl_words.specs.declared.meaning.Reading.TheVariants as read
 use Rattle.asl_parser.specs.Written as piece
 use Rattle.asl_parser.specs.Written.{Written, Writtens, Group, item, apply, listed, comma, semicolon, empty, none, more, absent, given, writtens}
+use Rattle.acpi_values.specs.Revisions.{width_of}
+use Rattle.asl_shape.specs.Around.{outside}
+use Rattle.asl_shape.specs.declared.around.Around.{Around}
 use Rattle.asl_shape.specs.declared.fields.Due.{Due}
 use Rattle.asl_shape.specs.declared.fields.UnitName.{UnitName}
 use Rattle.acpi_state.specs.Outcomes.{choose}
+use Rattle.acpi_values.specs.declared.width.Width.{Width}
 use Rattle.acpi_values.specs.Paths.{NameSeg}
 use Rattle.asl_tree.specs.Names.{single_segment}
 use Rattle.asl_shape.specs.Plans.{Plan, Plans, no_plans, an_integer, a_name, is_omitted, constant_of}
 use Rattle.asl_words.specs.Paths.{path_of}
-use Rattle.asl_words.specs.Operators.{parameters_of, body_of, role_of, block_parameters, offset_parameters}
+use Rattle.asl_words.specs.Operators.{parameters_of, body_of, role_of, block_parameters, offset_parameters, macro_parameters}
 use Rattle.acpi_values.specs.Integers.{wrapped}
 use Rattle.acpi_values.specs.declared.width.Width.TheVariants.{W64}
 use Rattle.asl_shape.specs.Symbols.{symbol_of}
-use Rattle.asl_shape.specs.Shapes.{Shaped, fine, fault_at, refused, nowhere, valued, evaluated, after, checked, is_member, is_given, takes, count, has_arguments, are_all_types, text_plan, number_shape, string_shape, text_shape, path_shape, call_shape, listed_shape, read_shape, item_shape, form_shape, symbol_shape, within, place_of, is_separator, is_listed, byte_slot, list_shape, skipped, run_after, bare, operands, call_args, arguments, arguments_in, contents, members, terms, inside_of, is_element, meaning_in, offset_shape, is_field_list, begin, named_unit, unit_behind, no_comma, field_part, field_slot, due_behind, elements}
-use Rattle.asl_words.specs.Meanings.{item_fault, meaning_of, reading_of, takes_expression, takes_role, slot_as}
+use Rattle.asl_shape.specs.Shapes.{Shaped, fine, fault_at, refused, room_faults, template_shape, descriptor_shape, nowhere, valued, evaluated, after, checked, is_member, is_given, takes, count, has_arguments, are_all_types, text_plan, number_shape, string_shape, text_shape, path_shape, call_shape, listed_shape, read_shape, item_shape, form_shape, symbol_shape, within, place_of, is_separator, is_listed, byte_slot, list_shape, skipped, run_after, bare, operands, call_args, arguments, arguments_in, contents, members, terms, inside_of, is_element, meaning_in, offset_shape, macro_shape, macro_text, eisa_shape, uuid_shape, buffer_plan, is_field_list, begin, named_unit, unit_behind, no_comma, field_part, field_slot, due_behind, elements}
+use Rattle.asl_words.specs.Resources.{descriptor_parameters, descriptor_body}
+use Rattle.resource_layout.specs.declared.descriptor.Descriptor.{Descriptor}
+use Rattle.asl_shape.specs.Descriptors.{is_roomy}
+use Rattle.asl_words.specs.Meanings.{unfit, item_fault, meaning_of, reading_of, takes_expression, takes_role, slot_as}
 use Rattle.asl_words.specs.Texts.{is_all_text, has_form}
-use Rattle.asl_shape.specs.Forms.{start, is_block_word, block_fault, errors_inside, block_errors, no_block, errors_before, first_errors, errors_of, errors_at}
+use Rattle.resource_macros.specs.Identifiers.{eisaid_of, uuid_of, utf16_of}
+use Rattle.asl_shape.specs.Forms.{start, is_block_word, block_fault, errors_inside, block_errors, no_block, errors_before, first_errors, errors_of, errors_at, block_args, revision_in}
 use Rattle.asl_parser.specs.Within.{IsIn, IsWithin, AreWithin, IsGroupWithin}
 use Rattle.asl_shape.specs.Places.{AreTold}
 
@@ -56,36 +65,51 @@ module _ (files : ℕ) where
 
   number_told : (s : Slot) (place : Place) (n : ℕ) → IsIn files place → AreTold files (number_shape s place n).faults
   number_told (slot.Term run) place n h = one 6025 place h
-  number_told s place n h = either (takes_expression s) (fine (an_integer (wrapped W64 n))) (refused 6022 place) tt (one 6022 place h)
+  number_told s place n h = either (takes_expression s) (fine (an_integer (wrapped W64 n))) (refused (unfit s) place) tt (one (unfit s) place h)
+
+  macro_told : (m : TextMacro) (place : Place) (bytes : List ℕ) → IsIn files place → AreTold files (macro_text m place bytes).faults
+  macro_told TextMacro.EisaId place bytes h = by (eisaid_of bytes)
+    where
+      by : (o : Option ℕ) → AreTold files (eisa_shape place o).faults
+      by None = one 6026 place h
+      by (Some n) = tt
+  macro_told TextMacro.ToUuid place bytes h = by (uuid_of bytes)
+    where
+      by : (o : Option (List ℕ)) → AreTold files (uuid_shape place o).faults
+      by None = one 6027 place h
+      by (Some uuid) = tt
+  macro_told TextMacro.Unicode place bytes h = either (is_all_text bytes) (fine (buffer_plan place (utf16_of bytes))) (refused 6024 place) tt (one 6024 place h)
 
   text_told : (s : Slot) (place : Place) (bytes : List ℕ) → IsIn files place → AreTold files (text_shape s place bytes).faults
   text_told slot.Expression place bytes h = string_told form.Any place bytes h
   text_told slot.Element place bytes h = string_told form.Any place bytes h
   text_told (slot.String f) place bytes h = string_told f place bytes h
+  text_told (slot.MacroText m) place bytes h = macro_told m place bytes h
   text_told (slot.Term run) place bytes h = one 6025 place h
-  text_told _ place bytes h = one 6022 place h
+  text_told s place bytes h = one (unfit s) place h
 
   listed_told : (s : Slot) (place : Place) (ws : Writtens) → IsIn files place → AreTold files (listed_shape s place ws).faults
   listed_told (slot.Types most) place ws h = either (are_all_types ws) (if nat_le (count ws) most then fine (an_integer (count ws)) else refused 6024 place) (refused 6022 place) (either (nat_le (count ws) most) (fine (an_integer (count ws))) (refused 6024 place) tt (one 6024 place h)) (one 6022 place h)
-  listed_told _ place ws h = one 6022 place h
+  listed_told s place ws h = one (unfit s) place h
 
   valued_told : (least most : ℕ) (place : Place) (r : Result ℕ NoConstant) → IsIn files place → AreTold files (valued least most place r).faults
   valued_told least most place (Ok n) h = either (nat_le least n && nat_le n most) (fine (an_integer n)) (refused 6024 place) tt (one 6024 place h)
   valued_told least most place (Err NoConstant.Fault) h = one 6024 place h
   valued_told least most place (Err NoConstant.Form) h = one 6022 place h
 
-  evaluated_told : (s : Slot) (place : Place) (p : Plan) → IsIn files place → AreTold files (evaluated s place p).faults
-  evaluated_told (slot.Constant least most) place p h = either (is_omitted p) (fine p) (valued least most place (constant_of p)) tt (valued_told least most place (constant_of p) h)
-  evaluated_told slot.Element place p h = either (is_member p) (fine p) (valued 0 18446744073709551615 place (constant_of p)) tt (valued_told 0 18446744073709551615 place (constant_of p) h)
-  evaluated_told slot.FieldElement place p h = either (is_element p) (fine p) (refused 6022 place) tt (one 6022 place h)
-  evaluated_told _ place p h = tt
+  evaluated_told : (width : Width) (s : Slot) (place : Place) (p : Plan) → IsIn files place → AreTold files (evaluated width s place p).faults
+  evaluated_told width (slot.Constant least most) place p h = either (is_omitted p) (fine p) (valued least most place (constant_of W64 p)) tt (valued_told least most place (constant_of W64 p) h)
+  evaluated_told width slot.Measure place p h = either (is_omitted p) (fine p) (valued 0 18446744073709551615 place (constant_of width p)) tt (valued_told 0 18446744073709551615 place (constant_of width p) h)
+  evaluated_told width slot.Element place p h = either (is_member p) (fine p) (valued 0 18446744073709551615 place (constant_of width p)) tt (valued_told 0 18446744073709551615 place (constant_of width p) h)
+  evaluated_told width slot.FieldElement place p h = either (is_element p) (fine p) (refused 6022 place) tt (one 6022 place h)
+  evaluated_told width _ place p h = tt
 
   after_told : (faults : List Message) (old new : Shaped Plan) → AreTold files old.faults → AreTold files new.faults → AreTold files (after faults old new).faults
   after_told [] old new h k = k
   after_told (m ∷ ms) old new h k = h
 
-  checked_told : (s : Slot) (place : Place) (shape : Shaped Plan) → IsIn files place → AreTold files shape.faults → AreTold files (checked s place shape).faults
-  checked_told s place shape h k = after_told shape.faults shape (evaluated s place shape.made) k (evaluated_told s place shape.made h)
+  checked_told : (width : Width) (s : Slot) (place : Place) (shape : Shaped Plan) → IsIn files place → AreTold files shape.faults → AreTold files (checked width s place shape).faults
+  checked_told width s place shape h k = after_told shape.faults shape (evaluated width s place shape.made) k (evaluated_told width s place shape.made h)
 
   path_told : (place : Place) (path : Option Path) → IsIn files place → AreTold files (path_shape place path).faults
   path_told place None h = one 6024 place h
@@ -95,17 +119,24 @@ module _ (files : ℕ) where
   call_told place None args h k = one 6024 place h
   call_told place (Some path) args h k = k
 
-  read_told : (s : Slot) (place : Place) (text : List ℕ) (reading : Reading) (args : Shaped Plans) (offset : Shaped Plan) (form : Op → Shaped Plan) → IsIn files place → AreTold files args.faults → AreTold files offset.faults
-      → ((o : Op) → AreTold files (form o).faults) → AreTold files (read_shape s place text reading args offset form).faults
-  read_told s place text read.Wrong args offset form h k l go = one 6022 place h
-  read_told s place text read.Path args offset form h k l go = path_told place (path_of text) h
-  read_told s place text read.Call args offset form h k l go = call_told place (path_of text) args h k
-  read_told s place text read.Offset args offset form h k l go = l
-  read_told s place text (read.Known known) args offset form h k l go = tt
-  read_told s place text (read.Form o) args offset form h k l go = go o
+  read_told : (s : Slot) (place : Place) (text : List ℕ) (reading : Reading) (args : Shaped Plans) (offset : Shaped Plan) (expanded : TextMacro → Shaped Plan) (template : Shaped Plan) (described : Descriptor → Shaped Plan) (form : Op → Shaped Plan) → IsIn files place → AreTold files args.faults → AreTold files offset.faults
+      → ((m : TextMacro) → AreTold files (expanded m).faults) → AreTold files template.faults → ((d : Descriptor) → AreTold files (described d).faults) → ((o : Op) → AreTold files (form o).faults) → AreTold files (read_shape s place text reading args offset expanded template described form).faults
+  read_told s place text read.Wrong args offset expanded template described form h k l m t d go = one (unfit s) place h
+  read_told s place text read.Path args offset expanded template described form h k l m t d go = path_told place (path_of text) h
+  read_told s place text read.Call args offset expanded template described form h k l m t d go = call_told place (path_of text) args h k
+  read_told s place text read.Offset args offset expanded template described form h k l m t d go = l
+  read_told s place text (read.Macro which) args offset expanded template described form h k l m t d go = m which
+  read_told s place text read.Template args offset expanded template described form h k l m t d go = t
+  read_told s place text (read.Descriptor of) args offset expanded template described form h k l m t d go = d of
+  read_told s place text (read.Known known) args offset expanded template described form h k l m t d go = tt
+  read_told s place text (read.Form o) args offset expanded template described form h k l m t d go = go o
 
-  symbol_told : (s : Slot) (place : Place) (o : Op) (args : Shaped Plans) → IsIn files place → AreTold files args.faults → AreTold files (symbol_shape s place o args).faults
-  symbol_told s place o args h k = either (takes_role s (role_of o)) (form_shape o place args (fine no_plans)) (refused 6022 place) (both args.faults [] k tt) (one 6022 place h)
+  symbol_told : (width : Width) (s : Slot) (place : Place) (o : Op) (args : Shaped Plans) → IsIn files place → AreTold files args.faults → AreTold files (symbol_shape width s place o args).faults
+  symbol_told width s place o args h k = either (takes_role s (role_of o)) (form_shape width o place args (fine no_plans)) (refused (unfit s) place) (both args.faults [] k tt) (one (unfit s) place h)
+
+  room_told : (room : Bool) (place : Place) → IsIn files place → AreTold files (room_faults room place)
+  room_told true place h = tt
+  room_told false place h = one 6024 place h
 
   item_told : (place : Place) (fault : Option ℕ) (shape : Shaped Plan) → IsIn files place → AreTold files shape.faults → AreTold files (item_shape place fault shape).faults
   item_told place (Some n) shape h k = one n place h
@@ -164,73 +195,85 @@ module _ (files : ℕ) where
 
   module _ (main : 0 < files) where
     mutual
-      bare_told : (s : Slot) (inside : Bool) (w : Written) → IsWithin files w → AreTold files (bare s inside w).faults
+      bare_told : (s : Slot) (inside : Around) (w : Written) → IsWithin files w → AreTold files (bare s inside w).faults
       bare_told s inside (piece.number place n) h = number_told s place n h
       bare_told s inside (piece.text place bytes) h = text_told s place bytes h
       bare_told s inside (listed place ws) h = listed_told s place ws h.0
       bare_told s inside (apply place o ws) h =
           let args : Shaped Plans = arguments_in (parameters_of (symbol_of o)) place inside ws in
-          symbol_told s place (symbol_of o) args h.0 (arguments_in_told (parameters_of (symbol_of o)) place inside ws h.0 h.1)
+          symbol_told inside.width s place (symbol_of o) args h.0 (arguments_in_told (parameters_of (symbol_of o)) place inside ws h.0 h.1)
       bare_told s inside (item place w args body) h =
           let meaning = meaning_of w (is_given body) in
-          let form : Op → Shaped Plan = λ o. form_shape o place (arguments (parameters_of o) place inside args) (contents (body_of o) (within o inside) place body) in
+          let form : Op → Shaped Plan = λ o. form_shape inside.width o place (arguments (parameters_of o) place inside args) (contents (body_of o) (within o inside) place body) in
           let offset : Shaped Plan = offset_shape (arguments offset_parameters place inside args) in
-          item_told place (item_fault s inside meaning (has_arguments meaning (inside_of args)) (is_given body)) (read_shape s place w (reading_of s meaning (is_given args)) (call_args inside args) offset form) h.0
-          (read_told s place w (reading_of s meaning (is_given args)) (call_args inside args) offset form h.0 (call_told_in inside args h.1) (arguments_told offset_parameters place inside args h.0 h.1)
+          let expanded : TextMacro → Shaped Plan = λ m. macro_shape (arguments (macro_parameters m) place inside args) in
+          let template : Shaped Plan = template_shape place (contents braces.Descriptors inside place body) in
+          let described : Descriptor → Shaped Plan = λ d. descriptor_shape d place (arguments (descriptor_parameters d) place inside args) (contents (descriptor_body d) inside place body) in
+          item_told place (item_fault s inside.method meaning (has_arguments meaning (inside_of args)) (is_given body)) (read_shape s place w (reading_of s meaning (is_given args)) (call_args inside args) offset expanded template described form) h.0
+          (read_told s place w (reading_of s meaning (is_given args)) (call_args inside args) offset expanded template described form h.0 (call_told_in inside args h.1) (arguments_told offset_parameters place inside args h.0 h.1)
+          (λ m. arguments_told (macro_parameters m) place inside args h.0 h.1)
+          (contents_told braces.Descriptors inside place body h.0 h.2)
+          (λ d.
+          let first : Shaped Plans = arguments (descriptor_parameters d) place inside args in
+          let rest : Shaped Plans = contents (descriptor_body d) inside place body in
+          let room = is_roomy d first.made rest.made in
+          both (first.faults ++ rest.faults) (room_faults room place) (both first.faults rest.faults (arguments_told (descriptor_parameters d) place inside args h.0 h.1) (contents_told (descriptor_body d) inside place body h.0 h.2)) (room_told room place h.0))
           (λ o. both (arguments (parameters_of o) place inside args).faults (contents (body_of o) (within o inside) place body).faults (arguments_told (parameters_of o) place inside args h.0 h.1) (contents_told (body_of o) (within o inside) place body h.0 h.2)))
       bare_told s inside comma h = tt
       bare_told s inside semicolon h = tt
       bare_told s inside empty h = tt
 
-      operands_told : (s : Slot) (inside : Bool) (ws : Writtens) → AreWithin files ws → AreTold files (operands s inside ws).faults
+      operands_told : (s : Slot) (inside : Around) (ws : Writtens) → AreWithin files ws → AreTold files (operands s inside ws).faults
       operands_told s inside none h = tt
       operands_told s inside (more w ws) h =
-          both (checked s (place_of nowhere w) (bare s inside w)).faults (operands slot.Expression inside ws).faults (checked_told s (place_of nowhere w) (bare s inside w) (place_in nowhere w main h.0) (bare_told s inside w h.0)) (operands_told slot.Expression inside ws h.1)
+          both (checked inside.width s (place_of nowhere w) (bare s inside w)).faults (operands slot.Expression inside ws).faults (checked_told inside.width s (place_of nowhere w) (bare s inside w) (place_in nowhere w main h.0) (bare_told s inside w h.0)) (operands_told slot.Expression inside ws h.1)
 
-      call_told_in : (inside : Bool) (args : Group) → IsGroupWithin files args → AreTold files (call_args inside args).faults
+      call_told_in : (inside : Around) (args : Group) → IsGroupWithin files args → AreTold files (call_args inside args).faults
       call_told_in inside absent h = tt
       call_told_in inside (given ws) h = operands_told slot.Expression inside ws h
 
-      arguments_told : (qs : List Parameter) (place : Place) (inside : Bool) (args : Group) → IsIn files place → IsGroupWithin files args → AreTold files (arguments qs place inside args).faults
+      arguments_told : (qs : List Parameter) (place : Place) (inside : Around) (args : Group) → IsIn files place → IsGroupWithin files args → AreTold files (arguments qs place inside args).faults
       arguments_told qs place inside absent p h = tt
       arguments_told qs place inside (given ws) p h = arguments_in_told qs place inside ws p h
 
-      arguments_in_told : (qs : List Parameter) (place : Place) (inside : Bool) (ws : Writtens) → IsIn files place → AreWithin files ws → AreTold files (arguments_in qs place inside ws).faults
+      arguments_in_told : (qs : List Parameter) (place : Place) (inside : Around) (ws : Writtens) → IsIn files place → AreWithin files ws → AreTold files (arguments_in qs place inside ws).faults
       arguments_in_told qs place inside none p h = tt
       arguments_in_told [] place inside (more w ws) p h = tt
       arguments_in_told (q ∷ qs) place inside (more w ws) p h =
           let s : Slot = slot_as q.slot (meaning_in w) in
-          both (checked s (place_of nowhere w) (bare s inside w)).faults (arguments_in qs place inside ws).faults (checked_told s (place_of nowhere w) (bare s inside w) (place_in nowhere w main h.0) (bare_told s inside w h.0)) (arguments_in_told qs place inside ws p h.1)
+          both (checked inside.width s (place_of nowhere w) (bare s inside w)).faults (arguments_in qs place inside ws).faults (checked_told inside.width s (place_of nowhere w) (bare s inside w) (place_in nowhere w main h.0) (bare_told s inside w h.0)) (arguments_in_told qs place inside ws p h.1)
 
-      contents_told : (b : Body) (inside : Bool) (place : Place) (body : Group) → IsIn files place → IsGroupWithin files body → AreTold files (contents b inside place body).faults
+      contents_told : (b : Body) (inside : Around) (place : Place) (body : Group) → IsIn files place → IsGroupWithin files body → AreTold files (contents b inside place body).faults
       contents_told b inside place absent p h = tt
       contents_told braces.No inside place (given ws) p h = tt
       contents_told braces.Terms inside place (given ws) p h = terms_told inside None ws h
       contents_told braces.Bytes inside place (given ws) p h = list_told place (is_listed true ws) (members (byte_slot ws) inside ws) p (members_told (byte_slot ws) inside ws h)
       contents_told braces.Elements inside place (given ws) p h = list_told place (is_listed true ws) (members slot.Element inside ws) p (members_told slot.Element inside ws h)
       contents_told braces.FieldList inside place (given ws) p h = list_told place (is_field_list begin ws) (elements begin None inside ws) p (elements_told begin None inside ws tt h)
+      contents_told (braces.Numbers most) inside place (given ws) p h = list_told place (is_listed true ws) (members (slot.Constant 0 most) inside ws) p (members_told (slot.Constant 0 most) inside ws h)
+      contents_told braces.Descriptors inside place (given ws) p h = members_told slot.Descriptor inside ws h
 
-      elements_told : (due : Due) (unit : Option UnitName) (inside : Bool) (ws : Writtens) → UnitIn unit → AreWithin files ws → AreTold files (elements due unit inside ws).faults
+      elements_told : (due : Due) (unit : Option UnitName) (inside : Around) (ws : Writtens) → UnitIn unit → AreWithin files ws → AreTold files (elements due unit inside ws).faults
       elements_told due unit inside none u h = tt
       elements_told due unit inside (more w ws) u h =
           let place : Place = place_of nowhere w in
-          let shape : Shaped Plan = checked (field_slot due) place (bare (field_slot due) inside w) in
+          let shape : Shaped Plan = checked inside.width (field_slot due) place (bare (field_slot due) inside w) in
           let part : Shaped Plans = field_part due unit place (is_separator w) shape in
           let next : Option UnitName = unit_behind due unit place (is_separator w) shape.made in
           let at : IsIn files place = place_in nowhere w main h.0 in
           both part.faults (elements (due_behind due w) next inside ws).faults
-          (part_told due unit place (is_separator w) shape u (checked_told (field_slot due) place (bare (field_slot due) inside w) at (bare_told (field_slot due) inside w h.0)))
+          (part_told due unit place (is_separator w) shape u (checked_told inside.width (field_slot due) place (bare (field_slot due) inside w) at (bare_told (field_slot due) inside w h.0)))
           (elements_told (due_behind due w) next inside ws (unit_in due unit place (is_separator w) shape.made u at) h.1)
 
-      members_told : (s : Slot) (inside : Bool) (ws : Writtens) → AreWithin files ws → AreTold files (members s inside ws).faults
+      members_told : (s : Slot) (inside : Around) (ws : Writtens) → AreWithin files ws → AreTold files (members s inside ws).faults
       members_told s inside none h = tt
       members_told s inside (more w ws) h =
-          skipped_told (is_separator w) (place_of nowhere w) (checked s (place_of nowhere w) (bare s inside w)) (members s inside ws) (checked_told s (place_of nowhere w) (bare s inside w) (place_in nowhere w main h.0) (bare_told s inside w h.0)) (members_told s inside ws h.1)
+          skipped_told (is_separator w) (place_of nowhere w) (checked inside.width s (place_of nowhere w) (bare s inside w)) (members s inside ws) (checked_told inside.width s (place_of nowhere w) (bare s inside w) (place_in nowhere w main h.0) (bare_told s inside w h.0)) (members_told s inside ws h.1)
 
-      terms_told : (inside : Bool) (run : Option ℕ) (ws : Writtens) → AreWithin files ws → AreTold files (terms inside run ws).faults
+      terms_told : (inside : Around) (run : Option ℕ) (ws : Writtens) → AreWithin files ws → AreTold files (terms inside run ws).faults
       terms_told inside run none h = tt
       terms_told inside run (more w ws) h =
-          skipped_told (is_separator w) (place_of nowhere w) (checked (slot.Term run) (place_of nowhere w) (bare (slot.Term run) inside w)) (terms inside (run_after run w) ws) (checked_told (slot.Term run) (place_of nowhere w) (bare (slot.Term run) inside w) (place_in nowhere w main h.0) (bare_told (slot.Term run) inside w h.0)) (terms_told inside (run_after run w) ws h.1)
+          skipped_told (is_separator w) (place_of nowhere w) (checked inside.width (slot.Term run) (place_of nowhere w) (bare (slot.Term run) inside w)) (terms inside (run_after run w) ws) (checked_told inside.width (slot.Term run) (place_of nowhere w) (bare (slot.Term run) inside w) (place_in nowhere w main h.0) (bare_told (slot.Term run) inside w h.0)) (terms_told inside (run_after run w) ws h.1)
 
     inside_told : (fault : Option ℕ) (place : Place) (inside : List Message) → IsIn files place → AreTold files inside → AreTold files (errors_inside fault place inside)
     inside_told (Some n) place inside h k = one n place h
@@ -240,9 +283,9 @@ module _ (files : ℕ) where
     if_told true xs ys h k = h
     if_told false xs ys h k = k
 
-    terms_in_told : (body : Group) → IsGroupWithin files body → AreTold files (terms false None (inside_of body)).faults
-    terms_in_told absent h = tt
-    terms_in_told (given ws) h = terms_told false None ws h
+    terms_in_told : (around : Around) (body : Group) → IsGroupWithin files body → AreTold files (terms around None (inside_of body)).faults
+    terms_in_told around absent h = tt
+    terms_in_told around (given ws) h = terms_told around None ws h
 
     before_told : (errors : List Message) (ws : Writtens) → AreTold files errors → AreWithin files ws → AreTold files (errors_before errors ws)
     before_told errors none h k = h
@@ -250,11 +293,13 @@ module _ (files : ℕ) where
 
     first_told : (w : Written) (ws : Writtens) → IsWithin files w → AreWithin files ws → AreTold files (first_errors w ws)
     first_told (item place word args body) ws h k =
-        let args_faults = (arguments block_parameters place false args).faults in
-        let terms_faults = (terms false None (inside_of body)).faults in
+        let args_shape = block_args place args in
+        let args_faults = args_shape.faults in
+        let around = outside (width_of (revision_in args_shape.made)) in
+        let terms_faults = (terms around None (inside_of body)).faults in
         let fault = block_fault (takes block_parameters (inside_of args)) (is_given body) in
         if_told (is_block_word word) (errors_before (block_errors place args body) ws) (no_block place)
-        (before_told (block_errors place args body) ws (inside_told fault place (args_faults ++ terms_faults) h.0 (both args_faults terms_faults (arguments_told block_parameters place false args h.0 h.1) (terms_in_told body h.2))) k)
+        (before_told (block_errors place args body) ws (inside_told fault place (args_faults ++ terms_faults) h.0 (both args_faults terms_faults (arguments_told block_parameters place (outside W64) args h.0 h.1) (terms_in_told around body h.2))) k)
         (one 6028 place h.0)
     first_told (piece.number p n) ws h k = one 6028 p h
     first_told (piece.text p t) ws h k = one 6028 p h
@@ -272,7 +317,7 @@ module _ (files : ℕ) where
     unfolding errors_at
     errors_told raws h = all_told (writtens raws) h
 
-as_all : (files : ℕ) (ms : List Message) → AreTold files ms → All (λ m. m.place.file < files) ms
+pub as_all : (files : ℕ) (ms : List Message) → AreTold files ms → All (λ m. m.place.file < files) ms
 as_all files [] h = λ k d lt. absurd (omega (arith, lt))
 as_all files (m ∷ ms) h = All-cons (λ m. m.place.file < files) m ms h.0 (as_all files ms h.1)
 

@@ -6,6 +6,7 @@ use Rattle.asl_tree.specs.declared.term.Literal.{Literal}
 use Rattle.asl_tree.specs.declared.term.Node.{Node}
 use Rattle.asl_tree.specs.declared.term.Term.{Term}
 use Rattle.asl_tree.specs.declared.term.Term as D
+use Rattle.acpi_values.specs.declared.width.Width.{Width}
 use Rattle.asl_shape.specs.Plans.{Plans, no_plans, plan, omitted, a_form, plan_of, plans_of, plan_at, number_of, first_plans, join, constant_of}
 use Rattle.asl_shape.specs.Shapes.{is_stated, one_plan, zero_plan, few_elements}
 use Rattle.asl_shape.proofs.Plans.{plan_form, plan_call}
@@ -53,11 +54,11 @@ unfolding plans_of
 push_is [] node = refl
 push_is (n ∷ ns) node = ap (plan n.place (plan_of n.term)) (push_is ns node)
 
-pub few_some : (nodes : List Node) (d : Node) → 0 < length nodes → d ≡ get_or nodes 0 d → constant_of (plan_of d.term) ≡ constant_of (plan_at (plans_of nodes) 0)
-few_some nodes d lt e = ap (λ (n : Node). constant_of (plan_of n.term)) e ∙ ap constant_of (sym (at_some nodes 0 d lt))
+pub few_some : (width : Width) (nodes : List Node) (d : Node) → 0 < length nodes → d ≡ get_or nodes 0 d → constant_of width (plan_of d.term) ≡ constant_of width (plan_at (plans_of nodes) 0)
+few_some width nodes d lt e = ap (λ (n : Node). constant_of width (plan_of n.term)) e ∙ ap (constant_of width) (sym (at_some nodes 0 d lt))
 
-pub few_none : (nodes : List Node) → length nodes ≤ 0 → few_elements (constant_of (plan_at (plans_of nodes) 0)) ≡ None
-few_none nodes le = ap (λ p. few_elements (constant_of p)) (at_none nodes 0 le)
+pub few_none : (width : Width) (nodes : List Node) → length nodes ≤ 0 → few_elements (constant_of width (plan_at (plans_of nodes) 0)) ≡ None
+few_none width nodes le = ap (λ p. few_elements (constant_of width p)) (at_none nodes 0 le)
 
 pub ruleset few_rules = (few_some, few_none)
 

@@ -3,29 +3,34 @@ use Rattle.std.proofs.Common.{◌≡◌, ℕ, zero, suc, ◌+◌, ◌*◌, ◌<�
 use Rattle.std.proofs.lemmas.List.{drop_all}
 use Rattle.iasl_messages.specs.declared.place.Place.{Place}
 use Rattle.iasl_messages.specs.declared.message.Message.{Message}
+use Rattle.acpi_values.specs.declared.width.Width.{Width}
 use Rattle.asl_parser.specs.declared.raw.Infix.{Infix}
 use Rattle.asl_parser.specs.declared.raw.Raw.{Raw}
 use Rattle.asl_parser.specs.declared.raw.Raw.TheVariants as raw
 use Rattle.asl_tree.specs.declared.term.Op.{Op}
 use Rattle.asl_tree.specs.declared.term.Node.{Node}
 use Rattle.asl_words.specs.Paths.{path_of}
+use Rattle.asl_shape.specs.declared.around.Around.{Around}
 use Rattle.asl_shape.specs.Plans.{plans_of, Plan, omitted, Plans, no_plans, plan, join}
 use Rattle.asl_shape.proofs.Plans.{plan_form, plan_call, no_plans_are}
 use Rattle.asl_words.specs.declared.operator.Known.{Known}
 use Rattle.asl_words.specs.declared.operator.Parameter.{Parameter}
 use Rattle.asl_words.specs.declared.operator.Slot.{Slot}
+use Rattle.asl_words.specs.declared.operator.TextMacro.{TextMacro}
 use Rattle.asl_words.specs.declared.operator.Slot.TheVariants as slot
 use Rattle.asl_words.specs.declared.operator.Body.{Body}
 use Rattle.asl_words.specs.declared.operator.Body.TheVariants as braces
 use Rattle.asl_words.specs.declared.meaning.Reading.TheVariants as read
 use Rattle.asl_parser.specs.Written.{writtens, written, written_in}
 use Rattle.asl_shape.specs.Sizes.{size, sizes, size_at, sizes_at, size_in_at}
-use Rattle.asl_words.specs.Operators.{parameters_of, body_of, offset_parameters}
+use Rattle.asl_words.specs.Operators.{parameters_of, body_of, offset_parameters, macro_parameters}
 use Rattle.asl_shape.specs.Shapes
 use Rattle.asl_shape.specs.Symbols.{symbol_of}
-use Rattle.asl_shape.specs.Shapes.{Shaped, fine, refused, is_given, inside_of, has_arguments, after, checked, evaluated, number_shape, text_shape, listed_shape, form_shape, symbol_shape, read_shape, item_shape, path_shape, call_shape, known_plan, within, place_of, joined, left_out, list_shape, skipped, is_separator, nowhere, bare, call_args, arguments, contents, meaning_in, offset_shape, begin}
-use Rattle.asl_words.specs.Meanings.{item_fault, meaning_of, reading_of, slot_as}
-use Rattle.asl_shape.specs.AtRaw.{has_arguments_at, inside_at, bare_at, listed_at, place_at, shape_at, is_separator_at, run_after_at, operands_at, call_at, arguments_at, arguments_in_at, contents_at, members_at, terms_at, member_at, argument_at, form_at, read_at, is_some, one_at, left_at, is_listed_at, byte_slot_at, item_at, meaning_at, offset_at, is_field_list_at, elements_at}
+use Rattle.asl_shape.specs.Shapes.{Shaped, fine, refused, template_shape, descriptor_shape, is_given, inside_of, has_arguments, after, checked, evaluated, number_shape, text_shape, listed_shape, form_shape, symbol_shape, read_shape, item_shape, path_shape, call_shape, known_plan, within, place_of, joined, left_out, list_shape, skipped, is_separator, nowhere, bare, call_args, arguments, contents, meaning_in, offset_shape, macro_shape, begin}
+use Rattle.asl_words.specs.Meanings.{item_fault, meaning_of, reading_of, slot_as, unfit}
+use Rattle.asl_words.specs.Resources.{descriptor_parameters, descriptor_body}
+use Rattle.resource_layout.specs.declared.descriptor.Descriptor.{Descriptor}
+use Rattle.asl_shape.specs.AtRaw.{has_arguments_at, template_at, descriptor_at, inside_at, bare_at, listed_at, place_at, shape_at, is_separator_at, run_after_at, operands_at, call_at, arguments_at, arguments_in_at, contents_at, members_at, terms_at, member_at, argument_at, form_at, read_at, is_some, one_at, left_at, is_listed_at, byte_slot_at, item_at, meaning_at, offset_at, macro_at, is_field_list_at, elements_at}
 use Rattle.asl_parser.proofs.Views.{written_number, written_text, written_item, written_apply, written_list, written_comma, written_semicolon, written_empty}
 use Rattle.asl_shape.proofs.Terms.{term_rules, omitted_term, offset_term, nothing_more}
 use Rattle.asl_shape.proofs.Braces.{given_some, from_item}
@@ -40,43 +45,43 @@ none_more old (m ∷ ms) all e l = absurd (omega (arith, length-append old (m �
 pub some_more : (old F all : List Message) → all ≡ old ++ F → (length all ≡ length old → ⊥) → F ≡ [] → ⊥
 some_more old F all e h n = h (ap length (e ∙ ap (λ xs. old ++ xs) n ∙ append-nil old))
 
-pub checked_clean : (s : Slot) (place : Place) (x : Shaped Plan) → x.faults ≡ [] → checked s place x ≡ evaluated s place x.made
-checked_clean s place x e = ap (λ ms. after ms x (evaluated s place x.made)) e
+pub checked_clean : (width : Width) (s : Slot) (place : Place) (x : Shaped Plan) → x.faults ≡ [] → checked width s place x ≡ evaluated width s place x.made
+checked_clean width s place x e = ap (λ ms. after ms x (evaluated width s place x.made)) e
 
-pub checked_faulty : (s : Slot) (place : Place) (x : Shaped Plan) → (x.faults ≡ [] → ⊥) → checked s place x ≡ x
-checked_faulty s place x h = by_faults x.faults h
+pub checked_faulty : (width : Width) (s : Slot) (place : Place) (x : Shaped Plan) → (x.faults ≡ [] → ⊥) → checked width s place x ≡ x
+checked_faulty width s place x h = by_faults x.faults h
   where
-    by_faults : (ms : List Message) → (ms ≡ [] → ⊥) → after ms x (evaluated s place x.made) ≡ x
+    by_faults : (ms : List Message) → (ms ≡ [] → ⊥) → after ms x (evaluated width s place x.made) ≡ x
     by_faults [] h = absurd (h refl)
     by_faults (m ∷ ms) h = refl
 
 -- ---- one layer
 
-pub bare_number : (s : Slot) (inside : Bool) (place : Place) (n : ℕ) → bare_at s inside (raw.Number place n) ≡ number_shape s place n
+pub bare_number : (s : Slot) (inside : Around) (place : Place) (n : ℕ) → bare_at s inside (raw.Number place n) ≡ number_shape s place n
 unfolding bare_at
 bare_number s inside place n = ap (bare s inside) (written_number place n)
 
-pub bare_text : (s : Slot) (inside : Bool) (place : Place) (bytes : List ℕ) → bare_at s inside (raw.Text place bytes) ≡ text_shape s place bytes
+pub bare_text : (s : Slot) (inside : Around) (place : Place) (bytes : List ℕ) → bare_at s inside (raw.Text place bytes) ≡ text_shape s place bytes
 unfolding bare_at
 bare_text s inside place bytes = ap (bare s inside) (written_text place bytes)
 
-pub bare_apply : (s : Slot) (inside : Bool) (place : Place) (op : Infix) (args : List Raw) → bare_at s inside (raw.Apply place op args) ≡ symbol_shape s place (symbol_of op) (arguments_in_at (parameters_of (symbol_of op)) place inside args)
+pub bare_apply : (s : Slot) (inside : Around) (place : Place) (op : Infix) (args : List Raw) → bare_at s inside (raw.Apply place op args) ≡ symbol_shape inside.width s place (symbol_of op) (arguments_in_at (parameters_of (symbol_of op)) place inside args)
 unfolding bare_at arguments_in_at
 bare_apply s inside place op args = ap (bare s inside) (written_apply place op args)
 
-pub bare_list : (s : Slot) (inside : Bool) (place : Place) (items : List Raw) → bare_at s inside (raw.List place items) ≡ listed_at s place items
+pub bare_list : (s : Slot) (inside : Around) (place : Place) (items : List Raw) → bare_at s inside (raw.List place items) ≡ listed_at s place items
 unfolding bare_at listed_at
 bare_list s inside place items = ap (bare s inside) (written_list place items)
 
-pub bare_comma : (s : Slot) (inside : Bool) → bare_at s inside (raw.Comma) ≡ fine omitted
+pub bare_comma : (s : Slot) (inside : Around) → bare_at s inside (raw.Comma) ≡ fine omitted
 unfolding bare_at
 bare_comma s inside = ap (bare s inside) (written_comma)
 
-pub bare_semicolon : (s : Slot) (inside : Bool) → bare_at s inside (raw.Semicolon) ≡ fine omitted
+pub bare_semicolon : (s : Slot) (inside : Around) → bare_at s inside (raw.Semicolon) ≡ fine omitted
 unfolding bare_at
 bare_semicolon s inside = ap (bare s inside) (written_semicolon)
 
-pub bare_empty : (s : Slot) (inside : Bool) → bare_at s inside (raw.Empty) ≡ fine omitted
+pub bare_empty : (s : Slot) (inside : Around) → bare_at s inside (raw.Empty) ≡ fine omitted
 unfolding bare_at
 bare_empty s inside = ap (bare s inside) (written_empty)
 
@@ -85,15 +90,18 @@ unfolding writtens
 inside_written None = refl
 inside_written (Some raws) = refl
 
-pub bare_item : (s : Slot) (inside : Bool) (place : Place) (w : List ℕ) (args body : Option (List Raw)) → bare_at s inside (raw.Item place w args body) ≡ item_at s inside place w args body
-unfolding bare_at item_at has_arguments_at read_at call_at offset_at form_at arguments_at contents_at
+pub bare_item : (s : Slot) (inside : Around) (place : Place) (w : List ℕ) (args body : Option (List Raw)) → bare_at s inside (raw.Item place w args body) ≡ item_at s inside place w args body
+unfolding bare_at item_at has_arguments_at read_at call_at offset_at macro_at template_at descriptor_at form_at arguments_at contents_at
 bare_item s inside place w args body =
     let form : Op → Shaped Plan = λ o. form_at o place inside args body in
     let offset : Shaped Plan = offset_at place inside args in
+    let expanded : TextMacro → Shaped Plan = λ m. macro_at m place inside args in
+    let template : Shaped Plan = template_at place inside body in
+    let described : Descriptor → Shaped Plan = λ d. descriptor_at d place inside args body in
     ap (bare s inside) (written_item place w args body)
-    ∙ ap (λ b. item_shape place (item_fault s inside (meaning_of w b) (has_arguments (meaning_of w b) (inside_of (written_in args))) b) (read_shape s place w (reading_of s (meaning_of w b) (is_given (written_in args))) (call_args inside (written_in args)) offset form)) (given_some body)
-    ∙ ap (λ ws. item_shape place (item_fault s inside (meaning_of w (is_some body)) (has_arguments (meaning_of w (is_some body)) ws) (is_some body)) (read_shape s place w (reading_of s (meaning_of w (is_some body)) (is_given (written_in args))) (call_args inside (written_in args)) offset form)) (inside_written args)
-    ∙ ap (λ b. item_shape place (item_fault s inside (meaning_of w (is_some body)) (has_arguments (meaning_of w (is_some body)) (writtens (inside_at args))) (is_some body)) (read_shape s place w (reading_of s (meaning_of w (is_some body)) b) (call_args inside (written_in args)) offset form)) (given_some args)
+    ∙ ap (λ b. item_shape place (item_fault s inside.method (meaning_of w b) (has_arguments (meaning_of w b) (inside_of (written_in args))) b) (read_shape s place w (reading_of s (meaning_of w b) (is_given (written_in args))) (call_args inside (written_in args)) offset expanded template described form)) (given_some body)
+    ∙ ap (λ ws. item_shape place (item_fault s inside.method (meaning_of w (is_some body)) (has_arguments (meaning_of w (is_some body)) ws) (is_some body)) (read_shape s place w (reading_of s (meaning_of w (is_some body)) (is_given (written_in args))) (call_args inside (written_in args)) offset expanded template described form)) (inside_written args)
+    ∙ ap (λ b. item_shape place (item_fault s inside.method (meaning_of w (is_some body)) (has_arguments (meaning_of w (is_some body)) (writtens (inside_at args))) (is_some body)) (read_shape s place w (reading_of s (meaning_of w (is_some body)) b) (call_args inside (written_in args)) offset expanded template described form)) (given_some args)
 
 pub ruleset bare_rules = (bare_number, bare_text, bare_apply, bare_list, bare_comma, bare_semicolon, bare_empty, bare_item, nothing_more, omitted_term)
 
@@ -114,76 +122,100 @@ from_none ps = refl
 pub nothing_behind : (ps : Plans) → join ps no_plans ≡ ps
 nothing_behind ps = join_end ps
 
-pub call_is : (inside : Bool) (args : Option (List Raw)) → call_at inside args ≡ operands_at slot.Expression inside (inside_at args)
+pub call_is : (inside : Around) (args : Option (List Raw)) → call_at inside args ≡ operands_at slot.Expression inside (inside_at args)
 unfolding call_at operands_at writtens
 call_is inside None = refl
 call_is inside (Some raws) = refl
 
-pub arguments_are : (qs : List Parameter) (place : Place) (inside : Bool) (args : Option (List Raw)) → arguments_at qs place inside args ≡ arguments_in_at qs place inside (inside_at args)
+pub arguments_are : (qs : List Parameter) (place : Place) (inside : Around) (args : Option (List Raw)) → arguments_at qs place inside args ≡ arguments_in_at qs place inside (inside_at args)
 unfolding arguments_at arguments_in_at writtens
 arguments_are [] place inside None = refl
 arguments_are (q ∷ qs) place inside None = refl
 arguments_are qs place inside (Some raws) = refl
 
-pub form_is : (o : Op) (place : Place) (inside : Bool) (args body : Option (List Raw)) → form_at o place inside args body ≡ form_shape o place (arguments_in_at (parameters_of o) place inside (inside_at args)) (contents_at (body_of o) (within o inside) place body)
+pub form_is : (o : Op) (place : Place) (inside : Around) (args body : Option (List Raw)) → form_at o place inside args body ≡ form_shape inside.width o place (arguments_in_at (parameters_of o) place inside (inside_at args)) (contents_at (body_of o) (within o inside) place body)
 unfolding form_at
-form_is o place inside args body = ap (λ a. form_shape o place a (contents_at (body_of o) (within o inside) place body)) (arguments_are (parameters_of o) place inside args)
+form_is o place inside args body = ap (λ a. form_shape inside.width o place a (contents_at (body_of o) (within o inside) place body)) (arguments_are (parameters_of o) place inside args)
 
-pub offset_is : (place : Place) (inside : Bool) (args : Option (List Raw)) → offset_at place inside args ≡ offset_shape (arguments_in_at offset_parameters place inside (inside_at args))
+pub offset_is : (place : Place) (inside : Around) (args : Option (List Raw)) → offset_at place inside args ≡ offset_shape (arguments_in_at offset_parameters place inside (inside_at args))
 unfolding offset_at
 offset_is place inside args = ap offset_shape (arguments_are offset_parameters place inside args)
 
+pub macro_is : (m : TextMacro) (place : Place) (inside : Around) (args : Option (List Raw)) → macro_at m place inside args ≡ macro_shape (arguments_in_at (macro_parameters m) place inside (inside_at args))
+unfolding macro_at
+macro_is m place inside args = ap macro_shape (arguments_are (macro_parameters m) place inside args)
+
+pub template_is : (place : Place) (inside : Around) (body : Option (List Raw)) → template_at place inside body ≡ template_shape place (contents_at braces.Descriptors inside place body)
+unfolding template_at
+template_is place inside body = refl
+
+pub descriptor_is : (d : Descriptor) (place : Place) (inside : Around) (args body : Option (List Raw)) → descriptor_at d place inside args body ≡ descriptor_shape d place (arguments_in_at (descriptor_parameters d) place inside (inside_at args)) (contents_at (descriptor_body d) inside place body)
+unfolding descriptor_at
+descriptor_is d place inside args body = ap (λ a. descriptor_shape d place a (contents_at (descriptor_body d) inside place body)) (arguments_are (descriptor_parameters d) place inside args)
+
 -- ---- items as they are read
 
-pub read_wrong : (s : Slot) (place : Place) (w : List ℕ) (inside : Bool) (args body : Option (List Raw)) → read_at s place w read.Wrong inside args body ≡ refused 6022 place
+pub read_wrong : (s : Slot) (place : Place) (w : List ℕ) (inside : Around) (args body : Option (List Raw)) → read_at s place w read.Wrong inside args body ≡ refused (unfit s) place
 unfolding read_at
 read_wrong s place w inside args body = refl
 
-pub read_path : (s : Slot) (place : Place) (w : List ℕ) (inside : Bool) (args body : Option (List Raw)) → read_at s place w read.Path inside args body ≡ path_shape place (path_of w)
+pub read_path : (s : Slot) (place : Place) (w : List ℕ) (inside : Around) (args body : Option (List Raw)) → read_at s place w read.Path inside args body ≡ path_shape place (path_of w)
 unfolding read_at
 read_path s place w inside args body = refl
 
-pub read_call : (s : Slot) (place : Place) (w : List ℕ) (inside : Bool) (args body : Option (List Raw)) → read_at s place w read.Call inside args body ≡ call_shape place (path_of w) (call_at inside args)
+pub read_call : (s : Slot) (place : Place) (w : List ℕ) (inside : Around) (args body : Option (List Raw)) → read_at s place w read.Call inside args body ≡ call_shape place (path_of w) (call_at inside args)
 unfolding read_at
 read_call s place w inside args body = refl
 
-pub read_known : (s : Slot) (place : Place) (w : List ℕ) (k : Known) (inside : Bool) (args body : Option (List Raw)) → read_at s place w (read.Known k) inside args body ≡ fine (known_plan s k)
+pub read_known : (s : Slot) (place : Place) (w : List ℕ) (k : Known) (inside : Around) (args body : Option (List Raw)) → read_at s place w (read.Known k) inside args body ≡ fine (known_plan s k)
 unfolding read_at
 read_known s place w k inside args body = refl
 
-pub read_form : (s : Slot) (place : Place) (w : List ℕ) (o : Op) (inside : Bool) (args body : Option (List Raw)) → read_at s place w (read.Form o) inside args body ≡ form_shape o place (arguments_in_at (parameters_of o) place inside (inside_at args)) (contents_at (body_of o) (within o inside) place body)
+pub read_form : (s : Slot) (place : Place) (w : List ℕ) (o : Op) (inside : Around) (args body : Option (List Raw)) → read_at s place w (read.Form o) inside args body ≡ form_shape inside.width o place (arguments_in_at (parameters_of o) place inside (inside_at args)) (contents_at (body_of o) (within o inside) place body)
 unfolding read_at
 read_form s place w o inside args body = form_is o place inside args body
 
-pub read_offset : (s : Slot) (place : Place) (w : List ℕ) (inside : Bool) (args body : Option (List Raw)) → read_at s place w read.Offset inside args body ≡ offset_at place inside args
+pub read_offset : (s : Slot) (place : Place) (w : List ℕ) (inside : Around) (args body : Option (List Raw)) → read_at s place w read.Offset inside args body ≡ offset_at place inside args
 unfolding read_at
 read_offset s place w inside args body = refl
 
-pub ruleset read_rules = (read_wrong, read_path, read_call, read_offset, read_known, read_form, nothing_more)
+pub read_macro : (s : Slot) (place : Place) (w : List ℕ) (m : TextMacro) (inside : Around) (args body : Option (List Raw)) → read_at s place w (read.Macro m) inside args body ≡ macro_at m place inside args
+unfolding read_at
+read_macro s place w m inside args body = refl
+
+pub read_template : (s : Slot) (place : Place) (w : List ℕ) (inside : Around) (args body : Option (List Raw)) → read_at s place w read.Template inside args body ≡ template_at place inside body
+unfolding read_at
+read_template s place w inside args body = refl
+
+pub read_descriptor : (s : Slot) (place : Place) (w : List ℕ) (d : Descriptor) (inside : Around) (args body : Option (List Raw)) → read_at s place w (read.Descriptor d) inside args body ≡ descriptor_at d place inside args body
+unfolding read_at
+read_descriptor s place w d inside args body = refl
+
+pub ruleset read_rules = (read_wrong, read_path, read_call, read_offset, read_macro, read_template, read_descriptor, read_known, read_form, nothing_more)
 
 -- ---- lists from one of their items on
 
-pub operand_step : (s : Slot) (inside : Bool) (raws : List Raw) (i : ℕ) (d : Raw) → i < length raws → operands_at s inside (drop i raws) ≡ joined (place_at nowhere (get_or raws i d)) (shape_at s inside (get_or raws i d)) (operands_at slot.Expression inside (drop (i + 1) raws))
+pub operand_step : (s : Slot) (inside : Around) (raws : List Raw) (i : ℕ) (d : Raw) → i < length raws → operands_at s inside (drop i raws) ≡ joined (place_at nowhere (get_or raws i d)) (shape_at s inside (get_or raws i d)) (operands_at slot.Expression inside (drop (i + 1) raws))
 unfolding operands_at writtens place_at bare_at
 operand_step s inside raws i d lt = ap (λ rs. Shapes.operands s inside (writtens rs)) (from_item raws i d lt)
 
-pub operand_end : (s : Slot) (inside : Bool) (raws : List Raw) (i : ℕ) → length raws ≤ i → operands_at s inside (drop i raws) ≡ fine no_plans
+pub operand_end : (s : Slot) (inside : Around) (raws : List Raw) (i : ℕ) → length raws ≤ i → operands_at s inside (drop i raws) ≡ fine no_plans
 unfolding operands_at writtens
 operand_end s inside raws i le = ap (λ rs. Shapes.operands s inside (writtens rs)) (drop_all i raws le)
 
-pub member_step : (s : Slot) (inside : Bool) (raws : List Raw) (i : ℕ) (d : Raw) → i < length raws → members_at s inside (drop i raws) ≡ skipped (is_separator_at (get_or raws i d)) (place_at nowhere (get_or raws i d)) (shape_at s inside (get_or raws i d)) (members_at s inside (drop (i + 1) raws))
+pub member_step : (s : Slot) (inside : Around) (raws : List Raw) (i : ℕ) (d : Raw) → i < length raws → members_at s inside (drop i raws) ≡ skipped (is_separator_at (get_or raws i d)) (place_at nowhere (get_or raws i d)) (shape_at s inside (get_or raws i d)) (members_at s inside (drop (i + 1) raws))
 unfolding members_at writtens place_at bare_at is_separator_at
 member_step s inside raws i d lt = ap (λ rs. Shapes.members s inside (writtens rs)) (from_item raws i d lt)
 
-pub member_end : (s : Slot) (inside : Bool) (raws : List Raw) (i : ℕ) → length raws ≤ i → members_at s inside (drop i raws) ≡ fine no_plans
+pub member_end : (s : Slot) (inside : Around) (raws : List Raw) (i : ℕ) → length raws ≤ i → members_at s inside (drop i raws) ≡ fine no_plans
 unfolding members_at writtens
 member_end s inside raws i le = ap (λ rs. Shapes.members s inside (writtens rs)) (drop_all i raws le)
 
-pub term_step : (inside : Bool) (run : Option ℕ) (raws : List Raw) (i : ℕ) (d : Raw) → i < length raws → terms_at inside run (drop i raws) ≡ skipped (is_separator_at (get_or raws i d)) (place_at nowhere (get_or raws i d)) (shape_at (slot.Term run) inside (get_or raws i d)) (terms_at inside (run_after_at run (get_or raws i d)) (drop (i + 1) raws))
+pub term_step : (inside : Around) (run : Option ℕ) (raws : List Raw) (i : ℕ) (d : Raw) → i < length raws → terms_at inside run (drop i raws) ≡ skipped (is_separator_at (get_or raws i d)) (place_at nowhere (get_or raws i d)) (shape_at (slot.Term run) inside (get_or raws i d)) (terms_at inside (run_after_at run (get_or raws i d)) (drop (i + 1) raws))
 unfolding terms_at writtens place_at bare_at is_separator_at run_after_at
 term_step inside run raws i d lt = ap (λ rs. Shapes.terms inside run (writtens rs)) (from_item raws i d lt)
 
-pub term_end : (inside : Bool) (run : Option ℕ) (raws : List Raw) (i : ℕ) → length raws ≤ i → terms_at inside run (drop i raws) ≡ fine no_plans
+pub term_end : (inside : Around) (run : Option ℕ) (raws : List Raw) (i : ℕ) → length raws ≤ i → terms_at inside run (drop i raws) ≡ fine no_plans
 unfolding terms_at writtens
 term_end inside run raws i le = ap (λ rs. Shapes.terms inside run (writtens rs)) (drop_all i raws le)
 
@@ -199,37 +231,53 @@ pub ruleset call_rules = (plan_call, from_none, call_is)
 
 pub ruleset offset_rules = (offset_term, from_none, offset_is)
 
+pub ruleset macro_rules = (from_none, macro_is)
+
+pub ruleset template_rules = (from_none, template_is)
+
+pub ruleset descriptor_rules = (from_none, descriptor_is, append_assoc)
+
 pub ruleset form_rules = (plan_form, from_none, append_assoc)
 
 -- ---- what stands in braces
 
-pub contents_none : (b : Body) (inside : Bool) (place : Place) → contents_at b inside place None ≡ fine no_plans
+pub contents_none : (b : Body) (inside : Around) (place : Place) → contents_at b inside place None ≡ fine no_plans
 unfolding contents_at
 contents_none braces.No inside place = refl
 contents_none braces.Terms inside place = refl
 contents_none braces.Bytes inside place = refl
 contents_none braces.Elements inside place = refl
 contents_none braces.FieldList inside place = refl
+contents_none (braces.Numbers most) inside place = refl
+contents_none braces.Descriptors inside place = refl
 
-pub contents_no : (inside : Bool) (place : Place) (raws : List Raw) → contents_at braces.No inside place (Some raws) ≡ fine no_plans
+pub contents_no : (inside : Around) (place : Place) (raws : List Raw) → contents_at braces.No inside place (Some raws) ≡ fine no_plans
 unfolding contents_at
 contents_no inside place raws = refl
 
-pub contents_terms : (inside : Bool) (place : Place) (raws : List Raw) → contents_at braces.Terms inside place (Some raws) ≡ terms_at inside None raws
+pub contents_terms : (inside : Around) (place : Place) (raws : List Raw) → contents_at braces.Terms inside place (Some raws) ≡ terms_at inside None raws
 unfolding contents_at terms_at
 contents_terms inside place raws = refl
 
-pub contents_bytes : (inside : Bool) (place : Place) (raws : List Raw) → contents_at braces.Bytes inside place (Some raws) ≡ list_shape place (is_listed_at true raws) (members_at (byte_slot_at raws) inside raws)
+pub contents_bytes : (inside : Around) (place : Place) (raws : List Raw) → contents_at braces.Bytes inside place (Some raws) ≡ list_shape place (is_listed_at true raws) (members_at (byte_slot_at raws) inside raws)
 unfolding contents_at members_at is_listed_at byte_slot_at
 contents_bytes inside place raws = refl
 
-pub contents_elements : (inside : Bool) (place : Place) (raws : List Raw) → contents_at braces.Elements inside place (Some raws) ≡ list_shape place (is_listed_at true raws) (members_at slot.Element inside raws)
+pub contents_elements : (inside : Around) (place : Place) (raws : List Raw) → contents_at braces.Elements inside place (Some raws) ≡ list_shape place (is_listed_at true raws) (members_at slot.Element inside raws)
 unfolding contents_at members_at is_listed_at
 contents_elements inside place raws = refl
 
-pub contents_fields : (inside : Bool) (place : Place) (raws : List Raw) → contents_at braces.FieldList inside place (Some raws) ≡ list_shape place (is_field_list_at begin raws) (elements_at begin None inside raws)
+pub contents_fields : (inside : Around) (place : Place) (raws : List Raw) → contents_at braces.FieldList inside place (Some raws) ≡ list_shape place (is_field_list_at begin raws) (elements_at begin None inside raws)
 unfolding contents_at is_field_list_at elements_at
 contents_fields inside place raws = refl
+
+pub contents_numbers : (most : ℕ) (inside : Around) (place : Place) (raws : List Raw) → contents_at (braces.Numbers most) inside place (Some raws) ≡ list_shape place (is_listed_at true raws) (members_at (slot.Constant 0 most) inside raws)
+unfolding contents_at members_at is_listed_at
+contents_numbers most inside place raws = refl
+
+pub contents_descriptors : (inside : Around) (place : Place) (raws : List Raw) → contents_at braces.Descriptors inside place (Some raws) ≡ members_at slot.Descriptor inside raws
+unfolding contents_at members_at
+contents_descriptors inside place raws = refl
 
 -- ---- sizes
 
@@ -262,13 +310,13 @@ size_within (r ∷ rs) (suc i) d lt = omega (arith, size_within rs i d (omega (a
 
 -- ---- steps of the lists
 
-pub operand_faults : (s : Slot) (inside : Bool) (raws : List Raw) (i : ℕ) (d : Raw) (old new w : List Message) → i < length raws → old ++ (operands_at s inside (drop i raws)).faults ≡ w → new ≡ old ++ (shape_at s inside (get_or raws i d)).faults → new ++ (operands_at slot.Expression inside (drop (i + 1) raws)).faults ≡ w
+pub operand_faults : (s : Slot) (inside : Around) (raws : List Raw) (i : ℕ) (d : Raw) (old new w : List Message) → i < length raws → old ++ (operands_at s inside (drop i raws)).faults ≡ w → new ≡ old ++ (shape_at s inside (get_or raws i d)).faults → new ++ (operands_at slot.Expression inside (drop (i + 1) raws)).faults ≡ w
 operand_faults s inside raws i d old new w lt e f =
     ap (λ ms. ms ++ (operands_at slot.Expression inside (drop (i + 1) raws)).faults) f
     ∙ append_assoc old (shape_at s inside (get_or raws i d)).faults (operands_at slot.Expression inside (drop (i + 1) raws)).faults
     ∙ ap (λ x. old ++ x.faults) (sym (operand_step s inside raws i d lt)) ∙ e
 
-pub operand_made : (s : Slot) (inside : Bool) (raws : List Raw) (i : ℕ) (d : Raw) (old new w : Plans) → i < length raws → join old (operands_at s inside (drop i raws)).made ≡ w → new ≡ join old (one_at nowhere (get_or raws i d) (shape_at s inside (get_or raws i d)).made) → join new (operands_at slot.Expression inside (drop (i + 1) raws)).made ≡ w
+pub operand_made : (s : Slot) (inside : Around) (raws : List Raw) (i : ℕ) (d : Raw) (old new w : Plans) → i < length raws → join old (operands_at s inside (drop i raws)).made ≡ w → new ≡ join old (one_at nowhere (get_or raws i d) (shape_at s inside (get_or raws i d)).made) → join new (operands_at slot.Expression inside (drop (i + 1) raws)).made ≡ w
 operand_made s inside raws i d old new w lt e f =
     ap (λ ms. join ms (operands_at slot.Expression inside (drop (i + 1) raws)).made) f
     ∙ join_assoc old (one_at nowhere (get_or raws i d) (shape_at s inside (get_or raws i d)).made) (operands_at slot.Expression inside (drop (i + 1) raws)).made
@@ -280,7 +328,7 @@ pub ruleset size_rules = (size_item, size_apply, size_inside, size_none, size_so
 
 pub ruleset symbol_rules = (contents_none, nothing_more)
 
-pub ruleset content_rules = (append_assoc, nothing_more, nothing_behind, contents_none, contents_no, contents_terms, contents_bytes, contents_elements, contents_fields, size_some)
+pub ruleset content_rules = (append_assoc, nothing_more, nothing_behind, contents_none, contents_no, contents_terms, contents_bytes, contents_elements, contents_fields, contents_numbers, contents_descriptors, size_some)
 
 -- ---- steps of the other lists
 
@@ -292,21 +340,21 @@ parted_made : (t : Bool) (place : Place) (x : Shaped Plan) (rest : Shaped Plans)
 parted_made true place x rest = refl
 parted_made false place x rest = refl
 
-pub member_skip : (s : Slot) (inside : Bool) (r : Raw) → is_separator_at r ≡ true → member_at s inside r ≡ fine no_plans
+pub member_skip : (s : Slot) (inside : Around) (r : Raw) → is_separator_at r ≡ true → member_at s inside r ≡ fine no_plans
 unfolding member_at
 member_skip s inside r e = ap (λ t. skipped t (place_at nowhere r) (shape_at s inside r) (fine no_plans)) e
 
-pub member_faults : (s : Slot) (inside : Bool) (r : Raw) → is_separator_at r ≡ false → (member_at s inside r).faults ≡ (shape_at s inside r).faults
+pub member_faults : (s : Slot) (inside : Around) (r : Raw) → is_separator_at r ≡ false → (member_at s inside r).faults ≡ (shape_at s inside r).faults
 unfolding member_at
 member_faults s inside r e = ap (λ t. (skipped t (place_at nowhere r) (shape_at s inside r) (fine no_plans)).faults) e ∙ append-nil (shape_at s inside r).faults
 
-pub member_made : (s : Slot) (inside : Bool) (r : Raw) → is_separator_at r ≡ false → (member_at s inside r).made ≡ one_at nowhere r (shape_at s inside r).made
+pub member_made : (s : Slot) (inside : Around) (r : Raw) → is_separator_at r ≡ false → (member_at s inside r).made ≡ one_at nowhere r (shape_at s inside r).made
 unfolding member_at
 member_made s inside r e = ap (λ t. (skipped t (place_at nowhere r) (shape_at s inside r) (fine no_plans)).made) e
 
 pub ruleset one_member_rules = (member_skip, member_faults, member_made, nothing_more, nothing_behind)
 
-pub list_faults : (s : Slot) (inside : Bool) (raws : List Raw) (i : ℕ) (d : Raw) (old new w : List Message) → i < length raws → old ++ (members_at s inside (drop i raws)).faults ≡ w → new ≡ old ++ (member_at s inside (get_or raws i d)).faults → new ++ (members_at s inside (drop (i + 1) raws)).faults ≡ w
+pub list_faults : (s : Slot) (inside : Around) (raws : List Raw) (i : ℕ) (d : Raw) (old new w : List Message) → i < length raws → old ++ (members_at s inside (drop i raws)).faults ≡ w → new ≡ old ++ (member_at s inside (get_or raws i d)).faults → new ++ (members_at s inside (drop (i + 1) raws)).faults ≡ w
 unfolding member_at
 list_faults s inside raws i d old new w lt e f =
     let r = get_or raws i d in
@@ -314,7 +362,7 @@ list_faults s inside raws i d old new w lt e f =
     ap (λ ms. ms ++ rest.faults) f ∙ append_assoc old (member_at s inside r).faults rest.faults
     ∙ ap (λ ms. old ++ ms) (parted (is_separator_at r) (place_at nowhere r) (shape_at s inside r) rest) ∙ ap (λ x. old ++ x.faults) (sym (member_step s inside raws i d lt)) ∙ e
 
-pub list_made : (s : Slot) (inside : Bool) (raws : List Raw) (i : ℕ) (d : Raw) (old new w : Plans) → i < length raws → join old (members_at s inside (drop i raws)).made ≡ w → new ≡ join old (member_at s inside (get_or raws i d)).made → join new (members_at s inside (drop (i + 1) raws)).made ≡ w
+pub list_made : (s : Slot) (inside : Around) (raws : List Raw) (i : ℕ) (d : Raw) (old new w : Plans) → i < length raws → join old (members_at s inside (drop i raws)).made ≡ w → new ≡ join old (member_at s inside (get_or raws i d)).made → join new (members_at s inside (drop (i + 1) raws)).made ≡ w
 unfolding member_at
 list_made s inside raws i d old new w lt e f =
     let r = get_or raws i d in
@@ -322,7 +370,7 @@ list_made s inside raws i d old new w lt e f =
     ap (λ ms. join ms rest.made) f ∙ join_assoc old (member_at s inside r).made rest.made
     ∙ ap (λ ms. join old ms) (parted_made (is_separator_at r) (place_at nowhere r) (shape_at s inside r) rest) ∙ ap (λ x. join old x.made) (sym (member_step s inside raws i d lt)) ∙ e
 
-pub run_faults : (inside : Bool) (run : Option ℕ) (raws : List Raw) (i : ℕ) (d : Raw) (old new w : List Message) → i < length raws → old ++ (terms_at inside run (drop i raws)).faults ≡ w → new ≡ old ++ (member_at (slot.Term run) inside (get_or raws i d)).faults → new ++ (terms_at inside (run_after_at run (get_or raws i d)) (drop (i + 1) raws)).faults ≡ w
+pub run_faults : (inside : Around) (run : Option ℕ) (raws : List Raw) (i : ℕ) (d : Raw) (old new w : List Message) → i < length raws → old ++ (terms_at inside run (drop i raws)).faults ≡ w → new ≡ old ++ (member_at (slot.Term run) inside (get_or raws i d)).faults → new ++ (terms_at inside (run_after_at run (get_or raws i d)) (drop (i + 1) raws)).faults ≡ w
 unfolding member_at
 run_faults inside run raws i d old new w lt e f =
     let r = get_or raws i d in
@@ -330,7 +378,7 @@ run_faults inside run raws i d old new w lt e f =
     ap (λ ms. ms ++ rest.faults) f ∙ append_assoc old (member_at (slot.Term run) inside r).faults rest.faults
     ∙ ap (λ ms. old ++ ms) (parted (is_separator_at r) (place_at nowhere r) (shape_at (slot.Term run) inside r) rest) ∙ ap (λ x. old ++ x.faults) (sym (term_step inside run raws i d lt)) ∙ e
 
-pub run_made : (inside : Bool) (run : Option ℕ) (raws : List Raw) (i : ℕ) (d : Raw) (old new w : Plans) → i < length raws → join old (terms_at inside run (drop i raws)).made ≡ w → new ≡ join old (member_at (slot.Term run) inside (get_or raws i d)).made → join new (terms_at inside (run_after_at run (get_or raws i d)) (drop (i + 1) raws)).made ≡ w
+pub run_made : (inside : Around) (run : Option ℕ) (raws : List Raw) (i : ℕ) (d : Raw) (old new w : Plans) → i < length raws → join old (terms_at inside run (drop i raws)).made ≡ w → new ≡ join old (member_at (slot.Term run) inside (get_or raws i d)).made → join new (terms_at inside (run_after_at run (get_or raws i d)) (drop (i + 1) raws)).made ≡ w
 unfolding member_at
 run_made inside run raws i d old new w lt e f =
     let r = get_or raws i d in
@@ -340,33 +388,33 @@ run_made inside run raws i d old new w lt e f =
 
 -- ---- arguments, by the parameters that are left
 
-pub argument_more : (q : Parameter) (qs : List Parameter) (place : Place) (inside : Bool) (r : Raw) (rs : List Raw) → arguments_in_at (q ∷ qs) place inside (r ∷ rs) ≡ joined (place_at place r) (shape_at (slot_as q.slot (meaning_at r)) inside r) (arguments_in_at qs place inside rs)
+pub argument_more : (q : Parameter) (qs : List Parameter) (place : Place) (inside : Around) (r : Raw) (rs : List Raw) → arguments_in_at (q ∷ qs) place inside (r ∷ rs) ≡ joined (place_at place r) (shape_at (slot_as q.slot (meaning_at r)) inside r) (arguments_in_at qs place inside rs)
 unfolding arguments_in_at writtens place_at bare_at meaning_at
 argument_more q qs place inside r rs = refl
 
-pub argument_left : (q : Parameter) (qs : List Parameter) (place : Place) (inside : Bool) → arguments_in_at (q ∷ qs) place inside [] ≡ joined place (fine omitted) (arguments_in_at qs place inside [])
+pub argument_left : (q : Parameter) (qs : List Parameter) (place : Place) (inside : Around) → arguments_in_at (q ∷ qs) place inside [] ≡ joined place (fine omitted) (arguments_in_at qs place inside [])
 unfolding arguments_in_at writtens
 argument_left q [] place inside = refl
 argument_left q (p ∷ qs) place inside = refl
 
-pub argument_end : (place : Place) (inside : Bool) (rs : List Raw) → arguments_in_at [] place inside rs ≡ fine no_plans
+pub argument_end : (place : Place) (inside : Around) (rs : List Raw) → arguments_in_at [] place inside rs ≡ fine no_plans
 unfolding arguments_in_at writtens
 argument_end place inside [] = refl
 argument_end place inside (r ∷ rs) = refl
 
-pub left_faults : (q : Parameter) (place : Place) (inside : Bool) (o : Option Raw) → o ≡ None → (argument_at q place inside o).faults ≡ []
+pub left_faults : (q : Parameter) (place : Place) (inside : Around) (o : Option Raw) → o ≡ None → (argument_at q place inside o).faults ≡ []
 unfolding argument_at
 left_faults q place inside o e = ap (λ o. (argument_at q place inside o).faults) e
 
-pub left_made : (q : Parameter) (place : Place) (inside : Bool) (o : Option Raw) → o ≡ None → (argument_at q place inside o).made ≡ left_at place
+pub left_made : (q : Parameter) (place : Place) (inside : Around) (o : Option Raw) → o ≡ None → (argument_at q place inside o).made ≡ left_at place
 unfolding argument_at
 left_made q place inside o e = ap (λ o. (argument_at q place inside o).made) e
 
-pub argument_some_faults : (q : Parameter) (place : Place) (inside : Bool) (o : Option Raw) (r : Raw) → o ≡ Some r → (argument_at q place inside o).faults ≡ (shape_at (slot_as q.slot (meaning_at r)) inside r).faults
+pub argument_some_faults : (q : Parameter) (place : Place) (inside : Around) (o : Option Raw) (r : Raw) → o ≡ Some r → (argument_at q place inside o).faults ≡ (shape_at (slot_as q.slot (meaning_at r)) inside r).faults
 unfolding argument_at
 argument_some_faults q place inside o r e = ap (λ o. (argument_at q place inside o).faults) e ∙ append-nil (shape_at (slot_as q.slot (meaning_at r)) inside r).faults
 
-pub argument_some_made : (q : Parameter) (place : Place) (inside : Bool) (o : Option Raw) (r : Raw) → o ≡ Some r → (argument_at q place inside o).made ≡ one_at place r (shape_at (slot_as q.slot (meaning_at r)) inside r).made
+pub argument_some_made : (q : Parameter) (place : Place) (inside : Around) (o : Option Raw) (r : Raw) → o ≡ Some r → (argument_at q place inside o).made ≡ one_at place r (shape_at (slot_as q.slot (meaning_at r)) inside r).made
 unfolding argument_at
 argument_some_made q place inside o r e = ap (λ o. (argument_at q place inside o).made) e
 
@@ -393,7 +441,7 @@ got_none (x ∷ xs) (suc i) le = got_none xs i (omega (arith, le))
 
 pub ruleset one_argument_rules = (left_faults, left_made, argument_some_faults, argument_some_made, nothing_more, nothing_behind, omitted_term, size_got)
 
-next_argument : (q : Parameter) (qs : List Parameter) (place : Place) (inside : Bool) (raws : List Raw) (i : ℕ)
+next_argument : (q : Parameter) (qs : List Parameter) (place : Place) (inside : Around) (raws : List Raw) (i : ℕ)
     → ((argument_at q place inside (slice_get raws i)).faults ++ (arguments_in_at qs place inside (drop (suc i) raws)).faults ≡ (arguments_in_at (q ∷ qs) place inside (drop i raws)).faults)
     × (join (argument_at q place inside (slice_get raws i)).made (arguments_in_at qs place inside (drop (suc i) raws)).made ≡ (arguments_in_at (q ∷ qs) place inside (drop i raws)).made)
 unfolding argument_at
@@ -402,7 +450,7 @@ next_argument q qs place inside [] (suc i) = (sym (ap (λ x. x.faults) (argument
 next_argument q qs place inside (r ∷ rs) zero = (ap (λ ms. ms ++ (arguments_in_at qs place inside rs).faults) (append-nil (shape_at (slot_as q.slot (meaning_at r)) inside r).faults) ∙ sym (ap (λ x. x.faults) (argument_more q qs place inside r rs)), sym (ap (λ x. x.made) (argument_more q qs place inside r rs)))
 next_argument q qs place inside (r ∷ rs) (suc i) = next_argument q qs place inside rs i
 
-later_argument : (qs : List Parameter) (place : Place) (inside : Bool) (raws : List Raw) (i : ℕ) (d : Parameter) → i < length qs
+later_argument : (qs : List Parameter) (place : Place) (inside : Around) (raws : List Raw) (i : ℕ) (d : Parameter) → i < length qs
     → ((argument_at (get_or qs i d) place inside (slice_get raws i)).faults ++ (arguments_in_at (drop (i + 1) qs) place inside (drop (i + 1) raws)).faults ≡ (arguments_in_at (drop i qs) place inside (drop i raws)).faults)
     × (join (argument_at (get_or qs i d) place inside (slice_get raws i)).made (arguments_in_at (drop (i + 1) qs) place inside (drop (i + 1) raws)).made ≡ (arguments_in_at (drop i qs) place inside (drop i raws)).made)
 later_argument qs place inside raws i d lt =
@@ -411,19 +459,19 @@ later_argument qs place inside raws i d lt =
       ap (λ k. join (argument_at (get_or qs i d) place inside (slice_get raws i)).made (arguments_in_at (drop k qs) place inside (drop k raws)).made) (add-one i) ∙ step.1 ∙ ap (λ xs. (arguments_in_at xs place inside (drop i raws)).made) (sym (drop-cons qs i d lt)),
     )
 
-pub argument_faults : (qs : List Parameter) (place : Place) (inside : Bool) (raws : List Raw) (i : ℕ) (d : Parameter) (old new w : List Message) → i < length qs → old ++ (arguments_in_at (drop i qs) place inside (drop i raws)).faults ≡ w → new ≡ old ++ (argument_at (get_or qs i d) place inside (slice_get raws i)).faults → new ++ (arguments_in_at (drop (i + 1) qs) place inside (drop (i + 1) raws)).faults ≡ w
+pub argument_faults : (qs : List Parameter) (place : Place) (inside : Around) (raws : List Raw) (i : ℕ) (d : Parameter) (old new w : List Message) → i < length qs → old ++ (arguments_in_at (drop i qs) place inside (drop i raws)).faults ≡ w → new ≡ old ++ (argument_at (get_or qs i d) place inside (slice_get raws i)).faults → new ++ (arguments_in_at (drop (i + 1) qs) place inside (drop (i + 1) raws)).faults ≡ w
 argument_faults qs place inside raws i d old new w lt e f =
     ap (λ ms. ms ++ (arguments_in_at (drop (i + 1) qs) place inside (drop (i + 1) raws)).faults) f
     ∙ append_assoc old (argument_at (get_or qs i d) place inside (slice_get raws i)).faults (arguments_in_at (drop (i + 1) qs) place inside (drop (i + 1) raws)).faults
     ∙ ap (λ ms. old ++ ms) (later_argument qs place inside raws i d lt).0 ∙ e
 
-pub argument_made : (qs : List Parameter) (place : Place) (inside : Bool) (raws : List Raw) (i : ℕ) (d : Parameter) (old new w : Plans) → i < length qs → join old (arguments_in_at (drop i qs) place inside (drop i raws)).made ≡ w → new ≡ join old (argument_at (get_or qs i d) place inside (slice_get raws i)).made → join new (arguments_in_at (drop (i + 1) qs) place inside (drop (i + 1) raws)).made ≡ w
+pub argument_made : (qs : List Parameter) (place : Place) (inside : Around) (raws : List Raw) (i : ℕ) (d : Parameter) (old new w : Plans) → i < length qs → join old (arguments_in_at (drop i qs) place inside (drop i raws)).made ≡ w → new ≡ join old (argument_at (get_or qs i d) place inside (slice_get raws i)).made → join new (arguments_in_at (drop (i + 1) qs) place inside (drop (i + 1) raws)).made ≡ w
 argument_made qs place inside raws i d old new w lt e f =
     ap (λ ms. join ms (arguments_in_at (drop (i + 1) qs) place inside (drop (i + 1) raws)).made) f
     ∙ join_assoc old (argument_at (get_or qs i d) place inside (slice_get raws i)).made (arguments_in_at (drop (i + 1) qs) place inside (drop (i + 1) raws)).made
     ∙ ap (λ ms. join old ms) (later_argument qs place inside raws i d lt).1 ∙ e
 
-pub argument_over : (qs : List Parameter) (place : Place) (inside : Bool) (raws : List Raw) (i : ℕ) → length qs ≤ i → arguments_in_at (drop i qs) place inside (drop i raws) ≡ fine no_plans
+pub argument_over : (qs : List Parameter) (place : Place) (inside : Around) (raws : List Raw) (i : ℕ) → length qs ≤ i → arguments_in_at (drop i qs) place inside (drop i raws) ≡ fine no_plans
 argument_over qs place inside raws i le = ap (λ xs. arguments_in_at xs place inside (drop i raws)) (drop_all i qs le) ∙ argument_end place inside (drop i raws)
 
 pub ruleset argument_all = (argument_faults, argument_made, argument_over, nothing_more, nothing_behind)

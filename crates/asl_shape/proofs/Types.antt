@@ -8,6 +8,7 @@ use Rattle.asl_parser.specs.declared.raw.Raw.TheVariants as raw
 use Rattle.asl_words.specs.declared.operator.Slot.{Slot}
 use Rattle.acpi_state.specs.Outcomes.{choose}
 use Rattle.asl_parser.specs.Written.{writtens, written_in}
+use Rattle.asl_words.specs.Meanings.{unfit}
 use Rattle.asl_shape.specs.Plans.{an_integer}
 use Rattle.asl_shape.specs.Shapes.{is_type, is_bare_type, is_given, is_type_or_list, types_shape, most_types, refused, fine}
 use Rattle.asl_shape.specs.AtRaw.{is_type_at, are_types_at, is_type_or_list_at, are_all_types_at, types_at, listed_at, is_some}
@@ -129,10 +130,10 @@ pub ruleset counted_rules = (types_are, term_rules, nothing_more)
 
 pub listed_types : (s : Slot) (most : ℕ) (place : Place) (raws : List Raw) → most_types s ≡ Some most → listed_at s place raws ≡ types_at most place raws
 unfolding listed_at types_at
-listed_types s most place raws e = ap (λ o. choose o (refused 6022 place) (λ most. types_shape most place (writtens raws))) e
+listed_types s most place raws e = ap (λ o. choose o (refused (unfit s) place) (λ most. types_shape most place (writtens raws))) e
 
-pub listed_nothing : (s : Slot) (place : Place) (raws : List Raw) → most_types s ≡ None → listed_at s place raws ≡ refused 6022 place
+pub listed_nothing : (s : Slot) (place : Place) (raws : List Raw) → most_types s ≡ None → listed_at s place raws ≡ refused (unfit s) place
 unfolding listed_at
-listed_nothing s place raws e = ap (λ o. choose o (refused 6022 place) (λ most. types_shape most place (writtens raws))) e
+listed_nothing s place raws e = ap (λ o. choose o (refused (unfit s) place) (λ most. types_shape most place (writtens raws))) e
 
 pub ruleset listed_rules = (listed_types, listed_nothing, nothing_more)

@@ -13,11 +13,16 @@ use Rattle.asl_tree.specs.declared.term.Node.{Node}
 use Rattle.asl_tree.specs.declared.term.Term.{Term}
 use Rattle.asl_tree.specs.declared.term.Term as D
 use Rattle.asl_parser.specs.Written.{none, more, written, writtens, written_in}
-use Rattle.asl_shape.specs.Plans.{plan_of, plans_of, plan_at, text_of}
+use Rattle.acpi_values.specs.Revisions.{width_of}
+use Rattle.acpi_values.specs.declared.width.Width.TheVariants.{W64}
+use Rattle.iasl_messages.specs.declared.message.Message.{Message}
+use Rattle.asl_shape.specs.declared.around.Around.{Around}
+use Rattle.asl_shape.specs.Around.{outside}
+use Rattle.asl_shape.specs.Plans.{Plans, plan_of, plans_of, plan_at, text_of, join}
 use Rattle.asl_words.specs.Operators.{block_parameters}
-use Rattle.asl_shape.specs.Shapes.{fault_at, takes, inside_of, is_given, terms, place_of}
+use Rattle.asl_shape.specs.Shapes.{Shaped, fault_at, takes, inside_of, is_given, terms, place_of}
 use Rattle.asl_shape.specs.AtRaw.{takes_at, inside_at, is_some, terms_at, arguments_at, arguments_in_at, place_at, Refuses}
-use Rattle.asl_shape.specs.Forms.{start, is_block_word, block_fault, errors_inside, block_errors, no_block, errors_before, first_errors, block_place, args_of, terms_of, IsBlock, errors_at, IsBlockOf, args_in, terms_in, errors_in, block_errors_at, item_errors_at, IsItemBlock, Forms}
+use Rattle.asl_shape.specs.Forms.{revision_in, start, is_block_word, block_fault, errors_inside, block_errors, no_block, errors_before, first_errors, block_place, args_of, terms_of, IsBlock, errors_at, IsBlockOf, args_in, terms_in, errors_in, block_errors_at, item_errors_at, IsItemBlock, Forms}
 use Rattle.asl_shape.proofs.Plans.{plan_form, plan_call}
 use Rattle.asl_shape.proofs.Settled.{at_some, at_none}
 use Rattle.asl_shape.proofs.Terms.{term_rules, nothing_more}
@@ -41,11 +46,23 @@ text_none nodes i le = ap text_of (at_none nodes i le)
 
 pub ruleset text_rules = (text_some, text_none)
 
-pub errors_in_are : (place : Place) (args body : List Raw) → errors_in place args body ≡ (arguments_in_at block_parameters place false args).faults ++ (terms_at false None body).faults
-unfolding errors_in
-errors_in_are place args body = refl
+pub inside_made : (place : Place) (args : List Raw) (nodes nodes' : List Node) → nodes ≡ [] → plans_of nodes' ≡ join (plans_of nodes) (args_in place args).made → plans_of nodes' ≡ (args_in place args).made
+inside_made place args nodes nodes' e made = made ∙ ap (λ ns. join (plans_of ns) (args_in place args).made) e ∙ from_none (args_in place args).made
 
-pub ruleset inside_rules = (errors_in_are, append_assoc)
+-- what is told of the arguments, and then of the terms
+pub inside_told : (place : Place) (args body : List Raw) (nodes nodes' : List Node) (old middle all : List Message) → nodes ≡ [] → plans_of nodes' ≡ join (plans_of nodes) (args_in place args).made → middle ≡ old ++ (args_in place args).faults
+    → all ≡ middle ++ (terms_in (plans_of nodes') body).faults → all ≡ old ++ errors_in place args body
+unfolding errors_in
+inside_told place args body nodes nodes' old middle all e made told behind =
+    let is : plans_of nodes' ≡ (args_in place args).made = inside_made place args nodes nodes' e made in
+    behind ∙ ap (λ ps. middle ++ (terms_in ps body).faults) is ∙ ap (λ ms. ms ++ (terms_in (args_in place args).made body).faults) told ∙ append_assoc old (args_in place args).faults (terms_in (args_in place args).made body).faults
+
+pub inside_terms : (place : Place) (args body : List Raw) (nodes nodes' : List Node) (old new : Plans) → nodes ≡ [] → plans_of nodes' ≡ join (plans_of nodes) (args_in place args).made
+    → new ≡ join old (terms_in (plans_of nodes') body).made → new ≡ join old (terms_in (args_in place args).made body).made
+inside_terms place args body nodes nodes' old new e made behind =
+    behind ∙ ap (λ ps. join old (terms_in ps body).made) (inside_made place args nodes nodes' e made)
+
+pub ruleset inside_rules = (inside_told, inside_made, inside_terms)
 
 pub ruleset block_rules = (none_left, all_made)
 
@@ -71,7 +88,7 @@ pub item_alone : (place : Place) (word : List ℕ) (args body : Option (List Raw
 unfolding item_errors_at writtens
 item_alone place word args body e = ap (λ b. if b then block_errors_at place args body else no_block place) e
 
-pub alone_is : (place : Place) (args body : Option (List Raw)) (block : Block) → IsItemBlock place args body [] block ≡ IsBlock place (args_in place (inside_at args)).made (terms_in (inside_at body)).made block
+pub alone_is : (place : Place) (args body : Option (List Raw)) (block : Block) → IsItemBlock place args body [] block ≡ IsBlock place (args_in place (inside_at args)).made (terms_in (args_in place (inside_at args)).made (inside_at body)).made block
 unfolding IsItemBlock
 alone_is place args body block = refl
 
@@ -80,10 +97,12 @@ pub ruleset item_rules = (item_other, item_more, item_alone, alone_is)
 block_errors_are : (place : Place) (args body : Option (List Raw)) → block_errors place (written_in args) (written_in body) ≡ block_errors_at place args body
 unfolding block_errors_at errors_in takes_at terms_at arguments_at
 block_errors_are place args body =
-    ap (λ ws. errors_inside (block_fault (takes block_parameters ws) (is_given (written_in body))) place ((arguments_at block_parameters place false args).faults ++ (terms false None (inside_of (written_in body))).faults)) (inside_written args)
-    ∙ ap (λ b. errors_inside (block_fault (takes block_parameters (writtens (inside_at args))) b) place ((arguments_at block_parameters place false args).faults ++ (terms false None (inside_of (written_in body))).faults)) (given_some body)
-    ∙ ap (λ ws. errors_inside (block_fault (takes block_parameters (writtens (inside_at args))) (is_some body)) place ((arguments_at block_parameters place false args).faults ++ (terms false None ws).faults)) (inside_written body)
-    ∙ ap (λ x. errors_inside (block_fault (takes block_parameters (writtens (inside_at args))) (is_some body)) place (x.faults ++ (terms_at false None (inside_at body)).faults)) (arguments_are block_parameters place false args)
+    let around = λ (x : Shaped Plans). outside (width_of (revision_in x.made)) in
+    let written_args = arguments_at block_parameters place (outside W64) args in
+    ap (λ ws. errors_inside (block_fault (takes block_parameters ws) (is_given (written_in body))) place (written_args.faults ++ (terms (around written_args) None (inside_of (written_in body))).faults)) (inside_written args)
+    ∙ ap (λ b. errors_inside (block_fault (takes block_parameters (writtens (inside_at args))) b) place (written_args.faults ++ (terms (around written_args) None (inside_of (written_in body))).faults)) (given_some body)
+    ∙ ap (λ ws. errors_inside (block_fault (takes block_parameters (writtens (inside_at args))) (is_some body)) place (written_args.faults ++ (terms (around written_args) None ws).faults)) (inside_written body)
+    ∙ ap (λ (x : Shaped Plans). errors_inside (block_fault (takes block_parameters (writtens (inside_at args))) (is_some body)) place (x.faults ++ (terms_at (around x) None (inside_at body)).faults)) (arguments_are block_parameters place (outside W64) args)
 
 pub first_item : (place : Place) (word : List ℕ) (args body : Option (List Raw)) (rest : List Raw) → errors_at (raw.Item place word args body ∷ rest) ≡ item_errors_at place word args body rest
 unfolding errors_at writtens item_errors_at
@@ -132,8 +151,8 @@ pub block_is : (place : Place) (word : List ℕ) (args body : Option (List Raw))
 unfolding IsItemBlock IsBlockOf writtens terms_at arguments_at
 block_is place word args body [] block h =
     subst (λ w. IsBlock (block_place (more w none)) (args_of (more w none)) (terms_of (more w none)) block) (sym (written_item place word args body))
-    (subst (λ x. IsBlock place x.made (terms false None (inside_of (written_in body))).made block) (sym (arguments_are block_parameters place false args))
-    (subst (λ ws. IsBlock place (args_in place (inside_at args)).made (terms false None ws).made block) (sym (inside_written body)) h))
+    (subst (λ (x : Shaped Plans). IsBlock place x.made (terms (outside (width_of (revision_in x.made))) None (inside_of (written_in body))).made block) (sym (arguments_are block_parameters place (outside W64) args))
+    (subst (λ ws. IsBlock place (args_in place (inside_at args)).made (terms (outside (width_of (revision_in (args_in place (inside_at args)).made))) None ws).made block) (sym (inside_written body)) h))
 block_is place word args body (r ∷ rs) block h = absurd h
 
 pub first_formed : (first : Raw) (place : Place) (word : List ℕ) (args body : Option (List Raw)) (rest : List Raw) (result : Result Block Stage) → first ≡ raw.Item place word args body

@@ -5,20 +5,25 @@ use Rattle.iasl_messages.specs.declared.message.Message.{Message}
 use Rattle.iasl_messages.specs.declared.message.Stage.{Stage}
 use Rattle.iasl_messages.specs.declared.message.Stage.TheVariants as stage
 use Rattle.asl_parser.specs.declared.raw.Raw.{Raw}
+use Rattle.asl_shape.specs.declared.around.Around.{Around}
 use Rattle.asl_shape.specs.Plans.{Plan, omitted, Plans, no_plans, plan}
 use Rattle.asl_tree.specs.declared.term.Op.{Op}
 use Rattle.asl_words.specs.declared.operator.Parameter.{Parameter}
 use Rattle.asl_words.specs.declared.operator.Slot.{Slot}
 use Rattle.asl_words.specs.declared.operator.Slot.TheVariants as slot
 use Rattle.asl_words.specs.declared.operator.Body.{Body}
+use Rattle.asl_words.specs.declared.operator.Body.TheVariants as braces
+use Rattle.resource_layout.specs.declared.descriptor.Descriptor.{Descriptor}
+use Rattle.asl_words.specs.declared.operator.TextMacro.{TextMacro}
 use Rattle.asl_words.specs.declared.meaning.Meaning.{Meaning}
 use Rattle.asl_words.specs.declared.meaning.Reading.{Reading}
 use Rattle.asl_shape.specs.declared.fields.Due.{Due}
 use Rattle.asl_shape.specs.declared.fields.UnitName.{UnitName}
 use Rattle.asl_parser.specs.Written.{written, writtens, written_in}
-use Rattle.asl_shape.specs.Shapes.{Shaped, fine, takes, none_empty, has_arguments, is_comma, due_after, is_text, bare, run_after, is_call, is_separator, is_listed, byte_slot, skipped, joined, operands, call_args, arguments, arguments_in, contents, members, terms, read_shape, form_shape, within, place_of, nowhere, checked, item_shape, listed_shape, types_shape, is_type, are_types, is_type_or_list, are_all_types, meaning_in, goes_on, is_field_list, field_slot, unit_behind, field_part, due_behind, offset_shape, elements, begin}
+use Rattle.asl_shape.specs.Shapes.{Shaped, fine, takes, none_empty, has_arguments, is_comma, due_after, is_text, bare, run_after, is_call, is_separator, is_listed, byte_slot, skipped, joined, operands, call_args, arguments, arguments_in, contents, members, terms, read_shape, form_shape, within, place_of, nowhere, checked, item_shape, listed_shape, types_shape, is_type, are_types, is_type_or_list, are_all_types, meaning_in, goes_on, is_field_list, field_slot, unit_behind, field_part, due_behind, offset_shape, macro_shape, template_shape, descriptor_shape, elements, begin}
 use Rattle.asl_words.specs.Meanings.{item_fault, meaning_of, reading_of, slot_as}
-use Rattle.asl_words.specs.Operators.{parameters_of, body_of, offset_parameters}
+use Rattle.asl_words.specs.Operators.{parameters_of, body_of, offset_parameters, macro_parameters}
+use Rattle.asl_words.specs.Resources.{descriptor_parameters, descriptor_body}
 
 unfoldable pub takes_at : List Parameter → List Raw → Bool
 takes_at qs raws = takes qs (writtens raws)
@@ -36,15 +41,15 @@ abbrev pub inside_at : Option (List Raw) → List Raw
 inside_at None = []
 inside_at (Some raws) = raws
 
-unfoldable pub bare_at : Slot → Bool → Raw → Shaped Plan
+unfoldable pub bare_at : Slot → Around → Raw → Shaped Plan
 bare_at s inside raw = bare s inside (written raw)
 
 unfoldable pub place_at : Place → Raw → Place
 place_at place raw = place_of place (written raw)
 
 -- a part of a source where it is read so
-abbrev pub shape_at : Slot → Bool → Raw → Shaped Plan
-shape_at s inside raw = checked s (place_at nowhere raw) (bare_at s inside raw)
+abbrev pub shape_at : Slot → Around → Raw → Shaped Plan
+shape_at s inside raw = checked inside.width s (place_at nowhere raw) (bare_at s inside raw)
 
 unfoldable pub is_separator_at : Raw → Bool
 is_separator_at raw = is_separator (written raw)
@@ -52,38 +57,50 @@ is_separator_at raw = is_separator (written raw)
 unfoldable pub run_after_at : Option ℕ → Raw → Option ℕ
 run_after_at run raw = run_after run (written raw)
 
-unfoldable pub operands_at : Slot → Bool → List Raw → Shaped Plans
+unfoldable pub operands_at : Slot → Around → List Raw → Shaped Plans
 operands_at s inside raws = operands s inside (writtens raws)
 
-unfoldable pub call_at : Bool → Option (List Raw) → Shaped Plans
+unfoldable pub call_at : Around → Option (List Raw) → Shaped Plans
 call_at inside raws = call_args inside (written_in raws)
 
-unfoldable pub arguments_at : List Parameter → Place → Bool → Option (List Raw) → Shaped Plans
+unfoldable pub arguments_at : List Parameter → Place → Around → Option (List Raw) → Shaped Plans
 arguments_at qs place inside raws = arguments qs place inside (written_in raws)
 
-unfoldable pub arguments_in_at : List Parameter → Place → Bool → List Raw → Shaped Plans
+unfoldable pub arguments_in_at : List Parameter → Place → Around → List Raw → Shaped Plans
 arguments_in_at qs place inside raws = arguments_in qs place inside (writtens raws)
 
-unfoldable pub contents_at : Body → Bool → Place → Option (List Raw) → Shaped Plans
+unfoldable pub contents_at : Body → Around → Place → Option (List Raw) → Shaped Plans
 contents_at b inside place raws = contents b inside place (written_in raws)
 
-unfoldable pub members_at : Slot → Bool → List Raw → Shaped Plans
+unfoldable pub members_at : Slot → Around → List Raw → Shaped Plans
 members_at s inside raws = members s inside (writtens raws)
 
-unfoldable pub terms_at : Bool → Option ℕ → List Raw → Shaped Plans
+unfoldable pub terms_at : Around → Option ℕ → List Raw → Shaped Plans
 terms_at inside run raws = terms inside run (writtens raws)
 
 -- a form with its arguments and its braces
-unfoldable pub form_at : Op → Place → Bool → Option (List Raw) → Option (List Raw) → Shaped Plan
-form_at o place inside args body = form_shape o place (arguments_at (parameters_of o) place inside args) (contents_at (body_of o) (within o inside) place body)
+unfoldable pub form_at : Op → Place → Around → Option (List Raw) → Option (List Raw) → Shaped Plan
+form_at o place inside args body = form_shape inside.width o place (arguments_at (parameters_of o) place inside args) (contents_at (body_of o) (within o inside) place body)
 
 -- an Offset with its argument
-unfoldable pub offset_at : Place → Bool → Option (List Raw) → Shaped Plan
+unfoldable pub offset_at : Place → Around → Option (List Raw) → Shaped Plan
 offset_at place inside args = offset_shape (arguments_at offset_parameters place inside args)
 
+-- a macro with its string
+unfoldable pub macro_at : TextMacro → Place → Around → Option (List Raw) → Shaped Plan
+macro_at m place inside args = macro_shape (arguments_at (macro_parameters m) place inside args)
+
+-- a template with its descriptors
+unfoldable pub template_at : Place → Around → Option (List Raw) → Shaped Plan
+template_at place inside body = template_shape place (contents_at braces.Descriptors inside place body)
+
+-- a descriptor with its arguments and its braces
+unfoldable pub descriptor_at : Descriptor → Place → Around → Option (List Raw) → Option (List Raw) → Shaped Plan
+descriptor_at d place inside args body = descriptor_shape d place (arguments_at (descriptor_parameters d) place inside args) (contents_at (descriptor_body d) inside place body)
+
 -- an item as it is read
-unfoldable pub read_at : Slot → Place → List ℕ → Reading → Bool → Option (List Raw) → Option (List Raw) → Shaped Plan
-read_at s place w reading inside args body = read_shape s place w reading (call_at inside args) (offset_at place inside args) (λ o. form_at o place inside args body)
+unfoldable pub read_at : Slot → Place → List ℕ → Reading → Around → Option (List Raw) → Option (List Raw) → Shaped Plan
+read_at s place w reading inside args body = read_shape s place w reading (call_at inside args) (offset_at place inside args) (λ m. macro_at m place inside args) (template_at place inside body) (λ d. descriptor_at d place inside args body) (λ o. form_at o place inside args body)
 
 abbrev pub is_some : Option (List Raw) → Bool
 is_some None = false
@@ -105,9 +122,9 @@ unfoldable pub byte_slot_at : List Raw → Slot
 byte_slot_at raws = byte_slot (writtens raws)
 
 -- an item
-unfoldable pub item_at : Slot → Bool → Place → List ℕ → Option (List Raw) → Option (List Raw) → Shaped Plan
+unfoldable pub item_at : Slot → Around → Place → List ℕ → Option (List Raw) → Option (List Raw) → Shaped Plan
 item_at s inside place w args body =
-    item_shape place (item_fault s inside (meaning_of w (is_some body)) (has_arguments_at (meaning_of w (is_some body)) (inside_at args)) (is_some body))
+    item_shape place (item_fault s inside.method (meaning_of w (is_some body)) (has_arguments_at (meaning_of w (is_some body)) (inside_at args)) (is_some body))
     (read_at s place w (reading_of s (meaning_of w (is_some body)) (is_some args)) inside args body)
 
 unfoldable pub is_text_at : Raw → Bool
@@ -117,7 +134,7 @@ unfoldable pub due_at : Bool → Raw → Option Bool
 due_at due raw = due_after due (written raw)
 
 -- a member of a list alone
-unfoldable pub member_at : Slot → Bool → Raw → Shaped Plans
+unfoldable pub member_at : Slot → Around → Raw → Shaped Plans
 member_at s inside raw = skipped (is_separator_at raw) (place_at nowhere raw) (shape_at s inside raw) (fine no_plans)
 
 -- what the word of a part is
@@ -125,7 +142,7 @@ unfoldable pub meaning_at : Raw → Meaning
 meaning_at raw = meaning_in (written raw)
 
 -- an argument alone: one that is given, or one that is left out
-unfoldable pub argument_at : Parameter → Place → Bool → Option Raw → Shaped Plans
+unfoldable pub argument_at : Parameter → Place → Around → Option Raw → Shaped Plans
 argument_at q place inside None = joined place (fine omitted) (fine no_plans)
 argument_at q place inside (Some raw) = joined (place_at place raw) (shape_at (slot_as q.slot (meaning_at raw)) inside raw) (fine no_plans)
 
@@ -164,22 +181,22 @@ due_behind_at due raw = due_behind due (written raw)
 unfoldable pub is_field_list_at : Due → List Raw → Bool
 is_field_list_at due raws = is_field_list due (writtens raws)
 
-unfoldable pub elements_at : Due → Option UnitName → Bool → List Raw → Shaped Plans
+unfoldable pub elements_at : Due → Option UnitName → Around → List Raw → Shaped Plans
 elements_at due unit inside raws = elements due unit inside (writtens raws)
 
 -- what a member comes to where this is due
-unfoldable pub part_at : Due → Option UnitName → Bool → Raw → Shaped Plans
+unfoldable pub part_at : Due → Option UnitName → Around → Raw → Shaped Plans
 part_at due unit inside raw = field_part due unit (place_at nowhere raw) (is_separator_at raw) (shape_at (field_slot due) inside raw)
 
 -- the unit of which the number of bits is to come behind it
-unfoldable pub unit_at : Due → Option UnitName → Bool → Raw → Option UnitName
+unfoldable pub unit_at : Due → Option UnitName → Around → Raw → Option UnitName
 unit_at due unit inside raw = unit_behind due unit (place_at nowhere raw) (is_separator_at raw) (shape_at (field_slot due) inside raw).made
 
-unfoldable pub begin_at : Bool → Raw → Shaped Plans
+unfoldable pub begin_at : Around → Raw → Shaped Plans
 begin_at inside raw = field_part begin None (place_at nowhere raw) (is_separator_at raw) (shape_at slot.FieldElement inside raw)
 
 unfoldable pub comma_at : Option UnitName → Raw → Shaped Plans
 comma_at unit raw = field_part Due.NameComma unit (place_at nowhere raw) (is_separator_at raw) (fine omitted)
 
-unfoldable pub bits_at : Option UnitName → Bool → Raw → Shaped Plans
-bits_at unit inside raw = field_part Due.Bits unit (place_at nowhere raw) (is_separator_at raw) (shape_at (slot.Constant 0 18446744073709551615) inside raw)
+unfoldable pub bits_at : Option UnitName → Around → Raw → Shaped Plans
+bits_at unit inside raw = field_part Due.Bits unit (place_at nowhere raw) (is_separator_at raw) (shape_at slot.Measure inside raw)

@@ -7,6 +7,9 @@ use Rattle.asl_parser.specs.declared.raw.Raw.{Raw}
 use Rattle.asl_tree.specs.declared.program.Block.{Block}
 use Rattle.asl_tree.specs.declared.program.Program.{Program}
 use Rattle.asl_parser.specs.Written.{Written, Writtens, Group, item, none, more, writtens}
+use Rattle.acpi_values.specs.Revisions.{width_of}
+use Rattle.acpi_values.specs.declared.width.Width.TheVariants.{W64}
+use Rattle.asl_shape.specs.Around.{outside}
 use Rattle.asl_shape.specs.Plans.{Plans, no_plans, plans_of, plan_at, text_of, number_of}
 use Rattle.asl_words.specs.Operators.{block_parameters}
 use Rattle.asl_shape.specs.Shapes.{Shaped, fault_at, place_of, takes, inside_of, is_given, arguments, terms}
@@ -27,15 +30,21 @@ abbrev pub errors_inside : Option ℕ → Place → List Message → List Messag
 errors_inside (Some number) place inside = fault_at number place ∷ []
 errors_inside None place inside = inside
 
+-- its arguments, which are constants of 64 bits and strings
 abbrev pub block_args : Place → Group → Shaped Plans
-block_args place args = arguments block_parameters place false args
+block_args place args = arguments block_parameters place (outside W64) args
 
-abbrev pub block_terms : Group → Shaped Plans
-block_terms body = terms false None (inside_of body)
+-- the revision that they state
+abbrev pub revision_in : Plans → ℕ
+revision_in args = number_of (plan_at args 2) % 256
+
+-- its terms, where its arguments are these
+abbrev pub block_terms : Plans → Group → Shaped Plans
+block_terms args body = terms (outside (width_of (revision_in args))) None (inside_of body)
 
 abbrev pub block_errors : Place → Group → Group → List Message
 block_errors place args body =
-    errors_inside (block_fault (takes block_parameters (inside_of args)) (is_given body)) place ((block_args place args).faults ++ (block_terms body).faults)
+    errors_inside (block_fault (takes block_parameters (inside_of args)) (is_given body)) place ((block_args place args).faults ++ (block_terms (block_args place args).made body).faults)
 
 abbrev pub one_error : ℕ → Place → List Message
 one_error number place = fault_at number place ∷ []
@@ -67,14 +76,14 @@ args_of (more (item place word args body) none) = (block_args place args).made
 args_of _ = no_plans
 
 abbrev pub terms_of : Writtens → Plans
-terms_of (more (item place word args body) none) = (block_terms body).made
+terms_of (more (item place word args body) none) = (block_terms (block_args place args).made body).made
 terms_of _ = no_plans
 
 pub record IsBlock (at : Place) (args list : Plans) (block : Block) : Type 0 where
   pub place : block.place ≡ at
   pub file : block.file ≡ text_of (plan_at args 0)
   pub signature : block.signature ≡ text_of (plan_at args 1)
-  pub revision : block.revision ≡ number_of (plan_at args 2) % 256
+  pub revision : block.revision ≡ revision_in args
   pub oem_id : block.oem_id ≡ text_of (plan_at args 3)
   pub table_id : block.table_id ≡ text_of (plan_at args 4)
   pub oem_revision : block.oem_revision ≡ number_of (plan_at args 5) % 4294967296
@@ -94,13 +103,13 @@ pub record Forms (raws : List Raw) (program : Program) : Type 0 where
 -- ---- the same of the tree of the syntax itself, part by part
 
 abbrev pub args_in : Place → List Raw → Shaped Plans
-args_in place args = arguments_in_at block_parameters place false args
+args_in place args = arguments_in_at block_parameters place (outside W64) args
 
-abbrev pub terms_in : List Raw → Shaped Plans
-terms_in body = terms_at false None body
+abbrev pub terms_in : Plans → List Raw → Shaped Plans
+terms_in args body = terms_at (outside (width_of (revision_in args))) None body
 
 unfoldable pub errors_in : Place → List Raw → List Raw → List Message
-errors_in place args body = (args_in place args).faults ++ (terms_in body).faults
+errors_in place args body = (args_in place args).faults ++ (terms_in (args_in place args).made body).faults
 
 unfoldable pub block_errors_at : Place → Option (List Raw) → Option (List Raw) → List Message
 block_errors_at place args body =
@@ -111,5 +120,5 @@ item_errors_at place word args body rest =
     if is_block_word word then errors_before (block_errors_at place args body) (writtens rest) else no_block place
 
 unfoldable pub IsItemBlock : Place → Option (List Raw) → Option (List Raw) → List Raw → Block → Type 0
-IsItemBlock place args body [] block = IsBlock place (args_in place (inside_at args)).made (terms_in (inside_at body)).made block
+IsItemBlock place args body [] block = IsBlock place (args_in place (inside_at args)).made (terms_in (args_in place (inside_at args)).made (inside_at body)).made block
 IsItemBlock place args body (r ∷ rs) block = ⊥

@@ -1,4 +1,6 @@
 pub mod Plans
+pub mod Around
+pub mod Descriptors
 pub mod Symbols
 pub mod Shapes
 pub mod AtRaw

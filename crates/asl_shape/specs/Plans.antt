@@ -3,7 +3,7 @@ use Rattle.std.specs.Prelude.{ℕ, zero, suc, Bool, true, false, List, [], ◌�
 use Rattle.iasl_messages.specs.declared.place.Place.{Place}
 use Rattle.acpi_values.specs.Integers.{wrapped}
 use Rattle.acpi_values.specs.Paths.{NameSeg}
-use Rattle.acpi_values.specs.declared.width.Width.TheVariants.{W64}
+use Rattle.acpi_values.specs.declared.width.Width.{Width}
 use Rattle.asl_tree.specs.declared.constant.NoConstant.{NoConstant}
 use Rattle.asl_tree.specs.declared.path.Path.{Path}
 use Rattle.asl_tree.specs.declared.term.Op.{Op}
@@ -101,13 +101,13 @@ abbrev pub argument_as : Plan → Result ℕ NoConstant → Argument
 argument_as omitted r = None
 argument_as _ r = Some r
 
--- the value of a constant argument, at 64 bits
+-- the value of a constant argument at a width
 abbrev mutual
-  pub constant_of : Plan → Result ℕ NoConstant
-  constant_of (an_integer number) = Ok (wrapped W64 number)
-  constant_of (a_form op args body) = constant_form op W64 (arguments_as args) (how_many body)
-  constant_of _ = Err NoConstant.Form
+  pub constant_of : Width → Plan → Result ℕ NoConstant
+  constant_of width (an_integer number) = Ok (wrapped width number)
+  constant_of width (a_form op args body) = constant_form op width (arguments_as width args) (how_many body)
+  constant_of width _ = Err NoConstant.Form
 
-  pub arguments_as : Plans → List Argument
-  arguments_as no_plans = []
-  arguments_as (plan place p ps) = argument_as p (constant_of p) ∷ arguments_as ps
+  pub arguments_as : Width → Plans → List Argument
+  arguments_as width no_plans = []
+  arguments_as width (plan place p ps) = argument_as p (constant_of width p) ∷ arguments_as width ps

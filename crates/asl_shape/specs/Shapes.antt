@@ -4,6 +4,7 @@ use Rattle.acpi_state.specs.Outcomes.{choose}
 use Rattle.iasl_messages.specs.declared.place.Place.{Place}
 use Rattle.iasl_messages.specs.declared.message.Message.{Message}
 use Rattle.acpi_values.specs.Integers.{wrapped}
+use Rattle.acpi_values.specs.declared.width.Width.{Width}
 use Rattle.acpi_values.specs.declared.width.Width.TheVariants.{W64}
 use Rattle.asl_tree.specs.declared.constant.NoConstant.{NoConstant}
 use Rattle.asl_tree.specs.declared.path.Path.{Path}
@@ -20,23 +21,31 @@ use Rattle.asl_words.specs.declared.operator.Body.{Body}
 use Rattle.asl_words.specs.declared.operator.Body.TheVariants as braces
 use Rattle.asl_words.specs.declared.operator.StringForm.{StringForm}
 use Rattle.asl_words.specs.declared.operator.StringForm.TheVariants as form
+use Rattle.asl_words.specs.declared.operator.TextMacro.{TextMacro}
 use Rattle.asl_words.specs.declared.operator.WordKind.TheVariants as kind
 use Rattle.asl_words.specs.declared.operator.Known.{Known}
 use Rattle.asl_words.specs.declared.operator.Known.TheVariants as known
+use Rattle.resource_layout.specs.declared.descriptor.Descriptor.{Descriptor}
 use Rattle.asl_words.specs.declared.meaning.Meaning.{Meaning}
 use Rattle.asl_words.specs.declared.meaning.Meaning.TheVariants as is
 use Rattle.asl_words.specs.declared.meaning.Reading.{Reading}
 use Rattle.asl_words.specs.declared.meaning.Reading.TheVariants as read
+use Rattle.asl_shape.specs.declared.around.Around.{Around}
+use Rattle.asl_shape.specs.Around.{in_method}
+use Rattle.asl_tree.specs.declared.term.Word.{Word}
 use Rattle.asl_shape.specs.declared.fields.Due.{Due}
 use Rattle.asl_shape.specs.declared.fields.UnitName.{UnitName}
 use Rattle.asl_parser.specs.Written as piece
 use Rattle.asl_parser.specs.Written.{Written, Writtens, Group, item, apply, listed, comma, semicolon, empty, none, more, absent, given}
-use Rattle.asl_words.specs.Operators.{parameters_of, body_of, role_of, offset_parameters}
-use Rattle.asl_words.specs.Meanings.{meaning_of, may_end, item_fault, takes_expression, takes_role, takes_known, reading_of, run_behind, slot_as}
+use Rattle.asl_words.specs.Operators.{parameters_of, body_of, role_of, offset_parameters, macro_parameters}
+use Rattle.asl_words.specs.Resources.{descriptor_parameters, descriptor_body}
+use Rattle.asl_words.specs.Meanings.{meaning_of, may_end, unfit, item_fault, takes_expression, takes_role, takes_known, reading_of, run_behind, slot_as}
 use Rattle.asl_shape.specs.Symbols.{symbol_of}
 use Rattle.asl_words.specs.Texts.{has_form, is_all_text}
 use Rattle.asl_words.specs.Paths.{path_of}
-use Rattle.asl_shape.specs.Plans.{Plan, an_integer, a_text, a_local, an_arg, debug, omitted, a_name, a_unit, a_skip, an_offset, a_call, a_form, Plans, no_plans, plan, join, number_of, plan_at, first_plans, first_alone, is_omitted, constant_of}
+use Rattle.resource_macros.specs.Identifiers.{eisaid_of, uuid_of, utf16_of}
+use Rattle.asl_shape.specs.Plans.{Plan, an_integer, a_text, a_fill, a_word, a_local, an_arg, debug, omitted, a_name, a_unit, a_skip, an_offset, a_call, a_form, Plans, no_plans, plan, join, number_of, plan_at, first_plans, first_alone, is_omitted, constant_of}
+use Rattle.asl_shape.specs.Descriptors.{is_roomy, described, fills_of}
 
 -- ---- what comes of a part of a source: its errors in order, and its tree, which counts where there are none
 
@@ -99,6 +108,9 @@ has_arguments (is.Known k) ws = is_none ws
 has_arguments is.Name ws = is_call ws
 has_arguments is.Path ws = is_call ws
 has_arguments is.Offset ws = takes offset_parameters ws
+has_arguments (is.Macro m) ws = takes (macro_parameters m) ws
+has_arguments is.Template ws = is_none ws
+has_arguments (is.Descriptor d) ws = takes (descriptor_parameters d) ws
 has_arguments is.Unknown ws = true
 
 -- ---- constants: an argument that has to be one stands as its value
@@ -112,6 +124,7 @@ valued least most place (Err NoConstant.Form) = refused 6022 place
 abbrev pub is_member : Plan → Bool
 is_member (a_text bytes) = true
 is_member (a_name path) = true
+is_member (a_word word) = true
 is_member (a_form (Op.Literal l) args body) = true
 is_member (a_form (Op.Special Special.Buffer) args body) = true
 is_member (a_form (Op.Special Special.Package) args body) = true
@@ -123,26 +136,33 @@ is_element (a_name path) = is_searched path
 is_element (an_offset bytes) = true
 is_element _ = false
 
--- an expression where a constant may be asked for; one that is left out is none
-abbrev pub evaluated : Slot → Place → Plan → Shaped Plan
-evaluated (slot.Constant least most) place p = if is_omitted p then fine p else valued least most place (constant_of p)
-evaluated slot.Element place p = if is_member p then fine p else valued 0 18446744073709551615 place (constant_of p)
-evaluated slot.FieldElement place p = if is_element p then fine p else refused 6022 place
-evaluated _ place p = fine p
+-- what the word of a part is, if it has one
+abbrev pub meaning_in : Written → Meaning
+meaning_in (item p w args body) = meaning_of w (is_given body)
+meaning_in _ = is.Unknown
+
+-- an expression where a constant may be asked for; one that is left out is none. Constants of a stated range are evaluated with 64 bits,
+-- others at the table's width
+abbrev pub evaluated : Width → Slot → Place → Plan → Shaped Plan
+evaluated width (slot.Constant least most) place p = if is_omitted p then fine p else valued least most place (constant_of W64 p)
+evaluated width slot.Measure place p = if is_omitted p then fine p else valued 0 18446744073709551615 place (constant_of width p)
+evaluated width slot.Element place p = if is_member p then fine p else valued 0 18446744073709551615 place (constant_of width p)
+evaluated width slot.FieldElement place p = if is_element p then fine p else refused 6022 place
+evaluated width _ place p = fine p
 
 abbrev pub after : List Message → Shaped Plan → Shaped Plan → Shaped Plan
 after [] old new = new
 after (m ∷ ms) old new = old
 
 -- the same, where it has no error inside
-abbrev pub checked : Slot → Place → Shaped Plan → Shaped Plan
-checked s place shape = after shape.faults shape (evaluated s place shape.made)
+abbrev pub checked : Width → Slot → Place → Shaped Plan → Shaped Plan
+checked width s place shape = after shape.faults shape (evaluated width s place shape.made)
 
 -- ---- leaves
 
 abbrev pub number_shape : Slot → Place → ℕ → Shaped Plan
 number_shape (slot.Term run) place n = refused 6025 place
-number_shape s place n = if takes_expression s then fine (an_integer (wrapped W64 n)) else refused 6022 place
+number_shape s place n = if takes_expression s then fine (an_integer (wrapped W64 n)) else refused (unfit s) place
 
 abbrev pub text_plan : List ℕ → Plan
 text_plan bytes = a_text bytes
@@ -150,12 +170,36 @@ text_plan bytes = a_text bytes
 abbrev pub string_shape : StringForm → Place → List ℕ → Shaped Plan
 string_shape f place bytes = if has_form f bytes && is_all_text bytes then fine (text_plan bytes) else refused 6024 place
 
+-- ---- macros for identifiers and texts: each stands as what its string comes to
+
+-- a Buffer of these bytes
+abbrev pub buffer_plan : Place → List ℕ → Plan
+buffer_plan place bytes = a_form (Op.Special Special.Buffer) (plan place omitted no_plans) (plan place (a_fill bytes) no_plans)
+
+abbrev pub eisa_shape : Place → Option ℕ → Shaped Plan
+eisa_shape place None = refused 6026 place
+eisa_shape place (Some number) = fine (a_word (Word.Identifier number))
+
+abbrev pub uuid_shape : Place → Option (List ℕ) → Shaped Plan
+uuid_shape place None = refused 6027 place
+uuid_shape place (Some bytes) = fine (buffer_plan place bytes)
+
+abbrev pub unicode_shape : Place → List ℕ → Shaped Plan
+unicode_shape place text = if is_all_text text then fine (buffer_plan place (utf16_of text)) else refused 6024 place
+
+-- the string of a macro: the number of an identifier, the bytes of a UUID, or 16-bit characters with a final 0
+abbrev pub macro_text : TextMacro → Place → List ℕ → Shaped Plan
+macro_text TextMacro.EisaId place text = eisa_shape place (eisaid_of text)
+macro_text TextMacro.ToUuid place text = uuid_shape place (uuid_of text)
+macro_text TextMacro.Unicode place text = unicode_shape place text
+
 abbrev pub text_shape : Slot → Place → List ℕ → Shaped Plan
 text_shape slot.Expression place bytes = string_shape form.Any place bytes
 text_shape slot.Element place bytes = string_shape form.Any place bytes
 text_shape (slot.String f) place bytes = string_shape f place bytes
+text_shape (slot.MacroText m) place bytes = macro_text m place bytes
 text_shape (slot.Term run) place bytes = refused 6025 place
-text_shape _ place bytes = refused 6022 place
+text_shape s place bytes = refused (unfit s) place
 
 -- ---- names
 
@@ -178,6 +222,9 @@ known_plan s (known.Local i) = a_local i
 known_plan s (known.Arg i) = an_arg i
 known_plan s known.Debug = debug
 known_plan s known.Offset = omitted
+known_plan s (known.Macro m) = omitted
+known_plan s known.Template = omitted
+known_plan s (known.Descriptor d) = omitted
 known_plan s known.LeftOut = omitted
 
 -- ---- lists of types
@@ -217,7 +264,7 @@ most_types (slot.Types most) = Some most
 most_types _ = None
 
 abbrev pub listed_shape : Slot → Place → Writtens → Shaped Plan
-listed_shape s place ws = choose (most_types s) (refused 6022 place) (λ most. types_shape most place ws)
+listed_shape s place ws = choose (most_types s) (refused (unfit s) place) (λ most. types_shape most place ws)
 
 -- ---- forms
 
@@ -264,47 +311,71 @@ abbrev pub few_elements : Result ℕ NoConstant → Option ℕ
 few_elements (Ok n) = if nat_le n 255 then Some n else None
 few_elements (Err e) = None
 
-abbrev pub package_settled : Place → Plans → Plans
-package_settled place ps = choose (few_elements (constant_of (plan_at ps 0))) ps (λ n. one_plan place (an_integer n))
+abbrev pub package_settled : Width → Place → Plans → Plans
+package_settled width place ps = choose (few_elements (constant_of width (plan_at ps 0))) ps (λ n. one_plan place (an_integer n))
 
 -- the arguments of a form, from those that are written; what they come to stands at the operator
-abbrev pub settled : Op → Place → Plans → Plans
-settled (Op.Declaration Declaration.Method) place ps = method_settled place ps
-settled (Op.Declaration Declaration.Mutex) place ps = mutex_settled place ps
-settled (Op.Declaration Declaration.External) place ps = external_settled place ps
-settled (Op.Control Control.Return) place ps = return_settled place ps
-settled (Op.Special Special.Package) place ps = package_settled place ps
-settled (Op.Declaration Declaration.Field) place ps = field_settled 1 place ps
-settled (Op.Declaration Declaration.IndexField) place ps = field_settled 2 place ps
-settled (Op.Declaration Declaration.BankField) place ps = field_settled 3 place ps
-settled _ place ps = ps
+abbrev pub settled : Width → Op → Place → Plans → Plans
+settled width (Op.Declaration Declaration.Method) place ps = method_settled place ps
+settled width (Op.Declaration Declaration.Mutex) place ps = mutex_settled place ps
+settled width (Op.Declaration Declaration.External) place ps = external_settled place ps
+settled width (Op.Control Control.Return) place ps = return_settled place ps
+settled width (Op.Special Special.Package) place ps = package_settled width place ps
+settled width (Op.Declaration Declaration.Field) place ps = field_settled 1 place ps
+settled width (Op.Declaration Declaration.IndexField) place ps = field_settled 2 place ps
+settled width (Op.Declaration Declaration.BankField) place ps = field_settled 3 place ps
+settled width _ place ps = ps
 
-abbrev pub form_shape : Op → Place → Shaped Plans → Shaped Plans → Shaped Plan
-form_shape o place args body = record { faults = args.faults ++ body.faults; made = a_form o (settled o place args.made) body.made }
+abbrev pub form_shape : Width → Op → Place → Shaped Plans → Shaped Plans → Shaped Plan
+form_shape width o place args body = record { faults = args.faults ++ body.faults; made = a_form o (settled width o place args.made) body.made }
 
 -- what is written with a symbol, by what its operands come to
-abbrev pub symbol_shape : Slot → Place → Op → Shaped Plans → Shaped Plan
-symbol_shape s place o args = if takes_role s (role_of o) then form_shape o place args (fine no_plans) else refused 6022 place
+abbrev pub symbol_shape : Width → Slot → Place → Op → Shaped Plans → Shaped Plan
+symbol_shape width s place o args = if takes_role s (role_of o) then form_shape width o place args (fine no_plans) else refused (unfit s) place
 
 -- the place of the next byte
 abbrev pub offset_shape : Shaped Plans → Shaped Plan
 offset_shape args = record { faults = args.faults; made = an_offset (number_of (plan_at args.made 0)) }
 
-abbrev pub read_shape : Slot → Place → List ℕ → Reading → Shaped Plans → Shaped Plan → (Op → Shaped Plan) → Shaped Plan
-read_shape s place text read.Wrong args offset form = refused 6022 place
-read_shape s place text read.Path args offset form = path_shape place (path_of text)
-read_shape s place text read.Call args offset form = call_shape place (path_of text) args
-read_shape s place text read.Offset args offset form = offset
-read_shape s place text (read.Known k) args offset form = fine (known_plan s k)
-read_shape s place text (read.Form o) args offset form = form o
+-- a macro stands as what its one argument comes to
+abbrev pub macro_shape : Shaped Plans → Shaped Plan
+macro_shape args = record { faults = args.faults; made = plan_at args.made 0 }
+
+-- a descriptor that has no room for its list, its source or their number is out of range
+abbrev pub room_faults : Bool → Place → List Message
+room_faults true place = []
+room_faults false place = fault_at 6024 place ∷ []
+
+-- a descriptor stands as its bytes, with those of the descriptors in its braces behind them
+abbrev pub descriptor_shape : Descriptor → Place → Shaped Plans → Shaped Plans → Shaped Plan
+descriptor_shape d place args body =
+    record { faults = args.faults ++ body.faults ++ room_faults (is_roomy d args.made body.made) place; made = described d args.made body.made }
+
+-- a template stands as a Buffer of the bytes of its descriptors and the end tag
+abbrev pub template_plan : Place → Plans → Plan
+template_plan place ps = buffer_plan place (fills_of ps ++ 0x79 ∷ 0 ∷ [])
+
+abbrev pub template_shape : Place → Shaped Plans → Shaped Plan
+template_shape place body = record { faults = body.faults; made = template_plan place body.made }
+
+abbrev pub read_shape : Slot → Place → List ℕ → Reading → Shaped Plans → Shaped Plan → (TextMacro → Shaped Plan) → Shaped Plan → (Descriptor → Shaped Plan) → (Op → Shaped Plan) → Shaped Plan
+read_shape s place text read.Wrong args offset expanded template described form = refused (unfit s) place
+read_shape s place text read.Path args offset expanded template described form = path_shape place (path_of text)
+read_shape s place text read.Call args offset expanded template described form = call_shape place (path_of text) args
+read_shape s place text read.Offset args offset expanded template described form = offset
+read_shape s place text (read.Macro m) args offset expanded template described form = expanded m
+read_shape s place text read.Template args offset expanded template described form = template
+read_shape s place text (read.Descriptor d) args offset expanded template described form = described d
+read_shape s place text (read.Known k) args offset expanded template described form = fine (known_plan s k)
+read_shape s place text (read.Form o) args offset expanded template described form = form o
 
 abbrev pub item_shape : Place → Option ℕ → Shaped Plan → Shaped Plan
 item_shape place (Some number) shape = refused number place
 item_shape place None shape = shape
 
--- the terms of a method stand inside one
-abbrev pub within : Op → Bool → Bool
-within (Op.Declaration Declaration.Method) inside = true
+-- what the terms of a form stand in: those of a method inside one
+abbrev pub within : Op → Around → Around
+within (Op.Declaration Declaration.Method) inside = in_method inside
 within _ inside = inside
 
 -- the place of a node
@@ -369,11 +440,6 @@ run_after run _ = None
 
 -- ---- the list of a field
 
--- what the word of a part is, if it has one
-abbrev pub meaning_in : Written → Meaning
-meaning_in (item p w args body) = meaning_of w (is_given body)
-meaning_in _ = is.Unknown
-
 abbrev pub is_offset : Meaning → Bool
 is_offset is.Offset = true
 is_offset _ = false
@@ -409,7 +475,7 @@ is_field_list due (more w ws) = choose (goes_on due w) false (λ next. is_field_
 
 -- how a member is read where this is due
 abbrev pub field_slot : Due → Slot
-field_slot Due.Bits = slot.Constant 0 18446744073709551615
+field_slot Due.Bits = slot.Measure
 field_slot _ = slot.FieldElement
 
 -- the unit that a single segment names
@@ -459,64 +525,69 @@ due_behind due w = choose (goes_on due w) Due.Comma (λ next. next)
 -- ---- the tree
 
 abbrev mutual
-  -- a part of a source where it is read so, but for the range of a constant; `inside` a method or not
-  pub bare : Slot → Bool → Written → Shaped Plan
+  -- a part of a source where it is read so, but for the range of a constant; `inside` says what it stands in
+  pub bare : Slot → Around → Written → Shaped Plan
   bare s inside (piece.number place n) = number_shape s place n
   bare s inside (piece.text place bytes) = text_shape s place bytes
   bare s inside (listed place ws) = listed_shape s place ws
-  bare s inside (apply place o ws) = symbol_shape s place (symbol_of o) (arguments_in (parameters_of (symbol_of o)) place inside ws)
+  bare s inside (apply place o ws) = symbol_shape inside.width s place (symbol_of o) (arguments_in (parameters_of (symbol_of o)) place inside ws)
   bare s inside (item place w args body) =
-      item_shape place (item_fault s inside (meaning_of w (is_given body)) (has_arguments (meaning_of w (is_given body)) (inside_of args)) (is_given body))
+      item_shape place (item_fault s inside.method (meaning_of w (is_given body)) (has_arguments (meaning_of w (is_given body)) (inside_of args)) (is_given body))
       (read_shape s place w (reading_of s (meaning_of w (is_given body)) (is_given args)) (call_args inside args)
-      (offset_shape (arguments offset_parameters place inside args)) (λ o. form_shape o place (arguments (parameters_of o) place inside args) (contents (body_of o) (within o inside) place body)))
+      (offset_shape (arguments offset_parameters place inside args)) (λ m. macro_shape (arguments (macro_parameters m) place inside args))
+      (template_shape place (contents braces.Descriptors inside place body))
+      (λ d. descriptor_shape d place (arguments (descriptor_parameters d) place inside args) (contents (descriptor_body d) inside place body))
+      (λ o. form_shape inside.width o place (arguments (parameters_of o) place inside args) (contents (body_of o) (within o inside) place body)))
   bare s inside _ = fine omitted
 
   -- the arguments of a call
-  pub operands : Slot → Bool → Writtens → Shaped Plans
+  pub operands : Slot → Around → Writtens → Shaped Plans
   operands s inside none = fine no_plans
-  operands s inside (more w ws) = joined (place_of nowhere w) (checked s (place_of nowhere w) (bare s inside w)) (operands slot.Expression inside ws)
+  operands s inside (more w ws) = joined (place_of nowhere w) (checked inside.width s (place_of nowhere w) (bare s inside w)) (operands slot.Expression inside ws)
 
-  pub call_args : Bool → Group → Shaped Plans
+  pub call_args : Around → Group → Shaped Plans
   call_args inside absent = fine no_plans
   call_args inside (given ws) = operands slot.Expression inside ws
 
   -- the arguments of an operator, each by its letter; one that is left out stands at the operator
-  pub arguments : List Parameter → Place → Bool → Group → Shaped Plans
+  pub arguments : List Parameter → Place → Around → Group → Shaped Plans
   arguments qs place inside absent = fine (left_out place qs)
   arguments qs place inside (given ws) = arguments_in qs place inside ws
 
-  pub arguments_in : List Parameter → Place → Bool → Writtens → Shaped Plans
+  pub arguments_in : List Parameter → Place → Around → Writtens → Shaped Plans
   arguments_in qs place inside none = fine (left_out place qs)
   arguments_in [] place inside (more w ws) = fine no_plans
   arguments_in (q ∷ qs) place inside (more w ws) =
-      joined (place_of place w) (checked (slot_as q.slot (meaning_in w)) (place_of nowhere w) (bare (slot_as q.slot (meaning_in w)) inside w)) (arguments_in qs place inside ws)
+      joined (place_of place w) (checked inside.width (slot_as q.slot (meaning_in w)) (place_of nowhere w) (bare (slot_as q.slot (meaning_in w)) inside w)) (arguments_in qs place inside ws)
 
   -- what stands in braces
-  pub contents : Body → Bool → Place → Group → Shaped Plans
+  pub contents : Body → Around → Place → Group → Shaped Plans
   contents b inside place absent = fine no_plans
   contents braces.No inside place (given ws) = fine no_plans
   contents braces.Terms inside place (given ws) = terms inside None ws
   contents braces.Bytes inside place (given ws) = list_shape place (is_listed true ws) (members (byte_slot ws) inside ws)
   contents braces.Elements inside place (given ws) = list_shape place (is_listed true ws) (members slot.Element inside ws)
   contents braces.FieldList inside place (given ws) = list_shape place (is_field_list begin ws) (elements begin None inside ws)
+  contents (braces.Numbers most) inside place (given ws) = list_shape place (is_listed true ws) (members (slot.Constant 0 most) inside ws)
+  contents braces.Descriptors inside place (given ws) = members slot.Descriptor inside ws
 
-  pub members : Slot → Bool → Writtens → Shaped Plans
+  pub members : Slot → Around → Writtens → Shaped Plans
   members s inside none = fine no_plans
-  members s inside (more w ws) = skipped (is_separator w) (place_of nowhere w) (checked s (place_of nowhere w) (bare s inside w)) (members s inside ws)
+  members s inside (more w ws) = skipped (is_separator w) (place_of nowhere w) (checked inside.width s (place_of nowhere w) (bare s inside w)) (members s inside ws)
 
   -- the elements of a field's list
-  pub elements : Due → Option UnitName → Bool → Writtens → Shaped Plans
+  pub elements : Due → Option UnitName → Around → Writtens → Shaped Plans
   elements due unit inside none = fine no_plans
   elements due unit inside (more w ws) =
-      followed (field_part due unit (place_of nowhere w) (is_separator w) (checked (field_slot due) (place_of nowhere w) (bare (field_slot due) inside w)))
-      (elements (due_behind due w) (unit_behind due unit (place_of nowhere w) (is_separator w) (checked (field_slot due) (place_of nowhere w) (bare (field_slot due) inside w)).made) inside ws)
+      followed (field_part due unit (place_of nowhere w) (is_separator w) (checked inside.width (field_slot due) (place_of nowhere w) (bare (field_slot due) inside w)))
+      (elements (due_behind due w) (unit_behind due unit (place_of nowhere w) (is_separator w) (checked inside.width (field_slot due) (place_of nowhere w) (bare (field_slot due) inside w)).made) inside ws)
 
   -- the terms of a list; `run` says how many ElseIfs stand directly before, and before them an If
-  pub terms : Bool → Option ℕ → Writtens → Shaped Plans
+  pub terms : Around → Option ℕ → Writtens → Shaped Plans
   terms inside run none = fine no_plans
   terms inside run (more w ws) =
-      skipped (is_separator w) (place_of nowhere w) (checked (slot.Term run) (place_of nowhere w) (bare (slot.Term run) inside w)) (terms inside (run_after run w) ws)
+      skipped (is_separator w) (place_of nowhere w) (checked inside.width (slot.Term run) (place_of nowhere w) (bare (slot.Term run) inside w)) (terms inside (run_after run w) ws)
 
 -- a part of a source where it is read so
-abbrev pub shape : Slot → Bool → Written → Shaped Plan
-shape s inside w = checked s (place_of nowhere w) (bare s inside w)
+abbrev pub shape : Slot → Around → Written → Shaped Plan
+shape s inside w = checked inside.width s (place_of nowhere w) (bare s inside w)

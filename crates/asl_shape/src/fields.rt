@@ -140,10 +140,7 @@ pub fn is_field_list(raws: &[Raw]) -> bool
 }
 
 /// How a number of bits is read.
-pub const BITS: Slot = Slot::Constant {
-    least: 0,
-    most: 0xFFFF_FFFF_FFFF_FFFF,
-};
+pub const BITS: Slot = Slot::Measure;
 
 fn named_by(place: Place, path: &Path) -> Option<UnitName>
     ensures { result ≡ spec.named_by place path.now }

@@ -5,11 +5,15 @@ ghost use Rattle.asl_words.specs.Meanings as words;
 ghost use Rattle.asl_shape.specs.AtRaw as at;
 ghost use Rattle.asl_parser.specs.Written.{written, writtens, written_in};
 
+use crate::around::Around;
 use asl_parser::{Raw, Raws};
-use asl_words::meaning::{Meaning, is_same, is_unknown, may_be, may_end, wants_braces};
+use asl_words::meaning::{
+    Meaning, is_descriptor_name, is_same, is_unknown, may_be, may_end, wants_braces,
+};
 use asl_words::operator::{Parameter, Slot};
-use asl_words::parameters::{offset_parameters, parameters_of};
+use asl_words::parameters::{macro_parameters, offset_parameters, parameters_of};
 use asl_words::paths::parts;
+use asl_words::resources::descriptor_parameters;
 
 #[tactic(auto, using(asl_parser::proofs::Views::written_rules))]
 fn is_empty(raw: &Raw) -> bool
@@ -75,9 +79,11 @@ fn has_arguments(meaning: Meaning, args: &[Raw]) -> bool
 {
     match meaning {
         Meaning::Operator(operator) => takes(parameters_of(operator), args),
-        Meaning::Known(_) => args.is_empty(),
+        Meaning::Known(_) | Meaning::Template => args.is_empty(),
         Meaning::Name | Meaning::Path => is_call(args),
         Meaning::Offset => takes(offset_parameters(), args),
+        Meaning::Macro(text_macro) => takes(macro_parameters(text_macro), args),
+        Meaning::Descriptor(descriptor) => takes(descriptor_parameters(descriptor), args),
         Meaning::Unknown => true,
     }
 }
@@ -85,17 +91,17 @@ fn has_arguments(meaning: Meaning, args: &[Raw]) -> bool
 /// The first of an item's errors.
 pub fn item_fault(
     slot: Slot,
-    inside: bool,
+    inside: Around,
     meaning: Meaning,
     args: &[Raw],
     has_body: bool,
 ) -> Option<u16>
-    ensures { result ≡ words.item_fault slot inside meaning (at.has_arguments_at meaning args.now) has_body }
+    ensures { result ≡ words.item_fault slot inside.method meaning (at.has_arguments_at meaning args.now) has_body }
 {
-    if is_unknown(meaning) {
+    if is_unknown(meaning) || is_descriptor_name(slot, meaning) {
         return Some(6020);
     }
-    if !may_be(slot, inside, meaning) {
+    if !may_be(slot, inside.method, meaning) {
         return Some(6025);
     }
     if !has_arguments(meaning, args) {

@@ -6,12 +6,13 @@ ghost use Rattle.asl_shape.specs.AtRaw as at;
 ghost use Rattle.asl_shape.specs.Plans.{plan_of};
 
 use crate::item::is_given;
+use crate::macros::macro_text;
 use crate::work::{Work, refuse};
 use acpi_values::integer::wrap;
 use acpi_values::width::Width;
 use asl_parser::Raw;
 use asl_tree::term::Term;
-use asl_words::meaning::{Meaning, meaning_of, takes_expression, takes_known};
+use asl_words::meaning::{Meaning, meaning_of, takes_expression, takes_known, unfit};
 use asl_words::operator::{Known, Slot, StringForm, WordKind};
 use asl_words::paths::path_of;
 use asl_words::texts::{has_form, is_text};
@@ -53,7 +54,7 @@ pub fn number(
             if takes_expression(slot) {
                 Ok(Term::Integer(wrap(Width::W64, value)))
             } else {
-                Ok(refuse(alloc, work, 6022, place)?)
+                Ok(refuse(alloc, work, unfit(slot), place)?)
             }
         }
     }
@@ -98,8 +99,9 @@ pub fn text(
         Slot::Expression => Ok(string(alloc, work, StringForm::Any, place, bytes)?),
         Slot::Element => Ok(string(alloc, work, StringForm::Any, place, bytes)?),
         Slot::String(form) => Ok(string(alloc, work, form, place, bytes)?),
+        Slot::MacroText(text_macro) => Ok(macro_text(alloc, work, text_macro, place, bytes)?),
         Slot::Term { .. } => Ok(refuse(alloc, work, 6025, place)?),
-        _ => Ok(refuse(alloc, work, 6022, place)?),
+        _ => Ok(refuse(alloc, work, unfit(slot), place)?),
     }
 }
 
@@ -132,7 +134,8 @@ pub fn known_term(slot: Slot, known: Known) -> Term
         Known::Local(index) => Term::Local(index),
         Known::Arg(index) => Term::Arg(index),
         Known::Debug => Term::Debug,
-        Known::Offset | Known::LeftOut => Term::Omitted,
+        Known::Offset | Known::Macro(_) | Known::Template | Known::Descriptor(_) | Known::LeftOut =>
+            Term::Omitted,
     }
 }
 
@@ -258,6 +261,6 @@ pub fn listed(
 {
     match most_types(slot) {
         Some(most) => Ok(types(alloc, work, most, place, raws)?),
-        None => Ok(refuse(alloc, work, 6022, place)?),
+        None => Ok(refuse(alloc, work, unfit(slot), place)?),
     }
 }

@@ -1,10 +1,13 @@
 //! From the tree of the syntax to the program tree, by the one table of operators.
 #![tactic(auto)]
 
+mod around;
 mod fields;
 mod item;
 mod leaf;
 mod lists;
+mod macros;
+mod resources;
 mod settle;
 mod symbol;
 mod tree;
@@ -13,5 +16,7 @@ mod work;
 
 pub use unit::shape;
 
+#[cfg(test)]
+mod resource_tests;
 #[cfg(test)]
 mod tests;

@@ -3,6 +3,7 @@ ghost use Rattle.std.specs.Prelude.{◌≡◌, ◌≤◌, ◌<◌, drop, true, f
 ghost use Rattle.asl_shape.specs.Shapes as spec;
 ghost use Rattle.asl_shape.specs.AtRaw as at;
 
+use crate::around::Around;
 use crate::item::is_given;
 use asl_parser::Raw;
 use asl_tree::term::{Declaration, Op};
@@ -10,12 +11,15 @@ use asl_words::meaning::{meaning_of, run_behind};
 use asl_words::operator::{Slot, StringForm};
 use asl_words::paths::parts;
 
-/// The terms of a method stand inside one.
-pub fn within(op: Op, inside: bool) -> bool
+/// What the terms of a form stand in: those of a method inside one.
+pub fn within(op: Op, inside: Around) -> Around
     ensures { result ≡ spec.within op inside }
 {
     match op {
-        Op::Declaration(Declaration::Method) => true,
+        Op::Declaration(Declaration::Method) => Around {
+            method: true,
+            width: inside.width,
+        },
         _ => inside,
     }
 }

@@ -4,6 +4,7 @@ ghost use Rattle.asl_shape.specs.Shapes as spec;
 ghost use Rattle.asl_shape.specs.Plans.{plan_of, plans_of, plan_at, number_of, first_plans, join, constant_of};
 
 use crate::work::{is_omitted, value_of};
+use acpi_values::width::Width;
 use asl_tree::term::{Control, Declaration, Literal, Node, Op, Special, Term};
 use iasl_messages::place::Place;
 use std::alloc::{AllocError, Global};
@@ -162,31 +163,42 @@ fn returned(alloc: Global, nodes: &mut Vec<Node>, place: Place) -> Result<(), Al
 
 // The first argument, where it is a constant of at most 255.
 #[tactic(auto, using(crate::proofs::Settled::few_rules))]
-fn few_elements(nodes: &[Node]) -> Option<u64>
-    ensures { result ≡ spec.few_elements (constant_of (plan_at (plans_of nodes.now) 0)) }
+fn few_elements(width: Width, nodes: &[Node]) -> Option<u64>
+    ensures { result ≡ spec.few_elements (constant_of width (plan_at (plans_of nodes.now) 0)) }
 {
     let Some(node) = nodes.get(0) else {
         return None;
     };
-    match value_of(&node.term) {
+    match value_of(width, &node.term) {
         Ok(count) => if count <= 255 { Some(count) } else { None },
         Err(_) => None,
     }
 }
 
 #[tactic(auto, using(crate::proofs::Terms::term_rules))]
-fn package(alloc: Global, nodes: &mut Vec<Node>, place: Place) -> Result<(), AllocError>
-    ensures { OnOk result (plans_of nodes.new.items ≡ spec.package_settled place (plans_of nodes.old.items)) }
+fn package(
+    alloc: Global,
+    width: Width,
+    nodes: &mut Vec<Node>,
+    place: Place,
+) -> Result<(), AllocError>
+    ensures { OnOk result (plans_of nodes.new.items ≡ spec.package_settled width place (plans_of nodes.old.items)) }
 {
-    match few_elements(nodes) {
+    match few_elements(width, nodes) {
         Some(count) => Ok(only(alloc, nodes, place, Term::Integer(count))?),
         None => Ok(()),
     }
 }
 
-/// The arguments of a form, from those that are written.
-pub fn settle(alloc: Global, op: Op, place: Place, nodes: &mut Vec<Node>) -> Result<(), AllocError>
-    ensures { OnOk result (plans_of nodes.new.items ≡ spec.settled op place (plans_of nodes.old.items)) }
+/// The arguments of a form in a table of this width, from those that are written.
+pub fn settle(
+    alloc: Global,
+    width: Width,
+    op: Op,
+    place: Place,
+    nodes: &mut Vec<Node>,
+) -> Result<(), AllocError>
+    ensures { OnOk result (plans_of nodes.new.items ≡ spec.settled width op place (plans_of nodes.old.items)) }
 {
     match op {
         Op::Declaration(Declaration::Method) => Ok(method(nodes, place)?),
@@ -196,7 +208,7 @@ pub fn settle(alloc: Global, op: Op, place: Place, nodes: &mut Vec<Node>) -> Res
         Op::Declaration(Declaration::IndexField) => Ok(field(nodes, place, 2)?),
         Op::Declaration(Declaration::BankField) => Ok(field(nodes, place, 3)?),
         Op::Control(Control::Return) => Ok(returned(alloc, nodes, place)?),
-        Op::Special(Special::Package) => Ok(package(alloc, nodes, place)?),
+        Op::Special(Special::Package) => Ok(package(alloc, width, nodes, place)?),
         _ => Ok(()),
     }
 }

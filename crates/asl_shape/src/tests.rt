@@ -3,7 +3,7 @@ use acpi_values::operator::{DataOp, IntOp, Plain};
 use asl_lexer::token::{Token, TokenKind, Tokens};
 use asl_parser::parse;
 use asl_tree::program::Program;
-use asl_tree::term::{Compound, Op, Symbolic, Term};
+use asl_tree::term::{Compound, Op, Special, Symbolic, Term};
 use iasl_messages::message::Stage;
 use iasl_messages::place::Place;
 use iasl_ports::list::Text;
@@ -53,7 +53,7 @@ fn tokens(alloc: Global, text: &str) -> Result<Tokens, AllocError> {
 }
 
 /// The errors of a source: each with its column, in order.
-fn errors(alloc: Global, text: &str) -> Result<String, AllocError> {
+pub(crate) fn errors(alloc: Global, text: &str) -> Result<String, AllocError> {
     let tokens = tokens(alloc, text)?;
     if tokens.len() > 1000 {
         return String::from_str(alloc, "too long");
@@ -97,7 +97,7 @@ fn tells_each_error_at_its_place(rt: HostRuntime) -> Result<(), Fail> {
             "6023@0 ",
         ),
         (
-            "DEFINITIONBLOCK ( A , \"OEMX , 1 , \"OEMOEMO , \"T , B ) { NAME ( C ) }",
+            "DEFINITIONBLOCK ( A , \"OEMX , 256 , \"OEMOEMO , \"T , B ) { NAME ( C ) }",
             "6022@2 6024@6 6024@8 6022@12 6021@15 ",
         ),
         (
@@ -170,7 +170,7 @@ fn tells_each_error_at_its_place(rt: HostRuntime) -> Result<(), Fail> {
     Ok(())
 }
 
-const HEAD: &str = "DEFINITIONBLOCK ( \"a , \"DSDT , 2 , \"O , \"T , 1 ) {";
+pub(crate) const HEAD: &str = "DEFINITIONBLOCK ( \"a , \"DSDT , 2 , \"O , \"T , 1 ) {";
 
 #[test]
 fn tells_errors_of_regions_and_fields(rt: HostRuntime) -> Result<(), Fail> {
@@ -338,6 +338,7 @@ fn last_number(alloc: Global, text: &str) -> Result<Option<u64>, AllocError> {
     match args.last() {
         Some(last) => match &last.term {
             Term::Integer(number) => Ok(Some(*number)),
+            Term::Word(word) => Ok(Some(word.number())),
             _ => Ok(None),
         },
         None => Ok(None),
@@ -425,5 +426,97 @@ fn symbols_are_operators(rt: HostRuntime) -> Result<(), Fail> {
     }
     // A constant argument is its value.
     assert!(rt; last_number(alloc, "MUTEX ( M , 1 + 2 )")? == Some(3));
+    Ok(())
+}
+
+#[test]
+fn tells_errors_of_macros(rt: HostRuntime) -> Result<(), Fail> {
+    let alloc = rt.alloc();
+    for (text, want) in [
+        ("NAME ( A , EISAID ( \"PNP0C09 ) )", "none"),
+        (
+            "NAME ( A , PACKAGE ( ) { EISAID ( \"PNP0c0a ) , TOUUID ( \"e5c937d0-3553-4d7a-9117-ea4d19c3434d ) , UNICODE ( \"A ) } )",
+            "none",
+        ),
+        // A string of another form is told at itself.
+        ("NAME ( A , EISAID ( \"PnP0C09 ) )", "6026@21 "),
+        ("NAME ( A , EISAID ( \"PNP0C0 ) )", "6026@21 "),
+        (
+            "NAME ( A , TOUUID ( \"e5c937d0-3553-4d7a-9117-ea4d19c3434 ) )",
+            "6027@21 ",
+        ),
+        // The one argument is a string, and there are no braces.
+        ("NAME ( A , EISAID ( B ) )", "6022@21 "),
+        ("NAME ( A , UNICODE ( 1 ) )", "6022@21 "),
+        ("NAME ( A , EISAID )", "6021@19 "),
+        ("NAME ( A , TOUUID ( \"a , \"b ) )", "6021@19 "),
+        ("NAME ( A , UNICODE ( \"A ) { } )", "6023@19 "),
+        // A macro is no term, no place and no constant, also under an operator.
+        ("EISAID ( \"PNP0C09 )", "6025@15 "),
+        ("STORE ( 1 , EISAID ( \"PNP0C09 ) )", "6022@19 "),
+        ("MUTEX ( M , EISAID ( \"PNP0C09 ) )", "6022@19 "),
+        ("MUTEX ( M , EISAID ( \"PNP0C09 ) & 1 )", "6022@23 "),
+        (
+            "MUTEX ( M , ADD ( 1 , NOT ( EISAID ( \"PNP0C09 ) ) ) )",
+            "6022@19 ",
+        ),
+        ("MUTEX ( M , EISAID ( \"P ) & 1 )", "6026@21 "),
+        ("NAME ( B , BUFFER ( ) { UNICODE ( \"A ) } )", "6022@23 "),
+        (
+            "NAME ( P , PACKAGE ( ) { 1 + EISAID ( \"PNP0C09 ) } )",
+            "6022@24 ",
+        ),
+        ("A = 1 + EISAID ( \"PNP0C09 )", "none"),
+    ] {
+        let source = format!(in alloc; "{HEAD} {text} }}")?;
+        assert_eq!(rt; errors(alloc, source.as_str())?.as_str(), want);
+    }
+    Ok(())
+}
+
+/// Whether the one term of a block has a Buffer of these bytes as its last argument.
+pub(crate) fn has_buffer(alloc: Global, text: &str, bytes: &[u8]) -> Result<bool, AllocError> {
+    let Some(program) = with_term(alloc, text)? else {
+        return Ok(false);
+    };
+    let Some(block) = program.blocks.get(0) else {
+        return Ok(false);
+    };
+    let Some(node) = block.terms.get(0) else {
+        return Ok(false);
+    };
+    let Term::Form { args, .. } = &node.term else {
+        return Ok(false);
+    };
+    let Some(last) = args.last() else {
+        return Ok(false);
+    };
+    let Term::Form { op, body, .. } = &last.term else {
+        return Ok(false);
+    };
+    if *op != Op::Special(Special::Buffer) {
+        return Ok(false);
+    }
+    match body.get(0) {
+        Some(node) => match &node.term {
+            Term::Fill(fill) => Ok(fill.as_bytes() == bytes),
+            _ => Ok(false),
+        },
+        None => Ok(false),
+    }
+}
+
+#[test]
+fn macros_stand_for_their_strings(rt: HostRuntime) -> Result<(), Fail> {
+    let alloc = rt.alloc();
+    assert!(rt; last_number(alloc, "NAME ( A , EISAID ( \"PNP0C09 ) )")? == Some(0x090CD041));
+    assert!(rt; has_buffer(alloc, "NAME ( U , UNICODE ( \"AB ) )", b"A\0B\0\0\0")?);
+    assert!(rt;
+        has_buffer(
+            alloc,
+            "NAME ( U , TOUUID ( \"E5c937d0-3553-4d7a-9117-ea4d19c3434d ) )",
+            b"\xD0\x37\xC9\xE5\x53\x35\x7A\x4D\x91\x17\xEA\x4D\x19\xC3\x43\x4D",
+        )?
+    );
     Ok(())
 }

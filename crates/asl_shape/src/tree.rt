@@ -6,24 +6,29 @@ ghost use Rattle.asl_words.specs.Operators as table;
 ghost use Rattle.asl_words.specs.Paths;
 ghost use Rattle.asl_shape.specs.Plans.{plan_of, plans_of, join};
 
+use crate::around::Around;
 use crate::fields::{
     BITS, Due, UnitName, add_offset, add_unit, due_behind, is_field_list, meaning_in, named_unit,
 };
 use crate::item::{inside_of, is_given, item_fault};
 use crate::leaf::{known_term, listed, number, path, place_in, text};
 use crate::lists::{byte_slot, is_listed, is_separator, run_after, within};
+use crate::macros::first_term;
+use crate::resources;
 use crate::settle::{number_at, number_in, push, settle};
 use crate::symbol::symbol_of;
 use crate::work::{NOWHERE, Work, evaluate, refuse, tell};
 use asl_parser::{Raw, Raws};
 use asl_tree::term::{Node, Op, Term};
-use asl_words::meaning::{Reading, meaning_of, reading_of, slot_as, takes_role};
-use asl_words::operator::{Body, Parameter, Slot};
-use asl_words::parameters::{body_of, offset_parameters, parameters_of, role_of};
+use asl_words::meaning::{Reading, meaning_of, reading_of, slot_as, takes_role, unfit};
+use asl_words::operator::{Body, Parameter, Slot, TextMacro};
+use asl_words::parameters::{body_of, macro_parameters, offset_parameters, parameters_of, role_of};
 use asl_words::paths::path_of;
+use asl_words::resources::{descriptor_body, descriptor_parameters};
 use iasl_messages::message::{Messages, Stage};
 use iasl_messages::place::Place;
 use iasl_ports::list::Text;
+use resource_layout::descriptor::Descriptor;
 use std::alloc::{AllocError, Global};
 
 // A part of a source where it is read so.
@@ -33,7 +38,7 @@ fn shape(
     alloc: Global,
     work: &mut Work,
     slot: Slot,
-    inside: bool,
+    inside: Around,
     raw: &Raw,
 ) -> Result<Term, AllocError>
     ensures faults { OnOk result (work.new.faults.items ≡ work.old.faults.items ++ (at.shape_at slot inside raw.now).faults) }
@@ -42,7 +47,8 @@ fn shape(
     let before = work.faults.len();
     let term = bare(alloc, work, slot, inside, raw)?;
     if work.faults.len() == before {
-        Ok(evaluate(alloc, work, slot, place_in(NOWHERE, raw), term)?)
+        let place = place_in(NOWHERE, raw);
+        Ok(evaluate(alloc, work, inside.width, slot, place, term)?)
     } else {
         Ok(term)
     }
@@ -54,7 +60,7 @@ fn bare(
     alloc: Global,
     work: &mut Work,
     slot: Slot,
-    inside: bool,
+    inside: Around,
     raw: &Raw,
 ) -> Result<Term, AllocError>
     ensures faults { OnOk result (work.new.faults.items ≡ work.old.faults.items ++ (at.bare_at slot inside raw.now).faults) }
@@ -93,7 +99,7 @@ fn add(
     work: &mut Work,
     nodes: &mut Vec<Node>,
     slot: Slot,
-    inside: bool,
+    inside: Around,
     place: Place,
     raw: &Raw,
 ) -> Result<(), AllocError>
@@ -112,7 +118,7 @@ fn add_member(
     work: &mut Work,
     nodes: &mut Vec<Node>,
     slot: Slot,
-    inside: bool,
+    inside: Around,
     raw: &Raw,
 ) -> Result<(), AllocError>
     ensures faults { OnOk result (work.new.faults.items ≡ work.old.faults.items ++ (at.member_at slot inside raw.now).faults) }
@@ -132,7 +138,7 @@ fn operands(
     work: &mut Work,
     nodes: &mut Vec<Node>,
     slot: Slot,
-    inside: bool,
+    inside: Around,
     args: &[Raw],
 ) -> Result<(), AllocError>
     ensures faults { OnOk result (work.new.faults.items ≡ work.old.faults.items ++ (at.operands_at slot inside args.now).faults) }
@@ -153,7 +159,7 @@ fn item(
     alloc: Global,
     work: &mut Work,
     slot: Slot,
-    inside: bool,
+    inside: Around,
     place: Place,
     word: &Text,
     args: &Option<Raws>,
@@ -187,7 +193,7 @@ fn read(
     work: &mut Work,
     slot: Slot,
     reading: Reading,
-    inside: bool,
+    inside: Around,
     place: Place,
     word: &Text,
     args: &Option<Raws>,
@@ -197,10 +203,13 @@ fn read(
     ensures made { IfOk result (λ term. plan_of term ≡ (at.read_at slot place word.now reading inside args.now body.now).made) }
 {
     match reading {
-        Reading::Wrong => Ok(refuse(alloc, work, 6022, place)?),
+        Reading::Wrong => Ok(refuse(alloc, work, unfit(slot), place)?),
         Reading::Path => Ok(path(alloc, work, place, word.as_bytes())?),
         Reading::Call => Ok(call(alloc, work, inside, place, word, args)?),
         Reading::Offset => Ok(offset(alloc, work, inside, place, args)?),
+        Reading::Macro(of) => Ok(text_macro(alloc, work, of, inside, place, args)?),
+        Reading::Template => Ok(template(alloc, work, inside, place, body)?),
+        Reading::Descriptor(of) => Ok(descriptor(alloc, work, of, inside, place, args, body)?),
         Reading::Known(known) => Ok(known_term(slot, known)),
         Reading::Form(op) => Ok(form(alloc, work, op, inside, place, inside_of(args), body)?),
     }
@@ -212,7 +221,7 @@ fn read(
 fn call(
     alloc: Global,
     work: &mut Work,
-    inside: bool,
+    inside: Around,
     place: Place,
     word: &Text,
     args: &Option<Raws>,
@@ -241,7 +250,7 @@ fn call(
 fn offset(
     alloc: Global,
     work: &mut Work,
-    inside: bool,
+    inside: Around,
     place: Place,
     args: &Option<Raws>,
 ) -> Result<Term, AllocError>
@@ -261,6 +270,97 @@ fn offset(
     Ok(Term::Offset(number_at(&nodes, 0)))
 }
 
+// A macro with its string.
+#[cycle(shape)]
+#[tactic(auto, using(crate::proofs::Shapes::size_rules, crate::proofs::Shapes::macro_rules))]
+fn text_macro(
+    alloc: Global,
+    work: &mut Work,
+    of: TextMacro,
+    inside: Around,
+    place: Place,
+    args: &Option<Raws>,
+) -> Result<Term, AllocError>
+    ensures faults { OnOk result (work.new.faults.items ≡ work.old.faults.items ++ (at.macro_at of place inside args.now).faults) }
+    ensures made { IfOk result (λ term. plan_of term ≡ (at.macro_at of place inside args.now).made) }
+{
+    let mut nodes = Vec::new(alloc);
+    arguments(
+        alloc,
+        work,
+        &mut nodes,
+        macro_parameters(of),
+        inside,
+        place,
+        inside_of(args),
+    )?;
+    Ok(first_term(&mut nodes))
+}
+
+// A resource template with its descriptors.
+#[cycle(shape)]
+#[tactic(auto, using(crate::proofs::Shapes::size_rules, crate::proofs::Shapes::template_rules))]
+fn template(
+    alloc: Global,
+    work: &mut Work,
+    inside: Around,
+    place: Place,
+    body: &Option<Raws>,
+) -> Result<Term, AllocError>
+    ensures faults { OnOk result (work.new.faults.items ≡ work.old.faults.items ++ (at.template_at place inside body.now).faults) }
+    ensures made { IfOk result (λ term. plan_of term ≡ (at.template_at place inside body.now).made) }
+{
+    let mut nodes = Vec::new(alloc);
+    contents(
+        alloc,
+        work,
+        &mut nodes,
+        Body::Descriptors,
+        inside,
+        place,
+        body,
+    )?;
+    Ok(resources::template(alloc, place, &nodes)?)
+}
+
+// A resource descriptor with its arguments and its braces.
+#[cycle(shape)]
+#[tactic(auto, using(crate::proofs::Shapes::size_rules, crate::proofs::Shapes::descriptor_rules))]
+fn descriptor(
+    alloc: Global,
+    work: &mut Work,
+    of: Descriptor,
+    inside: Around,
+    place: Place,
+    args: &Option<Raws>,
+    body: &Option<Raws>,
+) -> Result<Term, AllocError>
+    ensures faults { OnOk result (work.new.faults.items ≡ work.old.faults.items ++ (at.descriptor_at of place inside args.now body.now).faults) }
+    ensures made { IfOk result (λ term. plan_of term ≡ (at.descriptor_at of place inside args.now body.now).made) }
+{
+    let mut nodes = Vec::new(alloc);
+    arguments(
+        alloc,
+        work,
+        &mut nodes,
+        descriptor_parameters(of),
+        inside,
+        place,
+        inside_of(args),
+    )?;
+    let mut members = Vec::new(alloc);
+    contents(
+        alloc,
+        work,
+        &mut members,
+        descriptor_body(of),
+        inside,
+        place,
+        body,
+    )?;
+    Ok(resources::describe(alloc, work, of, place, &nodes, &members)?)
+}
+
 // What is written with a symbol, with its operands.
 #[cycle(shape)]
 #[tactic(auto, using(crate::proofs::Shapes::size_rules, crate::proofs::Shapes::symbol_rules))]
@@ -269,17 +369,17 @@ fn symbol(
     work: &mut Work,
     slot: Slot,
     op: Op,
-    inside: bool,
+    inside: Around,
     place: Place,
     args: &[Raw],
 ) -> Result<Term, AllocError>
-    ensures faults { OnOk result (work.new.faults.items ≡ work.old.faults.items ++ (spec.symbol_shape slot place op (at.arguments_in_at (table.parameters_of op) place inside args.now)).faults) }
-    ensures made { IfOk result (λ term. plan_of term ≡ (spec.symbol_shape slot place op (at.arguments_in_at (table.parameters_of op) place inside args.now)).made) }
+    ensures faults { OnOk result (work.new.faults.items ≡ work.old.faults.items ++ (spec.symbol_shape inside.width slot place op (at.arguments_in_at (table.parameters_of op) place inside args.now)).faults) }
+    ensures made { IfOk result (λ term. plan_of term ≡ (spec.symbol_shape inside.width slot place op (at.arguments_in_at (table.parameters_of op) place inside args.now)).made) }
 {
     if takes_role(slot, role_of(op)) {
         Ok(form(alloc, work, op, inside, place, args, &None)?)
     } else {
-        Ok(refuse(alloc, work, 6022, place)?)
+        Ok(refuse(alloc, work, unfit(slot), place)?)
     }
 }
 
@@ -290,13 +390,13 @@ fn form(
     alloc: Global,
     work: &mut Work,
     op: Op,
-    inside: bool,
+    inside: Around,
     place: Place,
     args: &[Raw],
     body: &Option<Raws>,
 ) -> Result<Term, AllocError>
-    ensures faults { OnOk result (work.new.faults.items ≡ work.old.faults.items ++ (spec.form_shape op place (at.arguments_in_at (table.parameters_of op) place inside args.now) (at.contents_at (table.body_of op) (spec.within op inside) place body.now)).faults) }
-    ensures made { IfOk result (λ term. plan_of term ≡ (spec.form_shape op place (at.arguments_in_at (table.parameters_of op) place inside args.now) (at.contents_at (table.body_of op) (spec.within op inside) place body.now)).made) }
+    ensures faults { OnOk result (work.new.faults.items ≡ work.old.faults.items ++ (spec.form_shape inside.width op place (at.arguments_in_at (table.parameters_of op) place inside args.now) (at.contents_at (table.body_of op) (spec.within op inside) place body.now)).faults) }
+    ensures made { IfOk result (λ term. plan_of term ≡ (spec.form_shape inside.width op place (at.arguments_in_at (table.parameters_of op) place inside args.now) (at.contents_at (table.body_of op) (spec.within op inside) place body.now)).made) }
 {
     let mut nodes = Vec::new(alloc);
     arguments(
@@ -308,7 +408,7 @@ fn form(
         place,
         args,
     )?;
-    settle(alloc, op, place, &mut nodes)?;
+    settle(alloc, inside.width, op, place, &mut nodes)?;
     let mut terms = Vec::new(alloc);
     contents(
         alloc,
@@ -334,7 +434,7 @@ fn add_argument(
     work: &mut Work,
     nodes: &mut Vec<Node>,
     parameter: Parameter,
-    inside: bool,
+    inside: Around,
     place: Place,
     args: &[Raw],
     i: usize,
@@ -364,7 +464,7 @@ pub fn arguments(
     work: &mut Work,
     nodes: &mut Vec<Node>,
     parameters: &[Parameter],
-    inside: bool,
+    inside: Around,
     place: Place,
     args: &[Raw],
 ) -> Result<(), AllocError>
@@ -385,7 +485,7 @@ fn contents(
     work: &mut Work,
     nodes: &mut Vec<Node>,
     body: Body,
-    inside: bool,
+    inside: Around,
     place: Place,
     raws: &Option<Raws>,
 ) -> Result<(), AllocError>
@@ -402,6 +502,18 @@ fn contents(
         Body::Bytes => Ok(elements(alloc, work, nodes, byte_slot(raws), inside, place, raws)?),
         Body::Elements => Ok(elements(alloc, work, nodes, Slot::Element, inside, place, raws)?),
         Body::FieldList => Ok(field_list(alloc, work, nodes, inside, place, raws)?),
+        Body::Numbers { most } => {
+            Ok(elements(
+                alloc,
+                work,
+                nodes,
+                Slot::Constant { least: 0, most },
+                inside,
+                place,
+                raws,
+            )?)
+        }
+        Body::Descriptors => Ok(members(alloc, work, nodes, Slot::Descriptor, inside, raws)?),
     }
 }
 
@@ -412,7 +524,7 @@ fn field_list(
     alloc: Global,
     work: &mut Work,
     nodes: &mut Vec<Node>,
-    inside: bool,
+    inside: Around,
     place: Place,
     raws: &[Raw],
 ) -> Result<(), AllocError>
@@ -431,7 +543,7 @@ fn field_elements(
     alloc: Global,
     work: &mut Work,
     nodes: &mut Vec<Node>,
-    inside: bool,
+    inside: Around,
     raws: &[Raw],
 ) -> Result<(), AllocError>
     ensures faults { OnOk result (work.new.faults.items ≡ work.old.faults.items ++ (at.elements_at spec.begin None inside raws.now).faults) }
@@ -455,7 +567,7 @@ fn add_part(
     nodes: &mut Vec<Node>,
     due: Due,
     unit: Option<UnitName>,
-    inside: bool,
+    inside: Around,
     raw: &Raw,
 ) -> Result<Option<UnitName>, AllocError>
     ensures faults { OnOk result (work.new.faults.items ≡ work.old.faults.items ++ (at.part_at due unit inside raw.now).faults) }
@@ -483,7 +595,7 @@ fn begin_element(
     alloc: Global,
     work: &mut Work,
     nodes: &mut Vec<Node>,
-    inside: bool,
+    inside: Around,
     raw: &Raw,
 ) -> Result<Option<UnitName>, AllocError>
     ensures faults { OnOk result (work.new.faults.items ≡ work.old.faults.items ++ (at.begin_at inside raw.now).faults) }
@@ -527,7 +639,7 @@ fn add_bits(
     work: &mut Work,
     nodes: &mut Vec<Node>,
     unit: Option<UnitName>,
-    inside: bool,
+    inside: Around,
     raw: &Raw,
 ) -> Result<(), AllocError>
     ensures faults { OnOk result (work.new.faults.items ≡ work.old.faults.items ++ (at.bits_at unit inside raw.now).faults) }
@@ -545,7 +657,7 @@ fn elements(
     work: &mut Work,
     nodes: &mut Vec<Node>,
     slot: Slot,
-    inside: bool,
+    inside: Around,
     place: Place,
     raws: &[Raw],
 ) -> Result<(), AllocError>
@@ -565,7 +677,7 @@ fn members(
     work: &mut Work,
     nodes: &mut Vec<Node>,
     slot: Slot,
-    inside: bool,
+    inside: Around,
     raws: &[Raw],
 ) -> Result<(), AllocError>
     ensures faults { OnOk result (work.new.faults.items ≡ work.old.faults.items ++ (at.members_at slot inside raws.now).faults) }
@@ -583,7 +695,7 @@ pub fn terms(
     alloc: Global,
     work: &mut Work,
     nodes: &mut Vec<Node>,
-    inside: bool,
+    inside: Around,
     raws: &[Raw],
 ) -> Result<(), AllocError>
     ensures faults { OnOk result (work.new.faults.items ≡ work.old.faults.items ++ (at.terms_at inside None raws.now).faults) }

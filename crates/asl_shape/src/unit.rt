@@ -5,11 +5,13 @@ ghost use Rattle.asl_shape.specs.AtRaw as at;
 ghost use Rattle.asl_words.specs.Operators as table;
 ghost use Rattle.asl_shape.specs.Plans.{plan_of, plans_of, plan_at, text_of, join};
 
+use crate::around::outside;
 use crate::item::{inside_of, is_given, takes};
 use crate::leaf::place_in;
 use crate::settle::number_at;
 use crate::tree::{arguments, terms};
 use crate::work::Work;
+use acpi_values::width::Width;
 use asl_parser::{Raw, RawUnit, Raws};
 use asl_tree::program::{Block, Blocks, Program};
 use asl_tree::term::{Node, Term};
@@ -89,7 +91,7 @@ fn block_of(
         place,
         file: text_at(alloc, args, 0)?,
         signature: text_at(alloc, args, 1)?,
-        revision: (number_at(args, 2) % 256) as u8,
+        revision: revision_in(args),
         oem_id: text_at(alloc, args, 3)?,
         table_id: text_at(alloc, args, 4)?,
         oem_revision: (number_at(args, 5) % 4_294_967_296) as u32,
@@ -109,7 +111,29 @@ fn block_fault(has_arguments: bool, has_body: bool) -> Option<u16>
     None
 }
 
-// The arguments and the terms of a block.
+// The revision that the arguments of a block state.
+fn revision_in(args: &[Node]) -> u8
+    ensures { result ≡ spec.revision_in (plans_of args.now) }
+{
+    (number_at(args, 2) % 256) as u8
+}
+
+// The terms of a block with these arguments.
+fn block_terms(
+    alloc: Global,
+    work: &mut Work,
+    list: &mut Vec<Node>,
+    args: &[Node],
+    body: &[Raw],
+) -> Result<(), AllocError>
+    ensures faults { OnOk result (work.new.faults.items ≡ work.old.faults.items ++ (spec.terms_in (plans_of args.now) body.now).faults) }
+    ensures made { OnOk result (plans_of list.new.items ≡ join (plans_of list.old.items) (spec.terms_in (plans_of args.now) body.now).made) }
+{
+    let around = outside(Width::of_revision(revision_in(args)));
+    Ok(terms(alloc, work, list, around, body)?)
+}
+
+// The arguments of a block, and its terms.
 #[tactic(auto, using(crate::proofs::Units::inside_rules))]
 fn inside(
     alloc: Global,
@@ -120,18 +144,20 @@ fn inside(
     args: &[Raw],
     body: &[Raw],
 ) -> Result<(), AllocError>
+    requires { nodes.now.items ≡ [] }
     ensures faults { OnOk result (work.new.faults.items ≡ work.old.faults.items ++ spec.errors_in place args.now body.now) }
-    ensures args { OnOk result (plans_of nodes.new.items ≡ join (plans_of nodes.old.items) (spec.args_in place args.now).made) }
-    ensures terms { OnOk result (plans_of list.new.items ≡ join (plans_of list.old.items) (spec.terms_in body.now).made) }
+    ensures args { OnOk result (plans_of nodes.new.items ≡ (spec.args_in place args.now).made) }
+    ensures terms { OnOk result (plans_of list.new.items ≡ join (plans_of list.old.items) (spec.terms_in (spec.args_in place args.now).made body.now).made) }
 {
-    arguments(alloc, work, nodes, block_parameters(), false, place, args)?;
-    Ok(terms(alloc, work, list, false, body)?)
+    let around = outside(Width::W64);
+    arguments(alloc, work, nodes, block_parameters(), around, place, args)?;
+    Ok(block_terms(alloc, work, list, nodes, body)?)
 }
 
 // A block whose arguments and braces are there.
 #[tactic(auto, using(crate::proofs::Units::block_rules))]
 fn shaped(alloc: Global, place: Place, args: &[Raw], body: &[Raw]) -> Result<Block, Stage>
-    ensures formed { IfOk result (λ block. (spec.errors_in place args.now body.now ≡ []) × spec.IsBlock place (spec.args_in place args.now).made (spec.terms_in body.now).made block) }
+    ensures formed { IfOk result (λ block. (spec.errors_in place args.now body.now ≡ []) × spec.IsBlock place (spec.args_in place args.now).made (spec.terms_in (spec.args_in place args.now).made body.now).made block) }
     ensures refused { IfErr result (λ stage. at.Refuses stage (spec.errors_in place args.now body.now)) }
 {
     let mut work = Work {
@@ -161,7 +187,7 @@ fn block(
     args: &Option<Raws>,
     body: &Option<Raws>,
 ) -> Result<Block, Stage>
-    ensures formed { IfOk result (λ block. (spec.block_errors_at place args.now body.now ≡ []) × spec.IsBlock place (spec.args_in place (at.inside_at args.now)).made (spec.terms_in (at.inside_at body.now)).made block) }
+    ensures formed { IfOk result (λ block. (spec.block_errors_at place args.now body.now ≡ []) × spec.IsBlock place (spec.args_in place (at.inside_at args.now)).made (spec.terms_in (spec.args_in place (at.inside_at args.now)).made (at.inside_at body.now)).made block) }
     ensures refused { IfErr result (λ stage. at.Refuses stage (spec.block_errors_at place args.now body.now)) }
 {
     let has_arguments = takes(block_parameters(), inside_of(args));

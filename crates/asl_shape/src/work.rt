@@ -95,7 +95,7 @@ fn is_member(term: &Term) -> bool
         },
         Term::Integer(_) => false,
         Term::Fill(_) => false,
-        Term::Word(_) => false,
+        Term::Word(_) => true,
         Term::Local(_) => false,
         Term::Arg(_) => false,
         Term::Debug => false,
@@ -158,39 +158,47 @@ pub fn is_omitted(term: &Term) -> bool
     }
 }
 
-/// The value of a constant argument, at 64 bits.
+/// The value of a constant argument at a width.
 #[tactic(auto, using(crate::proofs::Constants::constant_is))]
-pub fn value_of(term: &Term) -> Result<u64, NoConstant>
-    ensures { result ≡ constant_of (plan_of term.now) }
+pub fn value_of(width: Width, term: &Term) -> Result<u64, NoConstant>
+    ensures { result ≡ constant_of width (plan_of term.now) }
 {
-    constant(term, Width::W64)
+    constant(term, width)
 }
 
-/// An expression where a constant may be asked for: its value, if it is one.
+/// An expression where a constant may be asked for: its value, if it is one. This is the table's width.
 #[tactic(auto, using(crate::proofs::Terms::nothing_more))]
 pub fn evaluate(
     alloc: Global,
     work: &mut Work,
+    width: Width,
     slot: Slot,
     place: Place,
     term: Term,
 ) -> Result<Term, AllocError>
-    ensures faults { OnOk result (work.new.faults.items ≡ work.old.faults.items ++ (spec.evaluated slot place (plan_of term)).faults) }
-    ensures made { IfOk result (λ made. plan_of made ≡ (spec.evaluated slot place (plan_of term)).made) }
+    ensures faults { OnOk result (work.new.faults.items ≡ work.old.faults.items ++ (spec.evaluated width slot place (plan_of term)).faults) }
+    ensures made { IfOk result (λ made. plan_of made ≡ (spec.evaluated width slot place (plan_of term)).made) }
 {
     match slot {
         Slot::Constant { least, most } => {
             if is_omitted(&term) {
                 Ok(term)
             } else {
-                Ok(valued(alloc, work, least, most, place, value_of(&term))?)
+                Ok(valued(alloc, work, least, most, place, value_of(Width::W64, &term))?)
+            }
+        }
+        Slot::Measure => {
+            if is_omitted(&term) {
+                Ok(term)
+            } else {
+                Ok(valued(alloc, work, 0, u64::MAX, place, value_of(width, &term))?)
             }
         }
         Slot::Element => {
             if is_member(&term) {
                 Ok(term)
             } else {
-                Ok(valued(alloc, work, 0, u64::MAX, place, value_of(&term))?)
+                Ok(valued(alloc, work, 0, u64::MAX, place, value_of(width, &term))?)
             }
         }
         Slot::FieldElement => {

@@ -3,7 +3,8 @@ use Rattle.std.proofs.Common.{◌≡◌, List, ◌∷◌, length, take, drop, �
 use Rattle.std.specs.Prelude.{◌==◌, ◌&&◌, nat_eq}
 use Rattle.std.specs.List.{list_all}
 use Rattle.std.specs.Cmp.Lexicographic.{pointwise}
-use Rattle.asl_words.specs.declared.table.TheConstants.{OPERATORS, WORDS}
+use Rattle.asl_words.specs.declared.table.TheConstants.{OPERATORS}
+use Rattle.asl_words.specs.declared.words.TheConstants.{WORDS}
 use Rattle.asl_words.specs.Operators.{operators, words, row_in, named_in, op_in, known_in, operator_of, word_of, is_filled}
 
 operators_are : OPERATORS.now ≡ operators

@@ -1,4 +1,5 @@
 pub mod Operators
 pub mod Paths
 pub mod Texts
+pub mod Resources
 pub mod Meanings

@@ -1,8 +1,10 @@
 -- What a word is, where it may stand, and what it is read as.
-use Rattle.std.specs.Prelude.{ℕ, suc, nat_le, nat_lt, Bool, true, false, not, ◌&&◌, if◌then◌else◌, List, [], ◌∷◌, length, Option, Some, None}
+use Rattle.std.specs.Prelude.{ℕ, suc, nat_le, nat_lt, Bool, true, false, not, ◌&&◌, ◌||◌, if◌then◌else◌, List, [], ◌∷◌, length, Option, Some, None}
 use Rattle.acpi_state.specs.Outcomes.{choose}
 use Rattle.asl_tree.specs.declared.term.Op.{Op}
 use Rattle.asl_tree.specs.declared.term.Control.{Control}
+use Rattle.resource_layout.specs.declared.descriptor.Kind.TheVariants as resource
+use Rattle.resource_layout.specs.Layout.{is_kind as is_resource_kind}
 use Rattle.asl_words.specs.declared.operator.Parameter.{Parameter}
 use Rattle.asl_words.specs.declared.operator.Slot.{Slot}
 use Rattle.asl_words.specs.declared.operator.Slot.TheVariants as slot
@@ -19,6 +21,7 @@ use Rattle.asl_words.specs.declared.meaning.Meaning.TheVariants as is
 use Rattle.asl_words.specs.declared.meaning.Reading.{Reading}
 use Rattle.asl_words.specs.declared.meaning.Reading.TheVariants as read
 use Rattle.asl_words.specs.Operators.{operator_of, word_of, body_of, role_of}
+use Rattle.asl_words.specs.Resources.{descriptor_body}
 use Rattle.asl_words.specs.Paths.{is_path}
 
 -- a word of at most four characters without a body is a name
@@ -28,6 +31,9 @@ name_or_unknown text has_body = if is_path text then is.Path else (if nat_le (le
 abbrev pub known_as : Known → Meaning
 known_as known.LeftOut = is.Unknown
 known_as known.Offset = is.Offset
+known_as (known.Macro m) = is.Macro m
+known_as known.Template = is.Template
+known_as (known.Descriptor d) = is.Descriptor d
 known_as k = is.Known k
 
 -- what a word or path is: an operator, a word that stands for something, a name, or nothing that is known
@@ -86,13 +92,33 @@ abbrev pub is_declared : Slot → Bool
 is_declared slot.Declared = true
 is_declared _ = false
 
--- inside a method a path that is declared is a single segment; an Offset stands in a field's list alone
+-- inside a method a path that is declared is a single segment; an Offset stands in a field's list alone; a macro, a
+-- template and a descriptor are no terms
+abbrev pub is_allowed : Slot → Bool → Meaning → Bool
+is_allowed s inside (is.Operator o) = may_stand s inside (role_of o)
+is_allowed s inside (is.Known k) = not (is_term s && is_word k)
+is_allowed s inside is.Path = not (is_declared s && inside)
+is_allowed s inside is.Offset = is_field_element s
+is_allowed s inside (is.Macro m) = not (is_term s)
+is_allowed s inside is.Template = not (is_term s)
+is_allowed s inside (is.Descriptor d) = not (is_term s)
+is_allowed s inside _ = true
+
+abbrev pub is_descriptor : Meaning → Bool
+is_descriptor (is.Descriptor d) = true
+is_descriptor _ = false
+
+abbrev pub takes_descriptor : Slot → Bool
+takes_descriptor slot.Descriptor = true
+takes_descriptor _ = false
+
+-- a member of a template is a descriptor
 abbrev pub may_be : Slot → Bool → Meaning → Bool
-may_be s inside (is.Operator o) = may_stand s inside (role_of o)
-may_be s inside (is.Known k) = not (is_term s && is_word k)
-may_be s inside is.Path = not (is_declared s && inside)
-may_be s inside is.Offset = is_field_element s
-may_be s inside _ = true
+may_be s inside m = (is_descriptor m || not (takes_descriptor s)) && is_allowed s inside m
+
+-- the error of what is none of the kind that is asked for; a member of a template that is no descriptor is out of place
+abbrev pub unfit : Slot → ℕ
+unfit s = if takes_descriptor s then 6025 else 6022
 
 -- nothing is left out that has to stand
 abbrev pub may_end : List Parameter → Bool
@@ -105,20 +131,27 @@ has_braces _ = true
 
 abbrev pub wants_braces : Meaning → Bool
 wants_braces (is.Operator o) = has_braces (body_of o)
+wants_braces is.Template = true
+wants_braces (is.Descriptor d) = has_braces (descriptor_body d)
 wants_braces _ = false
 
 abbrev pub is_unknown : Meaning → Bool
 is_unknown is.Unknown = true
 is_unknown _ = false
 
+-- a name for a descriptor is not built
+abbrev pub is_descriptor_name : Slot → Meaning → Bool
+is_descriptor_name slot.DescriptorName is.Name = true
+is_descriptor_name _ _ = false
+
 abbrev pub is_same : Bool → Bool → Bool
 is_same true b = b
 is_same false b = not b
 
--- the first of an item's errors: an unknown operator, one that may not stand here, its arguments, its body
+-- the first of an item's errors: an operator that is unknown, or what is not built, one that may not stand here, its arguments, its body
 abbrev pub item_fault : Slot → Bool → Meaning → Bool → Bool → Option ℕ
 item_fault s inside meaning has has_body =
-    if is_unknown meaning then Some 6020 else (
+    if is_unknown meaning || is_descriptor_name s meaning then Some 6020 else (
     if not (may_be s inside meaning) then Some 6025 else (
     if not has then Some 6021 else (
     if not (is_same (wants_braces meaning) has_body) then Some 6023 else None)))
@@ -136,6 +169,7 @@ is_place _ = false
 abbrev pub takes_expression : Slot → Bool
 takes_expression slot.Expression = true
 takes_expression (slot.Constant least most) = true
+takes_expression slot.Measure = true
 takes_expression slot.Element = true
 takes_expression (slot.Term run) = true
 takes_expression _ = false
@@ -168,6 +202,7 @@ is_kind kind.Space kind.Space = true
 is_kind kind.Access kind.Access = true
 is_kind kind.Lock kind.Lock = true
 is_kind kind.Update kind.Update = true
+is_kind (kind.Resource a) (kind.Resource b) = is_resource_kind a b
 is_kind _ _ = false
 
 abbrev pub takes_word : Slot → WordKind → Bool
@@ -179,8 +214,17 @@ abbrev pub takes_known : Slot → Known → Bool
 takes_known s (known.Word k n) = takes_word s k
 takes_known s known.Debug = takes_place s
 takes_known s known.Offset = false
+takes_known s (known.Macro m) = false
+takes_known s known.Template = false
+takes_known s (known.Descriptor d) = false
 takes_known s known.LeftOut = false
 takes_known s _ = takes_slot s
+
+-- where a macro or a template may stand: it is no constant, no place and no term
+abbrev pub takes_macro : Slot → Bool
+takes_macro slot.Expression = true
+takes_macro slot.Element = true
+takes_macro _ = false
 
 abbrev pub unless_wrong : Bool → Reading → Reading
 unless_wrong good reading = if good then reading else read.Wrong
@@ -195,14 +239,20 @@ reading_of s (is.Known k) called = unless_wrong (takes_known s k) (read.Known k)
 reading_of s is.Name called = name_reading s called
 reading_of s is.Path called = name_reading s called
 reading_of s is.Offset called = unless_wrong (is_field_element s) read.Offset
+reading_of s (is.Macro m) called = unless_wrong (takes_macro s) (read.Macro m)
+reading_of s is.Template called = unless_wrong (takes_macro s) read.Template
+reading_of s (is.Descriptor d) called = unless_wrong (takes_descriptor s) (read.Descriptor d)
 reading_of s is.Unknown called = read.Wrong
 
-abbrev pub is_space_word : Meaning → Bool
-is_space_word (is.Known k) = takes_known (slot.Word kind.Space) k
-is_space_word _ = false
+abbrev pub is_word_of : WordKind → Meaning → Bool
+is_word_of kind (is.Known k) = takes_known (slot.Word kind) k
+is_word_of kind _ = false
 
 -- how an argument is read: a word for a space as a word, and anything else in its stead as a number that a vendor gives
--- a space of its own
+-- a space of its own; of a register as a word for its space, or as a number
 abbrev pub slot_as : Slot → Meaning → Slot
-slot_as slot.Space m = if is_space_word m then slot.Word kind.Space else slot.Constant 128 255
+slot_as slot.Space m = if is_word_of kind.Space m then slot.Word kind.Space else slot.Constant 128 255
+slot_as slot.RegisterSpace m =
+    if is_word_of kind.Space m then slot.Word kind.Space else (
+    if is_word_of (kind.Resource resource.Space) m then slot.Word (kind.Resource resource.Space) else slot.Constant 0 255)
 slot_as s m = s

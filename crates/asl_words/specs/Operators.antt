@@ -15,12 +15,16 @@ use Rattle.asl_tree.specs.declared.term.Control.{Control}
 use Rattle.asl_tree.specs.declared.term.Special.{Special}
 use Rattle.asl_tree.specs.declared.term.Literal.{Literal}
 use Rattle.asl_tree.specs.declared.term.Symbolic.{Symbolic}
+use Rattle.resource_layout.specs.declared.descriptor.Descriptor.TheVariants as d
+use Rattle.resource_layout.specs.declared.descriptor.Kind.TheVariants as k
 use Rattle.asl_words.specs.declared.operator.Operator.{Operator}
 use Rattle.asl_words.specs.declared.operator.Named.{Named}
 use Rattle.asl_words.specs.declared.operator.Known.{Known}
 use Rattle.asl_words.specs.declared.operator.Known.TheVariants as known
 use Rattle.asl_words.specs.declared.operator.WordKind.TheVariants as kind
 use Rattle.asl_words.specs.declared.operator.StringForm.TheVariants as form
+use Rattle.asl_words.specs.declared.operator.TextMacro.{TextMacro}
+use Rattle.asl_words.specs.declared.operator.TextMacro.TheVariants as macros
 use Rattle.asl_words.specs.declared.operator.Parameter.{Parameter}
 use Rattle.asl_words.specs.declared.operator.Slot.{Slot}
 use Rattle.asl_words.specs.declared.operator.Slot.TheVariants as slot
@@ -226,13 +230,92 @@ words =
     word (codes "ARG6") (known.Arg 6) ∷
     word (codes "DEBUG") known.Debug ∷
     word (codes "OFFSET") known.Offset ∷
+    word (codes "EISAID") (known.Macro macros.EisaId) ∷
+    word (codes "TOUUID") (known.Macro macros.ToUuid) ∷
+    word (codes "UNICODE") (known.Macro macros.Unicode) ∷
+    word (codes "RESOURCEPRODUCER") (known.Word (kind.Resource k.Usage) 0) ∷
+    word (codes "RESOURCECONSUMER") (known.Word (kind.Resource k.Usage) 1) ∷
+    word (codes "POSDECODE") (known.Word (kind.Resource k.Decode) 0) ∷
+    word (codes "SUBDECODE") (known.Word (kind.Resource k.Decode) 1) ∷
+    word (codes "MINNOTFIXED") (known.Word (kind.Resource k.MinimumFixed) 0) ∷
+    word (codes "MINFIXED") (known.Word (kind.Resource k.MinimumFixed) 1) ∷
+    word (codes "MAXNOTFIXED") (known.Word (kind.Resource k.MaximumFixed) 0) ∷
+    word (codes "MAXFIXED") (known.Word (kind.Resource k.MaximumFixed) 1) ∷
+    word (codes "READONLY") (known.Word (kind.Resource k.Access) 0) ∷
+    word (codes "READWRITE") (known.Word (kind.Resource k.Access) 1) ∷
+    word (codes "NONCACHEABLE") (known.Word (kind.Resource k.Caching) 0) ∷
+    word (codes "CACHEABLE") (known.Word (kind.Resource k.Caching) 1) ∷
+    word (codes "WRITECOMBINING") (known.Word (kind.Resource k.Caching) 2) ∷
+    word (codes "PREFETCHABLE") (known.Word (kind.Resource k.Caching) 3) ∷
+    word (codes "ADDRESSRANGEMEMORY") (known.Word (kind.Resource k.Range) 0) ∷
+    word (codes "ADDRESSRANGERESERVED") (known.Word (kind.Resource k.Range) 1) ∷
+    word (codes "ADDRESSRANGEACPI") (known.Word (kind.Resource k.Range) 2) ∷
+    word (codes "ADDRESSRANGENVS") (known.Word (kind.Resource k.Range) 3) ∷
+    word (codes "TYPESTATIC") (known.Word (kind.Resource k.Translation) 0) ∷
+    word (codes "TYPETRANSLATION") (known.Word (kind.Resource k.Translation) 1) ∷
+    word (codes "DENSETRANSLATION") (known.Word (kind.Resource k.Sparse) 0) ∷
+    word (codes "SPARSETRANSLATION") (known.Word (kind.Resource k.Sparse) 1) ∷
+    word (codes "NONISAONLYRANGES") (known.Word (kind.Resource k.IsaRange) 1) ∷
+    word (codes "ISAONLYRANGES") (known.Word (kind.Resource k.IsaRange) 2) ∷
+    word (codes "ENTIRERANGE") (known.Word (kind.Resource k.IsaRange) 3) ∷
+    word (codes "DECODE10") (known.Word (kind.Resource k.IoDecode) 0) ∷
+    word (codes "DECODE16") (known.Word (kind.Resource k.IoDecode) 1) ∷
+    word (codes "LEVEL") (known.Word (kind.Resource k.Mode) 0) ∷
+    word (codes "EDGE") (known.Word (kind.Resource k.Mode) 1) ∷
+    word (codes "ACTIVEHIGH") (known.Word (kind.Resource k.Level) 0) ∷
+    word (codes "ACTIVELOW") (known.Word (kind.Resource k.Level) 1) ∷
+    word (codes "EXCLUSIVE") (known.Word (kind.Resource k.Sharing) 0) ∷
+    word (codes "SHARED") (known.Word (kind.Resource k.Sharing) 1) ∷
+    word (codes "EXCLUSIVEANDWAKE") (known.Word (kind.Resource k.Sharing) 2) ∷
+    word (codes "SHAREDANDWAKE") (known.Word (kind.Resource k.Sharing) 3) ∷
+    word (codes "COMPATIBILITY") (known.Word (kind.Resource k.DmaType) 0) ∷
+    word (codes "TYPEA") (known.Word (kind.Resource k.DmaType) 1) ∷
+    word (codes "TYPEB") (known.Word (kind.Resource k.DmaType) 2) ∷
+    word (codes "TYPEF") (known.Word (kind.Resource k.DmaType) 3) ∷
+    word (codes "NOTBUSMASTER") (known.Word (kind.Resource k.BusMaster) 0) ∷
+    word (codes "BUSMASTER") (known.Word (kind.Resource k.BusMaster) 1) ∷
+    word (codes "TRANSFER8") (known.Word (kind.Resource k.Transfer) 0) ∷
+    word (codes "TRANSFER8_16") (known.Word (kind.Resource k.Transfer) 1) ∷
+    word (codes "TRANSFER16") (known.Word (kind.Resource k.Transfer) 2) ∷
+    word (codes "WIDTH8BIT") (known.Word (kind.Resource k.DmaWidth) 0) ∷
+    word (codes "WIDTH16BIT") (known.Word (kind.Resource k.DmaWidth) 1) ∷
+    word (codes "WIDTH32BIT") (known.Word (kind.Resource k.DmaWidth) 2) ∷
+    word (codes "WIDTH64BIT") (known.Word (kind.Resource k.DmaWidth) 3) ∷
+    word (codes "WIDTH128BIT") (known.Word (kind.Resource k.DmaWidth) 4) ∷
+    word (codes "WIDTH256BIT") (known.Word (kind.Resource k.DmaWidth) 5) ∷
+    word (codes "FFIXEDHW") (known.Word (kind.Resource k.Space) 127) ∷
+    word (codes "RESOURCETEMPLATE") known.Template ∷
+    word (codes "IRQ") (known.Descriptor d.Irq) ∷
+    word (codes "IRQNOFLAGS") (known.Descriptor d.IrqNoFlags) ∷
+    word (codes "DMA") (known.Descriptor d.Dma) ∷
+    word (codes "FIXEDDMA") (known.Descriptor d.FixedDma) ∷
+    word (codes "STARTDEPENDENTFN") (known.Descriptor d.StartDependentFn) ∷
+    word (codes "STARTDEPENDENTFNNOPRI") (known.Descriptor d.StartDependentFnNoPri) ∷
+    word (codes "ENDDEPENDENTFN") (known.Descriptor d.EndDependentFn) ∷
+    word (codes "IO") (known.Descriptor d.Io) ∷
+    word (codes "FIXEDIO") (known.Descriptor d.FixedIo) ∷
+    word (codes "VENDORSHORT") (known.Descriptor d.VendorShort) ∷
+    word (codes "VENDORLONG") (known.Descriptor d.VendorLong) ∷
+    word (codes "MEMORY24") (known.Descriptor d.Memory24) ∷
+    word (codes "MEMORY32") (known.Descriptor d.Memory32) ∷
+    word (codes "MEMORY32FIXED") (known.Descriptor d.Memory32Fixed) ∷
+    word (codes "REGISTER") (known.Descriptor d.Register) ∷
+    word (codes "INTERRUPT") (known.Descriptor d.Interrupt) ∷
+    word (codes "WORDIO") (known.Descriptor d.WordIo) ∷
+    word (codes "DWORDIO") (known.Descriptor d.DWordIo) ∷
+    word (codes "QWORDIO") (known.Descriptor d.QWordIo) ∷
+    word (codes "EXTENDEDIO") (known.Descriptor d.ExtendedIo) ∷
+    word (codes "DWORDMEMORY") (known.Descriptor d.DWordMemory) ∷
+    word (codes "QWORDMEMORY") (known.Descriptor d.QWordMemory) ∷
+    word (codes "EXTENDEDMEMORY") (known.Descriptor d.ExtendedMemory) ∷
+    word (codes "WORDBUSNUMBER") (known.Descriptor d.WordBusNumber) ∷
+    word (codes "WORDSPACE") (known.Descriptor d.WordSpace) ∷
+    word (codes "DWORDSPACE") (known.Descriptor d.DWordSpace) ∷
+    word (codes "QWORDSPACE") (known.Descriptor d.QWordSpace) ∷
+    word (codes "EXTENDEDSPACE") (known.Descriptor d.ExtendedSpace) ∷
     word (codes "LOAD") known.LeftOut ∷
     word (codes "FOR") known.LeftOut ∷
     word (codes "CASE") known.LeftOut ∷
-    word (codes "IRQ") known.LeftOut ∷
-    word (codes "DMA") known.LeftOut ∷
-    word (codes "IO") known.LeftOut ∷
-    word (codes "EDGE") known.LeftOut ∷
     []
 
 unfoldable pub row_in : List Operator → List ℕ → Option Operator
@@ -358,12 +441,16 @@ parameters_of (Op.Declaration op) = declared ∷ []
 
 -- the argument of an Offset
 unfoldable pub offset_parameters : List Parameter
-offset_parameters = asked (constant 0 18446744073709551615) ∷ []
+offset_parameters = asked slot.Measure ∷ []
+
+-- the argument of a macro: its string
+unfoldable pub macro_parameters : TextMacro → List Parameter
+macro_parameters m = asked (slot.MacroText m) ∷ []
 
 -- the file, the signature, the revision, the OEM's name, that of the table, and its revision
 unfoldable pub block_parameters : List Parameter
 block_parameters =
-    asked (slot.String form.Any) ∷ asked (slot.String form.Signature) ∷ asked (constant 2 255) ∷ asked (slot.String (form.AtMost 6)) ∷ asked (slot.String (form.AtMost 8))
+    asked (slot.String form.Any) ∷ asked (slot.String form.Signature) ∷ asked (constant 0 255) ∷ asked (slot.String (form.AtMost 6)) ∷ asked (slot.String (form.AtMost 8))
     ∷ asked (constant 0 4294967295) ∷ []
 
 -- what stands in the braces of an operator

@@ -5,5 +5,7 @@ pub mod meaning;
 pub mod operator;
 pub mod parameters;
 pub mod paths;
+pub mod resources;
 pub mod table;
 pub mod texts;
+mod words;

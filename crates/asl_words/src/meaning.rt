@@ -1,12 +1,16 @@
 //! What a word is, where it may stand, and what it is read as.
 ghost use Rattle.std.specs.Prelude.{◌≡◌, ◌==◌, ◌||◌, ◌∷◌, [], true, false, Some, None};
 ghost use Rattle.asl_words.specs.Meanings as spec;
+ghost use Rattle.asl_words.specs.declared.operator.Slot.TheVariants as slot;
 
-use crate::operator::{Body, Known, Parameter, Role, Slot, WordKind};
+use crate::operator::{Body, Known, Parameter, Role, Slot, TextMacro, WordKind};
 use crate::parameters::{body_of, role_of};
 use crate::paths::{is_path, parts};
+use crate::resources::descriptor_body;
 use crate::table::{operator_of, word_of};
 use asl_tree::term::{Control, Op};
+use resource_layout::descriptor::{Descriptor, Kind};
+use resource_layout::layout;
 
 /// What a word or path is.
 #[derive(Clone, Copy)]
@@ -19,6 +23,9 @@ pub enum Meaning {
     Path,
     /// The place of the next byte, in a field's list.
     Offset,
+    Macro(TextMacro),
+    Template,
+    Descriptor(Descriptor),
     /// Nothing that is known.
     Unknown,
 }
@@ -34,6 +41,9 @@ pub enum Reading {
     Call,
     /// The place of the next byte, in a field's list.
     Offset,
+    Macro(TextMacro),
+    Template,
+    Descriptor(Descriptor),
     /// It does not fit where it stands.
     Wrong,
 }
@@ -57,6 +67,9 @@ fn known_as(known: Known) -> Meaning
     match known {
         Known::LeftOut => Meaning::Unknown,
         Known::Offset => Meaning::Offset,
+        Known::Macro(text_macro) => Meaning::Macro(text_macro),
+        Known::Template => Meaning::Template,
+        Known::Descriptor(descriptor) => Meaning::Descriptor(descriptor),
         _ => Meaning::Known(known),
     }
 }
@@ -167,17 +180,48 @@ fn is_declared(slot: Slot) -> bool
     matches!(slot, Slot::Declared)
 }
 
-/// Whether an item may stand here.
-pub fn may_be(slot: Slot, inside: bool, meaning: Meaning) -> bool
-    ensures { result ≡ spec.may_be slot inside meaning }
+fn is_allowed(slot: Slot, inside: bool, meaning: Meaning) -> bool
+    ensures { result ≡ spec.is_allowed slot inside meaning }
 {
     match meaning {
         Meaning::Operator(operator) => may_stand(slot, inside, role_of(operator)),
         Meaning::Known(known) => !(is_term(slot) && is_word(known)),
         Meaning::Path => !(is_declared(slot) && inside),
         Meaning::Offset => is_field_element(slot),
+        Meaning::Macro(_) | Meaning::Template | Meaning::Descriptor(_) => !is_term(slot),
         Meaning::Name | Meaning::Unknown => true,
     }
+}
+
+fn is_descriptor(meaning: Meaning) -> bool
+    ensures { result ≡ spec.is_descriptor meaning }
+{
+    matches!(meaning, Meaning::Descriptor(_))
+}
+
+fn takes_descriptor(slot: Slot) -> bool
+    ensures { result ≡ spec.takes_descriptor slot }
+{
+    matches!(slot, Slot::Descriptor)
+}
+
+/// Whether an item may stand here. A member of a resource template is a descriptor.
+pub fn may_be(slot: Slot, inside: bool, meaning: Meaning) -> bool
+    ensures { result ≡ spec.may_be slot inside meaning }
+{
+    if is_descriptor(meaning) || !takes_descriptor(slot) {
+        is_allowed(slot, inside, meaning)
+    } else {
+        false
+    }
+}
+
+/// The number of the error that is told of what is none of the kind that is asked for: a member of a resource template
+/// that is no descriptor may not stand there (6025).
+pub fn unfit(slot: Slot) -> u16
+    ensures { result ≡ spec.unfit slot }
+{
+    if takes_descriptor(slot) { 6025 } else { 6022 }
 }
 
 /// Whether nothing is left out that has to stand.
@@ -201,7 +245,12 @@ fn has_braces(body: Body) -> bool
 {
     match body {
         Body::No => false,
-        Body::Terms | Body::Bytes | Body::Elements | Body::FieldList => true,
+        Body::Terms
+        | Body::Bytes
+        | Body::Elements
+        | Body::FieldList
+        | Body::Numbers { .. }
+        | Body::Descriptors => true,
     }
 }
 
@@ -211,8 +260,14 @@ pub fn wants_braces(meaning: Meaning) -> bool
 {
     match meaning {
         Meaning::Operator(operator) => has_braces(body_of(operator)),
-        Meaning::Known(_) | Meaning::Name | Meaning::Path | Meaning::Offset | Meaning::Unknown =>
-            false,
+        Meaning::Template => true,
+        Meaning::Descriptor(descriptor) => has_braces(descriptor_body(descriptor)),
+        Meaning::Known(_)
+        | Meaning::Name
+        | Meaning::Path
+        | Meaning::Offset
+        | Meaning::Macro(_)
+        | Meaning::Unknown => false,
     }
 }
 
@@ -226,7 +281,20 @@ pub fn is_unknown(meaning: Meaning) -> bool
         | Meaning::Known(_)
         | Meaning::Name
         | Meaning::Path
-        | Meaning::Offset => false,
+        | Meaning::Offset
+        | Meaning::Macro(_)
+        | Meaning::Template
+        | Meaning::Descriptor(_) => false,
+    }
+}
+
+/// Whether a word is the name of a descriptor, which is not built.
+pub fn is_descriptor_name(slot: Slot, meaning: Meaning) -> bool
+    ensures { result ≡ spec.is_descriptor_name slot meaning }
+{
+    match (slot, meaning) {
+        (Slot::DescriptorName, Meaning::Name) => true,
+        _ => false,
     }
 }
 
@@ -260,6 +328,7 @@ pub fn takes_expression(slot: Slot) -> bool
     match slot {
         Slot::Expression => true,
         Slot::Constant { .. } => true,
+        Slot::Measure => true,
         Slot::Element => true,
         Slot::Term { .. } => true,
         _ => false,
@@ -316,6 +385,7 @@ fn is_kind(asked: WordKind, kind: WordKind) -> bool
         (WordKind::Access, WordKind::Access) => true,
         (WordKind::Lock, WordKind::Lock) => true,
         (WordKind::Update, WordKind::Update) => true,
+        (WordKind::Resource(asked), WordKind::Resource(kind)) => layout::is_kind(asked, kind),
         _ => false,
     }
 }
@@ -338,7 +408,18 @@ pub fn takes_known(slot: Slot, known: Known) -> bool
         Known::Word { kind, .. } => takes_word(slot, kind),
         Known::Local(_) | Known::Arg(_) => takes_slot(slot),
         Known::Debug => takes_place(slot),
-        Known::Offset | Known::LeftOut => false,
+        Known::Offset | Known::Macro(_) | Known::Template | Known::Descriptor(_) | Known::LeftOut =>
+            false,
+    }
+}
+
+// Where a macro or a template may stand: it is no constant, no place and no term.
+fn takes_macro(slot: Slot) -> bool
+    ensures { result ≡ spec.takes_macro slot }
+{
+    match slot {
+        Slot::Expression | Slot::Element => true,
+        _ => false,
     }
 }
 
@@ -367,35 +448,63 @@ pub fn reading_of(slot: Slot, meaning: Meaning, called: bool) -> Reading
         Meaning::Known(known) => unless_wrong(takes_known(slot, known), Reading::Known(known)),
         Meaning::Name | Meaning::Path => name_reading(slot, called),
         Meaning::Offset => unless_wrong(is_field_element(slot), Reading::Offset),
+        Meaning::Macro(text_macro) => {
+            unless_wrong(takes_macro(slot), Reading::Macro(text_macro))
+        }
+        Meaning::Template => unless_wrong(takes_macro(slot), Reading::Template),
+        Meaning::Descriptor(descriptor) => {
+            unless_wrong(takes_descriptor(slot), Reading::Descriptor(descriptor))
+        }
         Meaning::Unknown => Reading::Wrong,
     }
 }
 
-fn is_space_word(meaning: Meaning) -> bool
-    ensures { result ≡ spec.is_space_word meaning }
+fn is_word_of(kind: WordKind, meaning: Meaning) -> bool
+    ensures { result ≡ spec.is_word_of kind meaning }
 {
     match meaning {
-        Meaning::Known(known) => takes_known(Slot::Word(WordKind::Space), known),
+        Meaning::Known(known) => takes_known(Slot::Word(kind), known),
         _ => false,
     }
 }
 
-/// How an argument is read: a word for a space as a word, and anything else in its stead as a constant from 0x80 to
-/// 0xFF.
+// The address space of a region: anything but a word is a constant from 0x80 to 0xFF.
+fn space_as(meaning: Meaning) -> Slot
+    ensures { result ≡ spec.slot_as slot.Space meaning }
+{
+    if is_word_of(WordKind::Space, meaning) {
+        Slot::Word(WordKind::Space)
+    } else {
+        Slot::Constant {
+            least: 0x80,
+            most: 0xFF,
+        }
+    }
+}
+
+// The address space of a register: anything but a word is a constant of 8 bits.
+fn register_space_as(meaning: Meaning) -> Slot
+    ensures { result ≡ spec.slot_as slot.RegisterSpace meaning }
+{
+    if is_word_of(WordKind::Space, meaning) {
+        return Slot::Word(WordKind::Space);
+    }
+    if is_word_of(WordKind::Resource(Kind::Space), meaning) {
+        return Slot::Word(WordKind::Resource(Kind::Space));
+    }
+    Slot::Constant {
+        least: 0,
+        most: 0xFF,
+    }
+}
+
+/// How an argument is read: one for an address space as a word where it is one, and as a number else.
 pub fn slot_as(slot: Slot, meaning: Meaning) -> Slot
     ensures { result ≡ spec.slot_as slot meaning }
 {
     match slot {
-        Slot::Space => {
-            if is_space_word(meaning) {
-                Slot::Word(WordKind::Space)
-            } else {
-                Slot::Constant {
-                    least: 0x80,
-                    most: 0xFF,
-                }
-            }
-        }
+        Slot::Space => space_as(meaning),
+        Slot::RegisterSpace => register_space_as(meaning),
         _ => slot,
     }
 }

@@ -1,5 +1,6 @@
 //! What an operator asks for.
 use asl_tree::term::Op;
+use resource_layout::descriptor::{Descriptor, Kind};
 
 /// The kinds of words that an argument may be one of.
 #[derive(Clone, Copy)]
@@ -18,6 +19,8 @@ pub enum WordKind {
     Lock,
     /// What a write to a field does to the other bits of an access.
     Update,
+    /// An argument of a resource descriptor.
+    Resource(Kind),
 }
 
 /// What a string has to be.
@@ -29,6 +32,17 @@ pub enum StringForm {
     Signature,
     /// A string of at most so many bytes.
     AtMost(u8),
+}
+
+/// A macro that stands for what is written in its one string.
+#[derive(Clone, Copy)]
+pub enum TextMacro {
+    /// The number of an EISA identifier (ACPI Specification 6.4, 19.6.35).
+    EisaId,
+    /// The bytes of a UUID (ACPI Specification 6.4, 19.6.142).
+    ToUuid,
+    /// A text of 16-bit characters (ACPI Specification 6.4, 19.6.149).
+    Unicode,
 }
 
 /// How a part of a source is read.
@@ -46,8 +60,10 @@ pub enum Slot {
     External,
     /// A path that is used.
     Used,
-    /// A constant of this range.
+    /// A constant of this range, which is evaluated with 64 bits in every table.
     Constant { least: u64, most: u64 },
+    /// A number of bits or of bytes in a field's list: a constant, which is evaluated at the table's width.
+    Measure,
     /// A word of this kind.
     Word(WordKind),
     /// A word for an address space, or the number of a space that a vendor defines.
@@ -56,8 +72,16 @@ pub enum Slot {
     Types { most: u64 },
     /// A string of this form.
     String(StringForm),
+    /// The string of this macro.
+    MacroText(TextMacro),
     /// A member of a Package.
     Element,
+    /// A word for the address space of a register, or its number.
+    RegisterSpace,
+    /// The name of a resource descriptor.
+    DescriptorName,
+    /// A member of a resource template.
+    Descriptor,
     /// What an element of a field's list begins with: the name of a unit, or an Offset.
     FieldElement,
     /// A term of a list, directly behind an If and so many ElseIfs, or behind none.
@@ -84,6 +108,10 @@ pub enum Body {
     Elements,
     /// Units, gaps and Offsets.
     FieldList,
+    /// Numbers up to this one.
+    Numbers { most: u64 },
+    /// Resource descriptors.
+    Descriptors,
 }
 
 /// Where an operator may stand.
@@ -123,6 +151,11 @@ pub enum Known {
     Debug,
     /// The place of the next byte, in a field's list.
     Offset,
+    Macro(TextMacro),
+    /// A resource template (ACPI Specification 6.4, 6.4).
+    Template,
+    /// A resource descriptor, in a resource template.
+    Descriptor(Descriptor),
     /// A word of the language that no program has.
     LeftOut,
 }

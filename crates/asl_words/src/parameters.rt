@@ -5,7 +5,7 @@ ghost use Rattle.asl_tree.specs.declared.term.Symbolic.TheVariants as Symbolic;
 ghost use Rattle.acpi_values.specs.declared.operator.Plain.TheVariants as Plain;
 ghost use Rattle.asl_words.specs.Operators as spec;
 
-use crate::operator::{Body, Parameter, Role, Slot, StringForm, WordKind};
+use crate::operator::{Body, Parameter, Role, Slot, StringForm, TextMacro, WordKind};
 use acpi_values::operator::{DataOp, EventOp, IntOp, Plain};
 use asl_tree::term::{Control, Declaration, Op, Special, Symbolic};
 
@@ -289,7 +289,19 @@ pub fn parameters_of(op: Op) -> &'static [Parameter]
 pub fn offset_parameters() -> &'static [Parameter]
     ensures { result.now ≡ spec.offset_parameters }
 {
-    &[asked!(constant!(0, 0xFFFF_FFFF_FFFF_FFFF))]
+    &[asked!(Slot::Measure)]
+}
+
+/// The argument of a macro: its string.
+#[tactic(auto, unfolding(crate::specs::Operators::macro_parameters))]
+pub fn macro_parameters(text_macro: TextMacro) -> &'static [Parameter]
+    ensures { result.now ≡ spec.macro_parameters text_macro }
+{
+    match text_macro {
+        TextMacro::EisaId => &[asked!(Slot::MacroText(TextMacro::EisaId))],
+        TextMacro::ToUuid => &[asked!(Slot::MacroText(TextMacro::ToUuid))],
+        TextMacro::Unicode => &[asked!(Slot::MacroText(TextMacro::Unicode))],
+    }
 }
 
 /// The arguments of a definition block: its file, its signature, its revision, the OEM's name, that of the table,
@@ -301,7 +313,7 @@ pub fn block_parameters() -> &'static [Parameter]
     &[
         asked!(Slot::String(StringForm::Any)),
         asked!(Slot::String(StringForm::Signature)),
-        asked!(constant!(2, 255)),
+        BYTE,
         asked!(Slot::String(StringForm::AtMost(6))),
         asked!(Slot::String(StringForm::AtMost(8))),
         DOUBLE_WORD,

@@ -6,7 +6,7 @@ ghost use Rattle.data_tables.specs.Entries.{Entry, fields_of_text, written_value
 ghost use Rattle.data_tables.specs.Reading.{ReadsAs};
 ghost use Rattle.data_tables.specs.Walk.{walk};
 ghost use Rattle.data_tables.specs.Parts.{first_part};
-ghost use Rattle.data_tables.specs.Promise.{Answers, TellsWithin};
+ghost use Rattle.data_tables.specs.Promise.{Answers, TellsWithin, TellsOf};
 
 use crate::compiled::Compiled;
 use crate::field::BAD_VALUE;
@@ -142,6 +142,9 @@ pub fn compile_data(alloc: Global, lines: &Lines) -> Result<Compiled, Stage>
     ensures only { IfOk result (λ table. (values : AList Entry) → ReadsAs (joined table.pieces) values → values ≡ written_values lines.now.list) }
 
     ensures within { OnOk result (length (unsealed_bytes lines.now.list) < 2 ^ 32) }
+
+    // A refusal tells decoded lines that disagree, and then at most one other fault; notes tell labels. Each message stands in column 1 of a line.
+    ensures told { TellsOf lines.now.list result }
 
     // Each message stands in one of the lines' files.
     ensures files { (files : ℕ) → 0 < files → All (λ line. line.file < files) lines.now.list → TellsWithin files result }

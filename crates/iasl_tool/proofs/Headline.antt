@@ -39,7 +39,7 @@ use Rattle.program_shapes.proofs.Tables.{does_as}
 use Rattle.aml_writer.specs.Written.{most_table_bytes}
 use Rattle.iasl_tool.specs.declared.compile.Compiled.{Compiled}
 use Rattle.iasl_tool.specs.declared.compile.Compiled.TheVariants.{Table, Refused}
-use Rattle.iasl_tool.specs.Compiled.{own_in, others_in, of_data, of_source, of_lines, of_items, of_terms, of_table, unless_wrong, with_others, of_outcome, of_tokens, too_long}
+use Rattle.iasl_tool.specs.Compiled.{own_in, literals_in, with_notes, others_in, of_data, of_source, of_lines, of_items, of_terms, of_table, unless_wrong, with_others, of_outcome, of_tokens, too_long}
 use Rattle.iasl_tool.specs.Due.{table_name, is_fetched, made_file, in_use, refusal, made_or_in_use, has_warning, answer_to_text, answer_to_compiled, answer_to_preprocessed, answer_to_file, answer_to_asked, answer_for}
 use Rattle.iasl_tool.specs.Headline.{Request, table_of, data_file_of, LetsPass, NamesLines, NamesSource, NamesData, PutsFaithfulTable, PutsDataTable, AreItsTables, WritesItsTable, WritesItsDataTable, only_by, asks_for_text}
 use Rattle.iasl_tool.proofs.Programs.{none_told, none_behind, none_of_others, both_right, some_behind}
@@ -50,17 +50,17 @@ abbrev signature_of : List Raw → List ℕ
 signature_of items = (fields_in items).signature
 
 -- what the tree of a right source comes to
-items_are : (items : List Raw) → IsRight items → length (table_in items) ≤ most_table_bytes → of_items items ≡ Table (signature_of items) (own_in items) (table_in items) []
+items_are : (items : List Raw) → IsRight items → length (table_in true false items) ≤ most_table_bytes → of_items items ≡ Table (signature_of items) (own_in items) (table_in true false items) (literals_in items)
 items_are items right within =
     let place = block_place (writtens items) in
-    let le : nat_le (length (table_in items)) most_table_bytes ≡ true = le-leb (length (table_in items)) most_table_bytes within in
-    ap (λ es. unless_wrong es (of_terms place (own_in items) (fields_in items) (others_in items) (terms_in items))) right.form
-    ∙ ap (λ es. unless_wrong es (of_table place (signature_of items) (own_in items) (table_in items))) (none_behind (told_errors (terms_in items)) (others_in items) (none_told (terms_in items) right.names right.counts) (both_right items right.statements right.layouts right.regions))
-    ∙ ap (λ c. if c then Table (signature_of items) (own_in items) (table_in items) [] else Refused (too_long place ∷ [])) le
+    let le : nat_le (length (table_in true false items)) most_table_bytes ≡ true = le-leb (length (table_in true false items)) most_table_bytes within in
+    ap (λ es. unless_wrong es (with_notes (literals_in items) (of_terms place (own_in items) (fields_in items) (others_in items) (terms_in items)))) right.form
+    ∙ ap (λ es. with_notes (literals_in items) (unless_wrong es (of_table place (signature_of items) (own_in items) (table_in true false items)))) (none_behind (told_errors (terms_in items)) (others_in items) (none_told (terms_in items) right.names right.counts) (both_right items right.statements right.layouts right.regions))
+    ∙ ap (λ c. with_notes (literals_in items) (if c then Table (signature_of items) (own_in items) (table_in true false items) [] else Refused (too_long place ∷ []))) le
 
 -- what is due of a source in which no warning refuses its table, whose name is free
 abbrev due_table : Request → List (List ℕ) → List Message → List Raw → Answer
-due_table request files notes items = made_file request.asked.brief files (notes ++ []) (table_line (table_of request items) (signature_of items) (length (table_in items))) (table_of request items) (table_in items)
+due_table request files notes items = made_file request.asked.brief files (notes ++ literals_in items) (table_line (table_of request items) (signature_of items) (length (table_in true false items))) (table_of request items) (table_in true false items)
 
 -- what is due of a source in which no warning refuses its table
 abbrev named_table : Request → List (List ℕ) → List Message → List Raw → Answer
@@ -80,9 +80,9 @@ given_is words told request h it e =
 answer_is : (words : List (List ℕ)) (told : List Named) (request : Request) (items : List Raw) (h : NamesSource words told request items) → answer_for words told ≡ Some (due_table request h.named.files h.named.notes items)
 answer_is words told request items h =
     let lines = h.named.lines in
-    let table : of_lines lines ≡ Table (signature_of items) (own_in items) (table_in items) [] = ap of_tokens (cut_is_tokens lines h.tokens h.tokens_are) ∙ ap (of_outcome h.tokens) (spelled_is_outcome items h.tokens h.spelled h.shallow h.low) ∙ items_are items h.right h.table_within in
-    given_is words told request h.named (Table (signature_of items) (own_in items) (table_in items) []) (ap (λ c. cond c (of_data (compiled lines)) (of_lines lines)) h.is_asl ∙ table)
-    ∙ ap (λ c. Some (cond c (refusal request.asked.brief h.named.files (h.named.notes ++ [])) (named_table request h.named.files h.named.notes items))) (is_passed request.asked (h.named.notes ++ []) (subst (LetsPass request.asked) (sym (append-nil h.named.notes)) h.notes_pass))
+    let table : of_lines lines ≡ Table (signature_of items) (own_in items) (table_in true false items) (literals_in items) = ap of_tokens (cut_is_tokens lines h.tokens h.tokens_are) ∙ ap (of_outcome h.tokens) (spelled_is_outcome items h.tokens h.spelled h.shallow h.low) ∙ items_are items h.right h.table_within in
+    given_is words told request h.named (Table (signature_of items) (own_in items) (table_in true false items) (literals_in items)) (ap (λ c. cond c (of_data (compiled lines)) (of_lines lines)) h.is_asl ∙ table)
+    ∙ ap (λ c. Some (cond c (refusal request.asked.brief h.named.files (h.named.notes ++ literals_in items)) (named_table request h.named.files h.named.notes items))) (is_passed request.asked (h.named.notes ++ literals_in items) h.notes_pass)
     ∙ ap (λ c. Some (cond c (in_use (table_of request items)) (due_table request h.named.files h.named.notes items))) h.name_is_free
 
 -- the parser keeps what it reads
@@ -100,7 +100,7 @@ puts_faithful_table words told request items h =
     record {
       status = ap status_of answer;
       due = ap due_of answer;
-      does = does_as items h.right (kept_source words told request items h) h.table_within;
+      does = does_as true false items h.right (kept_source words told request items h) h.table_within;
     }
 
 -- ---- data tables
@@ -161,8 +161,8 @@ abbrev status_with : (words : List (List ℕ)) (told : List Named) → Known wor
 status_with words told k it = status_of (Some (answer_to_compiled k.request.asked k.request.file k.named.files k.named.notes it))
 
 module _ (words : List (List ℕ)) (told : List Named) where
-  by_name : (k : Known words told) (asl : is_data_table k.named.lines ≡ false) (tokens : List Token) (items : List Raw) (c : Bool) → tokens_of k.named.lines ≡ Ok tokens → outcome tokens ≡ read items → IsRight items → nat_le (length (table_in items)) most_table_bytes ≡ true
-      → LetsPass k.request.asked k.named.notes → is_fetched k.named.files (table_of k.request items) ≡ c → status_of (Some (cond c (in_use (table_of k.request items)) (due_table k.request k.named.files k.named.notes items))) ≡ 0 → Found words told
+  by_name : (k : Known words told) (asl : is_data_table k.named.lines ≡ false) (tokens : List Token) (items : List Raw) (c : Bool) → tokens_of k.named.lines ≡ Ok tokens → outcome tokens ≡ read items → IsRight items → nat_le (length (table_in true false items)) most_table_bytes ≡ true
+      → LetsPass k.request.asked (k.named.notes ++ literals_in items) → is_fetched k.named.files (table_of k.request items) ≡ c → status_of (Some (cond c (in_use (table_of k.request items)) (due_table k.request k.named.files k.named.notes items))) ≡ 0 → Found words told
   by_name k asl tokens items true et eo es ec ep en h = absurd (omega (arith, h))
   by_name k asl tokens items false et eo es ec ep en h = a_source k.request items (record {
     named = k.named;
@@ -178,28 +178,28 @@ module _ (words : List (List ℕ)) (told : List Named) where
     name_is_free = en;
   })
 
-  by_notes : (k : Known words told) (asl : is_data_table k.named.lines ≡ false) (tokens : List Token) (items : List Raw) (c : Bool) → tokens_of k.named.lines ≡ Ok tokens → outcome tokens ≡ read items → IsRight items → nat_le (length (table_in items)) most_table_bytes ≡ true
-      → (k.request.asked.strict && has_warning (k.named.notes ++ [])) ≡ c → status_of (Some (cond c (refusal k.request.asked.brief k.named.files (k.named.notes ++ [])) (named_table k.request k.named.files k.named.notes items))) ≡ 0 → Found words told
+  by_notes : (k : Known words told) (asl : is_data_table k.named.lines ≡ false) (tokens : List Token) (items : List Raw) (c : Bool) → tokens_of k.named.lines ≡ Ok tokens → outcome tokens ≡ read items → IsRight items → nat_le (length (table_in true false items)) most_table_bytes ≡ true
+      → (k.request.asked.strict && has_warning (k.named.notes ++ literals_in items)) ≡ c → status_of (Some (cond c (refusal k.request.asked.brief k.named.files (k.named.notes ++ literals_in items)) (named_table k.request k.named.files k.named.notes items))) ≡ 0 → Found words told
   by_notes k asl tokens items true et eo es ec ep h = absurd (omega (arith, h))
   by_notes k asl tokens items false et eo es ec ep h =
-      by_name k asl tokens items (is_fetched k.named.files (table_of k.request items)) et eo es ec (subst (LetsPass k.request.asked) (append-nil k.named.notes) (lets_pass k.request.asked (k.named.notes ++ []) ep)) refl h
+      by_name k asl tokens items (is_fetched k.named.files (table_of k.request items)) et eo es ec (lets_pass k.request.asked (k.named.notes ++ literals_in items) ep) refl h
 
-  by_table : (k : Known words told) (asl : is_data_table k.named.lines ≡ false) (tokens : List Token) (items : List Raw) (c : Bool) → tokens_of k.named.lines ≡ Ok tokens → outcome tokens ≡ read items → IsRight items → nat_le (length (table_in items)) most_table_bytes ≡ c
-      → status_with words told k (if c then Table (signature_of items) (own_in items) (table_in items) [] else Refused (too_long (block_place (writtens items)) ∷ [])) ≡ 0 → Found words told
-  by_table k asl tokens items true et eo es ec h = by_notes k asl tokens items (k.request.asked.strict && has_warning (k.named.notes ++ [])) et eo es ec refl h
+  by_table : (k : Known words told) (asl : is_data_table k.named.lines ≡ false) (tokens : List Token) (items : List Raw) (c : Bool) → tokens_of k.named.lines ≡ Ok tokens → outcome tokens ≡ read items → IsRight items → nat_le (length (table_in true false items)) most_table_bytes ≡ c
+      → status_with words told k (with_notes (literals_in items) (if c then Table (signature_of items) (own_in items) (table_in true false items) [] else Refused (too_long (block_place (writtens items)) ∷ []))) ≡ 0 → Found words told
+  by_table k asl tokens items true et eo es ec h = by_notes k asl tokens items (k.request.asked.strict && has_warning (k.named.notes ++ literals_in items)) et eo es ec refl h
   by_table k asl tokens items false et eo es ec h = absurd (omega (arith, h))
 
   by_names : (k : Known words told) (asl : is_data_table k.named.lines ≡ false) (tokens : List Token) (items : List Raw) (ms : List Message) → tokens_of k.named.lines ≡ Ok tokens → outcome tokens ≡ read items → errors_at items ≡ [] → with_others (told_errors (terms_in items)) (others_in items) ≡ ms
-      → status_with words told k (unless_wrong ms (of_table (block_place (writtens items)) (signature_of items) (own_in items) (table_in items))) ≡ 0 → Found words told
+      → status_with words told k (with_notes (literals_in items) (unless_wrong ms (of_table (block_place (writtens items)) (signature_of items) (own_in items) (table_in true false items)))) ≡ 0 → Found words told
   by_names k asl tokens items [] et eo form en h =
       let none = both_none (told_errors (terms_in items)) (others_in items) en in
       let names = right_names (terms_in items) none.0 in
       let others = none_of_others items none.1 in
-      by_table k asl tokens items (nat_le (length (table_in items)) most_table_bytes) et eo (record { form = form; names = names.0; counts = names.1; statements = others.0; layouts = others.1; regions = others.2 }) refl h
+      by_table k asl tokens items (nat_le (length (table_in true false items)) most_table_bytes) et eo (record { form = form; names = names.0; counts = names.1; statements = others.0; layouts = others.1; regions = others.2 }) refl h
   by_names k asl tokens items (m ∷ ms) et eo form en h = absurd (omega (arith, h))
 
   by_items : (k : Known words told) (asl : is_data_table k.named.lines ≡ false) (tokens : List Token) (items : List Raw) (ms : List Message) → tokens_of k.named.lines ≡ Ok tokens → outcome tokens ≡ read items → errors_at items ≡ ms
-      → status_with words told k (unless_wrong ms (of_terms (block_place (writtens items)) (own_in items) (fields_in items) (others_in items) (terms_in items))) ≡ 0 → Found words told
+      → status_with words told k (unless_wrong ms (with_notes (literals_in items) (of_terms (block_place (writtens items)) (own_in items) (fields_in items) (others_in items) (terms_in items)))) ≡ 0 → Found words told
   by_items k asl tokens items [] et eo form h = by_names k asl tokens items (with_others (told_errors (terms_in items)) (others_in items)) et eo form refl h
   by_items k asl tokens items (m ∷ ms) et eo form h = absurd (omega (arith, h))
 

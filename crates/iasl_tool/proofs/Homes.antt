@@ -20,7 +20,8 @@ use Rattle.asl_parser.specs.Written.{Writtens, item, none, more, writtens}
 use Rattle.asl_parser.specs.Within.{AreWithin as PartsWithin}
 use Rattle.asl_shape.specs.Forms.{errors_at, block_place, terms_of}
 use Rattle.asl_shape.proofs.Places.{errors_within}
-use Rattle.program_shapes.specs.Sources.{terms_in, statements_in, layouts_in, regions_in, fields_in, table_in}
+use Rattle.literal_checks.proofs.Places.{literals_within}
+use Rattle.program_shapes.specs.Sources.{terms_in, statements_in, layouts_in, regions_in, fields_in, width_in, table_in}
 use Rattle.program_shapes.proofs.Places.{terms_within}
 use Rattle.program_shapes.proofs.StatementPlaces.{statement_errors_within}
 use Rattle.program_shapes.proofs.ListPlaces.{list_errors_within}
@@ -30,7 +31,7 @@ use Rattle.aml_writer.specs.Written.{most_table_bytes}
 use Rattle.iasl_tool.specs.declared.compile.Compiled.{Compiled}
 use Rattle.iasl_tool.specs.declared.compile.Compiled.TheVariants.{Table, Refused}
 use Rattle.iasl_tool.specs.Syntax.{at_token}
-use Rattle.iasl_tool.specs.Compiled.{own_in, others_in, AreWithin, too_long, of_table, unless_wrong, is_of_kinds, with_others, of_terms, of_items, TellsWithin}
+use Rattle.iasl_tool.specs.Compiled.{own_in, literals_in, is_of_names, with_notes, others_in, AreWithin, too_long, of_table, unless_wrong, is_of_kinds, with_others, of_terms, of_items, TellsWithin}
 
 module _ (files : ℕ) where
   abbrev TokenHome : Token → Type 0
@@ -51,6 +52,15 @@ module _ (files : ℕ) where
   wrong_home : (errors : List Message) (it : Compiled) → AreWithin files errors → TellsWithin files it → TellsWithin files (unless_wrong errors it)
   wrong_home [] it h k = k
   wrong_home (m ∷ ms) it h k = h
+
+  notes_home : (notes : List Message) (it : Compiled) → AreWithin files notes → TellsWithin files it → TellsWithin files (with_notes notes it)
+  notes_home notes (Table signature own bytes others) h k = All-append (λ (m : Message). m.place.file < files) others notes k h
+  notes_home notes (Refused []) h k = k
+  notes_home notes (Refused (m ∷ ms)) h k = by (is_of_names m.number)
+    where
+      by : (b : Bool) → AreWithin files (if b then m ∷ ms else (m ∷ ms) ++ notes)
+      by true = k
+      by false = All-append (λ (m : Message). m.place.file < files) (m ∷ ms) notes k h
 
   messages_home : (errors : List NameError) → All (λ e. (at_of e).place.file < files) errors → AreWithin files (map message_of errors)
   messages_home errors h = All-map (λ (m : Message). m.place.file < files) message_of errors (each errors h)
@@ -99,9 +109,11 @@ module _ (files : ℕ) where
       let lists = All-append (λ (m : Message). m.place.file < files) (statements_in items) (layouts_in items) (statement_errors_within files (terms_of (writtens items)) plans) (list_errors_within files (terms_of (writtens items)) plans) in
       let statements = All-append (λ (m : Message). m.place.file < files) (statements_in items ++ layouts_in items) (regions_in items) lists
       (access_errors_within files (terms_in items) (terms_of (writtens items)) (source_within files 0 (writtens items) parts)) in
-      wrong_home (errors_at items) (of_terms (block_place (writtens items)) (own_in items) (fields_in items) (others_in items) (terms_in items)) (errors_within files main items parts)
-      (wrong_home (with_others (told_errors (terms_in items)) (others_in items)) (of_table (block_place (writtens items)) (fields_in items).signature (own_in items) (table_in items)) (statements_home (told_errors (terms_in items)) (others_in items) names statements)
-      (of_table_home (block_place (writtens items)) (fields_in items).signature (own_in items) (table_in items) (block_home (writtens items) parts main)))
+      let told = of_terms (block_place (writtens items)) (own_in items) (fields_in items) (others_in items) (terms_in items) in
+      wrong_home (errors_at items) (with_notes (literals_in items) told) (errors_within files main items parts)
+      (notes_home (literals_in items) told (literals_within files (width_in items) items parts)
+      (wrong_home (with_others (told_errors (terms_in items)) (others_in items)) (of_table (block_place (writtens items)) (fields_in items).signature (own_in items) (table_in true false items)) (statements_home (told_errors (terms_in items)) (others_in items) names statements)
+      (of_table_home (block_place (writtens items)) (fields_in items).signature (own_in items) (table_in true false items) (block_home (writtens items) parts main))))
 
   -- ---- tokens that are no source
 

@@ -9,7 +9,6 @@ use Rattle.name_checks.specs.Refusals.{Refuses}
 use Rattle.asl_shape.specs.AtRaw.{Refuses as ShapeRefuses}
 use Rattle.std.proofs.lemmas.Nat.{mod_below}
 use Rattle.iasl_messages.specs.declared.message.Message.{Message}
-use Rattle.acpi_values.specs.declared.width.Width.TheVariants.{W64}
 use Rattle.asl_tree.specs.declared.program.Block.{Block}
 use Rattle.asl_tree.specs.Tree.{Trees}
 use Rattle.aml_code.specs.Header.{HeaderFields, fields_of, table_bytes}
@@ -33,9 +32,11 @@ use Rattle.program_shapes.proofs.Headers.{HaveRoom}
 use Rattle.field_checks.specs.Lists.{all_errors}
 use Rattle.region_checks.specs.Regions.{region_errors}
 use Rattle.program_shapes.proofs.Tables.{terms_are_formed, core_is_shaped}
+use Rattle.acpi_values.specs.Revisions.{width_of}
+use Rattle.literal_checks.specs.Literals.{cut_literals_at}
 use Rattle.iasl_tool.specs.declared.compile.Compiled.{Compiled}
 use Rattle.iasl_tool.specs.declared.compile.Compiled.TheVariants.{Table, Refused}
-use Rattle.iasl_tool.specs.Compiled.{unless_wrong, is_of_kinds, others_in, with_others, own_in, of_table, of_terms, of_items, too_long, HasAsciiName}
+use Rattle.iasl_tool.specs.Compiled.{table_with, with_notes, literals_in, unless_wrong, is_of_kinds, others_in, with_others, own_in, of_table, of_terms, of_items, too_long, HasAsciiName}
 use Rattle.iasl_tool.specs.Ready.{HasRoom}
 
 abbrev pub ok_block : Block → Result Block AllocError
@@ -105,8 +106,8 @@ unfolding IsBlockOf
 same_others items block terms h is = ap (λ ts. others_of ts (plans_of block.terms.items)) (same_terms items block terms h is) ∙ ap (others_of (terms_in items)) h.terms
 
 -- its terms, numbered, are formed
-pub block_formed : (items : List Raw) (block : Block) (terms : Trees) → errors_at items ≡ [] → IsBlockOf items block → IsKeptSource (writtens items) → terms ≡ numbered_all 0 (plans_of block.terms.items) → AreFormed W64 AreNamed (Unit {0}) terms
-block_formed items block terms e h k is = subst (AreFormed W64 AreNamed (Unit {0})) (sym (same_terms items block terms h is)) (terms_are_formed items e k)
+pub block_formed : (items : List Raw) (block : Block) (terms : Trees) → errors_at items ≡ [] → IsBlockOf items block → IsKeptSource (writtens items) → terms ≡ numbered_all 0 (plans_of block.terms.items) → AreFormed AreNamed (Unit {0}) terms
+block_formed items block terms e h k is = subst (AreFormed AreNamed (Unit {0})) (sym (same_terms items block terms h is)) (terms_are_formed items e k)
 
 both_nil : (xs ys : List Message) → xs ++ ys ≡ [] → (xs ≡ []) × (ys ≡ [])
 both_nil [] ys e = (refl, e)
@@ -123,10 +124,10 @@ pub both_right : (items : List Raw) → statements_in items ≡ [] → layouts_i
 both_right items s l r = ap (λ ms. ms ++ layouts_in items ++ regions_in items) s ∙ ap (λ ms. ms ++ regions_in items) l ∙ r
 
 -- and shaped, where nothing else is wrong
-pub block_shaped : (items : List Raw) (block : Block) (terms : Trees) (others : List Message) → errors_at items ≡ [] → IsBlockOf items block → IsKeptSource (writtens items) → terms ≡ numbered_all 0 (plans_of block.terms.items) → others ≡ others_of terms (plans_of block.terms.items) → others ≡ [] → AreShaped W64 (named_all terms)
+pub block_shaped : (items : List Raw) (block : Block) (terms : Trees) (others : List Message) → errors_at items ≡ [] → IsBlockOf items block → IsKeptSource (writtens items) → terms ≡ numbered_all 0 (plans_of block.terms.items) → others ≡ others_of terms (plans_of block.terms.items) → others ≡ [] → AreShaped (named_all terms)
 block_shaped items block terms others e h k is are none =
     let nothing : others_in items ≡ [] = sym (same_others items block terms h is) ∙ sym are ∙ none in
-    subst (λ ts. AreShaped W64 (named_all ts)) (sym (same_terms items block terms h is)) (core_is_shaped items e (none_of_others items nothing).1 k)
+    subst (λ ts. AreShaped (named_all ts)) (sym (same_terms items block terms h is)) (core_is_shaped items e (none_of_others items nothing).1 k)
 
 same_fields : (items : List Raw) (block : Block) → IsBlockOf items block → fields_of block ≡ fields_in items
 unfolding IsBlockOf
@@ -140,15 +141,23 @@ same_place : (items : List Raw) (block : Block) → IsBlockOf items block → bl
 unfolding IsBlockOf
 same_place items block h = h.place
 
+-- the notes on its literals are those of its source
+same_literals : (items : List Raw) (block : Block) → IsBlockOf items block → cut_literals_at (width_of block.revision) items ≡ literals_in items
+unfolding IsBlockOf
+same_literals items block h = ap (λ n. cut_literals_at (width_of n) items) h.revision
+
 -- and it comes to what its source comes to
 pub block_comes : (items : List Raw) (block : Block) (terms : Trees) (statements : List Message) (it : Compiled) → errors_at items ≡ [] → IsBlockOf items block → terms ≡ numbered_all 0 (plans_of block.terms.items) → statements ≡ others_of terms (plans_of block.terms.items)
-    → it ≡ of_terms block.place block.file (fields_of block) statements terms → it ≡ of_items items
+    → it ≡ with_notes (cut_literals_at (width_of block.revision) items) (of_terms block.place block.file (fields_of block) statements terms) → it ≡ of_items items
 block_comes items block terms statements it e h is are comes =
-    right_is (errors_at items) it (of_terms (block_place (writtens items)) (own_in items) (fields_in items) (others_in items) (terms_in items)) e
-    (comes ∙ ap (λ p. of_terms p block.file (fields_of block) statements terms) (same_place items block h) ∙ ap (λ own. of_terms (block_place (writtens items)) own (fields_of block) statements terms) (same_own items block h)
+    let told = of_terms (block_place (writtens items)) (own_in items) (fields_in items) (others_in items) (terms_in items) in
+    let same : of_terms block.place block.file (fields_of block) statements terms ≡ told =
+    ap (λ p. of_terms p block.file (fields_of block) statements terms) (same_place items block h) ∙ ap (λ own. of_terms (block_place (writtens items)) own (fields_of block) statements terms) (same_own items block h)
     ∙ ap (λ f. of_terms (block_place (writtens items)) (own_in items) f statements terms) (same_fields items block h)
     ∙ ap (λ ss. of_terms (block_place (writtens items)) (own_in items) (fields_in items) ss terms) (are ∙ same_others items block terms h is)
-    ∙ ap (of_terms (block_place (writtens items)) (own_in items) (fields_in items) (others_in items)) (same_terms items block terms h is))
+    ∙ ap (of_terms (block_place (writtens items)) (own_in items) (fields_in items) (others_in items)) (same_terms items block terms h is) in
+    right_is (errors_at items) it (with_notes (literals_in items) told) e
+    (comes ∙ ap (λ it. with_notes (cut_literals_at (width_of block.revision) items) it) same ∙ ap (λ ns. with_notes ns told) (same_literals items block h))
 
 -- a block in whose names nothing is wrong
 pub right_comes : (r : Result Compiled AllocError) (errors : List Message) (it : Compiled) → errors ≡ [] → IfOk r (λ made. made ≡ it) → IfOk r (λ made. made ≡ unless_wrong errors it)
@@ -156,12 +165,12 @@ right_comes (Ok made) errors it e h = right_is errors made it e h
 right_comes (Err error) errors it e h = tt
 
 -- a block with the place, the file and the header of another
-pub like_another : (r : Result Compiled AllocError) (place other : Place) (file own : List ℕ) (fields header : HeaderFields) (content : List ℕ) → place ≡ other → file ≡ own → fields ≡ header
-    → IfOk r (λ it. it ≡ of_table place fields.signature file (table_bytes fields content)) → IfOk r (λ it. it ≡ of_table other header.signature own (table_bytes header content))
-like_another r place other file own fields header content p f h e =
-    subst (λ p. IfOk r (λ it. it ≡ of_table p header.signature own (table_bytes header content))) p
-    (subst (λ f. IfOk r (λ it. it ≡ of_table place header.signature f (table_bytes header content))) f
-    (subst (λ (h : HeaderFields). IfOk r (λ it. it ≡ of_table place h.signature file (table_bytes h content))) h e))
+pub like_another : (r : Result Compiled AllocError) (place other : Place) (file own : List ℕ) (fields header : HeaderFields) (terms : Trees) → place ≡ other → file ≡ own → fields ≡ header
+    → IfOk r (λ it. it ≡ of_table place fields.signature file (table_with fields terms)) → IfOk r (λ it. it ≡ of_table other header.signature own (table_with header terms))
+like_another r place other file own fields header terms p f h e =
+    subst (λ p. IfOk r (λ it. it ≡ of_table p header.signature own (table_with header terms))) p
+    (subst (λ f. IfOk r (λ it. it ≡ of_table place header.signature f (table_with header terms))) f
+    (subst (λ (h : HeaderFields). IfOk r (λ it. it ≡ of_table place h.signature file (table_with h terms))) h e))
 
 -- a stage that refuses, with errors of statements behind its own
 pub stage_comes : (stage : Stage) (messages errors statements all : List Message) (it : Compiled) → Refuses stage errors → stage ≡ Refused' messages → all ≡ with_others messages statements → Refused all ≡ unless_wrong (with_others errors statements) it
@@ -174,7 +183,7 @@ shape_comes stage messages errors it h e = refused_is messages errors it (subst 
 
 -- what a block that is compiled comes to is what its source comes to
 pub program_comes : (r : Result Compiled AllocError) (items : List Raw) (block : Block) (terms : Trees) (statements : List Message) → errors_at items ≡ [] → IsBlockOf items block → terms ≡ numbered_all 0 (plans_of block.terms.items) → statements ≡ others_of terms (plans_of block.terms.items)
-    → IfOk r (λ it. it ≡ of_terms block.place block.file (fields_of block) statements terms) → IfOk r (λ it. it ≡ of_items items)
+    → IfOk r (λ it. it ≡ with_notes (cut_literals_at (width_of block.revision) items) (of_terms block.place block.file (fields_of block) statements terms)) → IfOk r (λ it. it ≡ of_items items)
 program_comes (Ok it) items block terms statements e h is are comes = block_comes items block terms statements it e h is are comes
 program_comes (Err error) items block terms statements e h is are comes = tt
 
@@ -194,16 +203,20 @@ named_in_ascii items kept = by (errors_at items) refl
     place : Place
     place = block_place (writtens items)
 
-    by_length : (c : Bool) → IsAscii (own_in items) → HasAsciiName (if c then Table (fields_in items).signature (own_in items) (table_in items) [] else Refused (too_long place ∷ []))
+    by_length : (c : Bool) → IsAscii (own_in items) → HasAsciiName (if c then Table (fields_in items).signature (own_in items) (table_in true false items) [] else Refused (too_long place ∷ []))
     by_length true h = h
     by_length false h = tt
 
-    by_names : (ms : List Message) → IsAscii (own_in items) → HasAsciiName (unless_wrong ms (of_table place (fields_in items).signature (own_in items) (table_in items)))
-    by_names [] h = by_length (nat_le (length (table_in items)) most_table_bytes) h
+    by_names : (ms : List Message) → IsAscii (own_in items) → HasAsciiName (unless_wrong ms (of_table place (fields_in items).signature (own_in items) (table_in true false items)))
+    by_names [] h = by_length (nat_le (length (table_in true false items)) most_table_bytes) h
     by_names (m ∷ ms) h = tt
 
-    by : (ms : List Message) → errors_at items ≡ ms → HasAsciiName (unless_wrong ms (of_terms place (own_in items) (fields_in items) (others_in items) (terms_in items)))
-    by [] e = by_names (with_others (told_errors (terms_in items)) (others_in items)) (own_is_ascii items e kept)
+    noted : (it : Compiled) → HasAsciiName it → HasAsciiName (with_notes (literals_in items) it)
+    noted (Table signature own bytes notes) h = h
+    noted (Refused messages) h = tt
+
+    by : (ms : List Message) → errors_at items ≡ ms → HasAsciiName (unless_wrong ms (with_notes (literals_in items) (of_terms place (own_in items) (fields_in items) (others_in items) (terms_in items))))
+    by [] e = noted (of_terms place (own_in items) (fields_in items) (others_in items) (terms_in items)) (by_names (with_others (told_errors (terms_in items)) (others_in items)) (own_is_ascii items e kept))
     by (m ∷ ms) e = tt
 
 pub ascii_comes : (r : Result Compiled AllocError) (it : Compiled) → HasAsciiName it → IfOk r (λ made. made ≡ it) → IfOk r HasAsciiName

@@ -6,12 +6,13 @@ use Rattle.iasl_messages.specs.declared.message.Message.{Message}
 use Rattle.iasl_messages.specs.declared.place.Place.{Place}
 use Rattle.asl_tree.specs.declared.program.Block.{Block}
 use Rattle.asl_tree.specs.Tree.{Trees}
-use Rattle.acpi_values.specs.declared.width.Width.TheVariants.{W64}
+use Rattle.acpi_values.specs.Revisions.{width_of}
 use Rattle.asl_meaning.specs.Declarations.{known_of, externals}
 use Rattle.aml_meaning.specs.Encoded.{encoded_all}
 use Rattle.aml_code.specs.Header.{fields_of, table_bytes}
 use Rattle.aml_sessions.specs.Ready.{IsReadyBlock, AreReady}
 use Rattle.aml_sessions.proofs.Tables.{length_is}
+use Rattle.aml_writer.specs.Styles.{style_of}
 use Rattle.aml_writer.specs.TermBytes.{nodes_bytes}
 use Rattle.aml_writer.specs.Written.{most_table_bytes, IsTableOf, IsTable, IsTooLong}
 use Rattle.aml_writer.proofs.Tables.{ready_bytes}
@@ -29,7 +30,7 @@ block_ready terms block is = record {
   oem_id = is.room.oem_id;
   table_id = is.room.table_id;
   oem_revision = is.room.oem_revision;
-  terms = subst (λ ts. AreReady W64 (known_of terms) ts []) (sym is.core) (is_ready W64 terms is.shaped is.names is.counts);
+  terms = subst (λ ts. AreReady (known_of terms) ts []) (sym is.core) (is_ready false terms is.shaped is.names is.counts);
 }
 
 abbrev by_size : Bool → Place → List ℕ → List ℕ → List ℕ → Compiled
@@ -39,7 +40,7 @@ pub table_written : (terms : Trees) (block : Block) (signature own bytes : List 
     → Table signature own bytes notes ≡ of_table block.place block.signature block.file (its_table terms block)
 table_written terms block signature own bytes notes is esig eown enotes any =
     let table : IsTableOf (known_of terms) (externals terms) block true bytes = any.table (known_of terms) (externals terms) (knows_start terms is.names) (block_ready terms block is) in
-    let e : bytes ≡ its_table terms block = table.encoded ∙ ap (λ ts. table_bytes (fields_of block) (encoded_all W64 true ts)) is.core in
+    let e : bytes ≡ its_table terms block = table.encoded ∙ ap (λ ts. table_bytes (fields_of block) (encoded_all (width_of block.revision) true ts)) is.core in
     let within : length (its_table terms block) ≤ most_table_bytes = subst (λ bs. length bs ≤ most_table_bytes) e table.within in
     let fits : nat_le (length (its_table terms block)) most_table_bytes ≡ true = grind (arith, nat_tests) in
     ap (Table signature own bytes) enotes ∙ ap (λ s. Table s own bytes []) esig ∙ ap (λ o. Table block.signature o bytes []) eown ∙ ap (λ bs. Table block.signature block.file bs []) e ∙ sym (ap (λ c. by_size c block.place block.signature block.file (its_table terms block)) fits)
@@ -52,10 +53,11 @@ message_is message other en ep ex = ap (λ n. made n message.place message.name)
 
 pub refused_written : (terms : Trees) (block : Block) (message : Message) (messages : List Message) → IsCoreOf terms block → messages ≡ message ∷ [] → IsTooLong block true message → Refused messages ≡ of_table block.place block.signature block.file (its_table terms block)
 refused_written terms block message messages is em long =
+    let style = style_of block true in
     let size : most_table_bytes < length (its_table terms block) =
-    let l : length (its_table terms block) ≡ 36 + length (encoded_all W64 true (core_of terms)) = length_is (fields_of block) (encoded_all W64 true (core_of terms)) is.room.signature in
-    let c : nodes_bytes true [] block.terms.items ≡ encoded_all W64 true (core_of terms) = ready_bytes (known_of terms) true block.terms.items (block_ready terms block is).terms ∙ ap (encoded_all W64 true) is.core in
-    let n : length (nodes_bytes true [] block.terms.items) ≡ length (encoded_all W64 true (core_of terms)) = ap length c in
+    let l : length (its_table terms block) ≡ 36 + length (encoded_all style.width true (core_of false terms)) = length_is (fields_of block) (encoded_all style.width true (core_of false terms)) is.room.signature in
+    let c : nodes_bytes style [] block.terms.items ≡ encoded_all style.width true (core_of false terms) = ready_bytes (known_of terms) style block.terms.items (block_ready terms block is).terms ∙ ap (encoded_all style.width true) is.core in
+    let n : length (nodes_bytes style [] block.terms.items) ≡ length (encoded_all style.width true (core_of false terms)) = ap length c in
     omega (arith, long.passes, l, n) in
     let passes : nat_le (length (its_table terms block)) most_table_bytes ≡ false = grind (arith, nat_tests) in
     let same : message ≡ too_long block.place = message_is message (too_long block.place) long.number long.place long.no_name in

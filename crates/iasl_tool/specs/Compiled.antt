@@ -1,12 +1,12 @@
 -- What a source comes to: its table, or its errors.
-use Rattle.std.specs.Prelude.{ℕ, suc, ◌-◌, nat_le, nat_eq, Bool, ◌||◌, true, if◌then◌else◌, List, [], ◌∷◌, ◌++◌, length, All, ◌<◌, ⊤, Result, Ok, Err, cond}
+use Rattle.std.specs.Prelude.{ℕ, suc, ◌-◌, nat_le, nat_eq, Bool, ◌||◌, ◌&&◌, true, false, if◌then◌else◌, List, [], ◌∷◌, ◌++◌, length, All, ◌<◌, ⊤, Result, Ok, Err, cond}
 use Rattle.iasl_messages.specs.declared.place.Place.{Place}
 use Rattle.iasl_messages.specs.declared.place.Line.{Line}
 use Rattle.iasl_messages.specs.declared.message.Message.{Message}
 use Rattle.asl_lexer.specs.declared.token.Token.{Token}
 use Rattle.asl_lexer.specs.declared.mode.Fault.{Fault}
 use Rattle.asl_lexer.specs.Marks.{tokens_of, message_of}
-use Rattle.acpi_values.specs.declared.width.Width.TheVariants.{W64}
+use Rattle.acpi_values.specs.Revisions.{width_of}
 use Rattle.asl_tree.specs.Tree.{Trees}
 use Rattle.asl_tree.specs.declared.program.Block.{Block}
 use Rattle.aml_code.specs.Header.{HeaderFields, table_bytes, fields_of}
@@ -21,7 +21,8 @@ use Rattle.asl_parser.specs.Written.{writtens}
 use Rattle.std.specs.Str.{IsAscii}
 use Rattle.asl_shape.specs.Plans.{plan_at, text_of}
 use Rattle.asl_shape.specs.Forms.{errors_at, block_place, args_of}
-use Rattle.program_shapes.specs.Sources.{terms_in, statements_in, layouts_in, regions_in, fields_in}
+use Rattle.program_shapes.specs.Sources.{terms_in, statements_in, layouts_in, regions_in, fields_in, width_in}
+use Rattle.literal_checks.specs.Literals.{cut_literals_at}
 use Rattle.iasl_tool.specs.declared.compile.Compiled.{Compiled}
 use Rattle.iasl_tool.specs.declared.compile.Compiled.TheVariants.{Table, Refused}
 use Rattle.data_text.specs.Kinds.{is_data_table}
@@ -36,9 +37,13 @@ too_long place = record { number = 6080; place = place; name = [] }
 abbrev pub of_table : Place → List ℕ → List ℕ → List ℕ → Compiled
 of_table place signature own bytes = if nat_le (length bytes) most_table_bytes then Table signature own bytes [] else Refused (too_long place ∷ [])
 
+-- the table with this header of these terms, at the width that its revision gives
+abbrev pub table_with : HeaderFields → Trees → List ℕ
+table_with fields terms = table_bytes fields (encoded_all (width_of fields.revision) true (core_of false terms))
+
 -- the table of a block of these terms
 abbrev pub its_table : Trees → Block → List ℕ
-its_table terms block = table_bytes (fields_of block) (encoded_all W64 true (core_of terms))
+its_table terms block = table_with (fields_of block) terms
 
 -- errors, where there are any
 abbrev pub unless_wrong : List Message → Compiled → Compiled
@@ -58,7 +63,25 @@ with_others (m ∷ ms) others = if is_of_kinds m.number then (m ∷ ms) ++ other
 -- a block of this form, that is refused with what is wrong with its names, its statements or the lists of its fields
 abbrev pub of_terms : Place → List ℕ → HeaderFields → List Message → Trees → Compiled
 of_terms place own fields others terms =
-    unless_wrong (with_others (told_errors terms) others) (of_table place fields.signature own (table_bytes fields (encoded_all W64 true (core_of (named_all terms)))))
+    unless_wrong (with_others (told_errors terms) others) (of_table place fields.signature own (table_with fields (named_all terms)))
+
+-- the numbers of the errors of the class of names
+abbrev pub is_of_names : ℕ → Bool
+is_of_names number = nat_le 6040 number && nat_le number 6046
+
+-- notes are told behind errors of a later class than that of names
+abbrev pub with_notes_behind : List Message → List Message → List Message
+with_notes_behind notes [] = []
+with_notes_behind notes (m ∷ ms) = if is_of_names m.number then m ∷ ms else (m ∷ ms) ++ notes
+
+-- what terms come to, with the notes on them
+abbrev pub with_notes : List Message → Compiled → Compiled
+with_notes notes (Table signature own bytes others) = Table signature own bytes (others ++ notes)
+with_notes notes (Refused messages) = Refused (with_notes_behind notes messages)
+
+-- the literals of a source that are cut to 32 bits
+abbrev pub literals_in : List Raw → List Message
+literals_in items = cut_literals_at (width_in items) items
 
 -- the name that a source's block states for its file
 abbrev pub own_in : List Raw → List ℕ
@@ -70,7 +93,7 @@ others_in items = statements_in items ++ layouts_in items ++ regions_in items
 
 -- the tree of a source's syntax, that is refused with what is wrong with its form
 abbrev pub of_items : List Raw → Compiled
-of_items items = unless_wrong (errors_at items) (of_terms (block_place (writtens items)) (own_in items) (fields_in items) (others_in items) (terms_in items))
+of_items items = unless_wrong (errors_at items) (with_notes (literals_in items) (of_terms (block_place (writtens items)) (own_in items) (fields_in items) (others_in items) (terms_in items)))
 
 -- tokens that are a source, or the place where they stop being one or nest too deep
 abbrev pub of_outcome : List Token → Outcome → Compiled

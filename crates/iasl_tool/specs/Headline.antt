@@ -23,7 +23,7 @@ use Rattle.data_tables.specs.Reading.{ReadsAs}
 use Rattle.iasl_options.specs.Asking.{Asked, asked_by}
 use Rattle.iasl_options.specs.CommandLine.{IsCommandLine}
 use Rattle.program_shapes.specs.Sources.{IsRight, IsTableOf, table_in}
-use Rattle.iasl_tool.specs.Compiled.{own_in}
+use Rattle.iasl_tool.specs.Compiled.{own_in, literals_in}
 use Rattle.iasl_tool.specs.Due.{table_name, is_fetched, answer_for}
 
 -- what good words ask for, and the file that they name
@@ -54,8 +54,8 @@ abbrev pub LetsPass : Asked → List Message → Type 0
 LetsPass asked notes = asked.strict ≡ true → All (λ note. severity_of note.number ≡ Warning → ⊥) notes
 
 -- The words are a command line that asks for a compilation of this file; its lines, with those of its includes, are no data table and are
--- cut into tokens that spell this source, nowhere too deep; nothing is wrong with it, and its table is not too long; none of its notes is a
--- warning, where warnings refuse a source; and the name of the table's file is not that of a file that was fetched.
+-- cut into tokens that spell this source, nowhere too deep; nothing is wrong with it, and its table is not too long; none of its notes, those on its
+-- literals among them, is a warning, where warnings refuse a source; and the name of the table's file is not that of a file that was fetched.
 pub record NamesSource (words : List (List ℕ)) (told : List Named) (request : Request) (items : List Raw) : Type 0 where
   pub named : NamesLines words told request
   pub tokens : List Token
@@ -65,8 +65,8 @@ pub record NamesSource (words : List (List ℕ)) (told : List Named) (request : 
   pub shallow : IsShallow limit (marks 0 tokens)
   pub low : IsLow limit (marks 0 tokens)
   pub right : IsRight items
-  pub table_within : length (table_in items) ≤ most_table_bytes
-  pub notes_pass : LetsPass request.asked named.notes
+  pub table_within : length (table_in true false items) ≤ most_table_bytes
+  pub notes_pass : LetsPass request.asked (named.notes ++ literals_in items)
   pub name_is_free : is_fetched named.files (table_of request items) ≡ false
 
 -- The words are a command line that asks for a compilation of this file; its lines are a data table in whose text there is no fault, with
@@ -82,8 +82,8 @@ pub record NamesData (words : List (List ℕ)) (told : List Named) (request : Re
 -- the call puts the source's table, and nothing else; the table has the source's header and does what the source says
 pub record PutsFaithfulTable (words : List (List ℕ)) (told : List Named) (request : Request) (items : List Raw) : Type 0 where
   pub status : status_of (answer_for words told) ≡ 0
-  pub due : due_of (answer_for words told) ≡ (table_of request items, table_in items) ∷ []
-  pub does : IsTableOf items (table_in items)
+  pub due : due_of (answer_for words told) ≡ (table_of request items, table_in true false items) ∷ []
+  pub does : IsTableOf items (table_in true false items)
 
 -- bytes that read by offset as the values that some lines write, and as no others
 pub record ReadsBack (lines : List Line) (bytes : List ℕ) : Type 0 where
@@ -102,7 +102,7 @@ pub record IsItsTable (words : List (List ℕ)) (told : List Named) (file : Name
   pub items : List Raw
   pub names : NamesSource words told request items
   pub name : file.0 ≡ table_of request items
-  pub bytes : file.1 ≡ table_in items
+  pub bytes : file.1 ≡ table_in true false items
   pub does : IsTableOf items file.1
 
 -- a file is the data table whose text the words name: its bytes read as the values that the text writes
@@ -124,8 +124,8 @@ pub record WritesItsTable (words : List (List ℕ)) (told : List Named) (old new
   pub request : Request
   pub items : List Raw
   pub names : NamesSource words told request items
-  pub table : Gains old new ((table_of request items, table_in items) ∷ [])
-  pub does : IsTableOf items (table_in items)
+  pub table : Gains old new ((table_of request items, table_in true false items) ∷ [])
+  pub does : IsTableOf items (table_in true false items)
 
 -- The words name the text of a data table, and the outputs gained its table and nothing else. The bytes read as the values that the text
 -- writes.

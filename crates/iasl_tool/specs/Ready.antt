@@ -1,6 +1,5 @@
 -- Blocks whose tables can be written.
-use Rattle.std.specs.Prelude.{◌≡◌, ◌<◌, ◌≤◌, ◌^◌, [], length}
-use Rattle.acpi_values.specs.declared.width.Width.TheVariants.{W64}
+use Rattle.std.specs.Prelude.{◌≡◌, ◌<◌, ◌≤◌, ◌^◌, [], length, false}
 use Rattle.asl_tree.specs.declared.program.Block.{Block}
 use Rattle.asl_tree.specs.Tree.{Trees}
 use Rattle.asl_tree.specs.View.{trees_of}
@@ -19,7 +18,7 @@ pub record HasRoom (fields : HeaderFields) : Type 0 where
 -- the terms are these, which are shaped and whose names are right, with their names spelled
 pub record IsCoreOf (terms : Trees) (block : Block) : Type 0 where
   pub room : HasRoom (fields_of block)
-  pub shaped : AreShaped W64 terms
+  pub shaped : AreShaped terms
   pub names : name_errors terms ≡ []
   pub counts : type_errors terms ≡ []
-  pub core : trees_of block.terms.items ≡ core_of terms
+  pub core : trees_of block.terms.items ≡ core_of false terms

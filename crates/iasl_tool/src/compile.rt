@@ -1,6 +1,7 @@
 //! An ASL source to its table, or its errors.
 ghost use Rattle.std.specs.Prelude.{◌≡◌, ℕ, ◌<◌, ◌^◌, ◌++◌, ◌∷◌, [], length, All, Ok, IfOk, true};
-ghost use Rattle.acpi_values.specs.declared.width.Width.TheVariants.{W64};
+ghost use Rattle.acpi_values.specs.Revisions.{width_of};
+ghost use Rattle.literal_checks.specs.Literals.{cut_literals_at};
 ghost use Rattle.asl_tree.specs.Tree.{Trees};
 ghost use Rattle.asl_tree.specs.View.{trees_of};
 ghost use Rattle.asl_tree.specs.declared.program.Block.{Block as SpecBlock};
@@ -23,8 +24,9 @@ ghost use Rattle.iasl_messages.specs.declared.message.Stage.TheVariants as stage
 ghost use Rattle.iasl_tool.specs.Syntax.{at_token};
 ghost use Rattle.iasl_tool.specs.Ready.{HasRoom, IsCoreOf};
 ghost use Rattle.iasl_tool.specs.declared.compile.Compiled.TheVariants.{Refused};
-ghost use Rattle.iasl_tool.specs.Compiled.{its_table, of_table, of_terms, is_of_kinds as of_kinds, with_others, of_items, of_lines, of_outcome, HasAsciiName, TellsWithin};
+ghost use Rattle.iasl_tool.specs.Compiled.{its_table, of_table, of_terms, is_of_kinds as of_kinds, is_of_names as of_names, with_notes, with_notes_behind, with_others, of_items, of_lines, of_outcome, HasAsciiName, TellsWithin};
 
+use acpi_values::width::Width;
 use aml_writer::stop::WriteStop;
 use aml_writer::write::write;
 use asl_lexer::token::Tokens;
@@ -38,10 +40,12 @@ use asl_tree::term::Node;
 use field_checks::check::list_faults;
 use iasl_messages::message::{Message, Messages, Stage};
 use iasl_messages::number::{
-    NESTING_TOO_DEEP, SYNTAX, UNKNOWN_OPERATOR, WRONG_CALL_ARGUMENT_COUNT, WRONG_OBJECT_KIND,
+    NAME_DECLARED_TWICE, NESTING_TOO_DEEP, PATH_IS_TOO_LONG, SYNTAX, UNKNOWN_OPERATOR,
+    WRONG_CALL_ARGUMENT_COUNT, WRONG_OBJECT_KIND,
 };
 use iasl_messages::place::{LineList, Lines, Piece};
 use iasl_ports::list::{List, Text, Texts};
+use literal_checks::check::cut_literals;
 use name_checks::check::check;
 use name_spelling::spell::spell;
 use region_checks::check::region_faults;
@@ -195,8 +199,8 @@ fn lowered(alloc: Global, block: Block) -> Result<Block, AllocError>
 // names, its statements and the lists of its fields.
 fn compile_block(alloc: Global, block: Block, others: Messages) -> Result<Compiled, AllocError>
     requires room { HasRoom (fields_of block) }
-    requires formed { AreFormed W64 AreNamed (Unit {0}) (trees_of block.terms.items) }
-    requires shaped { others ≡ [] → AreShaped W64 (named_all (trees_of block.terms.items)) }
+    requires formed { AreFormed AreNamed (Unit {0}) (trees_of block.terms.items) }
+    requires shaped { others ≡ [] → AreShaped (named_all (trees_of block.terms.items)) }
     ensures { IfOk result (λ it. it ≡ of_terms block.place block.file (fields_of block) others (trees_of block.terms.items)) }
 {
     match check(alloc, block.terms.as_slice()) {
@@ -209,12 +213,71 @@ fn compile_block(alloc: Global, block: Block, others: Messages) -> Result<Compil
                 alloc,
                 &mut names.index,
                 names.calls.as_slice(),
+                false,
                 &mut core.terms,
             )?;
             write_block(alloc, core)
         }
         Err(stage) => Ok(Compiled::Refused(with_others(refusal(stage)?, others)?)),
     }
+}
+
+// Whether an error is of the class of names.
+fn is_of_names(number: u16) -> bool
+    ensures { result ≡ of_names number }
+{
+    NAME_DECLARED_TWICE <= number && number <= PATH_IS_TOO_LONG
+}
+
+// Notes behind errors of a later class than that of names.
+fn with_notes_behind(notes: Messages, errors: Messages) -> Result<Messages, AllocError>
+    ensures { IfOk result (λ all. all ≡ with_notes_behind notes errors) }
+{
+    let number = match errors.get(0) {
+        Some(first) => first.number,
+        None => return Ok(errors),
+    };
+    if is_of_names(number) {
+        Ok(errors)
+    } else {
+        both(errors, notes)
+    }
+}
+
+// What a block comes to, with the notes on it.
+fn with_notes(notes: Messages, it: Compiled) -> Result<Compiled, AllocError>
+    ensures { IfOk result (λ noted. noted ≡ with_notes notes it) }
+{
+    match it {
+        Compiled::Table {
+            signature,
+            own,
+            bytes,
+            notes: others,
+        } => Ok(Compiled::Table {
+            signature,
+            own,
+            bytes,
+            notes: both(others, notes)?,
+        }),
+        Compiled::Refused(errors) => Ok(Compiled::Refused(with_notes_behind(notes, errors)?)),
+    }
+}
+
+// A block, with the notes on the literals of its source.
+fn compile_noted(
+    alloc: Global,
+    unit: &RawUnit,
+    block: Block,
+    others: Messages,
+) -> Result<Compiled, AllocError>
+    requires room { HasRoom (fields_of block) }
+    requires formed { AreFormed AreNamed (Unit {0}) (trees_of block.terms.items) }
+    requires shaped { others ≡ [] → AreShaped (named_all (trees_of block.terms.items)) }
+    ensures { IfOk result (λ it. it ≡ with_notes (cut_literals_at (width_of block.revision) unit.now.items) (of_terms block.place block.file (fields_of block) others (trees_of block.terms.items))) }
+{
+    let notes = cut_literals(alloc, Width::of_revision(block.revision), unit)?;
+    with_notes(notes, compile_block(alloc, block, others)?)
 }
 
 // The one block of a program.
@@ -248,7 +311,7 @@ fn compile_unit(alloc: Global, unit: &RawUnit) -> Result<Compiled, AllocError>
             match number_nodes(&mut block.terms, 0) {
                 Some(_) => {
                     let others = other_errors(alloc, block.terms.as_slice())?;
-                    compile_block(alloc, block, others)
+                    compile_noted(alloc, unit, block, others)
                 }
                 None => Err(AllocError),
             }

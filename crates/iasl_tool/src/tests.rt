@@ -1,6 +1,7 @@
 mod data;
 mod options;
 mod rows;
+mod widths;
 
 use crate::run::iasl;
 use iasl_ports::files::MOST_BYTES;

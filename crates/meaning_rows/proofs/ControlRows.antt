@@ -50,7 +50,7 @@ abbrev call_with : ℕ → List Value → List Request
 call_with letter args = record { path = (letter ∷ 0x5F ∷ 0x5F ∷ 0x5F ∷ []) ∷ []; args = args } ∷ []
 
 abbrev by_bytes : Trees → ℕ → List Request → List Report
-by_bytes terms n calls = byte_session W64 (table_bytes fields (encoded_all W64 true terms)) [] n [] calls
+by_bytes terms n calls = byte_session (table_bytes fields (encoded_all W64 true terms)) [] n [] calls
 
 abbrev by_source : Trees → ℕ → List Request → List Report
 by_source terms n calls = source_session W64 (known_of terms) terms [] n [] calls

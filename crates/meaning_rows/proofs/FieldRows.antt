@@ -100,16 +100,16 @@ writes flags = tree region (tree (words flags) (tree (Method here (name 0x4D) 0 
 abbrev r : AbsolutePath
 r = at 0x52
 
-preserved : events (byte_session W64 (table (writes 0x02)) [] 3 (numbers (0x1234 ∷ 0xABCD ∷ [])) call)
+preserved : events (byte_session (table (writes 0x02)) [] 3 (numbers (0x1234 ∷ 0xABCD ∷ [])) call)
     ≡ Read r 1 0x80 2 ∷ Write r 1 0x80 2 0x5234 ∷ Read r 1 0x82 2 ∷ Write r 1 0x82 2 0xABCA ∷ []
 unfolding code_front
 preserved = refl
 
-preserved_source : source_session W64 (known_of (writes 0x02)) (writes 0x02) [] 3 (numbers (0x1234 ∷ 0xABCD ∷ [])) call ≡ byte_session W64 (table (writes 0x02)) [] 3 (numbers (0x1234 ∷ 0xABCD ∷ [])) call
+preserved_source : source_session W64 (known_of (writes 0x02)) (writes 0x02) [] 3 (numbers (0x1234 ∷ 0xABCD ∷ [])) call ≡ byte_session (table (writes 0x02)) [] 3 (numbers (0x1234 ∷ 0xABCD ∷ [])) call
 unfolding code_front
 preserved_source = refl
 
-ones : events (byte_session W64 (table (writes 0x22)) [] 3 [] call) ≡ Write r 1 0x80 2 0x5FFF ∷ Write r 1 0x82 2 0xFFFA ∷ []
+ones : events (byte_session (table (writes 0x22)) [] 3 [] call) ≡ Write r 1 0x80 2 0x5FFF ∷ Write r 1 0x82 2 0xFFFA ∷ []
 unfolding code_front
 ones = refl
 
@@ -134,15 +134,15 @@ reads =
     (tree (field_of (name 0x50) 1 (unit_of ix 8 ∷ unit_of dt 8 ∷ [])) (tree indexed
     (tree (Method here (name 0x4D) 0 (tree (Return (Use here (name 0x56))) no_trees)) no_trees)))
 
-read : results (byte_session W64 (table reads) [] 3 (numbers (0x5A ∷ [])) call) ≡ Done (Normal false) ∷ Done (Gives (Data (V.Integer 0x5A))) ∷ []
+read : results (byte_session (table reads) [] 3 (numbers (0x5A ∷ [])) call) ≡ Done (Normal false) ∷ Done (Gives (Data (V.Integer 0x5A))) ∷ []
 unfolding code_front
 read = refl
 
-read_events : events (byte_session W64 (table reads) [] 3 (numbers (0x5A ∷ [])) call) ≡ Write (at 0x50) 1 0x70 1 0x02 ∷ Read (at 0x50) 1 0x71 1 ∷ []
+read_events : events (byte_session (table reads) [] 3 (numbers (0x5A ∷ [])) call) ≡ Write (at 0x50) 1 0x70 1 0x02 ∷ Read (at 0x50) 1 0x71 1 ∷ []
 unfolding code_front
 read_events = refl
 
-read_source : source_session W64 (known_of reads) reads [] 3 (numbers (0x5A ∷ [])) call ≡ byte_session W64 (table reads) [] 3 (numbers (0x5A ∷ [])) call
+read_source : source_session W64 (known_of reads) reads [] 3 (numbers (0x5A ∷ [])) call ≡ byte_session (table reads) [] 3 (numbers (0x5A ∷ [])) call
 unfolding code_front
 read_source = refl
 

@@ -3,7 +3,8 @@ mod ValueRows
 mod FieldRows
 mod SessionRows
 mod ControlRows
-mod NameRows
+pub mod NameRows
+mod ShortestRows
 mod Whole
 mod RandomRows
 mod AccessRows

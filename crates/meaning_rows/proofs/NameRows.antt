@@ -23,13 +23,13 @@ use Rattle.meaning_rows.proofs.Rows.{fields}
 use Rattle.acpi_names.specs.Errors.{Twice, Missing, WrongCount, name_errors, type_errors}
 use Rattle.named_sessions.specs.Core.{core_of}
 
-abbrev seg : ℕ → List ℕ
+abbrev pub seg : ℕ → List ℕ
 seg letter = letter ∷ 0x5F ∷ 0x5F ∷ 0x5F ∷ []
 
-abbrev one : ℕ → Path
+abbrev pub one : ℕ → Path
 one letter = record { root = false; up = 0; segs = seg letter ∷ [] }
 
-abbrev at : ℕ → At
+abbrev pub at : ℕ → At
 at n = record { id = n; place = record { file = 0; line = n; column = 0 } }
 
 -- External (E, MethodObj, , {IntObj, IntObj})  Method (M) { Return (E (1, 2)) }
@@ -41,10 +41,10 @@ calls_out =
 no_errors : name_errors calls_out ++ type_errors calls_out ≡ []
 no_errors = refl
 
-bytes : encoded_all W64 true (core_of calls_out) ≡ 0x15 ∷ 0x45 ∷ 0x5F ∷ 0x5F ∷ 0x5F ∷ 0x08 ∷ 0x02 ∷ 0x14 ∷ 0x0E ∷ 0x4D ∷ 0x5F ∷ 0x5F ∷ 0x5F ∷ 0x00 ∷ 0xA4 ∷ 0x45 ∷ 0x5F ∷ 0x5F ∷ 0x5F ∷ 0x01 ∷ 0x0A ∷ 0x02 ∷ []
+bytes : encoded_all W64 true (core_of false calls_out) ≡ 0x15 ∷ 0x45 ∷ 0x5F ∷ 0x5F ∷ 0x5F ∷ 0x08 ∷ 0x02 ∷ 0x14 ∷ 0x0E ∷ 0x4D ∷ 0x5F ∷ 0x5F ∷ 0x5F ∷ 0x00 ∷ 0xA4 ∷ 0x45 ∷ 0x5F ∷ 0x5F ∷ 0x5F ∷ 0x01 ∷ 0x0A ∷ 0x02 ∷ []
 bytes = refl
 
-abbrev results : List Report → List (Result Flow)
+abbrev pub results : List Report → List (Result Flow)
 results [] = []
 results (r ∷ rs) = r.result ∷ results rs
 
@@ -59,12 +59,12 @@ absent : run_it calls_out [] ≡ Done (Normal false) ∷ Stopped (Faulted F.NotF
 absent = refl
 
 -- Name (X, 5)  Method (M) { Name (X, 7)  Return (X) }
-abbrev shadowed : Trees
+abbrev pub shadowed : Trees
 shadowed =
     tree (Name (at 1) (one 0x58) (Integer 5))
     (tree (Method (at 2) (one 0x4D) 0 (tree (Name (at 3) (one 0x58) (Integer 7)) (tree (Return (Use (at 4) (one 0x58))) no_trees))) no_trees)
 
-spelled_from_root : encoded_all W64 true (core_of shadowed) ≡ 0x08 ∷ 0x58 ∷ 0x5F ∷ 0x5F ∷ 0x5F ∷ 0x0A ∷ 0x05 ∷ 0x14 ∷ 0x18 ∷ 0x4D ∷ 0x5F ∷ 0x5F ∷ 0x5F ∷ 0x00 ∷ 0x08 ∷ 0x58 ∷ 0x5F ∷ 0x5F ∷ 0x5F ∷ 0x0A ∷ 0x07 ∷ 0xA4 ∷ 0x5C ∷ 0x2E ∷ 0x4D ∷ 0x5F ∷ 0x5F ∷ 0x5F ∷ 0x58 ∷ 0x5F ∷ 0x5F ∷ 0x5F ∷ []
+spelled_from_root : encoded_all W64 true (core_of false shadowed) ≡ 0x08 ∷ 0x58 ∷ 0x5F ∷ 0x5F ∷ 0x5F ∷ 0x0A ∷ 0x05 ∷ 0x14 ∷ 0x18 ∷ 0x4D ∷ 0x5F ∷ 0x5F ∷ 0x5F ∷ 0x00 ∷ 0x08 ∷ 0x58 ∷ 0x5F ∷ 0x5F ∷ 0x5F ∷ 0x0A ∷ 0x07 ∷ 0xA4 ∷ 0x5C ∷ 0x2E ∷ 0x4D ∷ 0x5F ∷ 0x5F ∷ 0x5F ∷ 0x58 ∷ 0x5F ∷ 0x5F ∷ 0x5F ∷ []
 spelled_from_root = refl
 
 returns_seven : run_it shadowed [] ≡ Done (Normal false) ∷ Done (Gives (Data (V.Integer 7))) ∷ []
@@ -107,7 +107,7 @@ called_unknown =
     tree (External (at 1) (at 2) (one 0x55) 0 None)
     (tree (Method (at 3) (one 0x4D) 0 (tree (Return (Call (at 4) (one 0x55) (tree (Integer 7) no_trees))) no_trees)) no_trees)
 
-as_method : encoded_all W64 true (core_of called_unknown) ≡ 0x15 ∷ 0x55 ∷ 0x5F ∷ 0x5F ∷ 0x5F ∷ 0x08 ∷ 0x01 ∷ 0x14 ∷ 0x0D ∷ 0x4D ∷ 0x5F ∷ 0x5F ∷ 0x5F ∷ 0x00 ∷ 0xA4 ∷ 0x55 ∷ 0x5F ∷ 0x5F ∷ 0x5F ∷ 0x0A ∷ 0x07 ∷ []
+as_method : encoded_all W64 true (core_of false called_unknown) ≡ 0x15 ∷ 0x55 ∷ 0x5F ∷ 0x5F ∷ 0x5F ∷ 0x08 ∷ 0x01 ∷ 0x14 ∷ 0x0D ∷ 0x4D ∷ 0x5F ∷ 0x5F ∷ 0x5F ∷ 0x00 ∷ 0xA4 ∷ 0x55 ∷ 0x5F ∷ 0x5F ∷ 0x5F ∷ 0x0A ∷ 0x07 ∷ []
 as_method = refl
 
 -- Name (X, 5)  Method (M, 1) {If (Arg0) {Name (X, 7)} Return (X)}
@@ -116,7 +116,7 @@ perhaps_shadowed =
     tree (Name (at 1) (one 0x58) (Integer 5))
     (tree (Method (at 2) (one 0x4D) 1 (tree (If (InSlot (ArgSlot 0)) (tree (Name (at 3) (one 0x58) (Integer 7)) no_trees)) (tree (Return (Use (at 4) (one 0x58))) no_trees))) no_trees)
 
-perhaps_bytes : encoded_all W64 true (core_of perhaps_shadowed)
+perhaps_bytes : encoded_all W64 true (core_of false perhaps_shadowed)
     ≡ 0x08 ∷ 0x58 ∷ 0x5F ∷ 0x5F ∷ 0x5F ∷ 0x0A ∷ 0x05 ∷ 0x14 ∷ 0x1B ∷ 0x4D ∷ 0x5F ∷ 0x5F ∷ 0x5F ∷ 0x01 ∷ 0xA0 ∷ 0x09 ∷ 0x68 ∷ 0x08 ∷ 0x58 ∷ 0x5F ∷ 0x5F ∷ 0x5F ∷ 0x0A ∷ 0x07
     ∷ 0xA4 ∷ 0x5C ∷ 0x2E ∷ 0x4D ∷ 0x5F ∷ 0x5F ∷ 0x5F ∷ 0x58 ∷ 0x5F ∷ 0x5F ∷ 0x5F ∷ []
 perhaps_bytes = refl
@@ -127,7 +127,7 @@ calls_of_both = record { path = seg 0x4D ∷ []; args = Data (V.Integer 0) ∷ [
 perhaps : results (source_session W64 (known_of perhaps_shadowed) perhaps_shadowed [] 1 [] calls_of_both) ≡ Done (Normal false) ∷ Stopped (Faulted F.NotFound) ∷ Done (Gives (Data (V.Integer 7))) ∷ []
 perhaps = refl
 
-perhaps_same : byte_session W64 (table_bytes fields (encoded_all W64 true (core_of perhaps_shadowed))) [] 1 [] calls_of_both ≡ source_session W64 (known_of perhaps_shadowed) perhaps_shadowed [] 1 [] calls_of_both
+perhaps_same : byte_session (table_bytes fields (encoded_all W64 true (core_of false perhaps_shadowed))) [] 1 [] calls_of_both ≡ source_session W64 (known_of perhaps_shadowed) perhaps_shadowed [] 1 [] calls_of_both
 unfolding code_front
 perhaps_same = refl
 

@@ -56,7 +56,7 @@ abbrev table_of : Trees → List ℕ
 table_of terms = table_bytes fields (encoded_all W64 true terms)
 
 abbrev run_bytes : Trees → List Value → List Request → List Report
-run_bytes terms answers requests = byte_session W64 (table_of terms) [] 1 answers requests
+run_bytes terms answers requests = byte_session (table_of terms) [] 1 answers requests
 
 abbrev run_source : Trees → List Value → List Request → List Report
 run_source terms answers requests = source_session W64 (known_of terms) terms [] 1 answers requests

@@ -2,3 +2,4 @@ pub mod Spelling
 pub mod Turns
 pub mod SpelledForms
 pub mod SpelledNodes
+pub mod Forms

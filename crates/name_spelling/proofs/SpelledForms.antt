@@ -14,7 +14,8 @@ use Rattle.asl_tree.specs.declared.term.Control.TheVariants as Control
 use Rattle.asl_tree.specs.declared.term.Literal.TheVariants as Literal
 use Rattle.asl_tree.specs.declared.term.Special.TheVariants as Special
 use Rattle.asl_tree.specs.declared.term.Symbolic.TheVariants as Symbolic
-use Rattle.asl_tree.specs.Names.{place_of, spelled_name}
+use Rattle.asl_tree.specs.Names.{place_of}
+use Rattle.acpi_names.specs.Shortest.{spelled_use}
 use Rattle.asl_tree.specs.Tree.{At, Tree, Apply, Integer, Constant, Raw, Omitted, Use, External, Package, VarPackage, Misshapen, Trees, no_trees, tree, count, Field, IndexField, BankField, UnitName}
 use Rattle.asl_tree.specs.View.{fits, operated, symbol_of, form, operands_as, targets_of, plain_of, apply_of, buffer, body_bytes, packaged, counted, items_in}
 use Rattle.asl_meaning.specs.Declarations.{ExternalType}
@@ -37,15 +38,15 @@ operands_first (L.Raw size) letters t ts = refl
 operands_first Valued letters Omitted ts = refl
 operands_first letter letters t ts = refl
 
-module _ (has : AbsolutePath → Bool) (says : AbsolutePath → ExternalType → ExternalType) (scope : AbsolutePath) where
+module _ (shorten : Bool) (has : AbsolutePath → Bool) (says : AbsolutePath → ExternalType → ExternalType) (scope : AbsolutePath) where
   abbrev spells : Tree → Tree
-  spells t = spelled has says t scope
+  spells t = spelled shorten has says t scope
 
   abbrev spells_all : Trees → Trees
-  spells_all ts = spelled_all has says ts scope
+  spells_all ts = spelled_all shorten has says ts scope
 
   abbrev spells_elements : Trees → Trees
-  spells_elements ts = spelled_elements has says ts scope
+  spells_elements ts = spelled_elements shorten has says ts scope
 
   spelled_first : (letter : Letter) (t : Tree) → spells (first_operand letter t) ≡ first_operand letter (spells t)
   spelled_first (L.Raw size) (Integer number) = refl
@@ -94,7 +95,7 @@ module _ (has : AbsolutePath → Bool) (says : AbsolutePath → ExternalType →
   -- a symbol's form, by whether its arguments fit
   abbrev symbol_form : At → Plain → Trees → Bool → Tree
   symbol_form at op args fit =
-      form at (Op.Symbolic (Symbolic.Operator op)) (value_args has says (fitting_value fit (V.Operator op)) args scope) (value_body has says (fitting_value fit (V.Operator op)) no_trees scope)
+      form at (Op.Symbolic (Symbolic.Operator op)) (value_args shorten has says (fitting_value fit (V.Operator op)) args scope) (value_body shorten has says (fitting_value fit (V.Operator op)) no_trees scope)
 
   spelled_symbol : (at : At) (op : Plain) (args : Trees) → spells (symbol_of op args) ≡ symbol_form at op args (fits (row_of op).operands args)
   spelled_symbol at op args = by_fit (fits (row_of op).operands args) refl
@@ -135,7 +136,7 @@ module _ (has : AbsolutePath → Bool) (says : AbsolutePath → ExternalType →
   by_items None made more h = refl
   by_items (Some items) made more h = h items
 
-  pub spelled_form : ((path : AbsolutePath) (e : ExternalType) → (says path e).parameters ≡ Some (number_or_zero (says path e).parameters)) → (at : At) (op : Op) (args body : Trees) → spells (form at op args body) ≡ form at op (part_args has says (part_of op args body) (value_form_of op args body) args scope) (part_body has says (part_of op args body) (value_form_of op args body) args body scope)
+  pub spelled_form : ((path : AbsolutePath) (e : ExternalType) → (says path e).parameters ≡ Some (number_or_zero (says path e).parameters)) → (at : At) (op : Op) (args body : Trees) → spells (form at op args body) ≡ form at op (part_args shorten has says (part_of op args body) (value_form_of op args body) args scope) (part_body shorten has says (part_of op args body) (value_form_of op args body) args body scope)
   spelled_form told here (Op.Declaration Declaration.Name) (tree (Use at name) (tree value no_trees)) no_trees = refl
   spelled_form told here (Op.Declaration Declaration.Alias) (tree (Use from source) (tree (Use at name) no_trees)) no_trees = refl
   spelled_form told here (Op.Declaration Declaration.External) (tree (Use at name) (tree (Integer type) no_trees)) no_trees = ap (λ p. External here at name (says (place_of name scope) (external_type type None)).type p) (told (place_of name scope) (external_type type None))
@@ -149,9 +150,9 @@ module _ (has : AbsolutePath → Bool) (says : AbsolutePath → ExternalType →
   spelled_form told here (Op.Declaration Declaration.Processor) (tree (Use at name) (tree (Integer number) (tree (Integer address) (tree (Integer size) no_trees)))) body = refl
   spelled_form told here (Op.Declaration Declaration.Scope) (tree (Use at name) no_trees) body = refl
   spelled_form told here (Op.Declaration Declaration.OperationRegion) (tree (Use at name) (tree (Integer space) (tree offset (tree size no_trees)))) no_trees = refl
-  spelled_form told here (Op.Declaration Declaration.Field) (tree (Use from region) (tree (Integer flags) no_trees)) body = by_items (items_in body) (λ items. Field here from region flags items) (λ items. Field here from (spelled_name has region scope) flags items) (λ items. refl)
-  spelled_form told here (Op.Declaration Declaration.IndexField) (tree (Use from index) (tree (Use to register) (tree (Integer flags) no_trees))) body = by_items (items_in body) (λ items. IndexField here from index to register flags items) (λ items. IndexField here from (spelled_name has index scope) to (spelled_name has register scope) flags items) (λ items. refl)
-  spelled_form told here (Op.Declaration Declaration.BankField) (tree (Use from region) (tree (Use to bank) (tree value (tree (Integer flags) no_trees)))) body = by_items (items_in body) (λ items. BankField here from region to bank value flags items) (λ items. BankField here from (spelled_name has region scope) to (spelled_name has bank scope) (spells value) flags items) (λ items. refl)
+  spelled_form told here (Op.Declaration Declaration.Field) (tree (Use from region) (tree (Integer flags) no_trees)) body = by_items (items_in body) (λ items. Field here from region flags items) (λ items. Field here from (spelled_use has shorten region scope) flags items) (λ items. refl)
+  spelled_form told here (Op.Declaration Declaration.IndexField) (tree (Use from index) (tree (Use to register) (tree (Integer flags) no_trees))) body = by_items (items_in body) (λ items. IndexField here from index to register flags items) (λ items. IndexField here from (spelled_use has shorten index scope) to (spelled_use has shorten register scope) flags items) (λ items. refl)
+  spelled_form told here (Op.Declaration Declaration.BankField) (tree (Use from region) (tree (Use to bank) (tree value (tree (Integer flags) no_trees)))) body = by_items (items_in body) (λ items. BankField here from region to bank value flags items) (λ items. BankField here from (spelled_use has shorten region scope) to (spelled_use has shorten bank scope) (spells value) flags items) (λ items. refl)
   spelled_form told here (Op.Declaration Declaration.CreateField) (tree source (tree index (tree bits (tree (Use at name) no_trees)))) no_trees = refl
   spelled_form told here (Op.Declaration Declaration.CreateBitField) (tree source (tree index (tree (Use at name) no_trees))) no_trees = refl
   spelled_form told here (Op.Declaration Declaration.CreateByteField) (tree source (tree index (tree (Use at name) no_trees))) no_trees = refl

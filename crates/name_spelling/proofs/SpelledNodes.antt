@@ -8,7 +8,7 @@ use Rattle.asl_tree.specs.declared.term.Node.{Node}
 use Rattle.asl_tree.specs.declared.term.Term.{Term}
 use Rattle.asl_tree.specs.declared.term.Term as D
 use Rattle.asl_tree.specs.declared.term.Term.TheVariants as V
-use Rattle.asl_tree.specs.Names.{spelled_name, spelled_element}
+use Rattle.acpi_names.specs.Shortest.{spelled_use, spelled_item}
 use Rattle.asl_tree.specs.Tree.{At, Tree, Use, Call}
 use Rattle.asl_tree.specs.View.{form, tree_of, trees_of}
 use Rattle.asl_meaning.specs.Declarations.{ExternalType, written_type, external_object, written_external}
@@ -54,44 +54,44 @@ another t unnamed not_call not_form = by_layer (D.out-Term t) (sym (D.roll-out-T
     by_layer (D.Term-F.Skip n) e = ap term_shape (e ∙ V.rolls-Skip n)
     by_layer (D.Term-F.Offset n) e = ap term_shape (e ∙ V.rolls-Offset n)
 
-module _ (has : AbsolutePath → Bool) (says : AbsolutePath → ExternalType → ExternalType) (at : At) (scope : AbsolutePath) where
-  pub name_spelled : (t : Term) (path new : Path) → t ≡ D.Name path → new ≡ spelled_name has path scope → tree_of at (D.Name new) ≡ spelled has says (tree_of at t) scope
+module _ (shorten : Bool) (has : AbsolutePath → Bool) (says : AbsolutePath → ExternalType → ExternalType) (at : At) (scope : AbsolutePath) where
+  pub name_spelled : (t : Term) (path new : Path) → t ≡ D.Name path → new ≡ spelled_use has shorten path scope → tree_of at (D.Name new) ≡ spelled shorten has says (tree_of at t) scope
   unfolding tree_of
-  name_spelled t path new e same = ap (Use at) same ∙ sym (ap (λ t. spelled has says (tree_of at t) scope) e)
+  name_spelled t path new e same = ap (Use at) same ∙ sym (ap (λ t. spelled shorten has says (tree_of at t) scope) e)
 
-  pub element_named : (t : Term) (path new : Path) (other : Tree) → t ≡ D.Name path → new ≡ spelled_element has path scope → tree_of at (D.Name new) ≡ element_spelled has (tree_of at t) other scope
+  pub element_named : (t : Term) (path new : Path) (other : Tree) → t ≡ D.Name path → new ≡ spelled_item has shorten path scope → tree_of at (D.Name new) ≡ element_spelled shorten has (tree_of at t) other scope
   unfolding tree_of
-  element_named t path new other e same = ap (Use at) same ∙ sym (ap (λ t. element_spelled has (tree_of at t) other scope) e)
+  element_named t path new other e same = ap (Use at) same ∙ sym (ap (λ t. element_spelled shorten has (tree_of at t) other scope) e)
 
-  pub name_kept : (t : Term) (path : Path) → t ≡ D.Name path → path ≡ spelled_name has path scope → tree_of at t ≡ spelled has says (tree_of at t) scope
+  pub name_kept : (t : Term) (path : Path) → t ≡ D.Name path → path ≡ spelled_use has shorten path scope → tree_of at t ≡ spelled shorten has says (tree_of at t) scope
   name_kept t path e same = ap (tree_of at) e ∙ name_spelled t path path e same
 
-  pub element_kept : (t : Term) (path : Path) (other : Tree) → t ≡ D.Name path → path ≡ spelled_element has path scope → tree_of at t ≡ element_spelled has (tree_of at t) other scope
+  pub element_kept : (t : Term) (path : Path) (other : Tree) → t ≡ D.Name path → path ≡ spelled_item has shorten path scope → tree_of at t ≡ element_spelled shorten has (tree_of at t) other scope
   element_kept t path other e same = ap (tree_of at) e ∙ element_named t path path other e same
 
-  pub call_spelled : (t : Term) (path new : Path) (args more : Vec Node Global) → t ≡ D.Call path args → new ≡ spelled_name has path scope → trees_of more.items ≡ spelled_all has says (trees_of args.items) scope → tree_of at (D.Call new more) ≡ spelled has says (tree_of at t) scope
+  pub call_spelled : (t : Term) (path new : Path) (args more : Vec Node Global) → t ≡ D.Call path args → new ≡ spelled_use has shorten path scope → trees_of more.items ≡ spelled_all shorten has says (trees_of args.items) scope → tree_of at (D.Call new more) ≡ spelled shorten has says (tree_of at t) scope
   call_spelled t path new args more e same spelt =
-      call_tree at new more ∙ ap (λ p. Call at p (trees_of more.items)) same ∙ ap (Call at (spelled_name has path scope)) spelt
-      ∙ sym (ap (λ t. spelled has says (tree_of at t) scope) e ∙ ap (λ t. spelled has says t scope) (call_tree at path args))
+      call_tree at new more ∙ ap (λ p. Call at p (trees_of more.items)) same ∙ ap (Call at (spelled_use has shorten path scope)) spelt
+      ∙ sym (ap (λ t. spelled shorten has says (tree_of at t) scope) e ∙ ap (λ t. spelled shorten has says t scope) (call_tree at path args))
 
-  pub form_spelled : ((path : AbsolutePath) (e : ExternalType) → (says path e).parameters ≡ Some (number_or_zero (says path e).parameters)) → (t : Term) (op : Op) (args body more others : Vec Node Global) → t ≡ D.Form op args body → trees_of more.items ≡ part_args has says (part_of op (trees_of args.items) (trees_of body.items)) (value_form_of op (trees_of args.items) (trees_of body.items)) (trees_of args.items) scope → trees_of others.items ≡ part_body has says (part_of op (trees_of args.items) (trees_of body.items)) (value_form_of op (trees_of args.items) (trees_of body.items)) (trees_of args.items) (trees_of body.items) scope → tree_of at (D.Form op more others) ≡ spelled has says (tree_of at t) scope
+  pub form_spelled : ((path : AbsolutePath) (e : ExternalType) → (says path e).parameters ≡ Some (number_or_zero (says path e).parameters)) → (t : Term) (op : Op) (args body more others : Vec Node Global) → t ≡ D.Form op args body → trees_of more.items ≡ part_args shorten has says (part_of op (trees_of args.items) (trees_of body.items)) (value_form_of op (trees_of args.items) (trees_of body.items)) (trees_of args.items) scope → trees_of others.items ≡ part_body shorten has says (part_of op (trees_of args.items) (trees_of body.items)) (value_form_of op (trees_of args.items) (trees_of body.items)) (trees_of args.items) (trees_of body.items) scope → tree_of at (D.Form op more others) ≡ spelled shorten has says (tree_of at t) scope
   form_spelled told t op args body more others e spelt inside =
       form_tree at op more others
       ∙ ap (λ ts. form at op ts (trees_of others.items)) spelt
-      ∙ ap (form at op (part_args has says (part_of op (trees_of args.items) (trees_of body.items)) (value_form_of op (trees_of args.items) (trees_of body.items)) (trees_of args.items) scope)) inside
-      ∙ sym (ap (λ t. spelled has says (tree_of at t) scope) e ∙ ap (λ t. spelled has says t scope) (form_tree at op args body)
-      ∙ spelled_form has says scope told at op (trees_of args.items) (trees_of body.items))
+      ∙ ap (form at op (part_args shorten has says (part_of op (trees_of args.items) (trees_of body.items)) (value_form_of op (trees_of args.items) (trees_of body.items)) (trees_of args.items) scope)) inside
+      ∙ sym (ap (λ t. spelled shorten has says (tree_of at t) scope) e ∙ ap (λ t. spelled shorten has says t scope) (form_tree at op args body)
+      ∙ spelled_form shorten has says scope told at op (trees_of args.items) (trees_of body.items))
 
-  pub another_spelled : (t : Term) → term_shape t ≡ Another → tree_of at t ≡ spelled has says (tree_of at t) scope
+  pub another_spelled : (t : Term) → term_shape t ≡ Another → tree_of at t ≡ spelled shorten has says (tree_of at t) scope
   unfolding tree_of
   another_spelled (D.Name path) e = absurd (grind arith)
   another_spelled (D.Call' path shape args) e = absurd (grind arith)
   another_spelled (D.Form' op shape args shape' body) e = absurd (grind arith)
   another_spelled t e = refl
 
-  no_use : (t other : Tree) → used_name t ≡ None → element_spelled has t other scope ≡ other
+  no_use : (t other : Tree) → used_name t ≡ None → element_spelled shorten has t other scope ≡ other
   no_use (Use at name) other e = absurd (grind arith)
   no_use t other e = refl
 
-  pub element_unnamed : (t : Term) (other : Tree) → path_of t ≡ None → element_spelled has (tree_of at t) other scope ≡ other
+  pub element_unnamed : (t : Term) (other : Tree) → path_of t ≡ None → element_spelled shorten has (tree_of at t) other scope ≡ other
   element_unnamed t other e = no_use (tree_of at t) other (used at t ∙ e)

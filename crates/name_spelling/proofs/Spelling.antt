@@ -5,12 +5,15 @@ use Rattle.std.proofs.lemmas.List.{reverse-append}
 use Rattle.acpi_values.specs.Paths.{NameSeg, AbsolutePath}
 use Rattle.acpi_state.specs.Outcomes.{choose}
 use Rattle.asl_tree.specs.declared.path.Path.{Path as Name}
-use Rattle.asl_tree.specs.Names.{place_of, enclosing, candidates, first_of, single_segment, search_path, absolute, spelled_by, spelled_name, is_searched, spelled_element}
+use Rattle.asl_tree.specs.Names.{place_of, enclosing, candidates, first_of, denoted, single_segment, search_path, absolute, spelled_by, spelled_name, is_searched, spelled_element}
 use Rattle.asl_tree.specs.Tree.{Trees}
 use Rattle.acpi_names.specs.Parts.{name_at}
+use mathlib.Core.Path.{fun_ext}
+use Rattle.acpi_names.specs.Shortest.{short_element, spelled_use, spelled_item}
 use Rattle.acpi_names.specs.Spelled.{inner_scope}
 use Rattle.name_spelling.specs.Spelling.{opened_at}
-use Rattle.acpi_names.proofs.Flags.{candidates_same, denoted_same}
+use Rattle.name_spelling.specs.Forms.{around}
+use Rattle.acpi_names.proofs.Flags.{denoted_same}
 
 abbrev pub with_segs : Name → List NameSeg → Name
 with_segs path segs = record { root = path.root; up = path.up; segs = segs }
@@ -18,11 +21,6 @@ with_segs path segs = record { root = path.root; up = path.up; segs = segs }
 abbrev pub tail_of : AbsolutePath → AbsolutePath
 tail_of [] = []
 tail_of (seg ∷ path) = path
-
--- the places of a segment around a scope
-abbrev pub around : NameSeg → AbsolutePath → List AbsolutePath
-around seg [] = []
-around seg (outer ∷ scope) = enclosing seg scope
 
 abbrev some_path : Option AbsolutePath → AbsolutePath
 some_path None = []
@@ -84,12 +82,11 @@ pushed_path path more seg scope e pushed =
     ∙ ap (with_segs (absolute scope)) (pushed ∙ ap (λ (p : Name). p.segs ++ seg ∷ []) e ∙ sym (reverse-append (seg ∷ []) scope))
 
 -- where the same is named, the same is written
-pub spelled_name_same : (has other : AbsolutePath → Bool) → ((path : AbsolutePath) → has path ≡ other path) → (name : Name) (scope : AbsolutePath) → spelled_name has name scope ≡ spelled_name other name scope
-spelled_name_same has other h name scope = ap (λ ps. spelled_by ps name) (candidates_same has other h (search_path name scope))
+pub spelled_use_same : (has other : AbsolutePath → Bool) → ((path : AbsolutePath) → has path ≡ other path) → (shorten : Bool) (name : Name) (scope : AbsolutePath) → spelled_use has shorten name scope ≡ spelled_use other shorten name scope
+spelled_use_same has other h shorten name scope = ap (λ names. spelled_use names shorten name scope) (fun_ext h)
 
-pub spelled_element_same : (has other : AbsolutePath → Bool) → ((path : AbsolutePath) → has path ≡ other path) → (name : Name) (scope : AbsolutePath) → spelled_element has name scope ≡ spelled_element other name scope
-spelled_element_same has other h name scope =
-    ap (λ o. if is_searched name then absolute (if is_searched name then choose o (place_of name scope) (λ path. path) else place_of name scope) else name) (denoted_same has other h name scope)
+pub spelled_item_same : (has other : AbsolutePath → Bool) → ((path : AbsolutePath) → has path ≡ other path) → (shorten : Bool) (name : Name) (scope : AbsolutePath) → spelled_item has shorten name scope ≡ spelled_item other shorten name scope
+spelled_item_same has other h shorten name scope = ap (λ names. spelled_item names shorten name scope) (fun_ext h)
 
 chosen_same : {A B : Type 0} (o : Option A) (b : B) (f g : A → B) → ((a : A) → f a ≡ g a) → choose o b f ≡ choose o b g
 chosen_same None b f g h = refl
@@ -98,3 +95,8 @@ chosen_same (Some a) b f g h = h a
 -- so is the scope of a Scope's terms the same
 pub opened_same : (has other : AbsolutePath → Bool) → ((path : AbsolutePath) → has path ≡ other path) → (args : Trees) (scope : AbsolutePath) → opened_at has args scope ≡ opened_at other args scope
 opened_same has other h args scope = chosen_same (name_at 0 args) scope (λ name. inner_scope has name scope) (λ name. inner_scope other name scope) (λ name. ap (λ o. choose o [] (λ path. path)) (denoted_same has other h name scope))
+
+-- a name of one segment in a Package is not shortened
+pub item_searched : (has : AbsolutePath → Bool) (shorten : Bool) (name : Name) (seg : NameSeg) (scope : AbsolutePath) → single_segment name ≡ Some seg → spelled_item has shorten name scope ≡ spelled_element has name scope
+item_searched has shorten name seg scope e =
+    ap (λ o. if is_some o then spelled_element has name scope else if shorten then choose (denoted has name scope) name (λ path. short_element has path scope) else name) e

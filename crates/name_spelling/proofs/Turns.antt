@@ -99,47 +99,47 @@ mapped_same : (f g : ℕ → Tree → Tree) → ((k : ℕ) (t : Tree) → f k t 
 mapped_same f g h no_trees = refl
 mapped_same f g h (tree t ts) = ap (λ x. tree x (mapped (λ k. f (suc k)) ts)) (h 0 t) ∙ ap (tree (g 0 t)) (mapped_same (λ k. f (suc k)) (λ k. g (suc k)) (λ k. h (suc k)) ts)
 
-module _ (has : AbsolutePath → Bool) (says : AbsolutePath → ExternalType → ExternalType) (scope : AbsolutePath) where
-  pub mapped_all : (ts : Trees) → mapped (λ k t. spelled has says t scope) ts ≡ spelled_all has says ts scope
+module _ (shorten : Bool) (has : AbsolutePath → Bool) (says : AbsolutePath → ExternalType → ExternalType) (scope : AbsolutePath) where
+  pub mapped_all : (ts : Trees) → mapped (λ k t. spelled shorten has says t scope) ts ≡ spelled_all shorten has says ts scope
   mapped_all no_trees = refl
-  mapped_all (tree t ts) = ap (tree (spelled has says t scope)) (mapped_all ts)
+  mapped_all (tree t ts) = ap (tree (spelled shorten has says t scope)) (mapped_all ts)
 
-  pub mapped_elements : (ts : Trees) → mapped (λ k t. element_spelled has t (spelled has says t scope) scope) ts ≡ spelled_elements has says ts scope
+  pub mapped_elements : (ts : Trees) → mapped (λ k t. element_spelled shorten has t (spelled shorten has says t scope) scope) ts ≡ spelled_elements shorten has says ts scope
   mapped_elements no_trees = refl
-  mapped_elements (tree t ts) = ap (tree (element_spelled has t (spelled has says t scope) scope)) (mapped_elements ts)
+  mapped_elements (tree t ts) = ap (tree (element_spelled shorten has t (spelled shorten has says t scope) scope)) (mapped_elements ts)
 
   -- all but the one with a number
   abbrev but_turn : ℕ → ℕ → Tree → Tree
   but_turn zero zero t = t
-  but_turn zero (suc k) t = spelled has says t scope
-  but_turn (suc p) zero t = spelled has says t scope
+  but_turn zero (suc k) t = spelled shorten has says t scope
+  but_turn (suc p) zero t = spelled shorten has says t scope
   but_turn (suc p) (suc k) t = but_turn p k t
 
-  by_number : (p k : ℕ) (t : Tree) → other_spelled has says (nat_eq k p) t scope ≡ but_turn p k t
+  by_number : (p k : ℕ) (t : Tree) → other_spelled shorten has says (nat_eq k p) t scope ≡ but_turn p k t
   by_number p k t = by_same (nat_eq k p) refl
     where
       here : (p : ℕ) → but_turn p p t ≡ t
       here zero = refl
       here (suc p) = here p
 
-      there : (p k : ℕ) → k ≢ p → but_turn p k t ≡ spelled has says t scope
+      there : (p k : ℕ) → k ≢ p → but_turn p k t ≡ spelled shorten has says t scope
       there zero zero e = absurd (e refl)
       there zero (suc k) e = refl
       there (suc p) zero e = refl
       there (suc p) (suc k) e = there p k (let other : k ≢ p = omega (arith, e) in other)
 
-      by_same : (c : Bool) → nat_eq k p ≡ c → other_spelled has says c t scope ≡ but_turn p k t
+      by_same : (c : Bool) → nat_eq k p ≡ c → other_spelled shorten has says c t scope ≡ but_turn p k t
       by_same true e = sym (ap (λ n. but_turn p n t) (eqb-true k p e) ∙ here p)
       by_same false e = sym (there p k (let other : k ≢ p = grind (arith, nat_tests, e) in other))
 
-  mapped_turn : (p : ℕ) (ts : Trees) → mapped (but_turn p) ts ≡ spelled_but has says p ts scope
+  mapped_turn : (p : ℕ) (ts : Trees) → mapped (but_turn p) ts ≡ spelled_but shorten has says p ts scope
   mapped_turn zero no_trees = refl
   mapped_turn (suc p) no_trees = refl
   mapped_turn zero (tree t ts) = ap (tree t) (mapped_all ts)
-  mapped_turn (suc p) (tree t ts) = ap (tree (spelled has says t scope)) (mapped_turn p ts)
+  mapped_turn (suc p) (tree t ts) = ap (tree (spelled shorten has says t scope)) (mapped_turn p ts)
 
-  pub mapped_but : (p : ℕ) (ts : Trees) → mapped (λ k t. other_spelled has says (nat_eq k p) t scope) ts ≡ spelled_but has says p ts scope
-  mapped_but p ts = mapped_same (λ k t. other_spelled has says (nat_eq k p) t scope) (but_turn p) (by_number p) ts ∙ mapped_turn p ts
+  pub mapped_but : (p : ℕ) (ts : Trees) → mapped (λ k t. other_spelled shorten has says (nat_eq k p) t scope) ts ≡ spelled_but shorten has says p ts scope
+  mapped_but p ts = mapped_same (λ k t. other_spelled shorten has says (nat_eq k p) t scope) (but_turn p) (by_number p) ts ∙ mapped_turn p ts
 
 -- more paths
 pub grows_none : (paths : List AbsolutePath) (named : List Bool) (table : List (Option ℕ)) → length named ≡ length paths → Grows paths named paths named table

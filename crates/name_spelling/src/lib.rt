@@ -1,6 +1,7 @@
 //! The names of a block, spelled as they have to stand in the bytes.
 #![tactic(auto)]
 
+mod form;
 pub mod spell;
 #[cfg(test)]
 mod tests;

@@ -26,6 +26,7 @@ fn spell_all(
     alloc: Global,
     index: &mut Index,
     calls: &[Option<usize>],
+    shorten: bool,
     nodes: &mut Vec<Node>,
     scope: usize,
 ) -> Result<(), AllocError>
@@ -33,10 +34,10 @@ fn spell_all(
     requires all { length index.old.named.items ≡ length index.old.paths }
     requires short { length calls.now ≤ length index.old.paths }
     ensures grows { OnOk result (Grows index.old.paths index.old.named.items index.new.paths index.new.named.items calls.now) }
-    ensures spells { OnOk result (SpellsAll index.old.paths index.old.named.items calls.now (trees_of nodes.old.items) (trees_of nodes.new.items) (get_or index.old.paths scope [])) }
+    ensures spells { OnOk result (SpellsAll shorten index.old.paths index.old.named.items calls.now (trees_of nodes.old.items) (trees_of nodes.new.items) (get_or index.old.paths scope [])) }
 {
     for node in nodes.iter_mut() {
-        spell_one(alloc, index, calls, node, scope)?;
+        spell_one(alloc, index, calls, shorten, node, scope)?;
     }
     Ok(())
 }
@@ -47,6 +48,7 @@ fn spell_but(
     alloc: Global,
     index: &mut Index,
     calls: &[Option<usize>],
+    shorten: bool,
     nodes: &mut Vec<Node>,
     place: usize,
     scope: usize,
@@ -55,10 +57,10 @@ fn spell_but(
     requires all { length index.old.named.items ≡ length index.old.paths }
     requires short { length calls.now ≤ length index.old.paths }
     ensures grows { OnOk result (Grows index.old.paths index.old.named.items index.new.paths index.new.named.items calls.now) }
-    ensures spells { OnOk result (SpellsBut index.old.paths index.old.named.items calls.now place (trees_of nodes.old.items) (trees_of nodes.new.items) (get_or index.old.paths scope [])) }
+    ensures spells { OnOk result (SpellsBut shorten index.old.paths index.old.named.items calls.now place (trees_of nodes.old.items) (trees_of nodes.new.items) (get_or index.old.paths scope [])) }
 {
     for (number, node) in nodes.iter_mut().enumerate() {
-        spell_other(alloc, index, calls, node, number == place, scope)?;
+        spell_other(alloc, index, calls, shorten, node, number == place, scope)?;
     }
     Ok(())
 }
@@ -69,6 +71,7 @@ fn spell_other(
     alloc: Global,
     index: &mut Index,
     calls: &[Option<usize>],
+    shorten: bool,
     node: &mut Node,
     kept: bool,
     scope: usize,
@@ -77,12 +80,12 @@ fn spell_other(
     requires all { length index.old.named.items ≡ length index.old.paths }
     requires short { length calls.now ≤ length index.old.paths }
     ensures grows { OnOk result (Grows index.old.paths index.old.named.items index.new.paths index.new.named.items calls.now) }
-    ensures spells { OnOk result (Knowing index.old.paths index.old.named.items calls.now (λ d counts. node_tree node.new ≡ other_spelled (is_named d) (written_for counts) kept (node_tree node.old) (get_or index.old.paths scope []))) }
+    ensures spells { OnOk result (Knowing index.old.paths index.old.named.items calls.now (λ d counts. node_tree node.new ≡ other_spelled shorten (is_named d) (written_for counts) kept (node_tree node.old) (get_or index.old.paths scope []))) }
 {
     if kept {
         return Ok(());
     }
-    spell_one(alloc, index, calls, node, scope)?;
+    spell_one(alloc, index, calls, shorten, node, scope)?;
     Ok(())
 }
 
@@ -92,6 +95,7 @@ fn spell_elements(
     alloc: Global,
     index: &mut Index,
     calls: &[Option<usize>],
+    shorten: bool,
     nodes: &mut Vec<Node>,
     scope: usize,
 ) -> Result<(), AllocError>
@@ -99,10 +103,10 @@ fn spell_elements(
     requires all { length index.old.named.items ≡ length index.old.paths }
     requires short { length calls.now ≤ length index.old.paths }
     ensures grows { OnOk result (Grows index.old.paths index.old.named.items index.new.paths index.new.named.items calls.now) }
-    ensures spells { OnOk result (SpellsElements index.old.paths index.old.named.items calls.now (trees_of nodes.old.items) (trees_of nodes.new.items) (get_or index.old.paths scope [])) }
+    ensures spells { OnOk result (SpellsElements shorten index.old.paths index.old.named.items calls.now (trees_of nodes.old.items) (trees_of nodes.new.items) (get_or index.old.paths scope [])) }
 {
     for node in nodes.iter_mut() {
-        spell_item(alloc, index, calls, node, scope)?;
+        spell_item(alloc, index, calls, shorten, node, scope)?;
     }
     Ok(())
 }
@@ -112,6 +116,7 @@ fn spell_item(
     alloc: Global,
     index: &mut Index,
     calls: &[Option<usize>],
+    shorten: bool,
     node: &mut Node,
     scope: usize,
 ) -> Result<(), AllocError>
@@ -119,10 +124,10 @@ fn spell_item(
     requires all { length index.old.named.items ≡ length index.old.paths }
     requires short { length calls.now ≤ length index.old.paths }
     ensures grows { OnOk result (Grows index.old.paths index.old.named.items index.new.paths index.new.named.items calls.now) }
-    ensures spells { OnOk result (Knowing index.old.paths index.old.named.items calls.now (λ d counts. node_tree node.new ≡ element_spelled (is_named d) (node_tree node.old) (spelled (is_named d) (written_for counts) (node_tree node.old) (get_or index.old.paths scope [])) (get_or index.old.paths scope []))) }
+    ensures spells { OnOk result (Knowing index.old.paths index.old.named.items calls.now (λ d counts. node_tree node.new ≡ element_spelled shorten (is_named d) (node_tree node.old) (spelled shorten (is_named d) (written_for counts) (node_tree node.old) (get_or index.old.paths scope [])) (get_or index.old.paths scope []))) }
 {
     match &node.term {
-        Term::Name(path) => match other_element(alloc, index, path, scope)? {
+        Term::Name(path) => match other_element(alloc, index, shorten, path, scope)? {
             Some(other) => {
                 node.term = Term::Name(other);
                 Ok(())
@@ -130,7 +135,7 @@ fn spell_item(
             None => Ok(()),
         },
         _ => {
-            spell_one(alloc, index, calls, node, scope)?;
+            spell_one(alloc, index, calls, shorten, node, scope)?;
             Ok(())
         }
     }
@@ -141,6 +146,7 @@ fn spell_one(
     alloc: Global,
     index: &mut Index,
     calls: &[Option<usize>],
+    shorten: bool,
     node: &mut Node,
     scope: usize,
 ) -> Result<(), AllocError>
@@ -148,10 +154,10 @@ fn spell_one(
     requires all { length index.old.named.items ≡ length index.old.paths }
     requires short { length calls.now ≤ length index.old.paths }
     ensures grows { OnOk result (Grows index.old.paths index.old.named.items index.new.paths index.new.named.items calls.now) }
-    ensures spells { OnOk result (Knowing index.old.paths index.old.named.items calls.now (λ d counts. node_tree node.new ≡ spelled (is_named d) (written_for counts) (node_tree node.old) (get_or index.old.paths scope []))) }
+    ensures spells { OnOk result (Knowing index.old.paths index.old.named.items calls.now (λ d counts. node_tree node.new ≡ spelled shorten (is_named d) (written_for counts) (node_tree node.old) (get_or index.old.paths scope []))) }
 {
     match &node.term {
-        Term::Name(path) => match other_name(alloc, index, path, scope)? {
+        Term::Name(path) => match other_name(alloc, index, shorten, path, scope)? {
             Some(other) => {
                 node.term = Term::Name(other);
                 Ok(())
@@ -159,7 +165,7 @@ fn spell_one(
             None => Ok(()),
         },
         _ => {
-            spell_inner(alloc, index, calls, node, scope)?;
+            spell_inner(alloc, index, calls, shorten, node, scope)?;
             Ok(())
         }
     }
@@ -171,6 +177,7 @@ fn spell_inner(
     alloc: Global,
     index: &mut Index,
     calls: &[Option<usize>],
+    shorten: bool,
     node: &mut Node,
     scope: usize,
 ) -> Result<(), AllocError>
@@ -179,17 +186,17 @@ fn spell_inner(
     requires short { length calls.now ≤ length index.old.paths }
     requires unnamed { path_of node.old.term ≡ None }
     ensures grows { OnOk result (Grows index.old.paths index.old.named.items index.new.paths index.new.named.items calls.now) }
-    ensures spells { OnOk result (Knowing index.old.paths index.old.named.items calls.now (λ d counts. node_tree node.new ≡ spelled (is_named d) (written_for counts) (node_tree node.old) (get_or index.old.paths scope []))) }
+    ensures spells { OnOk result (Knowing index.old.paths index.old.named.items calls.now (λ d counts. node_tree node.new ≡ spelled shorten (is_named d) (written_for counts) (node_tree node.old) (get_or index.old.paths scope []))) }
 {
     let here = spot_of(node);
     match &mut node.term {
         Term::Call { path, args } => {
-            spell_name(alloc, index, path, scope)?;
-            spell_all(alloc, index, calls, args, scope)?;
+            spell_name(alloc, index, shorten, path, scope)?;
+            spell_all(alloc, index, calls, shorten, args, scope)?;
             Ok(())
         }
         Term::Form { op, args, body } => {
-            spell_form(alloc, index, calls, here, *op, args, body, scope)?;
+            spell_form(alloc, index, calls, shorten, here, *op, args, body, scope)?;
             Ok(())
         }
         _ => Ok(()),
@@ -201,6 +208,7 @@ fn spell_form(
     alloc: Global,
     index: &mut Index,
     calls: &[Option<usize>],
+    shorten: bool,
     here: Spot,
     op: Op,
     args: &mut Vec<Node>,
@@ -211,8 +219,8 @@ fn spell_form(
     requires all { length index.old.named.items ≡ length index.old.paths }
     requires short { length calls.now ≤ length index.old.paths }
     ensures grows { OnOk result (Grows index.old.paths index.old.named.items index.new.paths index.new.named.items calls.now) }
-    ensures args { OnOk result (SpellsArgs index.old.paths index.old.named.items calls.now (part_of op (trees_of args.old.items) (trees_of body.old.items)) (value_form_of op (trees_of args.old.items) (trees_of body.old.items)) (trees_of args.old.items) (trees_of args.new.items) (get_or index.old.paths scope [])) }
-    ensures body { OnOk result (SpellsBody index.old.paths index.old.named.items calls.now (part_of op (trees_of args.old.items) (trees_of body.old.items)) (value_form_of op (trees_of args.old.items) (trees_of body.old.items)) (trees_of args.old.items) (trees_of body.old.items) (trees_of body.new.items) (get_or index.old.paths scope [])) }
+    ensures args { OnOk result (SpellsArgs shorten index.old.paths index.old.named.items calls.now (part_of op (trees_of args.old.items) (trees_of body.old.items)) (value_form_of op (trees_of args.old.items) (trees_of body.old.items)) (trees_of args.old.items) (trees_of args.new.items) (get_or index.old.paths scope [])) }
+    ensures body { OnOk result (SpellsBody shorten index.old.paths index.old.named.items calls.now (part_of op (trees_of args.old.items) (trees_of body.old.items)) (value_form_of op (trees_of args.old.items) (trees_of body.old.items)) (trees_of args.old.items) (trees_of body.old.items) (trees_of body.new.items) (get_or index.old.paths scope [])) }
 {
     match part_for(op, args, body) {
         Part::Nothing => {
@@ -220,6 +228,7 @@ fn spell_form(
                 alloc,
                 index,
                 calls,
+                shorten,
                 value_form_for(op, args, body),
                 args,
                 body,
@@ -228,11 +237,11 @@ fn spell_form(
             Ok(())
         }
         Part::Declares { name, what, opens } => {
-            spell_declared(alloc, index, calls, name, opens, args, body, scope)?;
+            spell_declared(alloc, index, calls, shorten, name, opens, args, body, scope)?;
             Ok(())
         }
         Part::Alias => {
-            spell_but(alloc, index, calls, args, 1, scope)?;
+            spell_but(alloc, index, calls, shorten, args, 1, scope)?;
             Ok(())
         }
         Part::External { object, parameters } => {
@@ -241,21 +250,21 @@ fn spell_form(
         }
         Part::Scope => {
             let inner = opened_place(index, args, scope);
-            spell_all(alloc, index, calls, args, scope)?;
-            spell_all(alloc, index, calls, body, inner)?;
+            spell_all(alloc, index, calls, false, args, scope)?;
+            spell_all(alloc, index, calls, shorten, body, inner)?;
             Ok(())
         }
         Part::Within => {
-            spell_all(alloc, index, calls, args, scope)?;
-            spell_all(alloc, index, calls, body, scope)?;
+            spell_all(alloc, index, calls, shorten, args, scope)?;
+            spell_all(alloc, index, calls, shorten, body, scope)?;
             Ok(())
         }
         Part::Returns => {
-            spell_all(alloc, index, calls, args, scope)?;
+            spell_all(alloc, index, calls, shorten, args, scope)?;
             Ok(())
         }
         Part::Units(_) => {
-            spell_all(alloc, index, calls, args, scope)?;
+            spell_all(alloc, index, calls, shorten, args, scope)?;
             Ok(())
         }
     }
@@ -267,6 +276,7 @@ fn spell_value(
     alloc: Global,
     index: &mut Index,
     calls: &[Option<usize>],
+    shorten: bool,
     form: ValueForm,
     args: &mut Vec<Node>,
     body: &mut Vec<Node>,
@@ -276,34 +286,34 @@ fn spell_value(
     requires all { length index.old.named.items ≡ length index.old.paths }
     requires short { length calls.now ≤ length index.old.paths }
     ensures grows { OnOk result (Grows index.old.paths index.old.named.items index.new.paths index.new.named.items calls.now) }
-    ensures args { OnOk result (SpellsArgs index.old.paths index.old.named.items calls.now P.Nothing form (trees_of args.old.items) (trees_of args.new.items) (get_or index.old.paths scope [])) }
-    ensures body { OnOk result (SpellsBody index.old.paths index.old.named.items calls.now P.Nothing form (trees_of args.old.items) (trees_of body.old.items) (trees_of body.new.items) (get_or index.old.paths scope [])) }
+    ensures args { OnOk result (SpellsArgs shorten index.old.paths index.old.named.items calls.now P.Nothing form (trees_of args.old.items) (trees_of args.new.items) (get_or index.old.paths scope [])) }
+    ensures body { OnOk result (SpellsBody shorten index.old.paths index.old.named.items calls.now P.Nothing form (trees_of args.old.items) (trees_of body.old.items) (trees_of body.new.items) (get_or index.old.paths scope [])) }
 {
     match form {
         ValueForm::Nothing => Ok(()),
         ValueForm::Operator(_) => {
-            spell_all(alloc, index, calls, args, scope)?;
+            spell_all(alloc, index, calls, shorten, args, scope)?;
             Ok(())
         }
         ValueForm::CondRefOf => {
-            spell_all(alloc, index, calls, args, scope)?;
+            spell_all(alloc, index, calls, shorten, args, scope)?;
             Ok(())
         }
         ValueForm::Assign => {
-            spell_all(alloc, index, calls, args, scope)?;
+            spell_all(alloc, index, calls, shorten, args, scope)?;
             Ok(())
         }
         ValueForm::AssignBy => {
-            spell_all(alloc, index, calls, args, scope)?;
+            spell_all(alloc, index, calls, shorten, args, scope)?;
             Ok(())
         }
         ValueForm::Buffer => {
-            spell_all(alloc, index, calls, args, scope)?;
+            spell_all(alloc, index, calls, shorten, args, scope)?;
             Ok(())
         }
         ValueForm::Package => {
-            spell_all(alloc, index, calls, args, scope)?;
-            spell_elements(alloc, index, calls, body, scope)?;
+            spell_all(alloc, index, calls, shorten, args, scope)?;
+            spell_elements(alloc, index, calls, shorten, body, scope)?;
             Ok(())
         }
     }
@@ -315,6 +325,7 @@ fn spell_declared(
     alloc: Global,
     index: &mut Index,
     calls: &[Option<usize>],
+    shorten: bool,
     place: usize,
     opens: bool,
     args: &mut Vec<Node>,
@@ -325,11 +336,13 @@ fn spell_declared(
     requires all { length index.old.named.items ≡ length index.old.paths }
     requires short { length calls.now ≤ length index.old.paths }
     ensures grows { OnOk result (Grows index.old.paths index.old.named.items index.new.paths index.new.named.items calls.now) }
-    ensures args { OnOk result (SpellsBut index.old.paths index.old.named.items calls.now place (trees_of args.old.items) (trees_of args.new.items) (get_or index.old.paths scope [])) }
-    ensures body { OnOk result (SpellsOpened index.old.paths index.old.named.items calls.now opens (trees_of body.old.items) (trees_of body.new.items) (place_at place (trees_of args.old.items) (get_or index.old.paths scope []))) }
+    ensures args { OnOk result (SpellsBut shorten index.old.paths index.old.named.items calls.now place (trees_of args.old.items) (trees_of args.new.items) (get_or index.old.paths scope [])) }
+    ensures body { OnOk result (SpellsOpened shorten index.old.paths index.old.named.items calls.now opens (trees_of body.old.items) (trees_of body.new.items) (place_at place (trees_of args.old.items) (get_or index.old.paths scope []))) }
 {
-    spell_inside(alloc, index, calls, place, opens, args, body, scope)?;
-    spell_but(alloc, index, calls, args, place, scope)?;
+    spell_inside(
+        alloc, index, calls, shorten, place, opens, args, body, scope,
+    )?;
+    spell_but(alloc, index, calls, shorten, args, place, scope)?;
     Ok(())
 }
 
@@ -339,6 +352,7 @@ fn spell_inside(
     alloc: Global,
     index: &mut Index,
     calls: &[Option<usize>],
+    shorten: bool,
     place: usize,
     opens: bool,
     args: &[Node],
@@ -349,13 +363,13 @@ fn spell_inside(
     requires all { length index.old.named.items ≡ length index.old.paths }
     requires short { length calls.now ≤ length index.old.paths }
     ensures grows { OnOk result (Grows index.old.paths index.old.named.items index.new.paths index.new.named.items calls.now) }
-    ensures body { OnOk result (SpellsOpened index.old.paths index.old.named.items calls.now opens (trees_of body.old.items) (trees_of body.new.items) (place_at place (trees_of args.now) (get_or index.old.paths scope []))) }
+    ensures body { OnOk result (SpellsOpened shorten index.old.paths index.old.named.items calls.now opens (trees_of body.old.items) (trees_of body.new.items) (place_at place (trees_of args.now) (get_or index.old.paths scope []))) }
 {
     if !opens {
         return Ok(());
     }
     let inner = declared_place(index, calls, args, place, scope)?;
-    spell_all(alloc, index, calls, body, inner)?;
+    spell_all(alloc, index, calls, shorten, body, inner)?;
     Ok(())
 }
 
@@ -449,20 +463,22 @@ fn put_number(
 }
 
 /// Spells the terms of a block as they have to stand in the bytes: a used name that has several candidates is
-/// written from the root (ACPI Specification 6.4, 5.3), and so is a name in a Package that would be searched; an
+/// written from the root (ACPI Specification 6.4, 5.3), or in the shortest way that leads to the same path where
+/// `shorten` asks for it; a name in a Package that would be searched is written from the root; an
 /// External says its object type and its arity. `calls` says of the numbers of paths with how many arguments they
 /// are called first.
 pub fn spell(
     alloc: Global,
     index: &mut Index,
     calls: &[Option<usize>],
+    shorten: bool,
     terms: &mut Vec<Node>,
 ) -> Result<(), AllocError>
     requires all { length index.old.named.items ≡ length index.old.paths }
     requires short { length calls.now ≤ length index.old.paths }
-    ensures { OnOk result ((d : Declarations) (counts : List (AbsolutePath × ℕ)) → Agrees index.old.paths index.old.named.items d → Tabled index.old.paths calls.now (lookup counts) → trees_of terms.new.items ≡ spelled_all (is_named d) (written_for counts) (trees_of terms.old.items) []) }
+    ensures { OnOk result ((d : Declarations) (counts : List (AbsolutePath × ℕ)) → Agrees index.old.paths index.old.named.items d → Tabled index.old.paths calls.now (lookup counts) → trees_of terms.new.items ≡ spelled_all shorten (is_named d) (written_for counts) (trees_of terms.old.items) []) }
 {
     let count = index.paths.len();
-    spell_all(alloc, index, calls, terms, 0)?;
+    spell_all(alloc, index, calls, shorten, terms, 0)?;
     Ok(())
 }

@@ -76,6 +76,9 @@ fn write_path(out: &mut Vec<u8>, path: &Path) -> Result<(), AllocError> {
     if path.root {
         out.push(b'\\')?;
     }
+    for _ in 0..path.up {
+        out.push(b'^')?;
+    }
     for segment in path.segs.as_slice() {
         for byte in segment {
             out.push(*byte)?;
@@ -101,6 +104,7 @@ fn number_of(alloc: Global, index: &Index, segment: NameSeg) -> Result<usize, Al
 // The terms as they are spelled, where a name is called first with so many arguments.
 fn spelled(
     alloc: Global,
+    shorten: bool,
     mut terms: Vec<Node>,
     called: NameSeg,
     count: Option<usize>,
@@ -117,7 +121,7 @@ fn spelled(
     }
     calls.push(count)?;
     if index.named.len() == index.paths.len() && calls.len() <= index.paths.len() {
-        spell(alloc, &mut index, &calls, &mut terms)?;
+        spell(alloc, &mut index, &calls, shorten, &mut terms)?;
     }
     let mut out = Vec::new(alloc);
     write_terms(&mut out, &terms)?;
@@ -175,9 +179,54 @@ fn names_are_spelled(rt: HostRuntime) -> Result<(), Fail> {
         &mut terms,
         named_other(alloc, *b"P___", package(alloc, &[*b"X___", *b"Z___"])?)?,
     )?;
-    let seen = spelled(alloc, terms, *b"A___", None)?;
+    let seen = spelled(alloc, false, terms, *b"A___", None)?;
     let wanted =
         b"A___ X___ 0 B___ \\A___ X___ Y___ 1 C___ Y___ X___ 2 D___ X___ P___ \\X___ \\Z___ ";
+    assert_eq!(rt; seen.as_slice(), wanted.as_slice());
+    Ok(())
+}
+
+// A name from the root.
+fn rooted(alloc: Global, segments: &[NameSeg]) -> Result<Term, AllocError> {
+    let mut segs = Segs::new(alloc);
+    for segment in segments {
+        segs.push(*segment)?;
+    }
+    Ok(Term::Name(Path {
+        root: true,
+        up: 0,
+        segs,
+    }))
+}
+
+// Name (X, 5), Device (D) { Name (Y, 1) Name (B, \X) Device (M) { Name (Y, 2) Name (Z, \D.Y) } }
+#[test]
+fn names_are_shortened(rt: HostRuntime) -> Result<(), Fail> {
+    let alloc = rt.alloc();
+    let mut inner = Vec::new(alloc);
+    add(&mut inner, named_other(alloc, *b"Y___", Term::Integer(2))?)?;
+    add(
+        &mut inner,
+        named_other(alloc, *b"Z___", rooted(alloc, &[*b"D___", *b"Y___"])?)?,
+    )?;
+    let mut body = Vec::new(alloc);
+    add(&mut body, named_other(alloc, *b"Y___", Term::Integer(1))?)?;
+    add(
+        &mut body,
+        named_other(alloc, *b"B___", rooted(alloc, &[*b"X___"])?)?,
+    )?;
+    add(
+        &mut body,
+        named_form(alloc, Declaration::Device, *b"M___", Vec::new(alloc), inner)?,
+    )?;
+    let mut terms = Vec::new(alloc);
+    add(&mut terms, named_other(alloc, *b"X___", Term::Integer(5))?)?;
+    add(
+        &mut terms,
+        named_form(alloc, Declaration::Device, *b"D___", Vec::new(alloc), body)?,
+    )?;
+    let seen = spelled(alloc, true, terms, *b"X___", None)?;
+    let wanted = b"X___ 5 D___ Y___ 1 B___ X___ M___ Y___ 2 Z___ ^Y___ ";
     assert_eq!(rt; seen.as_slice(), wanted.as_slice());
     Ok(())
 }
@@ -249,7 +298,7 @@ fn externals_say_type_and_arity(rt: HostRuntime) -> Result<(), Fail> {
                 Vec::new(alloc),
             )?,
         )?;
-        let seen = spelled(alloc, terms, *b"E___", case.first)?;
+        let seen = spelled(alloc, false, terms, *b"E___", case.first)?;
         assert_eq!(rt; seen.as_slice(), case.written);
     }
     Ok(())

@@ -1,14 +1,16 @@
 //! Names as they have to stand in the bytes.
-ghost use Rattle.std.specs.Prelude.{◌≡◌, ◌<◌, [], length, get_or, IfOk, OnOk, MatchOption, unwrap_or};
+ghost use Rattle.std.specs.Prelude.{◌≡◌, ◌<◌, [], None, true, length, get_or, IfOk, OnOk, MatchOption, unwrap_or};
 ghost use Rattle.acpi_names.specs.Paths.{is_named_in, number_in};
 ghost use Rattle.name_spelling.specs.Spelling.{external_type, type_written};
 ghost use Rattle.acpi_names.specs.Tables.{entry_at};
-ghost use Rattle.asl_tree.specs.Names.{absolute, place_of, spelled_name, spelled_element};
+ghost use Rattle.asl_tree.specs.Names.{absolute, place_of, single_segment, spelled_name};
+ghost use Rattle.acpi_names.specs.Shortest.{spelled_use, spelled_item};
 ghost use Rattle.asl_meaning.specs.Declarations.{written_type, external_object};
 
+use crate::form::{name_in, shortest_placed, shortest_used};
 use acpi_names::index::Index;
 use acpi_names::paths::{Paths, nearest};
-use acpi_names::place::{find, from_root, prefixed, single};
+use acpi_names::place::{denotes, find, from_root, prefixed, single};
 use asl_tree::path::Path;
 use std::alloc::{AllocError, Global};
 
@@ -28,9 +30,8 @@ fn ambiguous(paths: &Paths, named: &[bool], name: &Path, scope: usize) -> Option
     }
 }
 
-/// A used name as its search finds what it denotes, where that is not how it is written: with several candidates it
-/// is written from the root.
-pub(crate) fn other_name(
+// The name of what a used name denotes, in the shortest spelling.
+fn shortened(
     alloc: Global,
     index: &Index,
     name: &Path,
@@ -38,17 +39,41 @@ pub(crate) fn other_name(
 ) -> Result<Option<Path>, AllocError>
     requires scope_in { scope < length index.now.paths }
     requires all { length index.now.named.items ≡ length index.now.paths }
-    ensures { IfOk result (λ other. unwrap_or other name.now ≡ spelled_name (is_named_in index.now.paths index.now.named.items) name.now (get_or index.now.paths scope [])) }
+    ensures { IfOk result (λ other. unwrap_or other name.now ≡ spelled_use (is_named_in index.now.paths index.now.named.items) true name.now (get_or index.now.paths scope [])) }
 {
+    match denotes(&index.paths, &index.named, name, scope) {
+        Some(number) => {
+            let form = shortest_used(&index.paths, &index.named, number, scope);
+            Ok(Some(name_in(alloc, &index.paths, number, form)?))
+        }
+        None => Ok(None),
+    }
+}
+
+/// A used name as its search finds what it denotes, where that is not how it is written: with several candidates it
+/// is written from the root, or in the shortest spelling where `shorten` asks for it.
+pub(crate) fn other_name(
+    alloc: Global,
+    index: &Index,
+    shorten: bool,
+    name: &Path,
+    scope: usize,
+) -> Result<Option<Path>, AllocError>
+    requires scope_in { scope < length index.now.paths }
+    requires all { length index.now.named.items ≡ length index.now.paths }
+    ensures { IfOk result (λ other. unwrap_or other name.now ≡ spelled_use (is_named_in index.now.paths index.now.named.items) shorten name.now (get_or index.now.paths scope [])) }
+{
+    if shorten {
+        return Ok(shortened(alloc, index, name, scope)?);
+    }
     match ambiguous(&index.paths, &index.named, name, scope) {
         Some(number) => Ok(Some(from_root(alloc, &index.paths, number)?)),
         None => Ok(None),
     }
 }
 
-/// The name of an element of a Package, whose object may not be there yet, where that is not how it is written: what
-/// would be searched is written from the root.
-pub(crate) fn other_element(
+// The name in a Package of what a name denotes that is not searched, in the shortest spelling.
+fn shortened_element(
     alloc: Global,
     index: &Index,
     name: &Path,
@@ -56,7 +81,30 @@ pub(crate) fn other_element(
 ) -> Result<Option<Path>, AllocError>
     requires scope_in { scope < length index.now.paths }
     requires all { length index.now.named.items ≡ length index.now.paths }
-    ensures { IfOk result (λ other. unwrap_or other name.now ≡ spelled_element (is_named_in index.now.paths index.now.named.items) name.now (get_or index.now.paths scope [])) }
+    requires placed { single_segment name.now ≡ None }
+    ensures { IfOk result (λ other. unwrap_or other name.now ≡ spelled_item (is_named_in index.now.paths index.now.named.items) true name.now (get_or index.now.paths scope [])) }
+{
+    match denotes(&index.paths, &index.named, name, scope) {
+        Some(number) => {
+            let form = shortest_placed(&index.paths, number, scope);
+            Ok(Some(name_in(alloc, &index.paths, number, form)?))
+        }
+        None => Ok(None),
+    }
+}
+
+/// The name of an element of a Package, whose object may not be there yet, where that is not how it is written: what
+/// would be searched is written from the root, and another name in the shortest spelling where `shorten` asks for it.
+pub(crate) fn other_element(
+    alloc: Global,
+    index: &Index,
+    shorten: bool,
+    name: &Path,
+    scope: usize,
+) -> Result<Option<Path>, AllocError>
+    requires scope_in { scope < length index.now.paths }
+    requires all { length index.now.named.items ≡ length index.now.paths }
+    ensures { IfOk result (λ other. unwrap_or other name.now ≡ spelled_item (is_named_in index.now.paths index.now.named.items) shorten name.now (get_or index.now.paths scope [])) }
 {
     match single(name) {
         Some(segment) => match nearest(&index.paths, &index.named, scope, segment) {
@@ -67,7 +115,12 @@ pub(crate) fn other_element(
                 Ok(Some(path))
             }
         },
-        None => Ok(None),
+        None => {
+            if shorten {
+                return Ok(shortened_element(alloc, index, name, scope)?);
+            }
+            Ok(None)
+        }
     }
 }
 
@@ -75,14 +128,15 @@ pub(crate) fn other_element(
 pub(crate) fn spell_name(
     alloc: Global,
     index: &Index,
+    shorten: bool,
     name: &mut Path,
     scope: usize,
 ) -> Result<(), AllocError>
     requires scope_in { scope < length index.now.paths }
     requires all { length index.now.named.items ≡ length index.now.paths }
-    ensures { OnOk result (name.new ≡ spelled_name (is_named_in index.now.paths index.now.named.items) name.old (get_or index.now.paths scope [])) }
+    ensures { OnOk result (name.new ≡ spelled_use (is_named_in index.now.paths index.now.named.items) shorten name.old (get_or index.now.paths scope [])) }
 {
-    match other_name(alloc, index, name, scope)? {
+    match other_name(alloc, index, shorten, name, scope)? {
         Some(other) => {
             *name = other;
             Ok(())

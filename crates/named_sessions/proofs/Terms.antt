@@ -2,7 +2,6 @@
 use Rattle.std.proofs.Common.{◌≡◌, true, [], ◌∷◌, refl}
 use Rattle.std.proofs.lemmas.Bool.{and_from}
 use Rattle.std.specs.Prelude.{◌&&◌, List}
-use Rattle.acpi_values.specs.declared.width.Width.{Width}
 use Rattle.acpi_values.specs.declared.operator.DataOp.TheVariants as DataOp
 use Rattle.acpi_values.specs.declared.operator.Plain.{Plain}
 use Rattle.acpi_values.specs.Operators.{Letter, Valued, Kept, Placed, Used, Row, row_of}
@@ -31,13 +30,13 @@ constant_value (VarPackage size elements) e = refl
 constant_value _ e = absurd cc
 
 -- whatever is asked of the lists of fields, with symbols or without
-module _ (width : Width) (Listed : List (FieldItem UnitName) → Type 0) (Symbols : Type 0) where
+module _ (Listed : List (FieldItem UnitName) → Type 0) (Symbols : Type 0) where
   used_value : (t : Tree) → UsedShaped t → is_value t ≡ true
   used_value (Use at name) h = refl
   used_value _ h = absurd h
 
-  letter_value : (letter : Letter) (t : Tree) → (is_expression t ≡ true → IsFormed width Listed Symbols t → is_value t ≡ true) → (IsFormedSpot width Listed Symbols t → is_value t ≡ true)
-      → LetterShaped letter t ((is_expression t ≡ true) × IsFormed width Listed Symbols t) (IsFormedSpot width Listed Symbols t) → is_value t ≡ true
+  letter_value : (letter : Letter) (t : Tree) → (is_expression t ≡ true → IsFormed Listed Symbols t → is_value t ≡ true) → (IsFormedSpot Listed Symbols t → is_value t ≡ true)
+      → LetterShaped letter t ((is_expression t ≡ true) × IsFormed Listed Symbols t) (IsFormedSpot Listed Symbols t) → is_value t ≡ true
   letter_value Valued t value spot h = value h.0 h.1
   letter_value Kept t value spot h = value h.0 h.1
   letter_value Placed t value spot h = spot h
@@ -45,7 +44,7 @@ module _ (width : Width) (Listed : List (FieldItem UnitName) → Type 0) (Symbol
   letter_value (L.Raw size) (Raw other number) value spot h = refl
   letter_value (L.Raw size) _ value spot h = absurd h
 
-  element_value : (t : Tree) → (is_expression t ≡ true → IsFormed width Listed Symbols t → is_value t ≡ true) → ElementShaped t (IsFormed width Listed Symbols t) → is_value t ≡ true
+  element_value : (t : Tree) → (is_expression t ≡ true → IsFormed Listed Symbols t → is_value t ≡ true) → ElementShaped t (IsFormed Listed Symbols t) → is_value t ≡ true
   element_value (Use at name) value h = refl
   element_value t value h = value (constant_value t h.0) h.1
 
@@ -53,23 +52,23 @@ module _ (width : Width) (Listed : List (FieldItem UnitName) → Type 0) (Symbol
   applied op args targets h e k = and_from (has_no_targets (spot_form op) targets) (are_values args && are_values targets) (without_targets op targets e) (and_from (are_values args) (are_values targets) h k)
 
   -- the place of an operator, by its form
-  spot_applied : (op : Plain) (args targets : Trees) → (AreFormedOperands width Listed Symbols (row_of op).operands args → are_values args ≡ true) → (AreFormedSpots width Listed Symbols targets → are_values targets ≡ true)
-      → (IsFormedAlone width Listed Symbols args targets → (has_no_targets OfInside targets && (are_values args && are_values targets)) ≡ true)
-      → SpotReady (spot_form op) (AreFormedOperands width Listed Symbols (row_of op).operands args × (count targets ≡ (row_of op).targets) × AreFormedSpots width Listed Symbols targets) (IsFormedAlone width Listed Symbols args targets)
+  spot_applied : (op : Plain) (args targets : Trees) → (AreFormedOperands Listed Symbols (row_of op).operands args → are_values args ≡ true) → (AreFormedSpots Listed Symbols targets → are_values targets ≡ true)
+      → (IsFormedAlone Listed Symbols args targets → (has_no_targets OfInside targets && (are_values args && are_values targets)) ≡ true)
+      → SpotReady (spot_form op) (AreFormedOperands Listed Symbols (row_of op).operands args × (count targets ≡ (row_of op).targets) × AreFormedSpots Listed Symbols targets) (IsFormedAlone Listed Symbols args targets)
       → is_value (Apply op args targets) ≡ true
   spot_applied (Plain.Data DataOp.Index) args targets first rest alone h = applied (Plain.Data DataOp.Index) args targets (first h.0) h.1 (rest h.2)
   spot_applied (Plain.Data DataOp.DerefOf) args targets first rest alone h = alone h
   spot_applied _ args targets first rest alone h = absurd h
 
   -- the same where it is written with a symbol
-  spot_operated : (op : Plain) (args : Trees) → (AreFormedOperands width Listed Symbols (row_of op).operands args → are_values args ≡ true)
-      → SpotReady (spot_form op) (AreFormedOperands width Listed Symbols (row_of op).operands args) ⊥ → is_value (Operated op args) ≡ true
+  spot_operated : (op : Plain) (args : Trees) → (AreFormedOperands Listed Symbols (row_of op).operands args → are_values args ≡ true)
+      → SpotReady (spot_form op) (AreFormedOperands Listed Symbols (row_of op).operands args) ⊥ → is_value (Operated op args) ≡ true
   spot_operated (Plain.Data DataOp.Index) args all h = all h
   spot_operated (Plain.Data DataOp.DerefOf) args all h = absurd h
   spot_operated _ args all h = absurd h
 
   mutual
-    value : (t : Tree) → is_expression t ≡ true → IsFormed width Listed Symbols t → is_value t ≡ true
+    value : (t : Tree) → is_expression t ≡ true → IsFormed Listed Symbols t → is_value t ≡ true
     value (Integer number) e h = refl
     value (Constant literal) e h = refl
     value (String text) e h = refl
@@ -87,7 +86,7 @@ module _ (width : Width) (Listed : List (FieldItem UnitName) → Type 0) (Symbol
     value (AssignedBy op target v) e h = and_from (is_value target) (is_value v) (spot_value target h.1) (value v h.4 h.5)
     value _ e h = absurd cc
 
-    spot_value : (t : Tree) → IsFormedSpot width Listed Symbols t → is_value t ≡ true
+    spot_value : (t : Tree) → IsFormedSpot Listed Symbols t → is_value t ≡ true
     spot_value Omitted h = refl
     spot_value Debug h = refl
     spot_value (InSlot slot) h = refl
@@ -96,30 +95,30 @@ module _ (width : Width) (Listed : List (FieldItem UnitName) → Type 0) (Symbol
     spot_value (Operated op args) h = spot_operated op args (λ k. operands_values (row_of op).operands args k) h.2
     spot_value _ h = absurd h
 
-    alone_value : (args targets : Trees) → IsFormedAlone width Listed Symbols args targets → (has_no_targets OfInside targets && (are_values args && are_values targets)) ≡ true
+    alone_value : (args targets : Trees) → IsFormedAlone Listed Symbols args targets → (has_no_targets OfInside targets && (are_values args && are_values targets)) ≡ true
     alone_value (tree t no_trees) no_trees h = and_from (is_value t && true) true (and_from (is_value t) true (value t h.0 h.1) refl) refl
     alone_value _ _ h = absurd h
 
-    operands_values : (letters : List Letter) (ts : Trees) → AreFormedOperands width Listed Symbols letters ts → are_values ts ≡ true
+    operands_values : (letters : List Letter) (ts : Trees) → AreFormedOperands Listed Symbols letters ts → are_values ts ≡ true
     operands_values [] no_trees h = refl
     operands_values (letter ∷ letters) (tree t ts) h =
         and_from (is_value t) (are_values ts) (letter_value letter t (λ e s. value t e s) (λ s. spot_value t s) h.0) (operands_values letters ts h.1)
     operands_values _ _ h = absurd h
 
-    spots_values : (ts : Trees) → AreFormedSpots width Listed Symbols ts → are_values ts ≡ true
+    spots_values : (ts : Trees) → AreFormedSpots Listed Symbols ts → are_values ts ≡ true
     spots_values no_trees h = refl
     spots_values (tree t ts) h = and_from (is_value t) (are_values ts) (spot_value t h.0) (spots_values ts h.1)
 
-    values : (ts : Trees) → AreFormedValues width Listed Symbols ts → are_values ts ≡ true
+    values : (ts : Trees) → AreFormedValues Listed Symbols ts → are_values ts ≡ true
     values no_trees h = refl
     values (tree t ts) h = and_from (is_value t) (are_values ts) (value t h.0 h.1) (values ts h.2)
 
-    elements_values : (ts : Trees) → AreFormedElements width Listed Symbols ts → are_values ts ≡ true
+    elements_values : (ts : Trees) → AreFormedElements Listed Symbols ts → are_values ts ≡ true
     elements_values no_trees h = refl
     elements_values (tree t ts) h = and_from (is_value t) (are_values ts) (element_value t (λ e s. value t e s) h.0) (elements_values ts h.1)
 
   mutual
-    formed_term : (t : Tree) → IsFormed width Listed Symbols t → is_term t ≡ true
+    formed_term : (t : Tree) → IsFormed Listed Symbols t → is_term t ≡ true
     formed_term (Return v) h = value v h.0 h.1
     formed_term (Name at name v) h = value v h.1 h.2
     formed_term (Alias from source at name) h = refl
@@ -157,10 +156,10 @@ module _ (width : Width) (Listed : List (FieldItem UnitName) → Type 0) (Symbol
     formed_term Continue h = refl
     formed_term _ h = absurd h
 
-    terms : (ts : Trees) → AreFormed width Listed Symbols ts → are_terms ts ≡ true
+    terms : (ts : Trees) → AreFormed Listed Symbols ts → are_terms ts ≡ true
     terms no_trees h = refl
     terms (tree t ts) h = and_from (is_term t) (are_terms ts) (formed_term t h.0) (terms ts h.1)
 
 -- formed terms are terms, and have values where values are due
-pub formed_terms : (width : Width) (Listed : List (FieldItem UnitName) → Type 0) (Symbols : Type 0) (ts : Trees) → AreFormed width Listed Symbols ts → are_terms ts ≡ true
-formed_terms width Listed Symbols ts h = terms width Listed Symbols ts h
+pub formed_terms : (Listed : List (FieldItem UnitName) → Type 0) (Symbols : Type 0) (ts : Trees) → AreFormed Listed Symbols ts → are_terms ts ≡ true
+formed_terms Listed Symbols ts h = terms Listed Symbols ts h

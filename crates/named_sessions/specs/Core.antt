@@ -1,5 +1,5 @@
 -- The core of a program: what is written of it.
-use Rattle.std.specs.Prelude.{[]}
+use Rattle.std.specs.Prelude.{Bool, []}
 use Rattle.acpi_values.specs.Paths.{AbsolutePath}
 use Rattle.asl_tree.specs.Names.{is_known}
 use Rattle.asl_tree.specs.Tree.{Trees}
@@ -11,6 +11,6 @@ use Rattle.acpi_names.specs.Spelled.{spelled_all}
 abbrev pub says_of : Trees → AbsolutePath → ExternalType → ExternalType
 says_of program = written_external (whole_of program).calls
 
--- the program with its names spelled
-abbrev pub core_of : Trees → Trees
-core_of program = spelled_all (is_known (known_of program)) (says_of program) program []
+-- the program with its names spelled, shortened or not
+abbrev pub core_of : Bool → Trees → Trees
+core_of shorten program = spelled_all shorten (is_known (known_of program)) (says_of program) program []

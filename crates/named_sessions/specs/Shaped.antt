@@ -1,7 +1,5 @@
 -- What needs no names to be seen of a program: the forms of its terms and what fits its bytes.
 use Rattle.std.specs.Prelude.{◌≡◌, ◌<◌, ◌≤◌, true, List, [], ◌∷◌}
-use Rattle.acpi_values.specs.declared.width.Width.{Width}
-use Rattle.acpi_values.specs.Widths.{ones_of}
 use Rattle.acpi_values.specs.Operators.{Letter, Valued, Kept, Placed, Used, Row, row_of}
 use Rattle.acpi_values.specs.Operators as L
 use Rattle.acpi_state.specs.FieldActs.{region_letters, field_letters}
@@ -35,10 +33,10 @@ AreNamed (SkipItem bits ∷ items) = AreNamed items
 AreNamed (OffsetItem bytes ∷ items) = AreNamed items
 
 -- a tree whose lists of fields are `Listed`, and in which what is written with a symbol, and an ElseIf, stands where that is `Symbols`
-module _ (width : Width) (Listed : List (FieldItem UnitName) → Type 0) (Symbols : Type 0) where
+module _ (Listed : List (FieldItem UnitName) → Type 0) (Symbols : Type 0) where
   abbrev mutual
     pub IsFormed : Tree → Type 0
-    IsFormed (Integer number) = number ≤ ones_of width
+    IsFormed (Integer number) = Unit {0}
     IsFormed (Constant literal) = Unit {0}
     IsFormed (String text) = IsText text
     IsFormed (InSlot slot) = IsSlot slot
@@ -119,26 +117,26 @@ module _ (width : Width) (Listed : List (FieldItem UnitName) → Type 0) (Symbol
     AreFormed (tree term terms) = IsFormed term × AreFormed terms
 
 -- a tree without symbols and ElseIfs, in whose lists no Offset goes back and each count of bits can be written
-abbrev pub IsShaped : Width → Tree → Type 0
-IsShaped width = IsFormed width (AreItems 0) ⊥
+abbrev pub IsShaped : Tree → Type 0
+IsShaped = IsFormed (AreItems 0) ⊥
 
-abbrev pub IsShapedSpot : Width → Tree → Type 0
-IsShapedSpot width = IsFormedSpot width (AreItems 0) ⊥
+abbrev pub IsShapedSpot : Tree → Type 0
+IsShapedSpot = IsFormedSpot (AreItems 0) ⊥
 
-abbrev pub IsShapedAlone : Width → Trees → Trees → Type 0
-IsShapedAlone width = IsFormedAlone width (AreItems 0) ⊥
+abbrev pub IsShapedAlone : Trees → Trees → Type 0
+IsShapedAlone = IsFormedAlone (AreItems 0) ⊥
 
-abbrev pub AreShapedOperands : Width → List Letter → Trees → Type 0
-AreShapedOperands width = AreFormedOperands width (AreItems 0) ⊥
+abbrev pub AreShapedOperands : List Letter → Trees → Type 0
+AreShapedOperands = AreFormedOperands (AreItems 0) ⊥
 
-abbrev pub AreShapedSpots : Width → Trees → Type 0
-AreShapedSpots width = AreFormedSpots width (AreItems 0) ⊥
+abbrev pub AreShapedSpots : Trees → Type 0
+AreShapedSpots = AreFormedSpots (AreItems 0) ⊥
 
-abbrev pub AreShapedValues : Width → Trees → Type 0
-AreShapedValues width = AreFormedValues width (AreItems 0) ⊥
+abbrev pub AreShapedValues : Trees → Type 0
+AreShapedValues = AreFormedValues (AreItems 0) ⊥
 
-abbrev pub AreShapedElements : Width → Trees → Type 0
-AreShapedElements width = AreFormedElements width (AreItems 0) ⊥
+abbrev pub AreShapedElements : Trees → Type 0
+AreShapedElements = AreFormedElements (AreItems 0) ⊥
 
-abbrev pub AreShaped : Width → Trees → Type 0
-AreShaped width = AreFormed width (AreItems 0) ⊥
+abbrev pub AreShaped : Trees → Type 0
+AreShaped = AreFormed (AreItems 0) ⊥

@@ -5,7 +5,10 @@ use Rattle.iasl_messages.specs.declared.place.Place.{Place}
 use Rattle.asl_parser.specs.Written.{Writtens, Group, item, none, more}
 use Rattle.asl_words.specs.Operators.{block_parameters}
 use Rattle.asl_shape.specs.Shapes.{takes, inside_of, is_given}
-use Rattle.asl_shape.specs.Forms.{errors_of, errors_at, errors_inside, block_errors, block_fault, block_args, block_terms, is_block_word, no_block, IsBlockOf, args_of}
+use Rattle.acpi_values.specs.Revisions.{width_of}
+use Rattle.acpi_values.specs.declared.width.Width.TheVariants.{W64}
+use Rattle.asl_shape.specs.Around.{outside}
+use Rattle.asl_shape.specs.Forms.{revision_in, errors_of, errors_at, errors_inside, block_errors, block_fault, block_args, block_terms, is_block_word, no_block, IsBlockOf, args_of}
 use Rattle.asl_shape.specs.Forms as forms
 use Rattle.program_shapes.proofs.Fits.{FormedTerms}
 use Rattle.program_shapes.proofs.Plans.{PlansAs}
@@ -16,19 +19,19 @@ use Rattle.program_shapes.proofs.Headers.{HaveForms, HaveRoom, room_of, argument
 
 -- ---- the block
 
-no_inside : (place : Place) (args body : Group) → block_errors place args body ≡ [] → (block_terms body).faults ≡ []
+no_inside : (place : Place) (args body : Group) → block_errors place args body ≡ [] → (block_terms (block_args place args).made body).faults ≡ []
 no_inside place args body e = by (block_fault (takes block_parameters (inside_of args)) (is_given body)) e
   where
-    by : (o : Option ℕ) → errors_inside o place ((block_args place args).faults ++ (block_terms body).faults) ≡ [] → (block_terms body).faults ≡ []
+    by : (o : Option ℕ) → errors_inside o place ((block_args place args).faults ++ (block_terms (block_args place args).made body).faults) ≡ [] → (block_terms (block_args place args).made body).faults ≡ []
     by (Some number) e = absurd cc
-    by None e = (none_in (block_args place args).faults (block_terms body).faults e).1
+    by None e = (none_in (block_args place args).faults (block_terms (block_args place args).made body).faults e).1
 
 pub terms_as : (ws : Writtens) → errors_of ws ≡ [] → IsKeptSource ws → PlansAs FormedTerms (forms.terms_of ws)
 terms_as none e k = absurd cc
 terms_as (more (item place word args body) none) e k = by (is_block_word word) e
   where
-    by : (b : Bool) → (if b then block_errors place args body else no_block place) ≡ [] → PlansAs FormedTerms (block_terms body).made
-    by true e = in_braces body k.1 (no_inside place args body e)
+    by : (b : Bool) → (if b then block_errors place args body else no_block place) ≡ [] → PlansAs FormedTerms (block_terms (block_args place args).made body).made
+    by true e = in_braces (outside (width_of (revision_in (block_args place args).made))) body k.1 (no_inside place args body e)
     by false e = absurd cc
 terms_as (more (item place word args body) (more w ws)) e k = by (is_block_word word) e
   where
@@ -40,9 +43,9 @@ terms_as (more _ ws) e k = absurd cc
 taken : (place : Place) (args body : Group) → block_errors place args body ≡ [] → (takes block_parameters (inside_of args) ≡ true) × ((block_args place args).faults ≡ [])
 taken place args body e = by (takes block_parameters (inside_of args)) (is_given body) refl e
   where
-    by : (a b : Bool) → takes block_parameters (inside_of args) ≡ a → errors_inside (block_fault a b) place ((block_args place args).faults ++ (block_terms body).faults) ≡ []
+    by : (a b : Bool) → takes block_parameters (inside_of args) ≡ a → errors_inside (block_fault a b) place ((block_args place args).faults ++ (block_terms (block_args place args).made body).faults) ≡ []
         → (takes block_parameters (inside_of args) ≡ true) × ((block_args place args).faults ≡ [])
-    by true true t e = (t, (none_in (block_args place args).faults (block_terms body).faults e).0)
+    by true true t e = (t, (none_in (block_args place args).faults (block_terms (block_args place args).made body).faults e).0)
     by true false t e = absurd cc
     by false b t e = absurd cc
 
@@ -52,7 +55,7 @@ forms_in none e k = absurd cc
 forms_in (more (item place word args body) none) e k = by (is_block_word word) e
   where
     by : (b : Bool) → (if b then block_errors place args body else no_block place) ≡ [] → HaveForms block_parameters (block_args place args).made
-    by true e = let t = taken place args body e in arguments_form block_parameters place false args k.0 t.0 t.1
+    by true e = let t = taken place args body e in arguments_form block_parameters place (outside W64) args k.0 t.0 t.1
     by false e = absurd cc
 forms_in (more (item place word args body) (more w ws)) e k = by (is_block_word word) e
   where

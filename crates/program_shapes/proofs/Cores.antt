@@ -19,8 +19,8 @@ same_calls : (program : Trees) → are_terms program ≡ true → (path : Absolu
 same_calls program terms path =
     ap (λ d. lookup (called (calls_all (is_named d) (named_all program) [] nothing_declared)) path) (same_declarations program) ∙ same_first_call program terms (is_named (declarations program)) path
 
-pub core_lowered : (paths : List AbsolutePath) (named : List Bool) (table : List (Option ℕ)) (program spelt : Trees) → are_terms program ≡ true
-    → ((d : Declarations) (counts : List (AbsolutePath × ℕ)) → Agrees paths named d → Tabled paths table (lookup counts) → spelt ≡ spelled_all (is_named d) (written_external counts) (named_all program) [])
-    → Agrees paths named (declarations program) → Tabled paths table (lookup (whole_of program).calls) → spelt ≡ core_of (named_all program)
-core_lowered paths named table program spelt terms spells agrees tabled =
-    core_spelled paths named table (named_all program) spelt spells (subst (Agrees paths named) (sym (same_declarations program)) agrees) (λ path. tabled path ∙ sym (same_calls program terms path))
+pub core_lowered : (shorten : Bool) (paths : List AbsolutePath) (named : List Bool) (table : List (Option ℕ)) (program spelt : Trees) → are_terms program ≡ true
+    → ((d : Declarations) (counts : List (AbsolutePath × ℕ)) → Agrees paths named d → Tabled paths table (lookup counts) → spelt ≡ spelled_all shorten (is_named d) (written_external counts) (named_all program) [])
+    → Agrees paths named (declarations program) → Tabled paths table (lookup (whole_of program).calls) → spelt ≡ core_of shorten (named_all program)
+core_lowered shorten paths named table program spelt terms spells agrees tabled =
+    core_spelled shorten paths named table (named_all program) spelt spells (subst (Agrees paths named) (sym (same_declarations program)) agrees) (λ path. tabled path ∙ sym (same_calls program terms path))

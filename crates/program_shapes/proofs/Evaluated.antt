@@ -12,15 +12,18 @@ use Rattle.asl_tree.specs.View.{form, counted}
 use Rattle.aml_sessions.specs.Ready.{is_expression, is_constant}
 use Rattle.asl_words.specs.declared.operator.Slot.{Slot}
 use Rattle.asl_words.specs.declared.operator.Slot.TheVariants as slot
-use Rattle.asl_shape.specs.Plans.{Plan, an_integer, a_text, omitted, a_name, a_form, Plans, is_omitted, constant_of}
+use Rattle.acpi_values.specs.declared.width.Width.TheVariants.{W64}
+use Rattle.acpi_values.specs.declared.width.Width.{Width}
+use Rattle.asl_shape.specs.Plans.{Plan, an_integer, a_text, a_word, omitted, a_name, a_form, Plans, is_omitted, constant_of}
 use Rattle.asl_shape.specs.Shapes.{Shaped, fine, refused, nowhere, valued, is_member, is_element, evaluated, after, checked}
 use Rattle.program_shapes.proofs.Fits.{Fits, IsAtMost}
 use Rattle.asl_numbers.specs.Numbers.{numbered, numbered_all}
-use Rattle.program_shapes.proofs.Plans.{PlanAs, integer_as, text_as, name_as, form_as}
+use Rattle.program_shapes.proofs.Plans.{PlanAs, integer_as, text_as, word_as, name_as, form_as}
 
 -- how a part is read before it is evaluated
 abbrev pub loose : Slot → Slot
 loose (slot.Constant least most) = slot.Expression
+loose slot.Measure = slot.Expression
 loose slot.Element = slot.Expression
 loose s = s
 
@@ -49,12 +52,13 @@ never p e h = none (subst (PlanAs (Fits slot.Expression)) (is_left_out p e) h he
     none : false ≡ true → ⊥
     none e = absurd cc
 
-constant_fit : (least most : ℕ) (place : Place) (p : Plan) → PlanAs (Fits slot.Expression) p → (evaluated (slot.Constant least most) place p).faults ≡ [] → PlanAs (IsAtMost most) (evaluated (slot.Constant least most) place p).made
-constant_fit least most place p h e = by (is_omitted p) refl e
+constant_fit : (width : Width) (least most : ℕ) (place : Place) (p : Plan) → PlanAs (Fits slot.Expression) p → (if is_omitted p then fine p else valued least most place (constant_of width p)).faults ≡ []
+    → PlanAs (IsAtMost most) (if is_omitted p then fine p else valued least most place (constant_of width p)).made
+constant_fit width least most place p h e = by (is_omitted p) refl e
   where
-    by : (b : Bool) → is_omitted p ≡ b → (if b then fine p else valued least most place (constant_of p)).faults ≡ [] → PlanAs (IsAtMost most) (if b then fine p else valued least most place (constant_of p)).made
+    by : (b : Bool) → is_omitted p ≡ b → (if b then fine p else valued least most place (constant_of width p)).faults ≡ [] → PlanAs (IsAtMost most) (if b then fine p else valued least most place (constant_of width p)).made
     by true o e = absurd (never p o h)
-    by false o e = valued_fit (IsAtMost most) least most place (constant_of p) (λ n le. le) e
+    by false o e = valued_fit (IsAtMost most) least most place (constant_of width p) (λ n le. le) e
 
 -- ---- members of a Package
 
@@ -96,36 +100,38 @@ form_member op ps bs k h = λ at n. element_of (numbered at n (a_form op ps bs))
 member_fit : (p : Plan) → is_member p ≡ true → PlanAs (Fits slot.Expression) p → PlanAs (Fits slot.Element) p
 unfolding numbered
 member_fit (a_text bytes) e h = text_as (Fits slot.Element) bytes (refl, (h here 0).1)
+member_fit (a_word word) e h = word_as (Fits slot.Element) word (refl, (h here 0).1)
 member_fit (a_name path) e h = name_as (Fits slot.Element) path (λ at. (h at 0).1)
 member_fit (a_form (Op.Literal l) ps bs) e h = form_member (Op.Literal l) ps bs (λ at ts us. literal_constant at l ts us) h
 member_fit (a_form (Op.Special Special.Buffer) ps bs) e h = form_member (Op.Special Special.Buffer) ps bs buffer_constant h
 member_fit (a_form (Op.Special Special.Package) ps bs) e h = form_member (Op.Special Special.Package) ps bs package_constant h
 member_fit _ e h = absurd cc
 
-element_fit : (place : Place) (p : Plan) → PlanAs (Fits slot.Expression) p → (evaluated slot.Element place p).faults ≡ [] → PlanAs (Fits slot.Element) (evaluated slot.Element place p).made
-element_fit place p h e = by (is_member p) refl e
+element_fit : (width : Width) (place : Place) (p : Plan) → PlanAs (Fits slot.Expression) p → (evaluated width slot.Element place p).faults ≡ [] → PlanAs (Fits slot.Element) (evaluated width slot.Element place p).made
+element_fit width place p h e = by (is_member p) refl e
   where
-    by : (b : Bool) → is_member p ≡ b → (if b then fine p else valued 0 18446744073709551615 place (constant_of p)).faults ≡ []
-        → PlanAs (Fits slot.Element) (if b then fine p else valued 0 18446744073709551615 place (constant_of p)).made
+    by : (b : Bool) → is_member p ≡ b → (if b then fine p else valued 0 18446744073709551615 place (constant_of width p)).faults ≡ []
+        → PlanAs (Fits slot.Element) (if b then fine p else valued 0 18446744073709551615 place (constant_of width p)).made
     by true m e = member_fit p m h
-    by false m e = valued_fit (Fits slot.Element) 0 18446744073709551615 place (constant_of p) (λ n le. (refl, le)) e
+    by false m e = valued_fit (Fits slot.Element) 0 18446744073709551615 place (constant_of width p) (λ n le. (refl, tt)) e
 
-begun_fit : (place : Place) (p : Plan) → PlanAs (Fits slot.FieldElement) p → (evaluated slot.FieldElement place p).faults ≡ [] → PlanAs (Fits slot.FieldElement) (evaluated slot.FieldElement place p).made
-begun_fit place p h e = by (is_element p) e
+begun_fit : (width : Width) (place : Place) (p : Plan) → PlanAs (Fits slot.FieldElement) p → (evaluated width slot.FieldElement place p).faults ≡ [] → PlanAs (Fits slot.FieldElement) (evaluated width slot.FieldElement place p).made
+begun_fit width place p h e = by (is_element p) e
   where
     by : (b : Bool) → (if b then fine p else refused 6022 place).faults ≡ [] → PlanAs (Fits slot.FieldElement) (if b then fine p else refused 6022 place).made
     by true e = h
     by false e = absurd cc
 
-pub evaluated_fit : (s : Slot) (place : Place) (p : Plan) → PlanAs (Fits (loose s)) p → (evaluated s place p).faults ≡ [] → PlanAs (Fits s) (evaluated s place p).made
-evaluated_fit (slot.Constant least most) place p h e = constant_fit least most place p h e
-evaluated_fit slot.Element place p h e = element_fit place p h e
-evaluated_fit slot.FieldElement place p h e = begun_fit place p h e
-evaluated_fit _ place p h e = h
+pub evaluated_fit : (width : Width) (s : Slot) (place : Place) (p : Plan) → PlanAs (Fits (loose s)) p → (evaluated width s place p).faults ≡ [] → PlanAs (Fits s) (evaluated width s place p).made
+evaluated_fit width (slot.Constant least most) place p h e = constant_fit W64 least most place p h e
+evaluated_fit width slot.Measure place p h e = constant_fit width 0 18446744073709551615 place p h e
+evaluated_fit width slot.Element place p h e = element_fit width place p h e
+evaluated_fit width slot.FieldElement place p h e = begun_fit width place p h e
+evaluated_fit width _ place p h e = h
 
-pub checked_fit : (s : Slot) (place : Place) (shape : Shaped Plan) → (shape.faults ≡ [] → PlanAs (Fits (loose s)) shape.made) → (checked s place shape).faults ≡ [] → PlanAs (Fits s) (checked s place shape).made
-checked_fit s place shape h e = by shape.faults refl e
+pub checked_fit : (width : Width) (s : Slot) (place : Place) (shape : Shaped Plan) → (shape.faults ≡ [] → PlanAs (Fits (loose s)) shape.made) → (checked width s place shape).faults ≡ [] → PlanAs (Fits s) (checked width s place shape).made
+checked_fit width s place shape h e = by shape.faults refl e
   where
-    by : (fs : List _) → shape.faults ≡ fs → (after fs shape (evaluated s place shape.made)).faults ≡ [] → PlanAs (Fits s) (after fs shape (evaluated s place shape.made)).made
-    by [] f e = evaluated_fit s place shape.made (h f) e
+    by : (fs : List _) → shape.faults ≡ fs → (after fs shape (evaluated width s place shape.made)).faults ≡ [] → PlanAs (Fits s) (after fs shape (evaluated width s place shape.made)).made
+    by [] f e = evaluated_fit width s place shape.made (h f) e
     by (m ∷ ms) f e = absurd cc

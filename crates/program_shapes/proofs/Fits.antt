@@ -2,11 +2,10 @@
 use Rattle.std.proofs.Common.{◌≡◌, ◌⊎◌, inl, inr, ℕ, zero, suc, ◌-◌, ◌<◌, ◌≤◌, ◌^◌, Bool, true, false, List, [], ◌∷◌, ◌++◌, map, refl, sym, ap, subst, arith, append-nil}
 use Rattle.std.specs.Prelude.{replicate}
 use Rattle.std.proofs.Math.Nat.{one-le-pow}
-use Rattle.acpi_values.specs.declared.width.Width.TheVariants.{W64}
 use Rattle.acpi_values.specs.Operators.{Letter, Valued, Kept, Placed, Used, Row}
 use Rattle.acpi_values.specs.Operators as L
 use Rattle.asl_tree.specs.FieldItems.{OffsetItem}
-use Rattle.asl_tree.specs.Tree.{Tree, Integer, String, Omitted, Use, Item, Trees, no_trees, tree, count}
+use Rattle.asl_tree.specs.Tree.{Tree, Integer, String, Omitted, Use, Fill, Item, Trees, no_trees, tree, count}
 use Rattle.asl_tree.specs.View.{fits, operands_as, targets_of}
 use Rattle.aml_code.specs.Fronts.{IsName, IsUsedName}
 use Rattle.aml_sessions.specs.Ready.{is_expression, IsText}
@@ -18,28 +17,28 @@ use Rattle.asl_words.specs.Operators.{target, by_letter}
 
 -- what is formed in a source, where symbols and ElseIfs may stand
 abbrev pub Formed : Tree → Type 0
-Formed = IsFormed W64 AreNamed (Unit {0})
+Formed = IsFormed AreNamed (Unit {0})
 
 abbrev pub FormedSpot : Tree → Type 0
-FormedSpot = IsFormedSpot W64 AreNamed (Unit {0})
+FormedSpot = IsFormedSpot AreNamed (Unit {0})
 
 abbrev pub FormedAlone : Trees → Trees → Type 0
-FormedAlone = IsFormedAlone W64 AreNamed (Unit {0})
+FormedAlone = IsFormedAlone AreNamed (Unit {0})
 
 abbrev pub FormedOperands : List Letter → Trees → Type 0
-FormedOperands = AreFormedOperands W64 AreNamed (Unit {0})
+FormedOperands = AreFormedOperands AreNamed (Unit {0})
 
 abbrev pub FormedSpots : Trees → Type 0
-FormedSpots = AreFormedSpots W64 AreNamed (Unit {0})
+FormedSpots = AreFormedSpots AreNamed (Unit {0})
 
 abbrev pub FormedValues : Trees → Type 0
-FormedValues = AreFormedValues W64 AreNamed (Unit {0})
+FormedValues = AreFormedValues AreNamed (Unit {0})
 
 abbrev pub FormedElements : Trees → Type 0
-FormedElements = AreFormedElements W64 AreNamed (Unit {0})
+FormedElements = AreFormedElements AreNamed (Unit {0})
 
 abbrev pub FormedTerms : Trees → Type 0
-FormedTerms = AreFormed W64 AreNamed (Unit {0})
+FormedTerms = AreFormed AreNamed (Unit {0})
 
 -- whether an argument is left out
 abbrev pub is_left_out : Tree → Bool
@@ -74,7 +73,12 @@ IsElement (Use at name) = IsUsedName name
 IsElement (Item (OffsetItem bytes)) = Unit {0}
 IsElement _ = ⊥
 
--- what stands in a slot
+-- the bytes of a descriptor
+abbrev pub IsFill : Tree → Type 0
+IsFill (Fill bytes) = Unit {0}
+IsFill _ = ⊥
+
+-- what stands in a slot; there is no name of a descriptor
 abbrev pub Fits : Slot → Tree → Type 0
 Fits slot.Expression t = (is_expression t ≡ true) × Formed t
 Fits slot.Place t = IsThere t
@@ -83,11 +87,16 @@ Fits slot.Declared t = IsDeclared t
 Fits slot.External t = IsDeclared t
 Fits slot.Used t = UsedShaped t
 Fits (slot.Constant least most) t = IsAtMost most t
+Fits slot.Measure t = IsAtMost 18446744073709551615 t
 Fits (slot.Word kind) t = IsAtMost 255 t
 Fits slot.Space t = IsAtMost 255 t
 Fits (slot.Types most) t = IsNumber t
 Fits (slot.String form) t = IsString t
+Fits (slot.MacroText m) t = (is_expression t ≡ true) × Formed t
 Fits slot.Element t = ElementShaped t (Formed t)
+Fits slot.RegisterSpace t = IsAtMost 255 t
+Fits slot.DescriptorName t = ⊥
+Fits slot.Descriptor t = IsFill t
 Fits slot.FieldElement t = IsElement t
 Fits (slot.Term run) t = Formed t
 

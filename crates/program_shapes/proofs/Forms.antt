@@ -178,28 +178,28 @@ processor_made here _ body (four _ u v w h i j k) b = absurd h
 
 pub buffer_made : (here : At) (ts body : Trees) → One (optional slot.Expression) ts → length (body_bytes body) ≤ ones_of W64
     → Formed (form here (Op.Special Special.Buffer) ts body)
-buffer_made here _ body (one t (inr e)) b = subst (λ t. Formed (buffer t (body_bytes body))) (sym e) (refl, b)
+buffer_made here _ body (one t (inr e)) b = subst (λ t. Formed (buffer t (body_bytes body))) (sym e) (refl, tt)
 buffer_made here _ body (one t (inl h)) b = sized t h
   where
     sized : (t : Tree) → Fits slot.Expression t → Formed (buffer t (body_bytes body))
     sized Omitted h = absurd cc
     sized _ h = h
 
-counted_made : (n : ℕ) (elements : Trees) → n ≤ ones_of W64 → FormedElements elements → Formed (counted n elements)
-counted_made n elements h es = by (nat_le n 255) refl
+counted_made : (n : ℕ) (elements : Trees) → FormedElements elements → Formed (counted n elements)
+counted_made n elements es = by (nat_le n 255) refl
   where
     by : (b : Bool) → nat_le n 255 ≡ b → Formed (if b then Package n elements else VarPackage (Integer n) elements)
     by true e = (omega (arith, leb-true n 255 e), es)
-    by false e = (refl, h, es)
+    by false e = (refl, tt, es)
 
 pub package_made : (here : At) (ts body : Trees) → One (optional slot.Expression) ts → FormedElements body → count body ≤ ones_of W64
     → Formed (form here (Op.Special Special.Package) ts body)
-package_made here _ body (one t (inr e)) es b = subst (λ t. Formed (packaged t body)) (sym e) (counted_made (count body) body b es)
+package_made here _ body (one t (inr e)) es b = subst (λ t. Formed (packaged t body)) (sym e) (counted_made (count body) body es)
 package_made here _ body (one t (inl h)) es b = sized t h
   where
     sized : (t : Tree) → Fits slot.Expression t → Formed (packaged t body)
     sized Omitted h = absurd cc
-    sized (Integer n) h = counted_made n body h.1 es
+    sized (Integer n) h = counted_made n body es
     sized _ h = (h.0, h.1, es)
 
 -- ---- fields

@@ -6,18 +6,24 @@ use Rattle.std.proofs.lemmas.Bool.{leb-true}
 use Rattle.std.proofs.lemmas.Slice.Eq.{bytes_eq-Decides}
 use Rattle.iasl_messages.specs.declared.place.Place.{Place}
 use Rattle.asl_tree.specs.declared.term.Op.{Op}
+use Rattle.resource_layout.specs.declared.descriptor.Descriptor.{Descriptor}
 use Rattle.asl_words.specs.declared.operator.Parameter.{Parameter}
 use Rattle.asl_words.specs.declared.operator.Slot.{Slot}
 use Rattle.asl_words.specs.declared.operator.Slot.TheVariants as slot
 use Rattle.asl_words.specs.declared.operator.StringForm.{StringForm}
 use Rattle.asl_words.specs.declared.operator.Known.TheVariants as known
+use Rattle.asl_words.specs.declared.operator.TextMacro.{TextMacro}
 use Rattle.asl_words.specs.declared.meaning.Meaning.{Meaning}
 use Rattle.asl_words.specs.declared.meaning.Meaning.TheVariants as is
 use Rattle.asl_parser.specs.Written as piece
 use Rattle.asl_parser.specs.Written.{Written, Writtens, Group, item, apply, listed, comma, semicolon, empty, none, more, absent, given}
-use Rattle.asl_words.specs.Operators.{parameters_of, body_of, block_parameters, offset_parameters}
+use Rattle.asl_words.specs.Operators.{parameters_of, body_of, block_parameters, offset_parameters, macro_parameters}
+use Rattle.acpi_values.specs.declared.width.Width.{Width}
+use Rattle.asl_shape.specs.declared.around.Around.{Around}
+use Rattle.asl_words.specs.Resources.{descriptor_parameters, descriptor_body}
+use Rattle.asl_words.specs.declared.operator.Body.TheVariants as braces
 use Rattle.asl_shape.specs.Plans.{Plan, a_text, omitted, Plans, no_plans, plan, text_of, plan_at}
-use Rattle.asl_shape.specs.Shapes.{Shaped, fine, nowhere, is_given, is_empty, is_separator, inside_of, has_arguments, takes, left_out, checked, place_of, bare, call_args, arguments, arguments_in, contents, within, form_shape, read_shape, after, offset_shape, meaning_in}
+use Rattle.asl_shape.specs.Shapes.{Shaped, fine, nowhere, is_given, is_empty, is_separator, inside_of, has_arguments, takes, left_out, checked, place_of, bare, call_args, arguments, arguments_in, contents, within, form_shape, read_shape, after, offset_shape, macro_shape, template_shape, descriptor_shape, meaning_in}
 use Rattle.asl_words.specs.Meanings.{meaning_of, may_end, reading_of, slot_as}
 use Rattle.asl_words.specs.Texts.{has_form, is_all_text, is_signature, is_oem_signature}
 use Rattle.program_shapes.proofs.Words.{both_true}
@@ -40,31 +46,40 @@ HaveForms (q ∷ qs) (plan place p ps) = HasForm q.omittable q.slot p × HaveFor
 HaveForms _ _ = ⊥
 
 -- nothing but a string is read where a string is asked for
-no_string : (f : StringForm) (at : Place) (word : List ℕ) (m : Meaning) (called : Bool) (calls : Shaped Plans) (offset : Shaped Plan) (form : Op → Shaped Plan) → (read_shape (slot.String f) at word (reading_of (slot.String f) m called) calls offset form).faults ≡ [] → ⊥
-no_string f at word (is.Operator op) called calls offset form e = absurd cc
-no_string f at word (is.Known (known.Word kind n)) called calls offset form e = absurd cc
-no_string f at word (is.Known known.Debug) called calls offset form e = absurd cc
-no_string f at word (is.Known known.Offset) called calls offset form e = absurd cc
-no_string f at word (is.Known known.LeftOut) called calls offset form e = absurd cc
-no_string f at word (is.Known (known.Local i)) called calls offset form e = absurd cc
-no_string f at word (is.Known (known.Arg i)) called calls offset form e = absurd cc
-no_string f at word is.Name true calls offset form e = absurd cc
-no_string f at word is.Name false calls offset form e = absurd cc
-no_string f at word is.Path true calls offset form e = absurd cc
-no_string f at word is.Path false calls offset form e = absurd cc
-no_string f at word is.Offset called calls offset form e = absurd cc
-no_string f at word is.Unknown called calls offset form e = absurd cc
+no_string : (f : StringForm) (at : Place) (word : List ℕ) (m : Meaning) (called : Bool) (calls : Shaped Plans) (offset : Shaped Plan) (expanded : TextMacro → Shaped Plan) (template : Shaped Plan) (described : Descriptor → Shaped Plan) (form : Op → Shaped Plan) → (read_shape (slot.String f) at word (reading_of (slot.String f) m called) calls offset expanded template described form).faults ≡ [] → ⊥
+no_string f at word (is.Operator op) called calls offset expanded template described form e = absurd cc
+no_string f at word (is.Known (known.Word kind n)) called calls offset expanded template described form e = absurd cc
+no_string f at word (is.Known known.Debug) called calls offset expanded template described form e = absurd cc
+no_string f at word (is.Known known.Offset) called calls offset expanded template described form e = absurd cc
+no_string f at word (is.Known known.LeftOut) called calls offset expanded template described form e = absurd cc
+no_string f at word (is.Known (known.Local i)) called calls offset expanded template described form e = absurd cc
+no_string f at word (is.Known (known.Arg i)) called calls offset expanded template described form e = absurd cc
+no_string f at word is.Name true calls offset expanded template described form e = absurd cc
+no_string f at word is.Name false calls offset expanded template described form e = absurd cc
+no_string f at word is.Path true calls offset expanded template described form e = absurd cc
+no_string f at word is.Path false calls offset expanded template described form e = absurd cc
+no_string f at word (is.Macro m) called calls offset expanded template described form e = absurd cc
+no_string f at word (is.Known known.Template) called calls offset expanded template described form e = absurd cc
+no_string f at word (is.Known (known.Descriptor d)) called calls offset expanded template described form e = absurd cc
+no_string f at word is.Template called calls offset expanded template described form e = absurd cc
+no_string f at word (is.Descriptor d) called calls offset expanded template described form e = absurd cc
+no_string f at word (is.Known (known.Macro m)) called calls offset expanded template described form e = absurd cc
+no_string f at word is.Offset called calls offset expanded template described form e = absurd cc
+no_string f at word is.Unknown called calls offset expanded template described form e = absurd cc
 
-string_form : (f : StringForm) (inside : Bool) (w : Written) → is_separator w ≡ false → is_empty w ≡ false → (bare (slot.String f) inside w).faults ≡ [] → IsTextOf f (text_of (bare (slot.String f) inside w).made)
+string_form : (f : StringForm) (inside : Around) (w : Written) → is_separator w ≡ false → is_empty w ≡ false → (bare (slot.String f) inside w).faults ≡ [] → IsTextOf f (text_of (bare (slot.String f) inside w).made)
 string_form f inside (piece.text at bytes) sep emp e =
     good_of (λ p. IsTextOf f (text_of p)) (has_form f bytes && is_all_text bytes) 6024 at (fine (a_text bytes))
     (λ t g. let both = both_true (has_form f bytes) (is_all_text bytes) t in record { form = both.0; bytes = both.1 }) e
 string_form f inside (item at w args body) sep emp e =
     let m : Meaning = meaning_of w (is_given body) in
-    let form : Op → Shaped Plan = λ o. form_shape o at (arguments (parameters_of o) at inside args) (contents (body_of o) (within o inside) at body) in
+    let form : Op → Shaped Plan = λ o. form_shape inside.width o at (arguments (parameters_of o) at inside args) (contents (body_of o) (within o inside) at body) in
     let offset : Shaped Plan = offset_shape (arguments offset_parameters at inside args) in
-    item_fit (λ p. IsTextOf f (text_of p)) (slot.String f) inside m (has_arguments m (inside_of args)) (is_given body) at (read_shape (slot.String f) at w (reading_of (slot.String f) m (is_given args)) (call_args inside args) offset form)
-    (λ has g. absurd (no_string f at w m (is_given args) (call_args inside args) offset form g)) e
+    let expanded : TextMacro → Shaped Plan = λ m. macro_shape (arguments (macro_parameters m) at inside args) in
+    let template : Shaped Plan = template_shape at (contents braces.Descriptors inside at body) in
+    let described : Descriptor → Shaped Plan = λ d. descriptor_shape d at (arguments (descriptor_parameters d) at inside args) (contents (descriptor_body d) inside at body) in
+    item_fit (λ p. IsTextOf f (text_of p)) (slot.String f) inside.method m (has_arguments m (inside_of args)) (is_given body) at (read_shape (slot.String f) at w (reading_of (slot.String f) m (is_given args)) (call_args inside args) offset expanded template described form)
+    (λ has g. absurd (no_string f at w m (is_given args) (call_args inside args) offset expanded template described form g)) e
 string_form f inside (piece.number at n) sep emp e = absurd cc
 string_form f inside (listed at ws) sep emp e = absurd cc
 string_form f inside (apply at o ws) sep emp e = absurd cc
@@ -72,8 +87,8 @@ string_form f inside comma sep emp e = absurd cc
 string_form f inside semicolon sep emp e = absurd cc
 string_form f inside empty sep emp e = absurd cc
 
-checked_form : (f : StringForm) (at : Place) (shape : Shaped Plan) → (shape.faults ≡ [] → IsTextOf f (text_of shape.made)) → (checked (slot.String f) at shape).faults ≡ [] → IsTextOf f (text_of (checked (slot.String f) at shape).made)
-checked_form f at shape h e = by shape.faults refl e
+checked_form : (width : Width) (f : StringForm) (at : Place) (shape : Shaped Plan) → (shape.faults ≡ [] → IsTextOf f (text_of shape.made)) → (checked width (slot.String f) at shape).faults ≡ [] → IsTextOf f (text_of (checked width (slot.String f) at shape).made)
+checked_form width f at shape h e = by shape.faults refl e
   where
     by : (fs : List _) → shape.faults ≡ fs → (after fs shape (fine shape.made)).faults ≡ [] → IsTextOf f (text_of (after fs shape (fine shape.made)).made)
     by [] g e = h g
@@ -83,9 +98,9 @@ not_left : (b : Bool) → (false || not b) ≡ true → b ≡ false
 not_left true e = absurd cc
 not_left false e = refl
 
-argument_form : (b : Bool) (s : Slot) (inside : Bool) (w : Written) → is_separator w ≡ false → (b || not (is_empty w)) ≡ true → (checked s (place_of nowhere w) (bare s inside w)).faults ≡ []
-    → HasForm b s (checked s (place_of nowhere w) (bare s inside w)).made
-argument_form false (slot.String f) inside w sep t e = checked_form f (place_of nowhere w) (bare (slot.String f) inside w) (λ g. string_form f inside w sep (not_left (is_empty w) t) g) e
+argument_form : (b : Bool) (s : Slot) (inside : Around) (w : Written) → is_separator w ≡ false → (b || not (is_empty w)) ≡ true → (checked inside.width s (place_of nowhere w) (bare s inside w)).faults ≡ []
+    → HasForm b s (checked inside.width s (place_of nowhere w) (bare s inside w)).made
+argument_form false (slot.String f) inside w sep t e = checked_form inside.width f (place_of nowhere w) (bare (slot.String f) inside w) (λ g. string_form f inside w sep (not_left (is_empty w) t) g) e
 argument_form false _ inside w sep t e = tt
 argument_form true s inside w sep t e = tt
 
@@ -93,6 +108,8 @@ argument_form true s inside w sep t e = tt
 form_asked : (b : Bool) (s : Slot) (m : Meaning) (p : Plan) → HasForm b (slot_as s m) p → HasForm b s p
 form_asked true slot.Space m p h = tt
 form_asked false slot.Space m p h = tt
+form_asked true slot.RegisterSpace m p h = tt
+form_asked false slot.RegisterSpace m p h = tt
 form_asked b _ m p h = h
 
 left_form : (b : Bool) (s : Slot) → b ≡ true → HasForm b s omitted
@@ -103,18 +120,18 @@ left_forms : (qs : List Parameter) (at : Place) → may_end qs ≡ true → Have
 left_forms [] at e = tt
 left_forms (q ∷ qs) at e = let p = both_true q.omittable (may_end qs) e in (left_form q.omittable q.slot p.0, left_forms qs at p.1)
 
-each_form : (qs : List Parameter) (at : Place) (inside : Bool) (ws : Writtens) → EachArgument ws → takes qs ws ≡ true → (arguments_in qs at inside ws).faults ≡ [] → HaveForms qs (arguments_in qs at inside ws).made
+each_form : (qs : List Parameter) (at : Place) (inside : Around) (ws : Writtens) → EachArgument ws → takes qs ws ≡ true → (arguments_in qs at inside ws).faults ≡ [] → HaveForms qs (arguments_in qs at inside ws).made
 each_form [] at inside none k t e = tt
 each_form (q ∷ qs) at inside none k t e = left_forms (q ∷ qs) at t
 each_form [] at inside (more w ws) k t e = absurd cc
 each_form (q ∷ qs) at inside (more w ws) k t e =
     let s : Slot = slot_as q.slot (meaning_in w) in
-    let first : Shaped Plan = checked s (place_of nowhere w) (bare s inside w) in
+    let first : Shaped Plan = checked inside.width s (place_of nowhere w) (bare s inside w) in
     let f = none_in first.faults (arguments_in qs at inside ws).faults e in
     let g = both_true (q.omittable || not (is_empty w)) (takes qs ws) t in
     (form_asked q.omittable q.slot (meaning_in w) first.made (argument_form q.omittable s inside w k.1 g.0 f.0), each_form qs at inside ws k.2 g.1 f.1)
 
-pub arguments_form : (qs : List Parameter) (at : Place) (inside : Bool) (args : Group) → AreArguments args → takes qs (inside_of args) ≡ true → (arguments qs at inside args).faults ≡ [] → HaveForms qs (arguments qs at inside args).made
+pub arguments_form : (qs : List Parameter) (at : Place) (inside : Around) (args : Group) → AreArguments args → takes qs (inside_of args) ≡ true → (arguments qs at inside args).faults ≡ [] → HaveForms qs (arguments qs at inside args).made
 arguments_form [] at inside absent k t e = tt
 arguments_form (q ∷ qs) at inside absent k t e = left_forms (q ∷ qs) at t
 arguments_form qs at inside (given ws) k t e = each_form qs at inside ws k t e

@@ -6,6 +6,7 @@ pub mod Words
 pub mod Plans
 pub mod Settled
 pub mod Evaluated
+pub mod Macros
 pub mod Parts
 pub mod Shapes
 pub mod Kept

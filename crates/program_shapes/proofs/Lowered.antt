@@ -1,7 +1,6 @@
 -- A formed source, with its symbols named and its ElseIfs nested, is formed without them.
 use Rattle.std.proofs.Common.{◌≡◌, ℕ, zero, suc, Bool, true, false, List, [], ◌∷◌, Some, None, refl, sym, ap, ◌∙◌, subst}
 use Rattle.std.specs.Prelude.{if◌then◌else◌}
-use Rattle.acpi_values.specs.declared.width.Width.{Width}
 use Rattle.acpi_values.specs.declared.operator.Plain.{Plain}
 use Rattle.acpi_values.specs.Operators.{Letter, Valued, Kept, Placed, Used, row_of}
 use Rattle.acpi_values.specs.Operators as L
@@ -49,30 +48,30 @@ spot_by OfInside R I R' I' r i h = i h
 spot_by NoSpot R I R' I' r i h = h
 
 -- whatever is asked of the lists of fields
-module _ (width : Width) (Listed : List (FieldItem UnitName) → Type 0) where
+module _ (Listed : List (FieldItem UnitName) → Type 0) where
   abbrev Source : Tree → Type 0
-  Source = IsFormed width Listed (Unit {0})
+  Source = IsFormed Listed (Unit {0})
 
   abbrev SourceSpot : Tree → Type 0
-  SourceSpot = IsFormedSpot width Listed (Unit {0})
+  SourceSpot = IsFormedSpot Listed (Unit {0})
 
   abbrev SourceOperands : List Letter → Trees → Type 0
-  SourceOperands = AreFormedOperands width Listed (Unit {0})
+  SourceOperands = AreFormedOperands Listed (Unit {0})
 
   abbrev Core : Tree → Type 0
-  Core = IsFormed width Listed ⊥
+  Core = IsFormed Listed ⊥
 
   abbrev CoreSpot : Tree → Type 0
-  CoreSpot = IsFormedSpot width Listed ⊥
+  CoreSpot = IsFormedSpot Listed ⊥
 
   abbrev CoreOperands : List Letter → Trees → Type 0
-  CoreOperands = AreFormedOperands width Listed ⊥
+  CoreOperands = AreFormedOperands Listed ⊥
 
   -- a term that has a value, and is formed
   abbrev CoreValue : Tree → Type 0
   CoreValue t = (is_expression t ≡ true) × Core t
 
-  last_spots : (n : ℕ) (target : Tree) → CoreSpot target → AreFormedSpots width Listed ⊥ (last_target n target)
+  last_spots : (n : ℕ) (target : Tree) → CoreSpot target → AreFormedSpots Listed ⊥ (last_target n target)
   last_spots zero target h = tt
   last_spots (suc zero) target h = (h, tt)
   last_spots (suc (suc n)) target h = (tt, last_spots (suc n) target h)
@@ -107,8 +106,8 @@ module _ (width : Width) (Listed : List (FieldItem UnitName) → Type 0) where
   operated_spot op args all h = (
     h.1,
     spot_by (spot_form op) (SourceOperands (row_of op).operands args) ⊥
-        (CoreOperands (row_of op).operands (named_args args) × (count (last_target (row_of op).targets Omitted) ≡ (row_of op).targets) × AreFormedSpots width Listed ⊥ (last_target (row_of op).targets Omitted))
-        (IsFormedAlone width Listed ⊥ (named_args args) (last_target (row_of op).targets Omitted))
+        (CoreOperands (row_of op).operands (named_args args) × (count (last_target (row_of op).targets Omitted) ≡ (row_of op).targets) × AreFormedSpots Listed ⊥ (last_target (row_of op).targets Omitted))
+        (IsFormedAlone Listed ⊥ (named_args args) (last_target (row_of op).targets Omitted))
         (λ r. (all r, last_count (row_of op).targets Omitted, last_spots (row_of op).targets Omitted tt)) (λ i. absurd i) h.2,
   )
 
@@ -158,14 +157,14 @@ module _ (width : Width) (Listed : List (FieldItem UnitName) → Type 0) where
     spot_named (Use at name) h = h
     spot_named (Apply op args targets) h = (
       h.0,
-      spot_by (spot_form op) (SourceOperands (row_of op).operands args × (count targets ≡ (row_of op).targets) × AreFormedSpots width Listed (Unit {0}) targets) (IsFormedAlone width Listed (Unit {0}) args targets)
-          (CoreOperands (row_of op).operands (named_args args) × (count (named_args targets) ≡ (row_of op).targets) × AreFormedSpots width Listed ⊥ (named_args targets)) (IsFormedAlone width Listed ⊥ (named_args args) (named_args targets))
+      spot_by (spot_form op) (SourceOperands (row_of op).operands args × (count targets ≡ (row_of op).targets) × AreFormedSpots Listed (Unit {0}) targets) (IsFormedAlone Listed (Unit {0}) args targets)
+          (CoreOperands (row_of op).operands (named_args args) × (count (named_args targets) ≡ (row_of op).targets) × AreFormedSpots Listed ⊥ (named_args targets)) (IsFormedAlone Listed ⊥ (named_args args) (named_args targets))
           (λ r. (operands_named (row_of op).operands args r.0, count_args targets ∙ r.1, spots_named targets r.2)) (λ i. alone_named args targets i) h.1,
     )
     spot_named (Operated op args) h = operated_spot op args (λ k. operands_named (row_of op).operands args k) h
     spot_named _ h = absurd h
 
-    alone_named : (args targets : Trees) → IsFormedAlone width Listed (Unit {0}) args targets → IsFormedAlone width Listed ⊥ (named_args args) (named_args targets)
+    alone_named : (args targets : Trees) → IsFormedAlone Listed (Unit {0}) args targets → IsFormedAlone Listed ⊥ (named_args args) (named_args targets)
     alone_named (tree t no_trees) no_trees h = value_named t h.0 h.1
     alone_named no_trees targets h = absurd h
     alone_named (tree t no_trees) (tree u us) h = absurd h
@@ -177,11 +176,11 @@ module _ (width : Width) (Listed : List (FieldItem UnitName) → Type 0) where
     operands_named (letter ∷ letters) no_trees h = absurd h
     operands_named (letter ∷ letters) (tree t ts) h = (letter_named letter t (λ e k. value_named t e k) (λ k. spot_named t k) h.0, operands_named letters ts h.1)
 
-    spots_named : (ts : Trees) → AreFormedSpots width Listed (Unit {0}) ts → AreFormedSpots width Listed ⊥ (named_args ts)
+    spots_named : (ts : Trees) → AreFormedSpots Listed (Unit {0}) ts → AreFormedSpots Listed ⊥ (named_args ts)
     spots_named no_trees h = tt
     spots_named (tree t ts) h = (spot_named t h.0, spots_named ts h.1)
 
-    values_named : (ts : Trees) → AreFormedValues width Listed (Unit {0}) ts → AreFormedValues width Listed ⊥ (named_args ts)
+    values_named : (ts : Trees) → AreFormedValues Listed (Unit {0}) ts → AreFormedValues Listed ⊥ (named_args ts)
     values_named no_trees h = tt
     values_named (tree t ts) h = let v = value_named t h.0 h.1 in (v.0, v.1, values_named ts h.2)
 
@@ -195,18 +194,18 @@ module _ (width : Width) (Listed : List (FieldItem UnitName) → Type 0) where
     element_named (VarPackage size elements) h = let s = value_named size h.1.0 h.1.1 in (refl, (s.0, s.1, elements_named elements h.1.2))
     element_named _ h = never h.0
 
-    elements_named : (ts : Trees) → AreFormedElements width Listed (Unit {0}) ts → AreFormedElements width Listed ⊥ (named_args ts)
+    elements_named : (ts : Trees) → AreFormedElements Listed (Unit {0}) ts → AreFormedElements Listed ⊥ (named_args ts)
     elements_named no_trees h = tt
     elements_named (tree t ts) h = (element_named t h.0, elements_named ts h.1)
 
   -- a term before others: an ElseIf is an If in an Else, which takes the Else behind it
-  before_formed : (test : Tree) (body rest : Trees) → CoreValue test → AreFormed width Listed ⊥ body → AreFormed width Listed ⊥ rest → AreFormed width Listed ⊥ (before (ElseIf test body) rest)
+  before_formed : (test : Tree) (body rest : Trees) → CoreValue test → AreFormed Listed ⊥ body → AreFormed Listed ⊥ rest → AreFormed Listed ⊥ (before (ElseIf test body) rest)
   before_formed test body (tree (Else other) rest) v b h = (((v.0, v.1, b), (h.0, tt)), h.1)
   before_formed test body no_trees v b h = (((v.0, v.1, b), tt), h)
   before_formed test body (tree t rest) v b h = (((v.0, v.1, b), tt), h)
 
   mutual
-    term_named : (t : Tree) → Source t → (rest : Trees) → AreFormed width Listed ⊥ rest → AreFormed width Listed ⊥ (before (named t) rest)
+    term_named : (t : Tree) → Source t → (rest : Trees) → AreFormed Listed ⊥ rest → AreFormed Listed ⊥ (before (named t) rest)
     term_named (ElseIf test body) h rest r = before_formed (named test) (named_all body) rest (value_named test h.1 h.2) (all_named body h.3) r
     term_named (Return value) h rest r = (value_named value h.0 h.1, r)
     term_named (Name at name value) h rest r = let v = value_named value h.1 h.2 in ((h.0, v.0, v.1), r)
@@ -248,6 +247,6 @@ module _ (width : Width) (Listed : List (FieldItem UnitName) → Type 0) where
     term_named (VarPackage size elements) h rest r = ((value_named (VarPackage size elements) refl h).1, r)
     term_named (CondRefOf place target) h rest r = ((value_named (CondRefOf place target) refl h).1, r)
 
-    pub all_named : (ts : Trees) → AreFormed width Listed (Unit {0}) ts → AreFormed width Listed ⊥ (named_all ts)
+    pub all_named : (ts : Trees) → AreFormed Listed (Unit {0}) ts → AreFormed Listed ⊥ (named_all ts)
     all_named no_trees h = tt
     all_named (tree t ts) h = term_named t h.0 (named_all ts) (all_named ts h.1)

@@ -34,13 +34,15 @@ SettledFit (Op.Declaration Declaration.BankField) ts = TreesFit (used ∷ used �
 SettledFit (Op.Control Control.Return) ts = TreesFit (expression ∷ []) ts
 SettledFit op ts = TreesFit (parameters_of op) ts
 
--- what stands in braces
+-- what stands in braces; the lists of descriptors stand in no operator's
 abbrev pub BodyFit : Body → Trees → Type 0
 BodyFit braces.No body = body ≡ no_trees
 BodyFit braces.Terms body = FormedTerms body
 BodyFit braces.Bytes body = length (body_bytes body) ≤ ones_of W64
 BodyFit braces.FieldList body = ListFit (items_in body)
 BodyFit braces.Elements body = FormedElements body × (count body ≤ ones_of W64)
+BodyFit (braces.Numbers most) body = Unit {0}
+BodyFit braces.Descriptors body = Unit {0}
 
 external_made : (here : At) (ts : Trees) → ExternalFit ts → Formed (form here (Op.Declaration Declaration.External) ts no_trees)
 external_made here (tree (Use at name) (tree (Integer type) no_trees)) h = h.0

@@ -22,6 +22,8 @@ use Rattle.asl_words.specs.declared.operator.StringForm.{StringForm}
 use Rattle.asl_words.specs.declared.operator.StringForm.TheVariants as texts
 use Rattle.asl_words.specs.declared.operator.Known.{Known}
 use Rattle.asl_words.specs.declared.operator.Known.TheVariants as known
+use Rattle.asl_words.specs.declared.operator.TextMacro.{TextMacro}
+use Rattle.resource_layout.specs.declared.descriptor.Descriptor.{Descriptor}
 use Rattle.asl_words.specs.declared.meaning.Reading.{Reading}
 use Rattle.asl_words.specs.declared.meaning.Reading.TheVariants as read
 use Rattle.asl_parser.specs.Written as piece
@@ -29,16 +31,22 @@ use Rattle.asl_parser.specs.Written.{Written, Writtens, Group, item, apply, list
 use Rattle.acpi_state.specs.Outcomes.{choose}
 use Rattle.acpi_values.specs.Paths.{NameSeg}
 use Rattle.asl_tree.specs.Names.{single_segment}
+use Rattle.acpi_values.specs.Revisions.{width_of}
+use Rattle.acpi_values.specs.declared.width.Width.{Width}
+use Rattle.asl_shape.specs.declared.around.Around.{Around}
+use Rattle.asl_shape.specs.Around.{outside}
 use Rattle.asl_shape.specs.declared.fields.Due.{Due}
 use Rattle.asl_shape.specs.declared.fields.UnitName.{UnitName}
 use Rattle.asl_shape.specs.Plans.{Plan, an_integer, a_text, a_name, Plans, no_plans, plan, plan_at, join, first_plans, first_alone, number_of, is_omitted, constant_of, plans_of}
 use Rattle.asl_words.specs.Paths.{path_of}
-use Rattle.asl_words.specs.Operators.{parameters_of, body_of, role_of, offset_parameters}
+use Rattle.asl_words.specs.Operators.{parameters_of, body_of, role_of, offset_parameters, macro_parameters}
+use Rattle.asl_words.specs.Resources.{descriptor_parameters, descriptor_body}
 use Rattle.asl_shape.specs.Symbols.{symbol_of}
-use Rattle.asl_shape.specs.Shapes.{Shaped, fine, refused, nowhere, valued, evaluated, after, checked, is_member, is_given, count, has_arguments, are_all_types, number_shape, string_shape, text_shape, path_shape, call_shape, known_plan, listed_shape, read_shape, item_shape, form_shape, method_flags, one_plan, zero_plan, is_stated, stated_parameters, few_elements, settled, within, place_of, left_out, is_separator, is_listed, byte_slot, list_shape, skipped, run_after, bare, operands, call_args, arguments, arguments_in, contents, members, terms, inside_of, is_element, field_flags, field_settled, offset_shape, meaning_in, is_field_list, begin, field_slot, named_unit, unit_behind, is_offset_plan, offset_alone, of_bits, field_part, due_behind, elements}
-use Rattle.asl_words.specs.Meanings.{item_fault, meaning_of, reading_of, takes_expression, takes_role, slot_as}
+use Rattle.asl_shape.specs.Shapes.{Shaped, fine, refused, nowhere, valued, evaluated, after, checked, is_member, is_given, count, has_arguments, are_all_types, number_shape, string_shape, text_shape, path_shape, call_shape, known_plan, listed_shape, read_shape, item_shape, form_shape, method_flags, one_plan, zero_plan, is_stated, stated_parameters, few_elements, settled, within, place_of, left_out, is_separator, is_listed, byte_slot, list_shape, skipped, run_after, bare, operands, call_args, arguments, arguments_in, contents, members, terms, inside_of, is_element, field_flags, field_settled, offset_shape, macro_shape, template_shape, descriptor_shape, macro_text, eisa_shape, uuid_shape, buffer_plan, meaning_in, is_field_list, begin, field_slot, named_unit, unit_behind, is_offset_plan, offset_alone, of_bits, field_part, due_behind, elements}
+use Rattle.asl_words.specs.Meanings.{item_fault, meaning_of, reading_of, takes_expression, takes_role, slot_as, unfit}
 use Rattle.asl_words.specs.Texts.{is_all_text, has_form}
-use Rattle.asl_shape.specs.Forms.{block_terms, terms_of, IsBlockOf}
+use Rattle.resource_macros.specs.Identifiers.{eisaid_of, uuid_of, utf16_of}
+use Rattle.asl_shape.specs.Forms.{terms_of, IsBlockOf, block_args, revision_in}
 use Rattle.asl_parser.specs.Within.{IsIn, IsWithin, AreWithin, IsGroupWithin}
 use Rattle.program_shapes.specs.Places.{PlanWithin, PlansWithin}
 
@@ -53,13 +61,28 @@ module _ (files : ℕ) where
 
   number_in : (s : Slot) (place : Place) (n : ℕ) → PlanWithin files (number_shape s place n).made
   number_in (slot.Term run) place n = tt
-  number_in s place n = either (takes_expression s) (fine (an_integer (wrapped W64 n))) (refused 6022 place) tt tt
+  number_in s place n = either (takes_expression s) (fine (an_integer (wrapped W64 n))) (refused (unfit s) place) tt tt
 
-  text_in : (s : Slot) (place : Place) (bytes : List ℕ) → PlanWithin files (text_shape s place bytes).made
-  text_in slot.Expression place bytes = string_in texts.Any place bytes
-  text_in slot.Element place bytes = string_in texts.Any place bytes
-  text_in (slot.String f) place bytes = string_in f place bytes
-  text_in _ place bytes = tt
+  -- the Buffer of a macro stands at its string
+  macro_in : (m : TextMacro) (place : Place) (bytes : List ℕ) → IsIn files place → PlanWithin files (macro_text m place bytes).made
+  macro_in TextMacro.EisaId place bytes h = by (eisaid_of bytes)
+    where
+      by : (o : Option ℕ) → PlanWithin files (eisa_shape place o).made
+      by None = tt
+      by (Some n) = tt
+  macro_in TextMacro.ToUuid place bytes h = by (uuid_of bytes)
+    where
+      by : (o : Option (List ℕ)) → PlanWithin files (uuid_shape place o).made
+      by None = tt
+      by (Some uuid) = ((h, tt, tt), (h, tt, tt))
+  macro_in TextMacro.Unicode place bytes h = either (is_all_text bytes) (fine (buffer_plan place (utf16_of bytes))) (refused 6024 place) ((h, tt, tt), (h, tt, tt)) tt
+
+  text_in : (s : Slot) (place : Place) (bytes : List ℕ) → IsIn files place → PlanWithin files (text_shape s place bytes).made
+  text_in slot.Expression place bytes h = string_in texts.Any place bytes
+  text_in slot.Element place bytes h = string_in texts.Any place bytes
+  text_in (slot.String f) place bytes h = string_in f place bytes
+  text_in (slot.MacroText m) place bytes h = macro_in m place bytes h
+  text_in _ place bytes h = tt
 
   listed_in : (s : Slot) (place : Place) (ws : Writtens) → PlanWithin files (listed_shape s place ws).made
   listed_in (slot.Types most) place ws = either (are_all_types ws) (if nat_le (count ws) most then fine (an_integer (count ws)) else refused 6024 place) (refused 6022 place) (either (nat_le (count ws) most) (fine (an_integer (count ws))) (refused 6024 place) tt tt) tt
@@ -70,18 +93,19 @@ module _ (files : ℕ) where
   valued_in least most place (Err NoConstant.Fault) = tt
   valued_in least most place (Err NoConstant.Form) = tt
 
-  evaluated_in : (s : Slot) (place : Place) (p : Plan) → PlanWithin files p → PlanWithin files (evaluated s place p).made
-  evaluated_in (slot.Constant least most) place p h = either (is_omitted p) (fine p) (valued least most place (constant_of p)) h (valued_in least most place (constant_of p))
-  evaluated_in slot.Element place p h = either (is_member p) (fine p) (valued 0 18446744073709551615 place (constant_of p)) h (valued_in 0 18446744073709551615 place (constant_of p))
-  evaluated_in slot.FieldElement place p h = either (is_element p) (fine p) (refused 6022 place) h tt
-  evaluated_in _ place p h = h
+  evaluated_in : (width : Width) (s : Slot) (place : Place) (p : Plan) → PlanWithin files p → PlanWithin files (evaluated width s place p).made
+  evaluated_in width (slot.Constant least most) place p h = either (is_omitted p) (fine p) (valued least most place (constant_of W64 p)) h (valued_in least most place (constant_of W64 p))
+  evaluated_in width slot.Measure place p h = either (is_omitted p) (fine p) (valued 0 18446744073709551615 place (constant_of width p)) h (valued_in 0 18446744073709551615 place (constant_of width p))
+  evaluated_in width slot.Element place p h = either (is_member p) (fine p) (valued 0 18446744073709551615 place (constant_of width p)) h (valued_in 0 18446744073709551615 place (constant_of width p))
+  evaluated_in width slot.FieldElement place p h = either (is_element p) (fine p) (refused 6022 place) h tt
+  evaluated_in width _ place p h = h
 
   after_in : (faults : List Message) (old new : Shaped Plan) → PlanWithin files old.made → PlanWithin files new.made → PlanWithin files (after faults old new).made
   after_in [] old new h k = k
   after_in (m ∷ ms) old new h k = h
 
-  checked_in : (s : Slot) (place : Place) (shape : Shaped Plan) → PlanWithin files shape.made → PlanWithin files (checked s place shape).made
-  checked_in s place shape h = after_in shape.faults shape (evaluated s place shape.made) h (evaluated_in s place shape.made h)
+  checked_in : (width : Width) (s : Slot) (place : Place) (shape : Shaped Plan) → PlanWithin files shape.made → PlanWithin files (checked width s place shape).made
+  checked_in width s place shape h = after_in shape.faults shape (evaluated width s place shape.made) h (evaluated_in width s place shape.made h)
 
   path_in : (place : Place) (path : Option Path) → PlanWithin files (path_shape place path).made
   path_in place None = tt
@@ -97,16 +121,26 @@ module _ (files : ℕ) where
   known_in s (known.Arg i) = tt
   known_in s known.Debug = tt
   known_in s known.Offset = tt
+  known_in s (known.Macro m) = tt
+  known_in s known.Template = tt
+  known_in s (known.Descriptor d) = tt
   known_in s known.LeftOut = tt
 
-  read_in : (s : Slot) (place : Place) (text : List ℕ) (reading : Reading) (args : Shaped Plans) (offset : Shaped Plan) (form : Op → Shaped Plan) → PlansWithin files args.made → PlanWithin files offset.made → ((o : Op) → PlanWithin files (form o).made)
-      → PlanWithin files (read_shape s place text reading args offset form).made
-  read_in s place text read.Wrong args offset form h k go = tt
-  read_in s place text read.Path args offset form h k go = path_in place (path_of text)
-  read_in s place text read.Offset args offset form h k go = k
-  read_in s place text read.Call args offset form h k go = call_in place (path_of text) args h
-  read_in s place text (read.Known known) args offset form h k go = known_in s known
-  read_in s place text (read.Form o) args offset form h k go = go o
+  head_in : (ps : Plans) → PlansWithin files ps → PlanWithin files (plan_at ps 0)
+  head_in no_plans h = tt
+  head_in (plan place p ps) h = h.1
+
+  read_in : (s : Slot) (place : Place) (text : List ℕ) (reading : Reading) (args : Shaped Plans) (offset : Shaped Plan) (expanded : TextMacro → Shaped Plan) (template : Shaped Plan) (described : Descriptor → Shaped Plan) (form : Op → Shaped Plan) → PlansWithin files args.made → PlanWithin files offset.made → ((m : TextMacro) → PlanWithin files (expanded m).made)
+      → PlanWithin files template.made → ((d : Descriptor) → PlanWithin files (described d).made) → ((o : Op) → PlanWithin files (form o).made) → PlanWithin files (read_shape s place text reading args offset expanded template described form).made
+  read_in s place text read.Wrong args offset expanded template described form h k l v w go = tt
+  read_in s place text read.Path args offset expanded template described form h k l v w go = path_in place (path_of text)
+  read_in s place text read.Offset args offset expanded template described form h k l v w go = k
+  read_in s place text (read.Macro m) args offset expanded template described form h k l v w go = l m
+  read_in s place text read.Template args offset expanded template described form h k l v w go = v
+  read_in s place text (read.Descriptor d) args offset expanded template described form h k l v w go = w d
+  read_in s place text read.Call args offset expanded template described form h k l v w go = call_in place (path_of text) args h
+  read_in s place text (read.Known known) args offset expanded template described form h k l v w go = known_in s known
+  read_in s place text (read.Form o) args offset expanded template described form h k l v w go = go o
 
   item_in : (place : Place) (fault : Option ℕ) (shape : Shaped Plan) → PlanWithin files shape.made → PlanWithin files (item_shape place fault shape).made
   item_in place (Some n) shape h = tt
@@ -145,17 +179,17 @@ module _ (files : ℕ) where
   package_in None place ps h k = k
   package_in (Some n) place ps h k = (h, tt, tt)
 
-  settled_in : (o : Op) (place : Place) (ps : Plans) → IsIn files place → PlansWithin files ps → PlansWithin files (settled o place ps)
-  settled_in (Op.Declaration Declaration.Method) place ps h k = behind_first place ps (method_flags ps) h k
-  settled_in (Op.Declaration Declaration.Mutex) place ps h k = behind_first place ps (number_of (plan_at ps 1) % 16) h k
-  settled_in (Op.Declaration Declaration.External) place ps h k =
+  settled_in : (width : Width) (o : Op) (place : Place) (ps : Plans) → IsIn files place → PlansWithin files ps → PlansWithin files (settled width o place ps)
+  settled_in width (Op.Declaration Declaration.Method) place ps h k = behind_first place ps (method_flags ps) h k
+  settled_in width (Op.Declaration Declaration.Mutex) place ps h k = behind_first place ps (number_of (plan_at ps 1) % 16) h k
+  settled_in width (Op.Declaration Declaration.External) place ps h k =
       join_in (join (first_alone ps) (one_plan place (an_integer (number_of (plan_at ps 1))))) (stated_parameters place (plan_at ps 3)) (behind_first place ps (number_of (plan_at ps 1)) h k) (stated_in (is_stated (plan_at ps 3)) place (plan_at ps 3) h)
-  settled_in (Op.Declaration Declaration.Field) place ps h k = field_in 1 place ps h k
-  settled_in (Op.Declaration Declaration.IndexField) place ps h k = field_in 2 place ps h k
-  settled_in (Op.Declaration Declaration.BankField) place ps h k = field_in 3 place ps h k
-  settled_in (Op.Control Control.Return) place ps h k = return_in (is_stated (plan_at ps 0)) place ps h k
-  settled_in (Op.Special Special.Package) place ps h k = package_in (few_elements (constant_of (plan_at ps 0))) place ps h k
-  settled_in _ place ps h k = k
+  settled_in width (Op.Declaration Declaration.Field) place ps h k = field_in 1 place ps h k
+  settled_in width (Op.Declaration Declaration.IndexField) place ps h k = field_in 2 place ps h k
+  settled_in width (Op.Declaration Declaration.BankField) place ps h k = field_in 3 place ps h k
+  settled_in width (Op.Control Control.Return) place ps h k = return_in (is_stated (plan_at ps 0)) place ps h k
+  settled_in width (Op.Special Special.Package) place ps h k = package_in (few_elements (constant_of width (plan_at ps 0))) place ps h k
+  settled_in width _ place ps h k = k
 
   left_out_in : (place : Place) (qs : List Parameter) → IsIn files place → PlansWithin files (left_out place qs)
   left_out_in place [] h = tt
@@ -223,83 +257,90 @@ module _ (files : ℕ) where
 
   module _ (main : 0 < files) where
     mutual
-      bare_in : (s : Slot) (inside : Bool) (w : Written) → IsWithin files w → PlanWithin files (bare s inside w).made
+      bare_in : (s : Slot) (inside : Around) (w : Written) → IsWithin files w → PlanWithin files (bare s inside w).made
       bare_in s inside (piece.number place n) h = number_in s place n
-      bare_in s inside (piece.text place bytes) h = text_in s place bytes
+      bare_in s inside (piece.text place bytes) h = text_in s place bytes h
       bare_in s inside (listed place ws) h = listed_in s place ws
       bare_in s inside (apply place o ws) h =
           let args : Shaped Plans = arguments_in (parameters_of (symbol_of o)) place inside ws in
-          either (takes_role s (role_of (symbol_of o))) (form_shape (symbol_of o) place args (fine no_plans)) (refused 6022 place)
-          (settled_in (symbol_of o) place args.made h.0 (arguments_in_within (parameters_of (symbol_of o)) place inside ws h.0 h.1), tt) tt
+          either (takes_role s (role_of (symbol_of o))) (form_shape inside.width (symbol_of o) place args (fine no_plans)) (refused (unfit s) place)
+          (settled_in inside.width (symbol_of o) place args.made h.0 (arguments_in_within (parameters_of (symbol_of o)) place inside ws h.0 h.1), tt) tt
       bare_in s inside (item place w args body) h =
           let meaning = meaning_of w (is_given body) in
-          let form : Op → Shaped Plan = λ o. form_shape o place (arguments (parameters_of o) place inside args) (contents (body_of o) (within o inside) place body) in
+          let form : Op → Shaped Plan = λ o. form_shape inside.width o place (arguments (parameters_of o) place inside args) (contents (body_of o) (within o inside) place body) in
           let offset : Shaped Plan = offset_shape (arguments offset_parameters place inside args) in
-          item_in place (item_fault s inside meaning (has_arguments meaning (inside_of args)) (is_given body)) (read_shape s place w (reading_of s meaning (is_given args)) (call_args inside args) offset form)
-          (read_in s place w (reading_of s meaning (is_given args)) (call_args inside args) offset form (call_args_in inside args h.1) tt
-          (λ o. (settled_in o place (arguments (parameters_of o) place inside args).made h.0 (arguments_within (parameters_of o) place inside args h.0 h.1), contents_in (body_of o) (within o inside) place body h.2)))
+          let expanded : TextMacro → Shaped Plan = λ m. macro_shape (arguments (macro_parameters m) place inside args) in
+          let template : Shaped Plan = template_shape place (contents braces.Descriptors inside place body) in
+          let described : Descriptor → Shaped Plan = λ d. descriptor_shape d place (arguments (descriptor_parameters d) place inside args) (contents (descriptor_body d) inside place body) in
+          item_in place (item_fault s inside.method meaning (has_arguments meaning (inside_of args)) (is_given body)) (read_shape s place w (reading_of s meaning (is_given args)) (call_args inside args) offset expanded template described form)
+          (read_in s place w (reading_of s meaning (is_given args)) (call_args inside args) offset expanded template described form (call_args_in inside args h.1) tt
+          (λ m. head_in (arguments (macro_parameters m) place inside args).made (arguments_within (macro_parameters m) place inside args h.0 h.1))
+          ((h.0, tt, tt), (h.0, tt, tt)) (λ d. tt)
+          (λ o. (settled_in inside.width o place (arguments (parameters_of o) place inside args).made h.0 (arguments_within (parameters_of o) place inside args h.0 h.1), contents_in (body_of o) (within o inside) place body h.2)))
       bare_in s inside comma h = tt
       bare_in s inside semicolon h = tt
       bare_in s inside empty h = tt
 
-      operands_in : (s : Slot) (inside : Bool) (ws : Writtens) → AreWithin files ws → PlansWithin files (operands s inside ws).made
+      operands_in : (s : Slot) (inside : Around) (ws : Writtens) → AreWithin files ws → PlansWithin files (operands s inside ws).made
       operands_in s inside none h = tt
-      operands_in s inside (more w ws) h = (place_in nowhere w main h.0, checked_in s (place_of nowhere w) (bare s inside w) (bare_in s inside w h.0), operands_in slot.Expression inside ws h.1)
+      operands_in s inside (more w ws) h = (place_in nowhere w main h.0, checked_in inside.width s (place_of nowhere w) (bare s inside w) (bare_in s inside w h.0), operands_in slot.Expression inside ws h.1)
 
-      call_args_in : (inside : Bool) (args : Group) → IsGroupWithin files args → PlansWithin files (call_args inside args).made
+      call_args_in : (inside : Around) (args : Group) → IsGroupWithin files args → PlansWithin files (call_args inside args).made
       call_args_in inside absent h = tt
       call_args_in inside (given ws) h = operands_in slot.Expression inside ws h
 
-      arguments_within : (qs : List Parameter) (place : Place) (inside : Bool) (args : Group) → IsIn files place → IsGroupWithin files args → PlansWithin files (arguments qs place inside args).made
+      arguments_within : (qs : List Parameter) (place : Place) (inside : Around) (args : Group) → IsIn files place → IsGroupWithin files args → PlansWithin files (arguments qs place inside args).made
       arguments_within qs place inside absent p h = left_out_in place qs p
       arguments_within qs place inside (given ws) p h = arguments_in_within qs place inside ws p h
 
-      arguments_in_within : (qs : List Parameter) (place : Place) (inside : Bool) (ws : Writtens) → IsIn files place → AreWithin files ws → PlansWithin files (arguments_in qs place inside ws).made
+      arguments_in_within : (qs : List Parameter) (place : Place) (inside : Around) (ws : Writtens) → IsIn files place → AreWithin files ws → PlansWithin files (arguments_in qs place inside ws).made
       arguments_in_within qs place inside none p h = left_out_in place qs p
       arguments_in_within [] place inside (more w ws) p h = tt
       arguments_in_within (q ∷ qs) place inside (more w ws) p h =
           let s : Slot = slot_as q.slot (meaning_in w) in
-          (place_in place w p h.0, checked_in s (place_of nowhere w) (bare s inside w) (bare_in s inside w h.0), arguments_in_within qs place inside ws p h.1)
+          (place_in place w p h.0, checked_in inside.width s (place_of nowhere w) (bare s inside w) (bare_in s inside w h.0), arguments_in_within qs place inside ws p h.1)
 
-      contents_in : (b : Body) (inside : Bool) (place : Place) (body : Group) → IsGroupWithin files body → PlansWithin files (contents b inside place body).made
+      contents_in : (b : Body) (inside : Around) (place : Place) (body : Group) → IsGroupWithin files body → PlansWithin files (contents b inside place body).made
       contents_in b inside place absent h = tt
       contents_in braces.No inside place (given ws) h = tt
       contents_in braces.Terms inside place (given ws) h = terms_in inside None ws h
       contents_in braces.Bytes inside place (given ws) h = list_in place (is_listed true ws) (members (byte_slot ws) inside ws) (members_in (byte_slot ws) inside ws h)
       contents_in braces.Elements inside place (given ws) h = list_in place (is_listed true ws) (members slot.Element inside ws) (members_in slot.Element inside ws h)
       contents_in braces.FieldList inside place (given ws) h = list_in place (is_field_list begin ws) (elements begin None inside ws) (elements_in begin None inside ws tt h)
+      contents_in (braces.Numbers most) inside place (given ws) h = list_in place (is_listed true ws) (members (slot.Constant 0 most) inside ws) (members_in (slot.Constant 0 most) inside ws h)
+      contents_in braces.Descriptors inside place (given ws) h = members_in slot.Descriptor inside ws h
 
-      elements_in : (due : Due) (unit : Option UnitName) (inside : Bool) (ws : Writtens) → UnitIn unit → AreWithin files ws → PlansWithin files (elements due unit inside ws).made
+      elements_in : (due : Due) (unit : Option UnitName) (inside : Around) (ws : Writtens) → UnitIn unit → AreWithin files ws → PlansWithin files (elements due unit inside ws).made
       elements_in due unit inside none u h = tt
       elements_in due unit inside (more w ws) u h =
           let place : Place = place_of nowhere w in
-          let shape : Shaped Plan = checked (field_slot due) place (bare (field_slot due) inside w) in
+          let shape : Shaped Plan = checked inside.width (field_slot due) place (bare (field_slot due) inside w) in
           let next : Option UnitName = unit_behind due unit place (is_separator w) shape.made in
           let at : IsIn files place = place_in nowhere w main h.0 in
           join_in (field_part due unit place (is_separator w) shape).made (elements (due_behind due w) next inside ws).made
-          (part_in due unit place (is_separator w) shape u at (checked_in (field_slot due) place (bare (field_slot due) inside w) (bare_in (field_slot due) inside w h.0)))
+          (part_in due unit place (is_separator w) shape u at (checked_in inside.width (field_slot due) place (bare (field_slot due) inside w) (bare_in (field_slot due) inside w h.0)))
           (elements_in (due_behind due w) next inside ws (unit_in due unit place (is_separator w) shape.made u at) h.1)
 
-      members_in : (s : Slot) (inside : Bool) (ws : Writtens) → AreWithin files ws → PlansWithin files (members s inside ws).made
+      members_in : (s : Slot) (inside : Around) (ws : Writtens) → AreWithin files ws → PlansWithin files (members s inside ws).made
       members_in s inside none h = tt
       members_in s inside (more w ws) h =
-          skipped_in (is_separator w) (place_of nowhere w) (checked s (place_of nowhere w) (bare s inside w)) (members s inside ws) (place_in nowhere w main h.0)
-          (checked_in s (place_of nowhere w) (bare s inside w) (bare_in s inside w h.0)) (members_in s inside ws h.1)
+          skipped_in (is_separator w) (place_of nowhere w) (checked inside.width s (place_of nowhere w) (bare s inside w)) (members s inside ws) (place_in nowhere w main h.0)
+          (checked_in inside.width s (place_of nowhere w) (bare s inside w) (bare_in s inside w h.0)) (members_in s inside ws h.1)
 
-      terms_in : (inside : Bool) (run : Option ℕ) (ws : Writtens) → AreWithin files ws → PlansWithin files (terms inside run ws).made
+      terms_in : (inside : Around) (run : Option ℕ) (ws : Writtens) → AreWithin files ws → PlansWithin files (terms inside run ws).made
       terms_in inside run none h = tt
       terms_in inside run (more w ws) h =
-          skipped_in (is_separator w) (place_of nowhere w) (checked (slot.Term run) (place_of nowhere w) (bare (slot.Term run) inside w)) (terms inside (run_after run w) ws) (place_in nowhere w main h.0)
-          (checked_in (slot.Term run) (place_of nowhere w) (bare (slot.Term run) inside w) (bare_in (slot.Term run) inside w h.0)) (terms_in inside (run_after run w) ws h.1)
+          skipped_in (is_separator w) (place_of nowhere w) (checked inside.width (slot.Term run) (place_of nowhere w) (bare (slot.Term run) inside w)) (terms inside (run_after run w) ws) (place_in nowhere w main h.0)
+          (checked_in inside.width (slot.Term run) (place_of nowhere w) (bare (slot.Term run) inside w) (bare_in (slot.Term run) inside w h.0)) (terms_in inside (run_after run w) ws h.1)
 
-    body_in : (body : Group) → IsGroupWithin files body → PlansWithin files (block_terms body).made
-    body_in absent h = tt
-    body_in (given ws) h = terms_in false None ws h
+    body_in : (around : Around) (body : Group) → IsGroupWithin files body → PlansWithin files (terms around None (inside_of body)).made
+    body_in around absent h = tt
+    body_in around (given ws) h = terms_in around None ws h
 
 -- the terms that a source makes, with errors or without, stand in the files in which its parts stand
 pub terms_within : (files : ℕ) (ws : Writtens) → AreWithin files ws → PlansWithin files (terms_of ws)
 terms_within files none h = tt
-terms_within files (more (item place word args body) none) h = body_in files (omega (arith, h.0.0)) body h.0.2
+terms_within files (more (item place word args body) none) h = body_in files (omega (arith, h.0.0)) (outside (width_of (revision_in (block_args place args).made))) body h.0.2
 terms_within files (more (item place word args body) (more w ws)) h = tt
 terms_within files (more _ ws) h = tt
 

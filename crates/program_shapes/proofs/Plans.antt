@@ -4,12 +4,14 @@ use Rattle.iasl_messages.specs.declared.place.Place.{Place}
 use Rattle.acpi_state.specs.Forms.{LocalSlot, ArgSlot}
 use Rattle.asl_tree.specs.declared.path.Path.{Path}
 use Rattle.asl_tree.specs.declared.term.Op.{Op}
+use Rattle.asl_tree.specs.declared.term.Word.{Word}
+use Rattle.asl_tree.specs.Literals.{word_number}
 use Rattle.asl_tree.specs.Tree.{At, Tree, Integer, String, InSlot, Debug, Omitted, Use, Call, Trees, no_trees, tree, count}
 use Rattle.asl_tree.specs.View.{form}
 use Rattle.asl_numbers.specs.Numbers.{inside, nodes, numbered, numbered_all}
 use Rattle.asl_words.specs.declared.operator.Parameter.{Parameter}
 use Rattle.asl_words.specs.declared.operator.Slot.{Slot}
-use Rattle.asl_shape.specs.Plans.{Plan, an_integer, a_text, a_local, an_arg, debug, omitted, a_name, a_call, a_form, Plans, no_plans, plan, how_many}
+use Rattle.asl_shape.specs.Plans.{Plan, an_integer, a_text, a_word, a_local, an_arg, debug, omitted, a_name, a_call, a_form, Plans, no_plans, plan, how_many}
 use Rattle.program_shapes.proofs.Fits.{Fits, Takes, TreesFit}
 
 -- its tree is such, whatever the numbers of its nodes
@@ -27,6 +29,10 @@ integer_as P n h at next = h
 pub text_as : (P : Tree → Type 0) (bytes : List ℕ) → P (String bytes) → PlanAs P (a_text bytes)
 unfolding numbered
 text_as P bytes h at next = h
+
+pub word_as : (P : Tree → Type 0) (w : Word) → P (Integer (word_number w)) → PlanAs P (a_word w)
+unfolding numbered
+word_as P w h at next = h
 
 pub local_as : (P : Tree → Type 0) (n : ℕ) → P (InSlot (LocalSlot n)) → PlanAs P (a_local n)
 unfolding numbered

@@ -16,6 +16,7 @@ use Rattle.asl_tree.specs.View.{form}
 use Rattle.asl_words.specs.declared.operator.Parameter.{Parameter}
 use Rattle.asl_words.specs.declared.operator.Slot.TheVariants as slot
 use Rattle.asl_words.specs.Operators.{asked, optional, expression, declared, used, external, constant, parameters_of}
+use Rattle.acpi_values.specs.declared.width.Width.{Width}
 use Rattle.asl_shape.specs.Plans.{Plan, an_integer, omitted, a_form, Plans, no_plans, plan, number_of, plan_at, constant_of}
 use Rattle.asl_shape.specs.Shapes.{settled, method_flags, field_flags, is_stated, one_plan, zero_plan, stated_parameters, few_elements, package_settled}
 use Rattle.program_shapes.proofs.Fits.{Fits, TreesFit, IsAtMost, IsNumber}
@@ -80,8 +81,8 @@ external_fit place at p q n m h = by (is_stated q)
         external_two (numbered_all m (plan at p (plan place (an_integer n) no_plans))) (two_of external types (numbered_all m (plan at p (plan place (an_integer n) no_plans)))
         (fits_as (external ∷ types ∷ []) (plan at p (plan place (an_integer n) no_plans)) (h, (integer_as IsNumber n tt, tt)) m))
 
-package_fit : (place : Place) (ps : Plans) → PlansFit (optional slot.Expression ∷ []) ps → PlansAs (TreesFit (optional slot.Expression ∷ [])) (package_settled place ps)
-package_fit place ps h = by (constant_of (plan_at ps 0))
+package_fit : (width : Width) (place : Place) (ps : Plans) → PlansFit (optional slot.Expression ∷ []) ps → PlansAs (TreesFit (optional slot.Expression ∷ [])) (package_settled width place ps)
+package_fit width place ps h = by (constant_of width (plan_at ps 0))
   where
     alone : (n : ℕ) → n ≤ 255 → PlansAs (TreesFit (optional slot.Expression ∷ [])) (one_plan place (an_integer n))
     alone n le = fits_as (optional slot.Expression ∷ []) (one_plan place (an_integer n)) (inl (integer_as (Fits slot.Expression) n (refl, omega (arith, le))), tt)
@@ -94,43 +95,43 @@ package_fit place ps h = by (constant_of (plan_at ps 0))
     by (Ok n) = if_few n (nat_le n 255) refl
     by (Err e) = fits_as (optional slot.Expression ∷ []) ps h
 
-pub settled_fit : (op : Op) (place : Place) (ps : Plans) → PlansFit (parameters_of op) ps → PlansAs (SettledFit op) (settled op place ps)
+pub settled_fit : (width : Width) (op : Op) (place : Place) (ps : Plans) → PlansFit (parameters_of op) ps → PlansAs (SettledFit op) (settled width op place ps)
 unfolding parameters_of
-settled_fit (Op.Declaration Declaration.Method) place no_plans h = absurd h
-settled_fit (Op.Declaration Declaration.Method) place (plan at p rest) h =
+settled_fit width (Op.Declaration Declaration.Method) place no_plans h = absurd h
+settled_fit width (Op.Declaration Declaration.Method) place (plan at p rest) h =
     let flags : ℕ = method_flags (plan at p rest) in
     let few : flags ≤ 255 = flags_fit (number_of (plan_at (plan at p rest) 1)) (number_of (plan_at (plan at p rest) 2)) (number_of (plan_at (plan at p rest) 3)) in
     fits_as (declared ∷ byte ∷ []) (plan at p (plan place (an_integer flags) no_plans)) (h.0, (integer_as (IsAtMost 255) flags few, tt))
-settled_fit (Op.Declaration Declaration.Mutex) place no_plans h = absurd h
-settled_fit (Op.Declaration Declaration.Mutex) place (plan at p rest) h =
+settled_fit width (Op.Declaration Declaration.Mutex) place no_plans h = absurd h
+settled_fit width (Op.Declaration Declaration.Mutex) place (plan at p rest) h =
     let level : ℕ = number_of (plan_at (plan at p rest) 1) % 16 in
     let low : level < 16 = mod_below (number_of (plan_at (plan at p rest) 1)) 16 (omega arith) in
     fits_as (declared ∷ byte ∷ []) (plan at p (plan place (an_integer level) no_plans)) (h.0, (integer_as (IsAtMost 255) level (omega (arith, low)), tt))
-settled_fit (Op.Declaration Declaration.External) place no_plans h = absurd h
-settled_fit (Op.Declaration Declaration.External) place (plan at p rest) h = external_fit place at p (plan_at (plan at p rest) 3) (number_of (plan_at (plan at p rest) 1)) 0 h.0
-settled_fit (Op.Control Control.Return) place no_plans h = absurd h
-settled_fit (Op.Control Control.Return) place (plan at p no_plans) h = return_fit place at p h.0
-settled_fit (Op.Control Control.Return) place (plan at p (plan b q rest)) h = absurd h.1
-settled_fit (Op.Declaration Declaration.Field) place no_plans h = absurd h
-settled_fit (Op.Declaration Declaration.Field) place (plan at p rest) h =
+settled_fit width (Op.Declaration Declaration.External) place no_plans h = absurd h
+settled_fit width (Op.Declaration Declaration.External) place (plan at p rest) h = external_fit place at p (plan_at (plan at p rest) 3) (number_of (plan_at (plan at p rest) 1)) 0 h.0
+settled_fit width (Op.Control Control.Return) place no_plans h = absurd h
+settled_fit width (Op.Control Control.Return) place (plan at p no_plans) h = return_fit place at p h.0
+settled_fit width (Op.Control Control.Return) place (plan at p (plan b q rest)) h = absurd h.1
+settled_fit width (Op.Declaration Declaration.Field) place no_plans h = absurd h
+settled_fit width (Op.Declaration Declaration.Field) place (plan at p rest) h =
     let ps : Plans = plan at p rest in
     let flags : ℕ = field_flags 1 ps in
     let few : flags ≤ 255 = field_flags_fit (number_of (plan_at ps 1)) (number_of (plan_at ps 2)) (number_of (plan_at ps 3)) in
     fits_as (used ∷ byte ∷ []) (plan at p (plan place (an_integer flags) no_plans)) (h.0, (integer_as (IsAtMost 255) flags few, tt))
-settled_fit (Op.Declaration Declaration.IndexField) place no_plans h = absurd h
-settled_fit (Op.Declaration Declaration.IndexField) place (plan at p no_plans) h = absurd h.1
-settled_fit (Op.Declaration Declaration.IndexField) place (plan at p (plan b q rest)) h =
+settled_fit width (Op.Declaration Declaration.IndexField) place no_plans h = absurd h
+settled_fit width (Op.Declaration Declaration.IndexField) place (plan at p no_plans) h = absurd h.1
+settled_fit width (Op.Declaration Declaration.IndexField) place (plan at p (plan b q rest)) h =
     let ps : Plans = plan at p (plan b q rest) in
     let flags : ℕ = field_flags 2 ps in
     let few : flags ≤ 255 = field_flags_fit (number_of (plan_at ps 2)) (number_of (plan_at ps 3)) (number_of (plan_at ps 4)) in
     fits_as (used ∷ used ∷ byte ∷ []) (plan at p (plan b q (plan place (an_integer flags) no_plans))) (h.0, (h.1.0, (integer_as (IsAtMost 255) flags few, tt)))
-settled_fit (Op.Declaration Declaration.BankField) place no_plans h = absurd h
-settled_fit (Op.Declaration Declaration.BankField) place (plan at p no_plans) h = absurd h.1
-settled_fit (Op.Declaration Declaration.BankField) place (plan at p (plan b q no_plans)) h = absurd h.1.1
-settled_fit (Op.Declaration Declaration.BankField) place (plan at p (plan b q (plan c r rest))) h =
+settled_fit width (Op.Declaration Declaration.BankField) place no_plans h = absurd h
+settled_fit width (Op.Declaration Declaration.BankField) place (plan at p no_plans) h = absurd h.1
+settled_fit width (Op.Declaration Declaration.BankField) place (plan at p (plan b q no_plans)) h = absurd h.1.1
+settled_fit width (Op.Declaration Declaration.BankField) place (plan at p (plan b q (plan c r rest))) h =
     let ps : Plans = plan at p (plan b q (plan c r rest)) in
     let flags : ℕ = field_flags 3 ps in
     let few : flags ≤ 255 = field_flags_fit (number_of (plan_at ps 3)) (number_of (plan_at ps 4)) (number_of (plan_at ps 5)) in
     fits_as (used ∷ used ∷ expression ∷ byte ∷ []) (plan at p (plan b q (plan c r (plan place (an_integer flags) no_plans)))) (h.0, (h.1.0, (h.1.1.0, (integer_as (IsAtMost 255) flags few, tt))))
-settled_fit (Op.Special Special.Package) place ps h = package_fit place ps h
-settled_fit op place ps h = fits_as (parameters_of op) ps h
+settled_fit width (Op.Special Special.Package) place ps h = package_fit width place ps h
+settled_fit width op place ps h = fits_as (parameters_of op) ps h

@@ -1,5 +1,5 @@
 -- A source without errors has a shape: each part of it fits where it stands.
-use Rattle.std.proofs.Common.{◌≡◌, inl, inr, ℕ, suc, ◌+◌, ◌<◌, ◌≤◌, Bool, true, false, List, [], ◌∷◌, ◌++◌, length, zero, Option, Some, None, refl, sym, ap, subst, arith}
+use Rattle.std.proofs.Common.{◌≡◌, inl, inr, ℕ, suc, ◌+◌, ◌<◌, ◌≤◌, ◌^◌, Bool, true, false, List, [], ◌∷◌, ◌++◌, length, zero, Option, Some, None, refl, sym, ap, subst, arith}
 use Rattle.std.specs.Prelude.{nat_le, not, ◌||◌, if◌then◌else◌}
 use Rattle.std.proofs.lemmas.List.{length-append}
 use Rattle.iasl_messages.specs.declared.place.Place.{Place}
@@ -14,7 +14,10 @@ use Rattle.asl_tree.specs.Tree.{Tree, Integer, String, Item, UnitName as FieldNa
 use Rattle.asl_tree.specs.View.{body_bytes, items_in, listed as bytes_listed}
 use Rattle.aml_code.specs.Fronts.{IsUsedName, AreSegments, is_segment}
 use Rattle.named_sessions.specs.Shaped.{AreNamed}
+use Rattle.resource_layout.specs.declared.descriptor.Descriptor.{Descriptor}
+use Rattle.resource_layout.specs.declared.descriptor.Kind.TheVariants as resource
 use Rattle.asl_words.specs.declared.operator.Parameter.{Parameter}
+use Rattle.asl_words.specs.declared.operator.TextMacro.{TextMacro}
 use Rattle.asl_words.specs.declared.operator.Slot.{Slot}
 use Rattle.asl_words.specs.declared.operator.Slot.TheVariants as slot
 use Rattle.asl_words.specs.declared.operator.StringForm.TheVariants as texts
@@ -22,15 +25,18 @@ use Rattle.asl_words.specs.declared.operator.Body.{Body}
 use Rattle.asl_words.specs.declared.operator.Body.TheVariants as braces
 use Rattle.asl_words.specs.declared.meaning.Meaning.{Meaning}
 use Rattle.asl_words.specs.declared.meaning.Meaning.TheVariants as is
-use Rattle.asl_words.specs.Operators.{parameters_of, body_of, offset_parameters}
+use Rattle.asl_words.specs.Operators.{parameters_of, body_of, offset_parameters, macro_parameters}
+use Rattle.asl_words.specs.Resources.{descriptor_parameters, descriptor_body}
 use Rattle.asl_words.specs.declared.operator.WordKind.TheVariants as kind
+use Rattle.acpi_values.specs.declared.width.Width.{Width}
+use Rattle.asl_shape.specs.declared.around.Around.{Around}
 use Rattle.asl_shape.specs.declared.fields.Due.{Due}
 use Rattle.asl_shape.specs.declared.fields.UnitName.{UnitName}
 use Rattle.asl_parser.specs.Written as piece
 use Rattle.asl_parser.specs.Written.{Written, Writtens, Group, item, apply, listed, comma, semicolon, empty, none, more, absent, given}
 use Rattle.asl_shape.specs.Plans.{Plan, omitted, a_name, a_unit, a_skip, an_offset, Plans, no_plans, plan, join, number_of, how_many}
-use Rattle.asl_shape.specs.Shapes.{Shaped, fine, refused, nowhere, is_given, is_empty, is_separator, inside_of, has_arguments, takes, none_empty, is_call, left_out, evaluated, checked, place_of, joined, skipped, list_shape, is_listed, byte_slot, run_after, within, form_shape, bare, operands, call_args, arguments, arguments_in, contents, members, terms, read_shape, string_shape, fault_at, offset_shape, meaning_in, is_field_list, begin, field_slot, named_unit, unit_behind, offset_alone, of_bits, field_part, due_behind, elements}
-use Rattle.asl_words.specs.Meanings.{meaning_of, may_end, reading_of, slot_as, is_space_word}
+use Rattle.asl_shape.specs.Shapes.{Shaped, fine, refused, nowhere, is_given, is_empty, is_separator, inside_of, has_arguments, takes, none_empty, is_call, left_out, evaluated, checked, place_of, joined, skipped, list_shape, is_listed, byte_slot, run_after, within, form_shape, bare, operands, call_args, arguments, arguments_in, contents, members, terms, read_shape, string_shape, fault_at, offset_shape, macro_shape, template_shape, descriptor_shape, meaning_in, is_field_list, begin, field_slot, named_unit, unit_behind, offset_alone, of_bits, field_part, due_behind, elements}
+use Rattle.asl_words.specs.Meanings.{meaning_of, may_end, reading_of, slot_as, is_word_of}
 use Rattle.asl_shape.specs.Shapes as shapes
 use Rattle.asl_shape.specs.Symbols.{symbol_of}
 use Rattle.asl_parser.specs.declared.raw.Infix.{Infix}
@@ -42,6 +48,8 @@ use Rattle.program_shapes.proofs.Words.{path_ok, meaning_ok, symbol_spelled, bot
 use Rattle.asl_numbers.specs.Numbers.{numbered, numbered_all}
 use Rattle.program_shapes.proofs.Plans.{PlanAs, PlansAs, PlanTakes, PlansFit, none_as, more_as, count_as}
 use Rattle.program_shapes.proofs.Evaluated.{loose, checked_fit}
+use Rattle.program_shapes.proofs.Macros.{macro_made}
+use Rattle.program_shapes.proofs.Macros.{template_fit, descriptor_fit}
 use Rattle.program_shapes.proofs.Parts.{none_in, number_fit, text_fit, string_fit, listed_fit, form_fit, symbol_fit, read_fit, item_fit, has_call}
 
 not_true : (b : Bool) → not b ≡ true → b ≡ false
@@ -66,22 +74,23 @@ ends : (qs : List Parameter) → takes qs none ≡ true → may_end qs ≡ true
 ends [] e = refl
 ends (q ∷ qs) e = e
 
-left : (s : Slot) (at : Place) → (evaluated s at omitted).faults ≡ [] → (evaluated s at omitted).made ≡ omitted
-left (slot.Constant least most) at e = refl
-left slot.Element at e = absurd cc
-left _ at e = refl
+left : (width : Width) (s : Slot) (at : Place) → (evaluated width s at omitted).faults ≡ [] → (evaluated width s at omitted).made ≡ omitted
+left width (slot.Constant least most) at e = refl
+left width slot.Measure at e = refl
+left width slot.Element at e = absurd cc
+left width _ at e = refl
 
-argument_fit : (b : Bool) (s : Slot) (inside : Bool) (w : Written) → (is_empty w ≡ false → (bare s inside w).faults ≡ [] → PlanAs (Fits (loose s)) (bare s inside w).made) → (b || not (is_empty w)) ≡ true
-    → (checked s (place_of nowhere w) (bare s inside w)).faults ≡ [] → PlanTakes b s (checked s (place_of nowhere w) (bare s inside w)).made
-argument_fit true s inside empty h t e = omit true s (evaluated s nowhere omitted).made (left s nowhere e) refl
+argument_fit : (b : Bool) (s : Slot) (inside : Around) (w : Written) → (is_empty w ≡ false → (bare s inside w).faults ≡ [] → PlanAs (Fits (loose s)) (bare s inside w).made) → (b || not (is_empty w)) ≡ true
+    → (checked inside.width s (place_of nowhere w) (bare s inside w)).faults ≡ [] → PlanTakes b s (checked inside.width s (place_of nowhere w) (bare s inside w)).made
+argument_fit true s inside empty h t e = omit true s (evaluated inside.width s nowhere omitted).made (left inside.width s nowhere e) refl
 argument_fit false s inside empty h t e = absurd cc
-argument_fit b s inside comma h t e = take b s (checked s nowhere (bare s inside comma)).made (checked_fit s nowhere (bare s inside comma) (h refl) e)
-argument_fit b s inside semicolon h t e = take b s (checked s nowhere (bare s inside semicolon)).made (checked_fit s nowhere (bare s inside semicolon) (h refl) e)
-argument_fit b s inside (piece.number p n) h t e = take b s (checked s p (bare s inside (piece.number p n))).made (checked_fit s p (bare s inside (piece.number p n)) (h refl) e)
-argument_fit b s inside (piece.text p n) h t e = take b s (checked s p (bare s inside (piece.text p n))).made (checked_fit s p (bare s inside (piece.text p n)) (h refl) e)
-argument_fit b s inside (item p w args body) h t e = take b s (checked s p (bare s inside (item p w args body))).made (checked_fit s p (bare s inside (item p w args body)) (h refl) e)
-argument_fit b s inside (apply p o ws) h t e = take b s (checked s p (bare s inside (apply p o ws))).made (checked_fit s p (bare s inside (apply p o ws)) (h refl) e)
-argument_fit b s inside (listed p ws) h t e = take b s (checked s p (bare s inside (listed p ws))).made (checked_fit s p (bare s inside (listed p ws)) (h refl) e)
+argument_fit b s inside comma h t e = take b s (checked inside.width s nowhere (bare s inside comma)).made (checked_fit inside.width s nowhere (bare s inside comma) (h refl) e)
+argument_fit b s inside semicolon h t e = take b s (checked inside.width s nowhere (bare s inside semicolon)).made (checked_fit inside.width s nowhere (bare s inside semicolon) (h refl) e)
+argument_fit b s inside (piece.number p n) h t e = take b s (checked inside.width s p (bare s inside (piece.number p n))).made (checked_fit inside.width s p (bare s inside (piece.number p n)) (h refl) e)
+argument_fit b s inside (piece.text p n) h t e = take b s (checked inside.width s p (bare s inside (piece.text p n))).made (checked_fit inside.width s p (bare s inside (piece.text p n)) (h refl) e)
+argument_fit b s inside (item p w args body) h t e = take b s (checked inside.width s p (bare s inside (item p w args body))).made (checked_fit inside.width s p (bare s inside (item p w args body)) (h refl) e)
+argument_fit b s inside (apply p o ws) h t e = take b s (checked inside.width s p (bare s inside (apply p o ws))).made (checked_fit inside.width s p (bare s inside (apply p o ws)) (h refl) e)
+argument_fit b s inside (listed p ws) h t e = take b s (checked inside.width s p (bare s inside (listed p ws))).made (checked_fit inside.width s p (bare s inside (listed p ws)) (h refl) e)
 
 -- ---- what stands in braces
 
@@ -98,9 +107,9 @@ skipped_few : (b : Bool) (at : Place) (first : Shaped Plan) (rest : Shaped Plans
 skipped_few true at first rest n h = omega (arith, h)
 skipped_few false at first rest n h = omega (arith, h)
 
-few : (s : Slot) (inside : Bool) (ws : Writtens) → how_many (members s inside ws).made ≤ shapes.count ws
+few : (s : Slot) (inside : Around) (ws : Writtens) → how_many (members s inside ws).made ≤ shapes.count ws
 few s inside none = omega arith
-few s inside (more w ws) = skipped_few (is_separator w) (place_of nowhere w) (checked s (place_of nowhere w) (bare s inside w)) (members s inside ws) (shapes.count ws) (few s inside ws)
+few s inside (more w ws) = skipped_few (is_separator w) (place_of nowhere w) (checked inside.width s (place_of nowhere w) (bare s inside w)) (members s inside ws) (shapes.count ws) (few s inside ws)
 
 abbrev AreNumbers : Trees → Type 0
 AreNumbers no_trees = Unit {0}
@@ -122,7 +131,7 @@ is_number most (Integer n) h = tt
 is_number most _ h = absurd h
 
 -- bytes that are numbers
-numbers_fit : (inside : Bool) (ws : Writtens) → PlansAs AreNumbers (members (slot.Constant 0 255) inside ws).made → shapes.count ws ≤ ones_of W64
+numbers_fit : (inside : Around) (ws : Writtens) → PlansAs AreNumbers (members (slot.Constant 0 255) inside ws).made → shapes.count ws ≤ ones_of W64
     → PlansAs (λ ts. length (body_bytes ts) ≤ ones_of W64) (members (slot.Constant 0 255) inside ws).made
 numbers_fit inside ws h lt = λ m.
     let all : count (numbered_all m (members (slot.Constant 0 255) inside ws).made) ≡ how_many (members (slot.Constant 0 255) inside ws).made = count_as (members (slot.Constant 0 255) inside ws).made m in
@@ -143,23 +152,23 @@ string_bytes (String bytes) (tree t ts) h e = absurd cc
 string_bytes _ ts h e = absurd h
 
 -- bytes that are one string
-one_string : (inside : Bool) (p : Place) (bytes : List ℕ) → length bytes < ones_of W64 → (members (slot.String texts.Any) inside (more (piece.text p bytes) none)).faults ≡ []
+one_string : (inside : Around) (p : Place) (bytes : List ℕ) → length bytes < ones_of W64 → (members (slot.String texts.Any) inside (more (piece.text p bytes) none)).faults ≡ []
     → PlansAs (λ ts. length (body_bytes ts) ≤ ones_of W64) (members (slot.String texts.Any) inside (more (piece.text p bytes) none)).made
 one_string inside p bytes lt e =
-    more_as (λ ts. length (body_bytes ts) ≤ ones_of W64) (λ ts. ts ≡ no_trees) IsString' p (checked (slot.String texts.Any) p (string_shape texts.Any p bytes)).made no_plans (λ t ts h k. string_bytes t ts h k)
-    (kept (none_in (checked (slot.String texts.Any) p (string_shape texts.Any p bytes)).faults [] e).0) (none_as (λ ts. ts ≡ no_trees) refl)
+    more_as (λ ts. length (body_bytes ts) ≤ ones_of W64) (λ ts. ts ≡ no_trees) IsString' p (checked inside.width (slot.String texts.Any) p (string_shape texts.Any p bytes)).made no_plans (λ t ts h k. string_bytes t ts h k)
+    (kept (none_in (checked inside.width (slot.String texts.Any) p (string_shape texts.Any p bytes)).faults [] e).0) (none_as (λ ts. ts ≡ no_trees) refl)
   where
-    kept : (checked (slot.String texts.Any) p (string_shape texts.Any p bytes)).faults ≡ [] → PlanAs IsString' (checked (slot.String texts.Any) p (string_shape texts.Any p bytes)).made
+    kept : (checked inside.width (slot.String texts.Any) p (string_shape texts.Any p bytes)).faults ≡ [] → PlanAs IsString' (checked inside.width (slot.String texts.Any) p (string_shape texts.Any p bytes)).made
     kept e = by (string_shape texts.Any p bytes) (λ f. string_fit IsString' texts.Any p bytes (λ h. lt) f) e
       where
-        by : (shape : Shaped Plan) → (shape.faults ≡ [] → PlanAs IsString' shape.made) → (checked (slot.String texts.Any) p shape).faults ≡ [] → PlanAs IsString' (checked (slot.String texts.Any) p shape).made
+        by : (shape : Shaped Plan) → (shape.faults ≡ [] → PlanAs IsString' shape.made) → (checked inside.width (slot.String texts.Any) p shape).faults ≡ [] → PlanAs IsString' (checked inside.width (slot.String texts.Any) p shape).made
         by shape h e = same shape.faults refl e
           where
             same : (fs : List _) → shape.faults ≡ fs → (shapes.after fs shape (fine shape.made)).faults ≡ [] → PlanAs IsString' (shapes.after fs shape (fine shape.made)).made
             same [] f e = h f
             same (m ∷ ms) f e = absurd cc
 
-bytes_fit : (inside : Bool) (ws : Writtens) → EachMember ws → shapes.count ws ≤ ones_of W64
+bytes_fit : (inside : Around) (ws : Writtens) → EachMember ws → shapes.count ws ≤ ones_of W64
     → ((members (slot.Constant 0 255) inside ws).faults ≡ [] → PlansAs AreNumbers (members (slot.Constant 0 255) inside ws).made)
     → (members (byte_slot ws) inside ws).faults ≡ [] → PlansAs (λ ts. length (body_bytes ts) ≤ ones_of W64) (members (byte_slot ws) inside ws).made
 bytes_fit inside none k lt h e = none_as (λ ts. length (body_bytes ts) ≤ ones_of W64) (omega arith)
@@ -175,15 +184,27 @@ is_called _ ws h e = absurd cc
 takes_of : (m : Meaning) (op : Op) (ws : Writtens) → m ≡ is.Operator op → has_arguments m ws ≡ true → takes (parameters_of op) ws ≡ true
 takes_of m op ws e h = subst (λ m. has_arguments m ws ≡ true) e h
 
+takes_text : (m : Meaning) (x : TextMacro) (ws : Writtens) → m ≡ is.Macro x → has_arguments m ws ≡ true → takes (macro_parameters x) ws ≡ true
+takes_text m x ws e h = subst (λ m. has_arguments m ws ≡ true) e h
+
 -- an argument fits as it is asked for, however it is read
 as_asked : (b : Bool) (s : Slot) (m : Meaning) (p : Plan) → PlanTakes b (slot_as s m) p → PlanTakes b s p
-as_asked b slot.Space m p h = by (is_space_word m) b h
+as_asked b slot.Space m p h = by (is_word_of kind.Space m) b h
   where
     by : (t b : Bool) → PlanTakes b (if t then slot.Word kind.Space else slot.Constant 128 255) p → PlanTakes b slot.Space p
     by true true h = h
     by true false h = h
     by false true h = h
     by false false h = h
+as_asked b slot.RegisterSpace m p h = by (is_word_of kind.Space m) (is_word_of (kind.Resource resource.Space) m) b h
+  where
+    by : (t u b : Bool) → PlanTakes b (if t then slot.Word kind.Space else (if u then slot.Word (kind.Resource resource.Space) else slot.Constant 0 255)) p → PlanTakes b slot.RegisterSpace p
+    by true u true h = h
+    by true u false h = h
+    by false true true h = h
+    by false true false h = h
+    by false false true h = h
+    by false false false h = h
 as_asked b _ m p h = h
 
 offset_fit : (args : Shaped Plans) → PlanAs IsElement (offset_shape args).made
@@ -278,63 +299,73 @@ no_body o = subst (λ b. PlansAs (BodyFit b) no_plans) (sym (symbol_body o)) (no
 -- ---- the whole
 
 mutual
-  pub bare_fit : (s : Slot) (inside : Bool) (w : Written) → IsKept w → is_separator w ≡ false → is_empty w ≡ false → (bare s inside w).faults ≡ [] → PlanAs (Fits (loose s)) (bare s inside w).made
+  pub bare_fit : (s : Slot) (inside : Around) (w : Written) → IsKept w → is_separator w ≡ false → is_empty w ≡ false → (bare s inside w).faults ≡ [] → PlanAs (Fits (loose s)) (bare s inside w).made
   bare_fit s inside (piece.number at n) k sep emp e = number_fit s at n e
   bare_fit s inside (piece.text at bytes) k sep emp e = text_fit s at bytes e
   bare_fit s inside (listed at ws) k sep emp e = listed_fit s at ws e
   bare_fit s inside (apply at o ws) k sep emp e =
-      symbol_fit s at (symbol_of o) (arguments_in (parameters_of (symbol_of o)) at inside ws) (symbol_spelled o) (no_body o) (λ f. each_fit (parameters_of (symbol_of o)) at inside ws k.0 k.1 f) e
+      symbol_fit inside.width s at (symbol_of o) (arguments_in (parameters_of (symbol_of o)) at inside ws) (symbol_spelled o) (no_body o) (λ f. each_fit (parameters_of (symbol_of o)) at inside ws k.0 k.1 f) e
   bare_fit s inside (item at w args body) k sep emp e =
       let m : Meaning = meaning_of w (is_given body) in
-      let form : Op → Shaped Plan = λ o. form_shape o at (arguments (parameters_of o) at inside args) (contents (body_of o) (within o inside) at body) in
+      let form : Op → Shaped Plan = λ o. form_shape inside.width o at (arguments (parameters_of o) at inside args) (contents (body_of o) (within o inside) at body) in
       let offset : Shaped Plan = offset_shape (arguments offset_parameters at inside args) in
-      item_fit (PlanAs (Fits (loose s))) s inside m (has_arguments m (inside_of args)) (is_given body) at (read_shape s at w (reading_of s m (is_given args)) (call_args inside args) offset form)
-      (λ has f. read_fit s at w m (is_given args) (call_args inside args) offset form (meaning_ok w (is_given body)) (path_ok w)
+      let expanded : TextMacro → Shaped Plan = λ x. macro_shape (arguments (macro_parameters x) at inside args) in
+      let template : Shaped Plan = template_shape at (contents braces.Descriptors inside at body) in
+      let described : Descriptor → Shaped Plan = λ d. descriptor_shape d at (arguments (descriptor_parameters d) at inside args) (contents (descriptor_body d) inside at body) in
+      item_fit (PlanAs (Fits (loose s))) s inside.method m (has_arguments m (inside_of args)) (is_given body) at (read_shape s at w (reading_of s m (is_given args)) (call_args inside args) offset expanded template described form)
+      (λ has f. read_fit s at w m (is_given args) (call_args inside args) offset expanded template described form (meaning_ok w (is_given body)) (path_ok w)
       (λ c g. calls_fit inside args k.0 (is_called m (inside_of args) has c) g)
-      (λ op is g. form_fit op at (arguments (parameters_of op) at inside args) (contents (body_of op) (within op inside) at body) (right_of m op is (meaning_ok w (is_given body)))
+      (λ op is g. form_fit inside.width op at (arguments (parameters_of op) at inside args) (contents (body_of op) (within op inside) at body) (right_of m op is (meaning_ok w (is_given body)))
       (λ f. arguments_fit (parameters_of op) at inside args k.0 (takes_of m op (inside_of args) is has) f)
       (λ f. contents_fit (body_of op) (within op inside) at body k.1 f) g)
       (λ g. offset_fit (arguments offset_parameters at inside args))
+      (λ x is g. macro_made x (arguments (macro_parameters x) at inside args).made (arguments_fit (macro_parameters x) at inside args k.0 (takes_text m x (inside_of args) is has) g))
+      (λ is g. template_fit at (contents braces.Descriptors inside at body).made)
+      (λ d is g. descriptor_fit d (arguments (descriptor_parameters d) at inside args).made (contents (descriptor_body d) inside at body).made)
       f)
       e
   bare_fit s inside comma k sep emp e = absurd cc
   bare_fit s inside semicolon k sep emp e = absurd cc
   bare_fit s inside empty k sep emp e = absurd cc
 
-  calls_fit : (inside : Bool) (args : Group) → AreArguments args → none_empty (inside_of args) ≡ true → (call_args inside args).faults ≡ [] → PlansAs FormedValues (call_args inside args).made
+  calls_fit : (inside : Around) (args : Group) → AreArguments args → none_empty (inside_of args) ≡ true → (call_args inside args).faults ≡ [] → PlansAs FormedValues (call_args inside args).made
   calls_fit inside absent k t e = none_as FormedValues tt
   calls_fit inside (given ws) k t e = values_fit inside ws k t e
 
-  values_fit : (inside : Bool) (ws : Writtens) → EachArgument ws → none_empty ws ≡ true → (operands slot.Expression inside ws).faults ≡ [] → PlansAs FormedValues (operands slot.Expression inside ws).made
+  values_fit : (inside : Around) (ws : Writtens) → EachArgument ws → none_empty ws ≡ true → (operands slot.Expression inside ws).faults ≡ [] → PlansAs FormedValues (operands slot.Expression inside ws).made
   values_fit inside none k t e = none_as FormedValues tt
   values_fit inside (more w ws) k t e =
-      let first : Shaped Plan = checked slot.Expression (place_of nowhere w) (bare slot.Expression inside w) in
+      let first : Shaped Plan = checked inside.width slot.Expression (place_of nowhere w) (bare slot.Expression inside w) in
       let rest : Shaped Plans = operands slot.Expression inside ws in
       let f = none_in first.faults rest.faults e in
       let g = both_true (not (is_empty w)) (none_empty ws) t in
       more_as FormedValues FormedValues (Fits slot.Expression) (place_of nowhere w) first.made rest.made (λ t ts h i. (h.0, h.1, i))
-      (checked_fit slot.Expression (place_of nowhere w) (bare slot.Expression inside w) (λ h. bare_fit slot.Expression inside w k.0 k.1 (not_true (is_empty w) g.0) h) f.0) (values_fit inside ws k.2 g.1 f.1)
+      (checked_fit inside.width slot.Expression (place_of nowhere w) (bare slot.Expression inside w) (λ h. bare_fit slot.Expression inside w k.0 k.1 (not_true (is_empty w) g.0) h) f.0) (values_fit inside ws k.2 g.1 f.1)
 
-  arguments_fit : (qs : List Parameter) (at : Place) (inside : Bool) (args : Group) → AreArguments args → takes qs (inside_of args) ≡ true → (arguments qs at inside args).faults ≡ [] → PlansFit qs (arguments qs at inside args).made
+  arguments_fit : (qs : List Parameter) (at : Place) (inside : Around) (args : Group) → AreArguments args → takes qs (inside_of args) ≡ true → (arguments qs at inside args).faults ≡ [] → PlansFit qs (arguments qs at inside args).made
   arguments_fit qs at inside absent k t e = left_fit qs at (ends qs t)
   arguments_fit qs at inside (given ws) k t e = each_fit qs at inside ws k t e
 
-  each_fit : (qs : List Parameter) (at : Place) (inside : Bool) (ws : Writtens) → EachArgument ws → takes qs ws ≡ true → (arguments_in qs at inside ws).faults ≡ [] → PlansFit qs (arguments_in qs at inside ws).made
+  each_fit : (qs : List Parameter) (at : Place) (inside : Around) (ws : Writtens) → EachArgument ws → takes qs ws ≡ true → (arguments_in qs at inside ws).faults ≡ [] → PlansFit qs (arguments_in qs at inside ws).made
   each_fit qs at inside none k t e = left_fit qs at (ends qs t)
   each_fit [] at inside (more w ws) k t e = absurd cc
   each_fit (q ∷ qs) at inside (more w ws) k t e =
       let s : Slot = slot_as q.slot (meaning_in w) in
-      let first : Shaped Plan = checked s (place_of nowhere w) (bare s inside w) in
+      let first : Shaped Plan = checked inside.width s (place_of nowhere w) (bare s inside w) in
       let f = none_in first.faults (arguments_in qs at inside ws).faults e in
       let g = both_true (q.omittable || not (is_empty w)) (takes qs ws) t in
       (as_asked q.omittable q.slot (meaning_in w) first.made (argument_fit q.omittable s inside w (λ emp h. bare_fit s inside w k.0 k.1 emp h) g.0 f.0), each_fit qs at inside ws k.2 g.1 f.1)
 
-  contents_fit : (b : Body) (inside : Bool) (at : Place) (body : Group) → AreMembers body → (contents b inside at body).faults ≡ [] → PlansAs (BodyFit b) (contents b inside at body).made
+  contents_fit : (b : Body) (inside : Around) (at : Place) (body : Group) → AreMembers body → (contents b inside at body).faults ≡ [] → PlansAs (BodyFit b) (contents b inside at body).made
   contents_fit braces.No inside at absent k e = none_as (BodyFit braces.No) refl
   contents_fit braces.Terms inside at absent k e = none_as (BodyFit braces.Terms) tt
   contents_fit braces.Bytes inside at absent k e = none_as (BodyFit braces.Bytes) (omega arith)
   contents_fit braces.FieldList inside at absent k e = none_as AreListed tt
   contents_fit braces.Elements inside at absent k e = none_as (BodyFit braces.Elements) (tt, omega arith)
+  contents_fit (braces.Numbers most) inside at absent k e = none_as (BodyFit (braces.Numbers most)) tt
+  contents_fit braces.Descriptors inside at absent k e = none_as (BodyFit braces.Descriptors) tt
+  contents_fit (braces.Numbers most) inside at (given ws) k e = λ m. tt
+  contents_fit braces.Descriptors inside at (given ws) k e = λ m. tt
   contents_fit braces.No inside at (given ws) k e = none_as (BodyFit braces.No) refl
   contents_fit braces.Terms inside at (given ws) k e = terms_fit inside None ws k.0 e
   contents_fit braces.Bytes inside at (given ws) k e = list_fit (BodyFit braces.Bytes) (is_listed true ws) at (members (byte_slot ws) inside ws) (λ f. bytes_fit inside ws k.0 k.1 (λ g. octets_fit inside ws k.0 g) f) e
@@ -349,38 +380,38 @@ mutual
             omega (arith, all, some, lt)),
       )) e
 
-  parts_fit : (due : Due) (unit : Option UnitName) (inside : Bool) (ws : Writtens) → UnitFits unit → EachMember ws → (elements due unit inside ws).faults ≡ [] → PlansAs AreListed (elements due unit inside ws).made
+  parts_fit : (due : Due) (unit : Option UnitName) (inside : Around) (ws : Writtens) → UnitFits unit → EachMember ws → (elements due unit inside ws).faults ≡ [] → PlansAs AreListed (elements due unit inside ws).made
   parts_fit due unit inside none u k e = none_as AreListed tt
   parts_fit due unit inside (more w ws) u k e =
       let at : Place = place_of nowhere w in
-      let shape : Shaped Plan = checked (field_slot due) at (bare (field_slot due) inside w) in
+      let shape : Shaped Plan = checked inside.width (field_slot due) at (bare (field_slot due) inside w) in
       let part : Shaped Plans = field_part due unit at (is_separator w) shape in
       let next : Option UnitName = unit_behind due unit at (is_separator w) shape.made in
       let rest : Shaped Plans = elements (due_behind due w) next inside ws in
       let f = none_in part.faults rest.faults e in
-      let fits : UnitFits next = next_fits due unit at (is_separator w) shape u (λ sep g. checked_fit (field_slot due) at (bare (field_slot due) inside w) (λ h. bare_fit (field_slot due) inside w k.0 sep k.1 h) g) f.0 in
+      let fits : UnitFits next = next_fits due unit at (is_separator w) shape u (λ sep g. checked_fit inside.width (field_slot due) at (bare (field_slot due) inside w) (λ h. bare_fit (field_slot due) inside w k.0 sep k.1 h) g) f.0 in
       part_fit due unit at (is_separator w) shape rest.made u (parts_fit (due_behind due w) next inside ws fits k.2 f.1)
 
-  elements_fit : (inside : Bool) (ws : Writtens) → EachMember ws → (members slot.Element inside ws).faults ≡ [] → PlansAs FormedElements (members slot.Element inside ws).made
+  elements_fit : (inside : Around) (ws : Writtens) → EachMember ws → (members slot.Element inside ws).faults ≡ [] → PlansAs FormedElements (members slot.Element inside ws).made
   elements_fit inside none k e = none_as FormedElements tt
   elements_fit inside (more w ws) k e =
-      skipped_fit FormedElements (Fits slot.Element) (is_separator w) (place_of nowhere w) (checked slot.Element (place_of nowhere w) (bare slot.Element inside w)) (members slot.Element inside ws) (λ t ts h i. (h, i))
-      (λ sep f. checked_fit slot.Element (place_of nowhere w) (bare slot.Element inside w) (λ h. bare_fit slot.Element inside w k.0 sep k.1 h) f) (λ f. elements_fit inside ws k.2 f) e
+      skipped_fit FormedElements (Fits slot.Element) (is_separator w) (place_of nowhere w) (checked inside.width slot.Element (place_of nowhere w) (bare slot.Element inside w)) (members slot.Element inside ws) (λ t ts h i. (h, i))
+      (λ sep f. checked_fit inside.width slot.Element (place_of nowhere w) (bare slot.Element inside w) (λ h. bare_fit slot.Element inside w k.0 sep k.1 h) f) (λ f. elements_fit inside ws k.2 f) e
 
-  octets_fit : (inside : Bool) (ws : Writtens) → EachMember ws → (members (slot.Constant 0 255) inside ws).faults ≡ [] → PlansAs AreNumbers (members (slot.Constant 0 255) inside ws).made
+  octets_fit : (inside : Around) (ws : Writtens) → EachMember ws → (members (slot.Constant 0 255) inside ws).faults ≡ [] → PlansAs AreNumbers (members (slot.Constant 0 255) inside ws).made
   octets_fit inside none k e = none_as AreNumbers tt
   octets_fit inside (more w ws) k e =
-      skipped_fit AreNumbers (IsAtMost 255) (is_separator w) (place_of nowhere w) (checked (slot.Constant 0 255) (place_of nowhere w) (bare (slot.Constant 0 255) inside w)) (members (slot.Constant 0 255) inside ws)
+      skipped_fit AreNumbers (IsAtMost 255) (is_separator w) (place_of nowhere w) (checked inside.width (slot.Constant 0 255) (place_of nowhere w) (bare (slot.Constant 0 255) inside w)) (members (slot.Constant 0 255) inside ws)
       (λ t ts h i. (is_number 255 t h, i))
-      (λ sep f. checked_fit (slot.Constant 0 255) (place_of nowhere w) (bare (slot.Constant 0 255) inside w) (λ h. bare_fit (slot.Constant 0 255) inside w k.0 sep k.1 h) f) (λ f. octets_fit inside ws k.2 f) e
+      (λ sep f. checked_fit inside.width (slot.Constant 0 255) (place_of nowhere w) (bare (slot.Constant 0 255) inside w) (λ h. bare_fit (slot.Constant 0 255) inside w k.0 sep k.1 h) f) (λ f. octets_fit inside ws k.2 f) e
 
-  pub terms_fit : (inside : Bool) (run : Option ℕ) (ws : Writtens) → EachMember ws → (terms inside run ws).faults ≡ [] → PlansAs FormedTerms (terms inside run ws).made
+  pub terms_fit : (inside : Around) (run : Option ℕ) (ws : Writtens) → EachMember ws → (terms inside run ws).faults ≡ [] → PlansAs FormedTerms (terms inside run ws).made
   terms_fit inside run none k e = none_as FormedTerms tt
   terms_fit inside run (more w ws) k e =
-      skipped_fit FormedTerms Formed (is_separator w) (place_of nowhere w) (checked (slot.Term run) (place_of nowhere w) (bare (slot.Term run) inside w)) (terms inside (run_after run w) ws) (λ t ts h i. (h, i))
-      (λ sep f. checked_fit (slot.Term run) (place_of nowhere w) (bare (slot.Term run) inside w) (λ h. bare_fit (slot.Term run) inside w k.0 sep k.1 h) f) (λ f. terms_fit inside (run_after run w) ws k.2 f) e
+      skipped_fit FormedTerms Formed (is_separator w) (place_of nowhere w) (checked inside.width (slot.Term run) (place_of nowhere w) (bare (slot.Term run) inside w)) (terms inside (run_after run w) ws) (λ t ts h i. (h, i))
+      (λ sep f. checked_fit inside.width (slot.Term run) (place_of nowhere w) (bare (slot.Term run) inside w) (λ h. bare_fit (slot.Term run) inside w k.0 sep k.1 h) f) (λ f. terms_fit inside (run_after run w) ws k.2 f) e
 
 -- the terms of a block
-pub in_braces : (body : Group) → AreMembers body → (terms false None (inside_of body)).faults ≡ [] → PlansAs FormedTerms (terms false None (inside_of body)).made
-in_braces absent k e = none_as FormedTerms tt
-in_braces (given ws) k e = terms_fit false None ws k.0 e
+pub in_braces : (around : Around) (body : Group) → AreMembers body → (terms around None (inside_of body)).faults ≡ [] → PlansAs FormedTerms (terms around None (inside_of body)).made
+in_braces around absent k e = none_as FormedTerms tt
+in_braces around (given ws) k e = terms_fit around None ws k.0 e

@@ -1,10 +1,10 @@
 -- The table of a source in which nothing is wrong does what the source says.
-use Rattle.std.proofs.Common.{◌≡◌, ℕ, ◌+◌, ◌≤◌, List, [], length, ◌++◌, arith, length-append, true, sym, ◌∙◌, subst}
+use Rattle.std.proofs.Common.{◌≡◌, ℕ, ◌+◌, ◌≤◌, List, [], length, ◌++◌, arith, length-append, Bool, true, sym, ◌∙◌, subst}
 use Rattle.std.proofs.lemmas.Nat.{mod_below}
-use Rattle.acpi_values.specs.declared.width.Width.TheVariants.{W64}
+use Rattle.acpi_values.specs.declared.width.Width.{Width}
 use Rattle.aml_code.specs.Header.{header_length, checksum_of, header_with}
 use Rattle.aml_meaning.specs.Encoded.{encoded_all}
-use Rattle.aml_sessions.proofs.Tables.{definition_is, is_header}
+use Rattle.aml_sessions.proofs.Tables.{definition_is, width_is, is_header}
 use Rattle.named_sessions.specs.Shaped.{AreFormed, AreNamed, AreShaped}
 use Rattle.named_sessions.specs.Core.{core_of}
 use Rattle.named_sessions.proofs.Main.{is_faithful}
@@ -27,47 +27,48 @@ use Rattle.asl_shape.specs.Forms.{errors_at, args_of, terms_of}
 use Rattle.program_shapes.specs.Kept.{IsKeptSource}
 use Rattle.program_shapes.proofs.Lists.{plans_laid}
 use Rattle.program_shapes.proofs.Laid.{terms_laid}
-use Rattle.program_shapes.specs.Sources.{terms_in, layouts_in, fields_in, table_in, IsRight, IsTableOf}
+use Rattle.program_shapes.specs.Sources.{terms_in, layouts_in, fields_in, width_in, table_in, IsRight, IsTableOf}
 use Rattle.program_shapes.proofs.Blocks.{terms_as, room_in}
 use Rattle.program_shapes.proofs.Headers.{HaveRoom}
 
 -- its terms are formed
-pub terms_are_formed : (items : List Raw) → errors_at items ≡ [] → IsKeptSource (writtens items) → AreFormed W64 AreNamed (Unit {0}) (terms_in items)
+pub terms_are_formed : (items : List Raw) → errors_at items ≡ [] → IsKeptSource (writtens items) → AreFormed AreNamed (Unit {0}) (terms_in items)
 unfolding errors_at
 terms_are_formed items e k = terms_as (writtens items) e k 0
 
 -- and, with their symbols named, shaped where nothing is wrong with the lists of fields
-pub core_is_shaped : (items : List Raw) → errors_at items ≡ [] → layouts_in items ≡ [] → IsKeptSource (writtens items) → AreShaped W64 (named_all (terms_in items))
+pub core_is_shaped : (items : List Raw) → errors_at items ≡ [] → layouts_in items ≡ [] → IsKeptSource (writtens items) → AreShaped (named_all (terms_in items))
 unfolding errors_at
-core_is_shaped items e l k = all_named W64 (AreItems 0) (terms_in items) (terms_laid W64 (Unit {0}) (terms_in items) (terms_as (writtens items) e k 0) (plans_laid 0 (terms_of (writtens items)) l))
+core_is_shaped items e l k = all_named (AreItems 0) (terms_in items) (terms_laid (Unit {0}) (terms_in items) (terms_as (writtens items) e k 0) (plans_laid 0 (terms_of (writtens items)) l))
 
 -- what does as a program in which symbols are named does as the program
-lowered_faithful : (program : Trees) (bytes : List ℕ) → are_terms program ≡ true → IsFaithful W64 (known_of (named_all program)) (externals (named_all program)) (named_all program) bytes
-    → IsFaithful W64 (known_of program) (externals program) program bytes
-lowered_faithful program bytes terms faithful =
-    let known : IsFaithful W64 (known_of program) (externals (named_all program)) (named_all program) bytes
-    = subst (λ known. IsFaithful W64 known (externals (named_all program)) (named_all program) bytes) (same_known program terms) faithful in
-    let both : IsFaithful W64 (known_of program) (externals program) (named_all program) bytes = subst (λ names. IsFaithful W64 (known_of program) names (named_all program) bytes) (same_externals program terms) known in
+lowered_faithful : (width : Width) (program : Trees) (bytes : List ℕ) → are_terms program ≡ true → IsFaithful width (known_of (named_all program)) (externals (named_all program)) (named_all program) bytes
+    → IsFaithful width (known_of program) (externals program) program bytes
+lowered_faithful width program bytes terms faithful =
+    let known : IsFaithful width (known_of program) (externals (named_all program)) (named_all program) bytes
+    = subst (λ known. IsFaithful width known (externals (named_all program)) (named_all program) bytes) (same_known program terms) faithful in
+    let both : IsFaithful width (known_of program) (externals program) (named_all program) bytes = subst (λ names. IsFaithful width (known_of program) names (named_all program) bytes) (same_externals program terms) known in
     record {
-      same = λ present n answers requests asked. sym (same_named W64 (known_of program) program (present_ones (externals program) present) n answers requests) ∙ both.same present n answers requests asked;
+      same = λ present n answers requests asked. sym (same_named width (known_of program) program (present_ones (externals program) present) n answers requests) ∙ both.same present n answers requests asked;
       whole = both.whole;
     }
 
-pub does_as : (items : List Raw) → IsRight items → IsKeptSource (writtens items) → length (table_in items) ≤ 16777216 → IsTableOf items (table_in items)
+pub does_as : (short shorten : Bool) (items : List Raw) → IsRight items → IsKeptSource (writtens items) → length (table_in short shorten items) ≤ 16777216 → IsTableOf items (table_in short shorten items)
 unfolding errors_at
-does_as items right kept within =
+does_as short shorten items right kept within =
     let fields = fields_in items in
+    let width = width_in items in
     let program = terms_in items in
     let core = named_all program in
-    let content = encoded_all W64 true (core_of core) in
+    let content = encoded_all width short (core_of shorten core) in
     let size = header_length + length content in
     let header = header_with fields size (checksum_of (header_with fields size 0 ++ content)) in
     let small : length content ≤ 16777216 = omega (arith, within, length-append header content) in
-    let terms : are_terms program ≡ true = formed_terms W64 AreNamed (Unit {0}) program (terms_are_formed items right.form kept) in
+    let terms : are_terms program ≡ true = formed_terms AreNamed (Unit {0}) program (terms_are_formed items right.form kept) in
     let room : HaveRoom (args_of (writtens items)) = room_in (writtens items) right.form kept in
     let signature : length fields.signature ≡ 4 = room.signature in
     record {
       header = is_header fields content signature (omega (arith, small)) (mod_below (number_of (plan_at (args_of (writtens items)) 5)) 4294967296 (omega arith));
-      faithful = lowered_faithful program (table_in items) terms
-          (is_faithful W64 true core (table_in items) (core_is_shaped items right.form right.layouts kept) (no_name_errors program terms right.names) (no_type_errors program terms right.counts) (omega (arith, small)) (definition_is fields content signature (omega (arith, small))));
+      faithful = lowered_faithful width program (table_in short shorten items) terms
+          (is_faithful shorten width short core (table_in short shorten items) (core_is_shaped items right.form right.layouts kept) (no_name_errors program terms right.names) (no_type_errors program terms right.counts) (width_is fields content signature) (omega (arith, small)) (definition_is fields content signature (omega (arith, small))));
     }

@@ -173,6 +173,9 @@ right (known.Arg i) e = leb-true (suc i) 7 e
 right (known.Word kind n) e = leb-true n 255 e
 right known.Debug e = tt
 right known.Offset e = tt
+right (known.Macro m) e = tt
+right known.Template e = tt
+right (known.Descriptor d) e = tt
 right known.LeftOut e = tt
 
 all_words : list_all (λ row. is_word row.op) operators ≡ true
@@ -202,6 +205,9 @@ words_ok text = known_ok (named_in words text) (found_ok (λ row. is_right row.k
 known_means : (k : Known) → IsRightKnown k → IsRightMeaning (known_as k)
 known_means known.LeftOut h = tt
 known_means known.Offset h = tt
+known_means (known.Macro m) h = tt
+known_means known.Template h = tt
+known_means (known.Descriptor d) h = tt
 known_means _ h = h
 
 name_means : (text : List ℕ) (has_body : Bool) → IsRightMeaning (name_or_unknown text has_body)

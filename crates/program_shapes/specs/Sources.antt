@@ -1,6 +1,7 @@
 -- What the one block of a source says, and its table.
-use Rattle.std.specs.Prelude.{◌≡◌, ℕ, ◌%◌, true, List, []}
-use Rattle.acpi_values.specs.declared.width.Width.TheVariants.{W64}
+use Rattle.std.specs.Prelude.{◌≡◌, ℕ, ◌%◌, Bool, List, []}
+use Rattle.acpi_values.specs.Revisions.{width_of}
+use Rattle.acpi_values.specs.declared.width.Width.{Width}
 use Rattle.asl_tree.specs.Tree.{Trees}
 use Rattle.asl_meaning.specs.Declarations.{known_of, externals}
 use Rattle.aml_code.specs.Header.{HeaderFields, table_bytes, IsHeader}
@@ -48,9 +49,14 @@ stated_by args = record {
 abbrev pub fields_in : List Raw → HeaderFields
 fields_in items = stated_by (args_of (writtens items))
 
--- its table: the header, and the bytes of its terms with their symbols named and their names spelled
-abbrev pub table_in : List Raw → List ℕ
-table_in items = table_bytes (fields_in items) (encoded_all W64 true (core_of (named_all (terms_in items))))
+-- the width of its integers, which the header's revision gives
+abbrev pub width_in : List Raw → Width
+width_in items = width_of (fields_in items).revision
+
+-- its table: the header, and the bytes of its terms with their symbols named and their names spelled; whether 0, 1 and all ones
+-- have a byte of their own, and whether names are shortened, is the caller's choice
+abbrev pub table_in : Bool → Bool → List Raw → List ℕ
+table_in short shorten items = table_bytes (fields_in items) (encoded_all (width_in items) short (core_of shorten (named_all (terms_in items))))
 
 -- nothing is wrong with its form, its names, how many arguments its calls have, its statements, the lists of its fields,
 -- and their accesses
@@ -62,11 +68,12 @@ pub record IsRight (items : List Raw) : Type 0 where
   pub layouts : layouts_in items ≡ []
   pub regions : regions_in items ≡ []
 
--- for every bound, answers and calls that may be asked, whatever other tables are there, every session over the bytes is the program's
-abbrev pub DoesAs : Trees → List ℕ → Type 0
-DoesAs program bytes = IsFaithful W64 (known_of program) (externals program) program bytes
+-- for every bound, answers and calls that may be asked, whatever other tables are there, every session over the bytes is the program's at
+-- this width
+abbrev pub DoesAs : Width → Trees → List ℕ → Type 0
+DoesAs width program bytes = IsFaithful width (known_of program) (externals program) program bytes
 
 -- bytes that begin with the header that the source states, and that do what it says
 pub record IsTableOf (items : List Raw) (bytes : List ℕ) : Type 0 where
   pub header : IsHeader bytes (fields_in items)
-  pub faithful : DoesAs (terms_in items) bytes
+  pub faithful : DoesAs (width_in items) (terms_in items) bytes

@@ -18,6 +18,7 @@ use Rattle.acpi_names.specs.declared.part.Part.TheVariants as P
 use Rattle.acpi_names.specs.declared.part.What.{What}
 use Rattle.acpi_names.specs.declared.part.What.TheVariants as W
 use Rattle.acpi_names.specs.declared.part.Over.TheVariants as O
+use Rattle.acpi_values.specs.declared.width.Width.TheVariants.{W64}
 use Rattle.asl_shape.specs.Plans.{Plan, Plans, plan_at, constant_of}
 use Rattle.region_checks.specs.declared.measure.Measure.{Measure}
 use Rattle.region_checks.specs.declared.measure.Measure.TheVariants as M
@@ -51,7 +52,7 @@ opened_measures true body plans = measures_all body plans
 opened_measures false body plans = []
 
 abbrev pub declared_measures : What → Bool → Trees → Plans → Plans → List Measure
-declared_measures (W.Region space) opens body given plans = M.Size (result_ok (constant_of (plan_at given 3))) ∷ []
+declared_measures (W.Region space) opens body given plans = M.Size (result_ok (constant_of W64 (plan_at given 3))) ∷ []
 declared_measures what opens body given plans = opened_measures opens body plans
 
 abbrev pub part_measures : Part → Trees → Trees → Plans → Plans → List Message → List Measure

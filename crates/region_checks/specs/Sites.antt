@@ -10,6 +10,7 @@ use Rattle.asl_tree.specs.declared.path.Path.{Path}
 use Rattle.asl_tree.specs.Names.{place_of}
 use Rattle.asl_tree.specs.Tree.{At, Tree, Method, Container', Scope, Trees, no_trees, tree, OperationRegion, Field, BankField, If, ElseIf, Else, While}
 use Rattle.asl_meaning.specs.Declarations.{As, Declarations, with_declared, scope_path, declare}
+use Rattle.acpi_values.specs.declared.width.Width.TheVariants.{W64}
 use Rattle.asl_shape.specs.Plans.{Plan, a_form, Plans, no_plans, plan, plan_at, constant_of}
 use Rattle.field_checks.specs.Lists.{term_errors}
 
@@ -31,7 +32,7 @@ rest_of (plan place p ps) = ps
 
 -- the length of a region is its fourth argument
 abbrev pub region_size : Plan → Option ℕ
-region_size (a_form op args body) = result_ok (constant_of (plan_at args 3))
+region_size (a_form op args body) = result_ok (constant_of W64 (plan_at args 3))
 region_size _ = None
 
 -- a list has one error at most

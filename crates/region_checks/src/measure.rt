@@ -5,6 +5,7 @@ ghost use Rattle.std.specs.Result.{result_ok};
 ghost use Rattle.acpi_state.specs.Access.{access_bytes as bytes_of};
 ghost use Rattle.asl_tree.specs.View.{trees_of};
 ghost use Rattle.acpi_names.specs.Parts.{is_item_list, is_item_term, part_of};
+ghost use Rattle.acpi_values.specs.declared.width.Width.TheVariants.{W64};
 ghost use Rattle.asl_shape.specs.Plans.{plan_of, plans_of, plan_at, constant_of};
 ghost use Rattle.field_checks.specs.Lists.{all_errors};
 ghost use Rattle.region_checks.specs.Measures as spec;
@@ -46,7 +47,7 @@ fn node_at(nodes: &[Node], place: usize) -> Option<&Node>
 // The value of a constant.
 #[tactic(auto, using(asl_shape::proofs::Constants::constant_is))]
 fn constant_in(term: &Term) -> Option<u64>
-    ensures { result ≡ result_ok (constant_of (plan_of term.now)) }
+    ensures { result ≡ result_ok (constant_of W64 (plan_of term.now)) }
 {
     constant(term, Width::W64).ok()
 }
@@ -54,7 +55,7 @@ fn constant_in(term: &Term) -> Option<u64>
 // The constant length of a region by its arguments.
 #[tactic(auto, using(crate::proofs::Nodes::constant_there, crate::proofs::Nodes::constant_none))]
 fn region_size(args: &[Node]) -> Option<u64>
-    ensures { result ≡ result_ok (constant_of (plan_at (plans_of args.now) 3)) }
+    ensures { result ≡ result_ok (constant_of W64 (plan_at (plans_of args.now) 3)) }
 {
     match node_at(args, 3) {
         Some(node) => constant_in(&node.term),

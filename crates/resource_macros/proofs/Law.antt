@@ -4,6 +4,7 @@ use Rattle.std.proofs.Math.Seq.{drop-append_seam, take-append_seam}
 use Rattle.std.proofs.Math.Nat.{mod-eq_of_lt, one-le-pow}
 use Rattle.std.specs.List.{list_all}
 use Rattle.iasl_messages.specs.declared.message.Message.{Message}
+use Rattle.resource_layout.specs.declared.descriptor.Descriptor.{Descriptor}
 use Rattle.resource_layout.specs.declared.descriptor.Head.{Head}
 use Rattle.resource_layout.specs.declared.descriptor.Head.TheVariants as h
 use Rattle.resource_layout.specs.declared.descriptor.Body.{Body}
@@ -146,6 +147,10 @@ resource_reads row args body sound room =
       numbers = ap (numbers_read (width_behind row.body) (length (behind_in row body))) rest ∙ numbers_back (width_behind row.body) (behind_in row body) (source_in row args) (behind_below row.body body u.1);
       source = ap (drop (width_behind row.body * length (behind_in row body))) rest ∙ source_back (width_behind row.body) (behind_in row body) (source_in row args);
     }
+
+-- the same of bytes and of an answer that are those of a descriptor
+pub reads_where_room : (d : Descriptor) (args body : List Node) (bytes : List ℕ) (room : Bool) → bytes ≡ bytes_in (row_of d) args body → room ≡ has_room (row_of d) args body → room ≡ true → IsResource (row_of d) args body bytes
+reads_where_room d args body bytes room b r e = subst (IsResource (row_of d) args body) (sym b) (resource_reads (row_of d) args body (row_sound d) (sym r ∙ e))
 
 none_first : (xs ys : List Message) → xs ++ ys ≡ [] → (xs ≡ []) × (ys ≡ [])
 none_first [] ys e = (refl, e)

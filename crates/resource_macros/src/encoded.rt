@@ -291,7 +291,7 @@ fn has_room(body: Body, nodes: &[Node], dues: &[Due]) -> bool
 
 /// The bytes of a descriptor, and whether they hold what it has.
 #[derive(Drop)]
-pub(crate) struct Encoded {
+pub struct Encoded {
     pub bytes: Vec<u8>,
     pub has_room: bool,
 }

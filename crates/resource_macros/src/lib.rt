@@ -4,7 +4,8 @@
 
 mod answer;
 mod bits;
-mod encoded;
+pub mod descriptor;
+pub mod encoded;
 mod faults;
 pub mod identifiers;
 pub mod node;

@@ -50,6 +50,19 @@ const ROWS: &[Row] = &[
         "Method (M, 1) { Local0[1] = 7 Local1 += 2 Local2++ Local3 = !Arg0 Local4 = ~Arg0 Local5 = Arg0 != 1 }",
         b"\x14\x21M___\x01\x70\x0A\x07\x88\x60\x01\x00\x72\x61\x0A\x02\x61\x75\x62\x70\x92\x68\x63\x80\x68\x64\x70\x92\x93\x68\x01\x65"
     ),
+    // Macros stand for what their strings come to.
+    row!(
+        "Name (_HID, EisaId (\"PNP0C09\"))",
+        b"\x08_HID\x0C\x41\xD0\x0C\x09"
+    ),
+    row!(
+        "Name (U, Unicode (\"AB\"))",
+        b"\x08U___\x11\x09\x0A\x06\x41\x00\x42\x00\x00\x00"
+    ),
+    row!(
+        "Name (P, Package () { ToUUID (\"e5c937d0-3553-4d7a-9117-ea4d19c3434d\"), EisaId (\"PNP0A03\") })",
+        b"\x08P___\x12\x1B\x02\x11\x13\x0A\x10\xD0\x37\xC9\xE5\x53\x35\x7A\x4D\x91\x17\xEA\x4D\x19\xC3\x43\x4D\x0C\x41\xD0\x0A\x03"
+    ),
     // A constant number of elements is a byte.
     row!(
         "Name (P, Package (One) {5}) Name (Q, Package (1 + 1) {})",
@@ -107,6 +120,10 @@ const TOLD: &[Told] = &[
     Told {
         terms: "OperationRegion (R, SystemMemory, 0, 1) Field (R, WordAcc, NoLock, Preserve) { A, 8 }",
         told: b"t.asl:3:45: error 6072: access is wider than the region\n1 errors, 0 warnings, 0 remarks\n",
+    },
+    Told {
+        terms: "Name (_HID, EisaId (\"PnP0C09\"))",
+        told: b"t.asl:3:25: error 6026: bad EISA identifier\n1 errors, 0 warnings, 0 remarks\n",
     },
     Told {
         terms: "Method (M) { ElseIf (1) { } Else { } }",

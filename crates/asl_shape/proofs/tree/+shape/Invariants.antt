@@ -100,3 +100,12 @@ invariant-field_elements-loop-raw l = record {
   faults : l.work.faults.items ++ (elements_at l.due l.unit l.inside (drop l.raw-index l.raws)).faults ≡ l.fn.work.faults.items ++ (elements_at begin None l.inside l.raws).faults;
   made : join (plans_of l.nodes.items) (elements_at l.due l.unit l.inside (drop l.raw-index l.raws)).made ≡ join (plans_of l.fn.nodes.items) (elements_at begin None l.inside l.raws).made;
 }
+
+abbrev pub decreases-text_macro : goal.decreases-text_macro
+decreases-text_macro l = 16 * (size_in_at l.args.now) + 8
+
+abbrev pub decreases-template : goal.decreases-template
+decreases-template l = 16 * (size_in_at l.body.now) + 8
+
+abbrev pub decreases-descriptor : goal.decreases-descriptor
+decreases-descriptor l = 16 * (size_in_at l.args.now + size_in_at l.body.now) + 8

@@ -2,8 +2,10 @@ use Rattle.std.proofs.Common.{◌≡◌, Ok, Err, sym, subst, ap, ◌∙◌}
 use Rattle.std.proofs.lemmas.Result.{err_from_is_err_and}
 use Rattle.data_text.specs.Source.{text_of}
 use Rattle.data_tables.specs.declared.compiled.Compiled.{Compiled}
-use Rattle.data_tables.specs.Promise.{AreWithin}
-use Rattle.data_tables.proofs.Homes.{tells_within}
+use Rattle.iasl_messages.specs.declared.message.Message.{Message}
+use Rattle.std.specs.List.{All}
+use Rattle.data_tables.specs.Promise.{AreWithin, IsNote, IsPlaceIn}
+use Rattle.data_tables.proofs.Homes.{tells_within, tells_of}
 use Rattle.data_tables.proofs.Unique.{only_compiled}
 use Rattle.data_tables.proofs.compile.compile_data.Goals as goal
 
@@ -21,3 +23,16 @@ returns-in_err-table-clause-files c = λ files main h.
     let text : c.in-Ok.text ≡ text_of c.args.lines.now.list = c.in-Ok.ensures ∙ ap text_of c.as_slice-lines.ensures in
     let p = err_from_is_err_and c.from_residual.result c.from_residual.ensures.1 in
     rw (p.1, p.2) (tells_within files c.args.lines.now.list c.in-Ok.text (Err c.in_err-table.field-0.0) text c.in_err-table.ensures.exact main h)
+
+pub returns-in-Ok-with_texts-clause-told : goal.returns-in-Ok-with_texts-clause-told
+returns-in-Ok-with_texts-clause-told c =
+    let lines = c.args.lines.now.list in
+    let text : c.in-Ok.text ≡ text_of lines = c.in-Ok.ensures ∙ ap text_of c.as_slice-lines.ensures in
+    subst (λ notes. All IsNote notes × All (λ (m : Message). IsPlaceIn lines m.place) notes) (sym (ap (λ (table : Compiled). table.notes) c.in-Ok-with_texts.ensures)) (tells_of lines c.in-Ok.text (Ok c.in_ok-table.table) text c.in_ok-table.ensures.exact)
+
+pub returns-in_err-table-clause-told : goal.returns-in_err-table-clause-told
+returns-in_err-table-clause-told c =
+    let lines = c.args.lines.now.list in
+    let text : c.in-Ok.text ≡ text_of lines = c.in-Ok.ensures ∙ ap text_of c.as_slice-lines.ensures in
+    let p = err_from_is_err_and c.from_residual.result c.from_residual.ensures.1 in
+    rw (p.1, p.2) (tells_of lines c.in-Ok.text (Err c.in_err-table.field-0.0) text c.in_err-table.ensures.exact)

@@ -1,5 +1,4 @@
-use Rattle.std.proofs.Common.{◌≡◌, ℕ, List, true, [], length, arith, sym, ap, ◌∙◌, subst}
-use Rattle.acpi_values.specs.declared.width.Width.TheVariants.{W64}
+use Rattle.std.proofs.Common.{◌≡◌, false, ℕ, List, true, [], length, arith, sym, ap, ◌∙◌, subst}
 use Rattle.acpi_state.specs.Objects.{lookup}
 use Rattle.asl_meaning.specs.Declarations.{Declarations, declarations, is_named, written_external}
 use Rattle.acpi_values.specs.Paths.{AbsolutePath}
@@ -26,7 +25,7 @@ use Rattle.iasl_tool.proofs.Programs.{none_told, none_behind, no_length, some_le
 use Rattle.iasl_tool.proofs.compile.compile_block.Goals as goal
 
 pub check-requires : goal.check-requires
-check-requires c = record { terms = subst (λ ns. are_terms (trees_of ns) ≡ true) (sym c.as_slice.ensures.value) (formed_terms W64 AreNamed (Unit {0}) (trees_of c.args.block.terms.items) c.requires.formed) }
+check-requires c = record { terms = subst (λ ns. are_terms (trees_of ns) ≡ true) (sym c.as_slice.ensures.value) (formed_terms AreNamed (Unit {0}) (trees_of c.args.block.terms.items) c.requires.formed) }
 
 pub returns-in_ok-spell-in-Ok : goal.returns-in_ok-spell-in-Ok
 returns-in_ok-spell-in-Ok c =
@@ -37,18 +36,18 @@ returns-in_ok-spell-in-Ok c =
     let counts : type_errors terms ≡ [] = sym (ap type_errors same) ∙ c.in-Ok.ensures.right.1 in
     let agrees = subst (λ ts. Agrees c.in-Ok.names.index.paths c.in-Ok.names.index.named.items (declarations ts)) same c.in-Ok.ensures.names in
     let tabled = subst (λ ts. Tabled c.in-Ok.names.index.paths c.in-Ok.names.calls.items (lookup (whole_of ts).calls)) same c.in-Ok.ensures.calls in
-    let formed : are_terms terms ≡ true = formed_terms W64 AreNamed (Unit {0}) terms c.requires.formed in
+    let formed : are_terms terms ≡ true = formed_terms AreNamed (Unit {0}) terms c.requires.formed in
     let lowered = c.in_ok-core-in-Ok in
     let index = c.in-Ok.names.index in
-    let core = core_lowered index.paths index.named.items c.as_slice-in-Ok.result.now terms (trees_of c.spell.new.terms.items) formed
+    let core = core_lowered false index.paths index.named.items c.as_slice-in-Ok.result.now terms (trees_of c.spell.new.terms.items) formed
     (subst
-    (λ ts. (d : Declarations) (counts : List (AbsolutePath × ℕ)) → Agrees index.paths index.named.items d → Tabled index.paths c.as_slice-in-Ok.result.now (lookup counts) → trees_of c.spell.new.terms.items ≡ spelled_all (is_named d) (written_external counts) ts [])
+    (λ ts. (d : Declarations) (counts : List (AbsolutePath × ℕ)) → Agrees index.paths index.named.items d → Tabled index.paths c.as_slice-in-Ok.result.now (lookup counts) → trees_of c.spell.new.terms.items ≡ spelled_all false (is_named d) (written_external counts) ts [])
     lowered.ensures.terms c.in_ok-spell-in-Ok.ensures)
     agrees (subst (λ table. Tabled index.paths table (lookup (whole_of terms).calls)) (sym c.as_slice-in-Ok.ensures.value) tabled) in
     let none : c.args.others ≡ [] = no_length c.args.others (let zero : length c.args.others ≡ 0 = grind (arith, c.is_empty.ensures, c.if-not-is_empty.false, c.others.view_is) in zero) in
     let room : HasRoom (fields_of lowered.core) = subst HasRoom (sym lowered.ensures.fields) c.requires.room in
     right_comes c.write_block.result (with_others (told_errors terms) c.args.others) (of_table block.place block.signature block.file (its_table (named_all terms) block)) (none_behind (told_errors terms) c.args.others (none_told terms names counts) none)
-    (like_another c.write_block.result lowered.core.place block.place lowered.core.file block.file (fields_of lowered.core) (fields_of block) (encoded_all W64 true (core_of (named_all terms))) lowered.ensures.place lowered.ensures.file lowered.ensures.fields
+    (like_another c.write_block.result lowered.core.place block.place lowered.core.file block.file (fields_of lowered.core) (fields_of block) (named_all terms) lowered.ensures.place lowered.ensures.file lowered.ensures.fields
     (c.write_block.ensures (named_all terms) (record { room = room; shaped = c.requires.shaped none; names = no_name_errors terms formed names; counts = no_type_errors terms formed counts; core = core })))
 
 pub returns-then-not-is_empty : goal.returns-then-not-is_empty

@@ -3,7 +3,6 @@ use Rattle.asl_tree.specs.declared.program.Block.{Block}
 use Rattle.asl_tree.specs.declared.program.Program.{Program}
 use Rattle.asl_parser.specs.declared.raw.Raw.{Raw}
 use Rattle.asl_tree.specs.View.{trees_of}
-use Rattle.acpi_values.specs.declared.width.Width.TheVariants.{W64}
 use Rattle.acpi_names.specs.Terms.{are_terms}
 use Rattle.named_sessions.specs.Shaped.{AreNamed}
 use Rattle.named_sessions.proofs.Terms.{formed_terms}
@@ -18,23 +17,23 @@ is_block items program found forms is =
     let one = forms.one_block in
     subst (IsBlockOf items) (sym (found_block found one.0 (is one.0 one.1))) one.2
 
-pub compile_block-requires-clause-room : goal.compile_block-requires-clause-room
-compile_block-requires-clause-room c = block_room c.args.unit.now.items c.in_ok-block-in-Ok.block c.in-Ok.ensures.formed.no_errors (is_block c.args.unit.now.items c.in-Ok.program c.in_ok-block-in-Ok.block c.in-Ok.ensures.formed c.in_ok-block-in-Ok.ensures) c.requires
+pub compile_noted-requires-clause-room : goal.compile_noted-requires-clause-room
+compile_noted-requires-clause-room c = block_room c.args.unit.now.items c.in_ok-block-in-Ok.block c.in-Ok.ensures.formed.no_errors (is_block c.args.unit.now.items c.in-Ok.program c.in_ok-block-in-Ok.block c.in-Ok.ensures.formed c.in_ok-block-in-Ok.ensures) c.requires
 
-pub compile_block-requires-clause-formed : goal.compile_block-requires-clause-formed
-compile_block-requires-clause-formed c = block_formed c.args.unit.now.items c.in_ok-block-in-Ok.block (trees_of c.number_nodes.new.nodes.items) c.in-Ok.ensures.formed.no_errors (is_block c.args.unit.now.items c.in-Ok.program c.in_ok-block-in-Ok.block c.in-Ok.ensures.formed c.in_ok-block-in-Ok.ensures) c.requires c.in-Some.ensures.trees
+pub compile_noted-requires-clause-formed : goal.compile_noted-requires-clause-formed
+compile_noted-requires-clause-formed c = block_formed c.args.unit.now.items c.in_ok-block-in-Ok.block (trees_of c.number_nodes.new.nodes.items) c.in-Ok.ensures.formed.no_errors (is_block c.args.unit.now.items c.in-Ok.program c.in_ok-block-in-Ok.block c.in-Ok.ensures.formed c.in_ok-block-in-Ok.ensures) c.requires c.in-Some.ensures.trees
 
-pub compile_block-requires-clause-shaped : goal.compile_block-requires-clause-shaped
-compile_block-requires-clause-shaped c = block_shaped c.args.unit.now.items c.in_ok-block-in-Ok.block (trees_of c.number_nodes.new.nodes.items) c.in_ok-others-in-Some.others c.in-Ok.ensures.formed.no_errors (is_block c.args.unit.now.items c.in-Ok.program c.in_ok-block-in-Ok.block c.in-Ok.ensures.formed c.in_ok-block-in-Ok.ensures) c.requires c.in-Some.ensures.trees (c.in_ok-others-in-Some.ensures ∙ ap (λ ns. others_of (trees_of ns) (plans_of ns)) c.as_slice.ensures.value ∙ ap (others_of (trees_of c.number_nodes.new.nodes.items)) c.in-Some.ensures.plans)
+pub compile_noted-requires-clause-shaped : goal.compile_noted-requires-clause-shaped
+compile_noted-requires-clause-shaped c = block_shaped c.args.unit.now.items c.in_ok-block-in-Ok.block (trees_of c.number_nodes.new.nodes.items) c.in_ok-others-in-Some.others c.in-Ok.ensures.formed.no_errors (is_block c.args.unit.now.items c.in-Ok.program c.in_ok-block-in-Ok.block c.in-Ok.ensures.formed c.in_ok-block-in-Ok.ensures) c.requires c.in-Some.ensures.trees (c.in_ok-others-in-Some.ensures ∙ ap (λ ns. others_of (trees_of ns) (plans_of ns)) c.as_slice.ensures.value ∙ ap (others_of (trees_of c.number_nodes.new.nodes.items)) c.in-Some.ensures.plans)
 
 pub returns-in_ok-others-in-Some-clause-value : goal.returns-in_ok-others-in-Some-clause-value
 returns-in_ok-others-in-Some-clause-value c =
-    program_comes c.compile_block.result c.args.unit.now.items c.in_ok-block-in-Ok.block (trees_of c.number_nodes.new.nodes.items) c.in_ok-others-in-Some.others c.in-Ok.ensures.formed.no_errors (is_block c.args.unit.now.items c.in-Ok.program c.in_ok-block-in-Ok.block c.in-Ok.ensures.formed c.in_ok-block-in-Ok.ensures) c.in-Some.ensures.trees (c.in_ok-others-in-Some.ensures ∙ ap (λ ns. others_of (trees_of ns) (plans_of ns)) c.as_slice.ensures.value ∙ ap (others_of (trees_of c.number_nodes.new.nodes.items)) c.in-Some.ensures.plans) c.compile_block.ensures
+    program_comes c.compile_noted.result c.args.unit.now.items c.in_ok-block-in-Ok.block (trees_of c.number_nodes.new.nodes.items) c.in_ok-others-in-Some.others c.in-Ok.ensures.formed.no_errors (is_block c.args.unit.now.items c.in-Ok.program c.in_ok-block-in-Ok.block c.in-Ok.ensures.formed c.in_ok-block-in-Ok.ensures) c.in-Some.ensures.trees (c.in_ok-others-in-Some.ensures ∙ ap (λ ns. others_of (trees_of ns) (plans_of ns)) c.as_slice.ensures.value ∙ ap (others_of (trees_of c.number_nodes.new.nodes.items)) c.in-Some.ensures.plans) c.compile_noted.ensures
 
 pub returns-in_ok-others-in-Some-clause-own : goal.returns-in_ok-others-in-Some-clause-own
-returns-in_ok-others-in-Some-clause-own c = ascii_comes c.compile_block.result (of_items c.args.unit.now.items) (named_in_ascii c.args.unit.now.items c.requires) (returns-in_ok-others-in-Some-clause-value c)
+returns-in_ok-others-in-Some-clause-own c = ascii_comes c.compile_noted.result (of_items c.args.unit.now.items) (named_in_ascii c.args.unit.now.items c.requires) (returns-in_ok-others-in-Some-clause-value c)
 
 pub other_errors-requires : goal.other_errors-requires
 other_errors-requires c =
-    subst (λ ns. are_terms (trees_of ns) ≡ true) (sym c.as_slice.ensures.value) (formed_terms W64 AreNamed (Unit {0}) (trees_of c.number_nodes.new.nodes.items)
+    subst (λ ns. are_terms (trees_of ns) ≡ true) (sym c.as_slice.ensures.value) (formed_terms AreNamed (Unit {0}) (trees_of c.number_nodes.new.nodes.items)
     (block_formed c.args.unit.now.items c.in_ok-block-in-Ok.block (trees_of c.number_nodes.new.nodes.items) c.in-Ok.ensures.formed.no_errors (is_block c.args.unit.now.items c.in-Ok.program c.in_ok-block-in-Ok.block c.in-Ok.ensures.formed c.in_ok-block-in-Ok.ensures) c.requires c.in-Some.ensures.trees))

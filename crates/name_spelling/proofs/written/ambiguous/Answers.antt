@@ -1,7 +1,8 @@
 use Rattle.std.proofs.Common.{[], get_or, sym, ap, ◌∙◌}
 use Rattle.acpi_names.specs.Paths.{is_named_in}
 use Rattle.asl_tree.specs.Names.{candidates, first_of}
-use Rattle.name_spelling.proofs.Spelling.{tail_of, around, spelled_once, spelled_twice}
+use Rattle.name_spelling.specs.Forms.{around}
+use Rattle.name_spelling.proofs.Spelling.{tail_of, spelled_once, spelled_twice}
 use Rattle.name_spelling.proofs.written.ambiguous.Goals as goal
 
 pub returns-in_err-found_in : goal.returns-in_err-found_in

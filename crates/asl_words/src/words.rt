@@ -1,0 +1,197 @@
+//! The words that are no operators (ACPI Specification 6.4, 19.6).
+use crate::operator::{Known, Named, TextMacro, WordKind};
+use resource_layout::descriptor::{Descriptor, Kind};
+
+macro_rules! word {
+    ($text:expr, $known:expr) => {
+        Named {
+            text: *$text,
+            known: $known,
+        }
+    };
+}
+
+macro_rules! number {
+    ($text:expr, $kind:ident, $number:expr) => {
+        word!(
+            $text,
+            Known::Word {
+                kind: WordKind::$kind,
+                number: $number
+            }
+        )
+    };
+}
+
+macro_rules! resource {
+    ($text:expr, $kind:ident, $number:expr) => {
+        word!(
+            $text,
+            Known::Word {
+                kind: WordKind::Resource(Kind::$kind),
+                number: $number
+            }
+        )
+    };
+}
+
+macro_rules! descriptor {
+    ($text:expr, $descriptor:ident) => {
+        word!($text, Known::Descriptor(Descriptor::$descriptor))
+    };
+}
+
+/// The words that stand for a number, a Local, an Arg or Debug, those for macros and for the descriptors of a resource
+/// template, and those that no program has.
+pub const WORDS: &[Named] = &[
+    number!(b"NOTSERIALIZED           ", Serialize, 0),
+    number!(b"SERIALIZED              ", Serialize, 1),
+    number!(b"UNKNOWNOBJ              ", ObjectType, 0),
+    number!(b"INTOBJ                  ", ObjectType, 1),
+    number!(b"STROBJ                  ", ObjectType, 2),
+    number!(b"BUFFOBJ                 ", ObjectType, 3),
+    number!(b"PKGOBJ                  ", ObjectType, 4),
+    number!(b"FIELDUNITOBJ            ", ObjectType, 5),
+    number!(b"DEVICEOBJ               ", ObjectType, 6),
+    number!(b"EVENTOBJ                ", ObjectType, 7),
+    number!(b"METHODOBJ               ", ObjectType, 8),
+    number!(b"MUTEXOBJ                ", ObjectType, 9),
+    number!(b"OPREGIONOBJ             ", ObjectType, 10),
+    number!(b"POWERRESOBJ             ", ObjectType, 11),
+    number!(b"PROCESSOROBJ            ", ObjectType, 12),
+    number!(b"THERMALZONEOBJ          ", ObjectType, 13),
+    number!(b"BUFFFIELDOBJ            ", ObjectType, 14),
+    number!(b"MTR                     ", Match, 0),
+    number!(b"MEQ                     ", Match, 1),
+    number!(b"MLE                     ", Match, 2),
+    number!(b"MLT                     ", Match, 3),
+    number!(b"MGE                     ", Match, 4),
+    number!(b"MGT                     ", Match, 5),
+    number!(b"SYSTEMMEMORY            ", Space, 0),
+    number!(b"SYSTEMIO                ", Space, 1),
+    number!(b"PCI_CONFIG              ", Space, 2),
+    number!(b"EMBEDDEDCONTROL         ", Space, 3),
+    number!(b"SMBUS                   ", Space, 4),
+    number!(b"SYSTEMCMOS              ", Space, 5),
+    number!(b"PCIBARTARGET            ", Space, 6),
+    number!(b"IPMI                    ", Space, 7),
+    number!(b"GENERALPURPOSEIO        ", Space, 8),
+    number!(b"GENERICSERIALBUS        ", Space, 9),
+    number!(b"PCC                     ", Space, 10),
+    number!(b"ANYACC                  ", Access, 0),
+    number!(b"BYTEACC                 ", Access, 1),
+    number!(b"WORDACC                 ", Access, 2),
+    number!(b"DWORDACC                ", Access, 3),
+    number!(b"QWORDACC                ", Access, 4),
+    number!(b"NOLOCK                  ", Lock, 0),
+    number!(b"LOCK                    ", Lock, 1),
+    number!(b"PRESERVE                ", Update, 0),
+    number!(b"WRITEASONES             ", Update, 1),
+    number!(b"WRITEASZEROS            ", Update, 2),
+    word!(b"LOCAL0                  ", Known::Local(0)),
+    word!(b"LOCAL1                  ", Known::Local(1)),
+    word!(b"LOCAL2                  ", Known::Local(2)),
+    word!(b"LOCAL3                  ", Known::Local(3)),
+    word!(b"LOCAL4                  ", Known::Local(4)),
+    word!(b"LOCAL5                  ", Known::Local(5)),
+    word!(b"LOCAL6                  ", Known::Local(6)),
+    word!(b"LOCAL7                  ", Known::Local(7)),
+    word!(b"ARG0                    ", Known::Arg(0)),
+    word!(b"ARG1                    ", Known::Arg(1)),
+    word!(b"ARG2                    ", Known::Arg(2)),
+    word!(b"ARG3                    ", Known::Arg(3)),
+    word!(b"ARG4                    ", Known::Arg(4)),
+    word!(b"ARG5                    ", Known::Arg(5)),
+    word!(b"ARG6                    ", Known::Arg(6)),
+    word!(b"DEBUG                   ", Known::Debug),
+    word!(b"OFFSET                  ", Known::Offset),
+    word!(b"EISAID                  ", Known::Macro(TextMacro::EisaId)),
+    word!(b"TOUUID                  ", Known::Macro(TextMacro::ToUuid)),
+    word!(
+        b"UNICODE                 ",
+        Known::Macro(TextMacro::Unicode)
+    ),
+    resource!(b"RESOURCEPRODUCER        ", Usage, 0),
+    resource!(b"RESOURCECONSUMER        ", Usage, 1),
+    resource!(b"POSDECODE               ", Decode, 0),
+    resource!(b"SUBDECODE               ", Decode, 1),
+    resource!(b"MINNOTFIXED             ", MinimumFixed, 0),
+    resource!(b"MINFIXED                ", MinimumFixed, 1),
+    resource!(b"MAXNOTFIXED             ", MaximumFixed, 0),
+    resource!(b"MAXFIXED                ", MaximumFixed, 1),
+    resource!(b"READONLY                ", Access, 0),
+    resource!(b"READWRITE               ", Access, 1),
+    resource!(b"NONCACHEABLE            ", Caching, 0),
+    resource!(b"CACHEABLE               ", Caching, 1),
+    resource!(b"WRITECOMBINING          ", Caching, 2),
+    resource!(b"PREFETCHABLE            ", Caching, 3),
+    resource!(b"ADDRESSRANGEMEMORY      ", Range, 0),
+    resource!(b"ADDRESSRANGERESERVED    ", Range, 1),
+    resource!(b"ADDRESSRANGEACPI        ", Range, 2),
+    resource!(b"ADDRESSRANGENVS         ", Range, 3),
+    resource!(b"TYPESTATIC              ", Translation, 0),
+    resource!(b"TYPETRANSLATION         ", Translation, 1),
+    resource!(b"DENSETRANSLATION        ", Sparse, 0),
+    resource!(b"SPARSETRANSLATION       ", Sparse, 1),
+    resource!(b"NONISAONLYRANGES        ", IsaRange, 1),
+    resource!(b"ISAONLYRANGES           ", IsaRange, 2),
+    resource!(b"ENTIRERANGE             ", IsaRange, 3),
+    resource!(b"DECODE10                ", IoDecode, 0),
+    resource!(b"DECODE16                ", IoDecode, 1),
+    resource!(b"LEVEL                   ", Mode, 0),
+    resource!(b"EDGE                    ", Mode, 1),
+    resource!(b"ACTIVEHIGH              ", Level, 0),
+    resource!(b"ACTIVELOW               ", Level, 1),
+    resource!(b"EXCLUSIVE               ", Sharing, 0),
+    resource!(b"SHARED                  ", Sharing, 1),
+    resource!(b"EXCLUSIVEANDWAKE        ", Sharing, 2),
+    resource!(b"SHAREDANDWAKE           ", Sharing, 3),
+    resource!(b"COMPATIBILITY           ", DmaType, 0),
+    resource!(b"TYPEA                   ", DmaType, 1),
+    resource!(b"TYPEB                   ", DmaType, 2),
+    resource!(b"TYPEF                   ", DmaType, 3),
+    resource!(b"NOTBUSMASTER            ", BusMaster, 0),
+    resource!(b"BUSMASTER               ", BusMaster, 1),
+    resource!(b"TRANSFER8               ", Transfer, 0),
+    resource!(b"TRANSFER8_16            ", Transfer, 1),
+    resource!(b"TRANSFER16              ", Transfer, 2),
+    resource!(b"WIDTH8BIT               ", DmaWidth, 0),
+    resource!(b"WIDTH16BIT              ", DmaWidth, 1),
+    resource!(b"WIDTH32BIT              ", DmaWidth, 2),
+    resource!(b"WIDTH64BIT              ", DmaWidth, 3),
+    resource!(b"WIDTH128BIT             ", DmaWidth, 4),
+    resource!(b"WIDTH256BIT             ", DmaWidth, 5),
+    resource!(b"FFIXEDHW                ", Space, 0x7F),
+    word!(b"RESOURCETEMPLATE        ", Known::Template),
+    descriptor!(b"IRQ                     ", Irq),
+    descriptor!(b"IRQNOFLAGS              ", IrqNoFlags),
+    descriptor!(b"DMA                     ", Dma),
+    descriptor!(b"FIXEDDMA                ", FixedDma),
+    descriptor!(b"STARTDEPENDENTFN        ", StartDependentFn),
+    descriptor!(b"STARTDEPENDENTFNNOPRI   ", StartDependentFnNoPri),
+    descriptor!(b"ENDDEPENDENTFN          ", EndDependentFn),
+    descriptor!(b"IO                      ", Io),
+    descriptor!(b"FIXEDIO                 ", FixedIo),
+    descriptor!(b"VENDORSHORT             ", VendorShort),
+    descriptor!(b"VENDORLONG              ", VendorLong),
+    descriptor!(b"MEMORY24                ", Memory24),
+    descriptor!(b"MEMORY32                ", Memory32),
+    descriptor!(b"MEMORY32FIXED           ", Memory32Fixed),
+    descriptor!(b"REGISTER                ", Register),
+    descriptor!(b"INTERRUPT               ", Interrupt),
+    descriptor!(b"WORDIO                  ", WordIo),
+    descriptor!(b"DWORDIO                 ", DWordIo),
+    descriptor!(b"QWORDIO                 ", QWordIo),
+    descriptor!(b"EXTENDEDIO              ", ExtendedIo),
+    descriptor!(b"DWORDMEMORY             ", DWordMemory),
+    descriptor!(b"QWORDMEMORY             ", QWordMemory),
+    descriptor!(b"EXTENDEDMEMORY          ", ExtendedMemory),
+    descriptor!(b"WORDBUSNUMBER           ", WordBusNumber),
+    descriptor!(b"WORDSPACE               ", WordSpace),
+    descriptor!(b"DWORDSPACE              ", DWordSpace),
+    descriptor!(b"QWORDSPACE              ", QWordSpace),
+    descriptor!(b"EXTENDEDSPACE           ", ExtendedSpace),
+    word!(b"LOAD                    ", Known::LeftOut),
+    word!(b"FOR                     ", Known::LeftOut),
+    word!(b"CASE                    ", Known::LeftOut),
+];

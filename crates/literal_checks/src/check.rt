@@ -1,0 +1,226 @@
+//! The literals that 32 bits cannot hold.
+ghost use Rattle.std.specs.Prelude.{◌≡◌, ◌++◌, IfOk, OnOk, [], drop};
+ghost use Rattle.asl_shape.specs.AtRaw.{inside_at, is_some};
+ghost use Rattle.acpi_values.specs.declared.width.Width.TheVariants.{W32};
+ghost use Rattle.literal_checks.specs.Literals as spec;
+
+use acpi_values::width::Width;
+use asl_parser::{Raw, RawUnit, Raws};
+use asl_words::meaning::{Meaning, meaning_of};
+use asl_words::operator::{Body, Parameter, Slot};
+use asl_words::parameters::{body_of, parameters_of};
+use asl_words::paths::parts as split;
+use iasl_messages::message::{Message, Messages};
+use iasl_messages::number::CONSTANT_IS_CUT;
+use iasl_messages::place::Place;
+use iasl_ports::list::Text;
+use std::alloc::{AllocError, Global};
+
+const MOST: u64 = 0xFFFF_FFFF;
+
+// Whether what is asked for is a constant that is evaluated with 64 bits.
+fn is_wide(slot: Slot) -> bool
+    ensures { result ≡ spec.is_wide slot }
+{
+    matches!(slot, Slot::Constant { .. } | Slot::Space)
+}
+
+// Whether the argument of this number is asked for so.
+#[tactic(auto, using(crate::proofs::Told::wide_rules))]
+fn is_wide_at(parameters: &[Parameter], i: usize) -> bool
+    ensures { result ≡ spec.is_first_wide (drop i parameters.now) }
+{
+    if i < parameters.len() {
+        is_wide(parameters[i].slot)
+    } else {
+        false
+    }
+}
+
+// How the arguments of an item are asked for.
+fn parameters_in(meaning: Meaning) -> &'static [Parameter]
+    ensures { result.now ≡ spec.parameters_in meaning }
+{
+    match meaning {
+        Meaning::Operator(op) => parameters_of(op),
+        _ => &[],
+    }
+}
+
+fn is_bytes(body: Body) -> bool
+    ensures { result ≡ spec.is_bytes body }
+{
+    matches!(body, Body::Bytes)
+}
+
+// Whether the braces of an item hold constants of 64 bits alone.
+fn holds_wide(meaning: Meaning) -> bool
+    ensures { result ≡ spec.holds_wide meaning }
+{
+    match meaning {
+        Meaning::Operator(op) => is_bytes(body_of(op)),
+        Meaning::Template => true,
+        _ => false,
+    }
+}
+
+// What stands in brackets.
+fn inside_of(raws: &Option<Raws>) -> &[Raw]
+    ensures { result.now ≡ inside_at raws.now }
+{
+    match raws {
+        Some(raws) => raws.as_slice(),
+        None => &[],
+    }
+}
+
+fn is_given(raws: &Option<Raws>) -> bool
+    ensures { result ≡ is_some raws.now }
+{
+    match raws {
+        Some(_) => true,
+        None => false,
+    }
+}
+
+// A literal that 32 bits cannot hold.
+#[tactic(auto, using(crate::proofs::Told::nothing_more))]
+fn tell(alloc: Global, out: &mut Vec<Message>, place: Place, value: u64) -> Result<(), AllocError>
+    ensures { OnOk result (out.new.items ≡ out.old.items ++ spec.told_number place value) }
+{
+    if value > MOST {
+        out.push(Message {
+            number: CONSTANT_IS_CUT,
+            place,
+            name: Text::new(alloc),
+        })?;
+    }
+    Ok(())
+}
+
+// A part of a source.
+#[cycle(parts)]
+#[tactic(auto, using(crate::proofs::Told::part_rules, asl_shape::proofs::Shapes::size_rules))]
+fn part(alloc: Global, out: &mut Vec<Message>, raw: &Raw) -> Result<(), AllocError>
+    ensures { OnOk result (out.new.items ≡ out.old.items ++ spec.told_at raw.now) }
+{
+    match raw {
+        Raw::Number { place, value } => Ok(tell(alloc, out, *place, *value)?),
+        Raw::Item {
+            word,
+            args,
+            body,
+            ..
+        } => Ok(item(
+            alloc,
+            out,
+            meaning_of(word.as_bytes(), is_given(body)),
+            args,
+            body,
+        )?),
+        Raw::Apply { args, .. } => Ok(parts(alloc, out, &[], args.as_slice())?),
+        Raw::Text { .. } => Ok(()),
+        Raw::List { .. } => Ok(()),
+        Raw::Comma => Ok(()),
+        Raw::Semicolon => Ok(()),
+        Raw::Empty => Ok(()),
+    }
+}
+
+// The arguments and the braces of an item that is this.
+#[cycle(parts)]
+#[tactic(auto, using(crate::proofs::Told::item_rules, asl_shape::proofs::Shapes::size_rules))]
+fn item(
+    alloc: Global,
+    out: &mut Vec<Message>,
+    meaning: Meaning,
+    args: &Option<Raws>,
+    body: &Option<Raws>,
+) -> Result<(), AllocError>
+    ensures { OnOk result (out.new.items ≡ out.old.items ++ spec.told_item_at meaning args.now body.now) }
+{
+    parts(alloc, out, parameters_in(meaning), inside_of(args))?;
+    if holds_wide(meaning) {
+        Ok(())
+    } else {
+        Ok(parts(alloc, out, &[], inside_of(body))?)
+    }
+}
+
+// A part, unless it is a constant of 64 bits.
+#[cycle(parts)]
+#[tactic(auto, using(crate::proofs::Told::nothing_more))]
+fn unless_wide(
+    alloc: Global,
+    out: &mut Vec<Message>,
+    wide: bool,
+    raw: &Raw,
+) -> Result<(), AllocError>
+    ensures { OnOk result (out.new.items ≡ out.old.items ++ spec.unless wide (spec.told_at raw.now)) }
+{
+    if wide {
+        Ok(())
+    } else {
+        Ok(part(alloc, out, raw)?)
+    }
+}
+
+// Parts, which these parameters ask for.
+#[cycle(parts)]
+#[tactic(auto, using(crate::proofs::Told::list_rules, asl_shape::proofs::Shapes::size_within))]
+fn parts(
+    alloc: Global,
+    out: &mut Vec<Message>,
+    parameters: &[Parameter],
+    raws: &[Raw],
+) -> Result<(), AllocError>
+    ensures { OnOk result (out.new.items ≡ out.old.items ++ spec.told_in_at parameters.now raws.now) }
+{
+    for i in 0..raws.len() {
+        unless_wide(alloc, out, is_wide_at(parameters, i), &raws[i])?;
+    }
+    Ok(())
+}
+
+// The braces of a block.
+#[tactic(auto, using(crate::proofs::Told::braces_rules))]
+fn braces(alloc: Global, out: &mut Vec<Message>, raw: &Raw) -> Result<(), AllocError>
+    ensures { OnOk result (out.new.items ≡ out.old.items ++ spec.told_braces_at raw.now) }
+{
+    match raw {
+        Raw::Item { body, .. } => Ok(parts(alloc, out, &[], inside_of(body))?),
+        Raw::Number { .. } => Ok(()),
+        Raw::Text { .. } => Ok(()),
+        Raw::Apply { .. } => Ok(()),
+        Raw::List { .. } => Ok(()),
+        Raw::Comma => Ok(()),
+        Raw::Semicolon => Ok(()),
+        Raw::Empty => Ok(()),
+    }
+}
+
+// The terms of the block of a source.
+#[tactic(auto, using(crate::proofs::Told::block_rules))]
+fn block(alloc: Global, out: &mut Vec<Message>, raws: &[Raw]) -> Result<(), AllocError>
+    ensures { OnOk result (out.new.items ≡ out.old.items ++ spec.cut_literals_at W32 raws.now) }
+{
+    match split(raws) {
+        Some((first, _)) => Ok(braces(alloc, out, first)?),
+        None => Ok(()),
+    }
+}
+
+/// The warnings 3002 of a source whose one block has integers of this width: at each literal over 2^32 - 1, in the order of the source,
+/// where they have 32 bits. A literal inside of an argument that is a constant of a stated range, of a Buffer's list of bytes, or of a resource template, is none:
+/// such constants are evaluated with 64 bits in every table, and so are the block's own arguments.
+#[tactic(auto, using(crate::proofs::Told::wide_tables))]
+pub fn cut_literals(alloc: Global, width: Width, unit: &RawUnit) -> Result<Messages, AllocError>
+    ensures { IfOk result (λ messages. messages ≡ spec.cut_literals_at width unit.now.items) }
+{
+    let mut out = Vec::new(alloc);
+    match width {
+        Width::W32 => block(alloc, &mut out, unit.items.as_slice())?,
+        Width::W64 => (),
+    }
+    Ok(Messages::from_vec(out))
+}

@@ -1,0 +1,4 @@
+//! Literals that are cut, told.
+#![tactic(auto)]
+
+pub mod check;

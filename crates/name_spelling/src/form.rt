@@ -1,0 +1,187 @@
+//! The shortest spelling of a path in a scope (ACPI Specification 6.4, 5.3 and 20.2.2).
+ghost use Rattle.std.specs.Prelude.{◌≡◌, ◌<◌, ◌≤◌, ◌^◌, Bool, true, [], length, get_or, is_some, IfOk};
+ghost use Rattle.acpi_values.specs.Paths.{AbsolutePath};
+ghost use Rattle.acpi_names.specs.Paths.{is_named_in};
+ghost use Rattle.acpi_names.specs.Shortest.{segments_length, short_use, short_element};
+ghost use Rattle.asl_tree.specs.Names.{candidates, first_of};
+ghost use Rattle.name_spelling.specs.Forms.{form_name, form_length, nearer, around, leads_alone};
+
+use acpi_names::paths::{Paths, nearest};
+use acpi_names::place::outer;
+use asl_tree::path::{NameSeg, Path, Segs};
+use std::alloc::{AllocError, Global};
+
+/// How a path is written: from the root or from so many scopes up, and so many of its last segments.
+#[derive(Clone, Copy)]
+pub(crate) struct Form {
+    pub root: bool,
+    pub up: u32,
+    pub count: u32,
+}
+
+// How many bytes so many segments take in a name.
+fn segments_size(count: u32) -> u64
+    ensures { result ≡ segments_length count }
+{
+    match count {
+        0 => 1,
+        1 => 4,
+        2 => 9,
+        _ => 2 + 4 * u64::from(count),
+    }
+}
+
+// How many bytes a name takes.
+fn size(form: Form) -> u64
+    ensures { result ≡ form_length form }
+{
+    let prefix = if form.root { 1 } else { form.up };
+    u64::from(prefix) + segments_size(form.count)
+}
+
+// Of two forms the second, where it is one below a scope around it, needs no search and is shorter.
+fn shorter(best: Form, other: Form, leads: bool) -> Form
+    ensures { result ≡ nearer best other leads }
+{
+    if leads && (other.up > 0 || other.count > 1) && size(other) < size(best) {
+        other
+    } else {
+        best
+    }
+}
+
+// How many segments a path has.
+fn depth(paths: &Paths, number: usize) -> u32
+    requires { number < length paths.now }
+    ensures depth { result ≡ length (get_or paths.now number []) }
+{
+    let len = paths.len();
+    let mut around = number;
+    let mut segments = 0;
+    while let Some(below) = paths.step(around) {
+        around = below.0;
+        segments += 1;
+    }
+    segments
+}
+
+/// The shortest form of a path that needs no search.
+pub(crate) fn shortest_placed(paths: &Paths, number: usize, scope: usize) -> Form
+    requires path_in { number < length paths.now }
+    requires scope_in { scope < length paths.now }
+    ensures { (has : AbsolutePath → Bool) → has (get_or paths.now number []) ≡ true → form_name result (get_or paths.now number []) ≡ short_element has (get_or paths.now number []) (get_or paths.now scope []) }
+{
+    let len = paths.len();
+    let segments = depth(paths, number);
+    let scopes = depth(paths, scope);
+    let mut best = Form {
+        root: true,
+        up: 0,
+        count: segments,
+    };
+    let mut up = scopes.saturating_sub(segments);
+    let mut base = outer(paths, scope, up);
+    let mut around = number;
+    let mut count = 0;
+    while let Some(below) = paths.step(around) {
+        around = below.0;
+        count += 1;
+        let higher = scopes.saturating_sub(segments - count);
+        base = outer(paths, base, higher - up);
+        up = higher;
+        let form = Form {
+            root: false,
+            up,
+            count,
+        };
+        best = shorter(best, form, base == around);
+    }
+    best
+}
+
+// Whether a search for a segment finds a named path in the scopes around this one.
+fn is_found_around(paths: &Paths, named: &[bool], scope: usize, segment: NameSeg) -> bool
+    requires scope_in { scope < length paths.now }
+    requires all { length named.now ≡ length paths.now }
+    ensures { result ≡ is_some (first_of (candidates (is_named_in paths.now named.now) (around segment (get_or paths.now scope [])))) }
+{
+    match paths.step(scope) {
+        Some(below) => nearest(paths, named, below.0, segment).is_some(),
+        None => false,
+    }
+}
+
+// Whether a search for a path's last segment can find that path alone.
+fn is_found_alone(paths: &Paths, named: &[bool], number: usize, scope: usize) -> bool
+    requires path_in { number < length paths.now }
+    requires scope_in { scope < length paths.now }
+    requires all { length named.now ≡ length paths.now }
+    ensures { result ≡ leads_alone (is_named_in paths.now named.now) (get_or paths.now number []) (get_or paths.now scope []) }
+{
+    let len = paths.len();
+    match paths.step(number) {
+        Some(below) => {
+            let segment = below.1;
+            match nearest(paths, named, scope, segment) {
+                Some(first) => {
+                    first == number && !is_found_around(paths, named, below.0, segment)
+                }
+                None => false,
+            }
+        }
+        None => false,
+    }
+}
+
+/// The shortest form of a named path.
+pub(crate) fn shortest_used(paths: &Paths, named: &[bool], number: usize, scope: usize) -> Form
+    requires path_in { number < length paths.now }
+    requires scope_in { scope < length paths.now }
+    requires all { length named.now ≡ length paths.now }
+    requires is_named { is_named_in paths.now named.now (get_or paths.now number []) ≡ true }
+    ensures { form_name result (get_or paths.now number []) ≡ short_use (is_named_in paths.now named.now) (get_or paths.now number []) (get_or paths.now scope []) }
+{
+    if is_found_alone(paths, named, number, scope) {
+        Form {
+            root: false,
+            up: 0,
+            count: 1,
+        }
+    } else {
+        shortest_placed(paths, number, scope)
+    }
+}
+
+/// The name of a path in a form.
+#[tactic(auto, using(crate::proofs::Forms::kept_taking, crate::proofs::Forms::none_taken, crate::proofs::Forms::all_taken))]
+pub(crate) fn name_in(
+    alloc: Global,
+    paths: &Paths,
+    number: usize,
+    form: Form,
+) -> Result<Path, AllocError>
+    requires { number < length paths.now }
+    ensures { IfOk result (λ name. name ≡ form_name form (get_or paths.now number [])) }
+{
+    let mut segs = Vec::new(alloc);
+    let mut around = number;
+    let mut left = form.count;
+    while left > 0 {
+        match paths.step(around) {
+            Some(below) => {
+                let segment = below.1;
+                segs.push(segment)?;
+                around = below.0;
+                left -= 1;
+            }
+            None => left = 0,
+        }
+    }
+    segs.reverse();
+    let segs = Segs::from_vec(segs);
+    Ok(Path {
+        root: form.root,
+        up: form.up,
+        segs,
+    })
+}
