@@ -51,7 +51,7 @@ asked_m = record { path = seg 0x4D ∷ seg 0x44 ∷ []; args = [] } ∷ []
 two_runs : results (source_session W64 (known_of two_names) two_names [] 2 [] asked_m) ≡ Done (Normal false) ∷ Done (Gives (Data (V.Integer 1))) ∷ []
 two_runs = refl
 
-pub two_same : results (byte_session W64 (table_bytes fields (short_bytes two_names)) [] 2 [] asked_m) ≡ Done (Normal false) ∷ Done (Gives (Data (V.Integer 1))) ∷ []
+pub two_same : results (byte_session (table_bytes fields (short_bytes two_names)) [] 2 [] asked_m) ≡ Done (Normal false) ∷ Done (Gives (Data (V.Integer 1))) ∷ []
 unfolding code_front
 two_same = refl
 
