@@ -499,7 +499,7 @@ doubled_ends false b n rest done shift no_equals same double s =
     scan_goes n rest (m.Sign b.place b.byte) m.Between done (with_symbol done b.place (b.byte ∷ b.byte ∷ []))
     (ap (λ t. sign_by t ((n.byte == b.byte) && doubles b.byte) b.place b.byte n.place n.byte done) no_equals ∙ ap (λ t. sign_by false t b.place b.byte n.place n.byte done) (both_true (n.byte == b.byte) (doubles b.byte) same double) ∙ ap (λ t. doubled_by t b.place b.byte done) shift)
 
-two_by : (t u : Bool) (b n : Mark) (rest : List Mark) (done : List Token) → ((n.byte == 61) && takes_equals b.byte) ≡ t → ((n.byte == b.byte) && doubles b.byte) ≡ u → (t || u) ≡ true → Stops (λ o. are_three b.byte n.byte o.byte) rest
+pub two_by : (t u : Bool) (b n : Mark) (rest : List Mark) (done : List Token) → ((n.byte == 61) && takes_equals b.byte) ≡ t → ((n.byte == b.byte) && doubles b.byte) ≡ u → (t || u) ≡ true → Stops (λ o. are_three b.byte n.byte o.byte) rest
     → scan (n ∷ rest) (m.Sign b.place b.byte) done ≡ scan rest m.Between (with_symbol done b.place (b.byte ∷ n.byte ∷ []))
 two_by true u b n rest done e f is s =
     let second : n.byte ≡ 61 = eqb-true n.byte 61 (both (n.byte == 61) (takes_equals b.byte) e).0 in

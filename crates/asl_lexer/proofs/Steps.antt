@@ -11,6 +11,7 @@ use Rattle.asl_lexer.specs.declared.mode.Stop.{Stop}
 use Rattle.asl_lexer.specs.declared.mode.Stop.TheVariants as stop
 use Rattle.asl_lexer.specs.declared.mode.Mode.{Mode}
 use Rattle.asl_lexer.specs.Scan.{Mark, Moved, step, scan, finish, Fails, caret_text}
+use Rattle.asl_lexer.specs.Runs.{AtBreak}
 use Rattle.asl_lexer.specs.Marks.{mark_at, marks_from, line_marks, break_mark, following, joined, tokens_of}
 use Rattle.asl_lexer.specs.declared.mode.Mode.TheVariants as m
 
@@ -49,6 +50,12 @@ following_next ls i l h e =
 pub following_none : (ls : List Line) (i : ℕ) → length ls ≤ i → following (drop i ls) ≡ []
 unfolding following
 following_none ls i h = ap following (drop_all i ls h)
+
+-- they begin with the end of a line
+pub following_breaks : (ls : List Line) → AtBreak (following ls)
+unfolding following
+following_breaks [] = tt
+following_breaks (l ∷ ls) = refl
 
 pub tokens_of-none : tokens_of [] ≡ Ok []
 unfolding tokens_of joined scan

@@ -1,5 +1,5 @@
 -- Runs of bytes of a line that are read at once.
-use Rattle.std.specs.Prelude.{◌≡◌, ℕ, ◌+◌, ◌*◌, Bool, true, false, ◌&&◌, not, List, ◌++◌, drop, fold}
+use Rattle.std.specs.Prelude.{◌≡◌, ℕ, ◌+◌, ◌*◌, Bool, true, false, ◌&&◌, not, List, [], ◌∷◌, ◌++◌, drop, fold}
 use Rattle.std.specs.Char.{digit_value}
 use Rattle.iasl_messages.specs.declared.place.Place.{Place}
 use Rattle.asl_lexer.specs.declared.class.Class.{Class}
@@ -57,7 +57,12 @@ is_alone b = not (takes_equals b) && not (doubles b)
 abbrev pub number_of : ℕ → ℕ → List ℕ → ℕ
 number_of base value digits = fold (λ v b. v * base + digit_value b) value digits
 
--- Whatever stands behind the line, the reading comes over so many of these bytes of it to this mode and these tokens.
+-- the end of a line, or of all lines
+abbrev pub AtBreak : List Mark → Type 0
+AtBreak [] = Unit {0}
+AtBreak (m ∷ ms) = m.byte ≡ 10
+
+-- Whatever lines stand behind the line, the reading comes over so many of these bytes of it to this mode and these tokens.
 abbrev pub Passes : Place → List ℕ → ℕ → Mode → List Token → Mode → List Token → Type 0
-Passes at bytes width mode old next new = (rest : List Mark)
+Passes at bytes width mode old next new = (rest : List Mark) → AtBreak rest
     → scan (marks_from at.file at.line at.column bytes ++ rest) mode old ≡ scan (marks_from at.file at.line (at.column + width) (drop width bytes) ++ rest) next new

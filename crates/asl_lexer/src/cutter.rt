@@ -6,6 +6,7 @@ ghost use Rattle.asl_lexer.specs.Scan.{Mark, Moves, Gives};
 ghost use Rattle.asl_lexer.specs.Cut.{IsCut, HasFault, Explains};
 ghost use Rattle.asl_lexer.specs.Fine.{IsFine};
 ghost use Rattle.asl_lexer.specs.Within.{IsWithin};
+ghost use Rattle.asl_lexer.specs.Runs.{AtBreak};
 ghost use Rattle.asl_lexer.specs.Marks.{line_marks, break_mark, following, tokens_of, Leads, Answers};
 
 use crate::mode::{Fault, Mode, Stop};
@@ -105,7 +106,7 @@ fn finish(alloc: Global, mut tokens: Tokens, mode: Mode) -> Result<Tokens, Stop>
 
 fn scan_line(alloc: Global, tokens: &mut Tokens, mut mode: Mode, line: &Line) -> Result<Mode, Stop>
     requires { length line.now.text < 2 ^ 32 }
-    ensures { (rest : AList Mark) → Leads result tokens.new rest (spec.scan (line_marks line.now ++ rest) mode tokens.old) }
+    ensures { (rest : AList Mark) → AtBreak rest → Leads result tokens.new rest (spec.scan (line_marks line.now ++ rest) mode tokens.old) }
 {
     let bytes = line.text.as_bytes();
     let mut index = 0;
@@ -129,7 +130,7 @@ fn scan_line(alloc: Global, tokens: &mut Tokens, mut mode: Mode, line: &Line) ->
 // The end of the line before, and a line.
 fn next_line(alloc: Global, tokens: &mut Tokens, mode: Mode, line: &Line) -> Result<Mode, Stop>
     requires { length line.now.text < 2 ^ 32 }
-    ensures { (rest : AList Mark) → Leads result tokens.new rest (spec.scan (break_mark line.now ∷ line_marks line.now ++ rest) mode tokens.old) }
+    ensures { (rest : AList Mark) → AtBreak rest → Leads result tokens.new rest (spec.scan (break_mark line.now ∷ line_marks line.now ++ rest) mode tokens.old) }
 {
     let at = Place {
         file: line.file,

@@ -1,14 +1,15 @@
 //! Runs of bytes of a line, read at once.
-ghost use Rattle.std.specs.Prelude.{◌≡◌, ◌<◌, ◌≤◌, length, take, IfOk, IfSome, slice_index, true};
+ghost use Rattle.std.specs.Prelude.{◌≡◌, ◌<◌, ◌≤◌, ◌==◌, ◌&&◌, length, take, IfOk, IfSome, slice_index, true, false};
 ghost use Rattle.std.specs.List.{take_while};
 ghost use Rattle.std.specs.Char.{is_digit as is_digit_by};
-ghost use Rattle.asl_lexer.specs.Class.{class_of as class_by};
+ghost use Rattle.asl_lexer.specs.Class.{class_of as class_by, shifts as shifts_by};
+ghost use Rattle.asl_lexer.specs.Cut.{begins_sign_class, are_two as are_two_by};
 ghost use Rattle.asl_lexer.specs.declared.class.Class.TheVariants as classes;
 ghost use Rattle.asl_lexer.specs.declared.mode.Mode.TheVariants as modes;
 ghost use Rattle.asl_lexer.specs.Runs as spec;
 ghost use Rattle.asl_lexer.specs.Runs.{Passes};
 
-use crate::class::{Class, class_of, doubles, takes_equals, value_of};
+use crate::class::{Class, class_of, doubles, shifts, takes_equals, value_of};
 use crate::mode::Mode;
 use crate::start::{add_number, add_plain_string, add_symbol, add_word, column_after};
 use crate::token::Tokens;
@@ -121,7 +122,21 @@ fn value_in(digits: &[u8], base: u64) -> Option<u64>
     Some(value)
 }
 
-// A word behind which a byte of the line stands that goes on with it no more. Answers how many bytes were read.
+// Whether a word of this width goes on with no dot.
+fn ends_word(bytes: &[u8], width: usize) -> bool
+    ensures { result ≡ true → width < length bytes.now → spec.is_dot (slice_index bytes.now width) ≡ false }
+{
+    width >= bytes.len() || !is_dot(bytes[width])
+}
+
+// Whether behind a number of this width neither a letter nor a digit stands.
+fn ends_number(bytes: &[u8], width: usize) -> bool
+    ensures { result ≡ true → width < length bytes.now → spec.adjoins_number (slice_index bytes.now width) ≡ false }
+{
+    width >= bytes.len() || !adjoins_number(bytes[width])
+}
+
+// A word that is no path. Answers how many bytes were read.
 fn word(alloc: Global, tokens: &mut Tokens, at: Place, bytes: &[u8]) -> Result<usize, AllocError>
     requires some { 0 < length bytes.now }
     requires begins { spec.begins_word (slice_index bytes.now 0) ≡ true }
@@ -129,7 +144,7 @@ fn word(alloc: Global, tokens: &mut Tokens, at: Place, bytes: &[u8]) -> Result<u
     ensures passes { IfOk result (λ width. Passes at bytes.now width modes.Between tokens.old modes.Between tokens.new) }
 {
     let width = word_width(bytes);
-    if width >= bytes.len() || is_dot(bytes[width]) {
+    if !ends_word(bytes, width) {
         return Ok(0);
     }
     add_word(alloc, tokens, at, front(bytes, width))?;
@@ -153,7 +168,7 @@ fn string(alloc: Global, tokens: &mut Tokens, at: Place, bytes: &[u8]) -> Result
     Ok(width + 2)
 }
 
-// A decimal number behind which neither a letter nor a digit stands.
+// A decimal number.
 fn decimal(alloc: Global, tokens: &mut Tokens, at: Place, bytes: &[u8]) -> Result<usize, AllocError>
     requires some { 0 < length bytes.now }
     requires begins { class_by (slice_index bytes.now 0) ≡ classes.Digit }
@@ -161,7 +176,7 @@ fn decimal(alloc: Global, tokens: &mut Tokens, at: Place, bytes: &[u8]) -> Resul
     ensures passes { IfOk result (λ width. Passes at bytes.now width modes.Between tokens.old modes.Between tokens.new) }
 {
     let width = digit_width(bytes, 10);
-    if width == 0 || width >= bytes.len() || adjoins_number(bytes[width]) {
+    if width == 0 || !ends_number(bytes, width) {
         return Ok(0);
     }
     let Some(value) = value_in(front(bytes, width), 10) else {
@@ -171,7 +186,7 @@ fn decimal(alloc: Global, tokens: &mut Tokens, at: Place, bytes: &[u8]) -> Resul
     Ok(width)
 }
 
-// A hexadecimal number behind which neither a letter nor a digit stands.
+// A hexadecimal number.
 fn hexadecimal(
     alloc: Global,
     tokens: &mut Tokens,
@@ -187,7 +202,7 @@ fn hexadecimal(
     }
     let digits = behind(bytes, 2);
     let width = digit_width(digits, 16);
-    if width == 0 || width >= digits.len() || adjoins_number(digits[width]) {
+    if width == 0 || !ends_number(digits, width) {
         return Ok(0);
     }
     let Some(value) = value_in(front(digits, width), 16) else {
@@ -198,10 +213,24 @@ fn hexadecimal(
     Ok(width + 2)
 }
 
-// A character that is a symbol whatever stands behind it.
+// Whether two characters are a symbol, or the front of one.
+fn are_two(first: u8, second: u8) -> bool
+    ensures { result ≡ are_two_by first second }
+{
+    second == b'=' && takes_equals(first) || second == first && doubles(first)
+}
+
+// Whether two characters are a shift, which may go on.
+fn are_shift(first: u8, second: u8) -> bool
+    ensures { result ≡ (second == first && shifts_by first) }
+{
+    second == first && shifts(first)
+}
+
+// A symbol of one character or of two that goes on with no other one.
 fn symbol(alloc: Global, tokens: &mut Tokens, at: Place, bytes: &[u8]) -> Result<usize, AllocError>
     requires some { 0 < length bytes.now }
-    requires begins { class_by (slice_index bytes.now 0) ≡ classes.Sign }
+    requires begins { begins_sign_class (class_by (slice_index bytes.now 0)) ≡ true }
     ensures within { IfOk result (λ width. width ≤ length bytes.now) }
     ensures passes { IfOk result (λ width. Passes at bytes.now width modes.Between tokens.old modes.Between tokens.new) }
 {
@@ -210,7 +239,19 @@ fn symbol(alloc: Global, tokens: &mut Tokens, at: Place, bytes: &[u8]) -> Result
         add_symbol(alloc, tokens, at, &[first])?;
         return Ok(1);
     }
-    Ok(0)
+    if bytes.len() < 2 {
+        return Ok(0);
+    }
+    let second = bytes[1];
+    if !are_two(first, second) {
+        add_symbol(alloc, tokens, at, &[first])?;
+        return Ok(1);
+    }
+    if are_shift(first, second) {
+        return Ok(0);
+    }
+    add_symbol(alloc, tokens, at, &[first, second])?;
+    Ok(2)
 }
 
 // Where no token is open: blanks, or a plain token.
@@ -225,6 +266,8 @@ fn between(alloc: Global, tokens: &mut Tokens, at: Place, bytes: &[u8]) -> Resul
         Class::Zero => hexadecimal(alloc, tokens, at, bytes),
         Class::Digit => decimal(alloc, tokens, at, bytes),
         Class::Quote => string(alloc, tokens, at, bytes),
+        Class::Star => symbol(alloc, tokens, at, bytes),
+        Class::Equals => symbol(alloc, tokens, at, bytes),
         Class::Sign => symbol(alloc, tokens, at, bytes),
         _ => Ok(0),
     }

@@ -3,7 +3,7 @@ use Rattle.std.proofs.lemmas.Result.{err_from_is_err_and}
 use Rattle.asl_lexer.specs.declared.mode.Mode.TheVariants as m
 use Rattle.asl_lexer.specs.Scan.{scan, Fails, Gives}
 use Rattle.asl_lexer.specs.Marks.{following, line_marks}
-use Rattle.asl_lexer.proofs.Steps.{tokens_of-lines, tokens_of-no_lines, All-others, scan_end}
+use Rattle.asl_lexer.proofs.Steps.{tokens_of-lines, tokens_of-no_lines, All-others, scan_end, following_breaks}
 use Rattle.asl_lexer.proofs.cutter.all.Goals as goal
 
 pub returns-in_default : goal.returns-in_default
@@ -17,19 +17,22 @@ returns-in_err-mode c =
     let p = err_from_is_err_and c.from_residual.result c.from_residual.ensures.1 in
     let whole = tokens_of-lines c.args.lines.now c.first-item.result (omega arith) c.first-item.is in
     let others = following (take (length c.args.lines.now - 1) (drop 1 c.args.lines.now)) in
-    rw (p.1, p.2) (rw whole (subst (λ ts. Fails c.in_err-mode.field-0.0 (scan (line_marks c.first-item.result ++ others) m.Between ts)) c.new-tokens.ensures (c.in_err-mode.ensures others)))
+    let ends = following_breaks (take (length c.args.lines.now - 1) (drop 1 c.args.lines.now)) in
+    rw (p.1, p.2) (rw whole (subst (λ ts. Fails c.in_err-mode.field-0.0 (scan (line_marks c.first-item.result ++ others) m.Between ts)) c.new-tokens.ensures (c.in_err-mode.ensures others ends)))
 
 pub returns-in_err-mode-2 : goal.returns-in_err-mode-2
 returns-in_err-mode-2 c =
     let p = err_from_is_err_and c.from_residual-in_err-mode-2.result c.from_residual-in_err-mode-2.ensures.1 in
     let whole = tokens_of-lines c.args.lines.now c.first-item.result (omega arith) c.first-item.is in
     let others = following (take (length c.args.lines.now - 1) (drop 1 c.args.lines.now)) in
-    let first = subst (λ ts. scan (line_marks c.first-item.result ++ others) m.Between ts ≡ scan others c.in_ok-mode.mode c.scan_line.new.tokens) c.new-tokens.ensures (c.in_ok-mode.ensures others) in
+    let ends = following_breaks (take (length c.args.lines.now - 1) (drop 1 c.args.lines.now)) in
+    let first = subst (λ ts. scan (line_marks c.first-item.result ++ others) m.Between ts ≡ scan others c.in_ok-mode.mode c.scan_line.new.tokens) c.new-tokens.ensures (c.in_ok-mode.ensures others ends) in
     rw (p.1, p.2) (rw (whole, first) c.in_err-mode-2.ensures)
 
 pub returns : goal.returns
 returns c =
     let whole = tokens_of-lines c.args.lines.now c.first-item.result (omega arith) c.first-item.is in
     let others = following (take (length c.args.lines.now - 1) (drop 1 c.args.lines.now)) in
-    let first = subst (λ ts. scan (line_marks c.first-item.result ++ others) m.Between ts ≡ scan others c.in_ok-mode.mode c.scan_line.new.tokens) c.new-tokens.ensures (c.in_ok-mode.ensures others) in
+    let ends = following_breaks (take (length c.args.lines.now - 1) (drop 1 c.args.lines.now)) in
+    let first = subst (λ ts. scan (line_marks c.first-item.result ++ others) m.Between ts ≡ scan others c.in_ok-mode.mode c.scan_line.new.tokens) c.new-tokens.ensures (c.in_ok-mode.ensures others ends) in
     subst (Gives c.finish.result) (sym (whole ∙ first ∙ c.in_ok-mode-2.ensures ∙ scan_end c.in_ok-mode-2.mode c.next_lines.new.tokens)) c.finish.ensures
