@@ -13,9 +13,10 @@ ROOT = ["_GPE", "_PR_", "_SB_", "_SI_", "_TZ_", "_GL_", "_OSI", "_OS_", "_REV"]
 LETTERS = "ABCDEFGHIJKLMNOPQRSTUVWXYZ"
 EDGES = [0, 1, 2, 0x7F, 0x80, 0xFF, 0x100, 0xFFFF, 0x10000, 0xFFFFFFFF, 0x100000000, 2**63 - 1, 2**64 - 2, 2**64 - 1]
 
-# ACPICA's compiler without its folding and its shorter names, which iasl does not do yet; -f writes the table also where it
-# has errors of its own, such as a Local that is read before it is stored to.
-THEIRS = ["iasl", "-f", "-vs", "-of", "-on"]
+# Neither compiler folds constants or shortens names; -f writes ACPICA's table also where it has errors of its own, such as a Local that is
+# read before it is stored to.
+PLAIN = ["-of", "-on"]
+THEIRS = ["iasl", "-f", "-vs"] + PLAIN
 
 
 def compiled(folder, words, text):
@@ -62,7 +63,8 @@ def segment(used):
             return written, name_seg
 
 
-def number():
-    """A number and how it is written."""
+def number(bits=64):
+    """A number of at most so many bits, and how it is written."""
     value = random.choice(EDGES) if random.random() < 0.5 else random.getrandbits(random.choice([4, 8, 16, 32, 48, 64]))
+    value %= 2**bits
     return value, random.choice([str(value), hex(value), "0" + oct(value)[2:] if value else "0"])

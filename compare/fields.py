@@ -13,7 +13,7 @@ import sys
 import tempfile
 from pathlib import Path
 
-from acpica import THEIRS, compiled, segment, without_creator
+from acpica import PLAIN, THEIRS, compiled, segment, without_creator
 
 SPACES = ["SystemMemory", "SystemIO", "EmbeddedControl", "SystemCMOS", "PCI_Config", "0x80", "0xFE"]
 ACCESSES = ["AnyAcc", "ByteAcc", "WordAcc", "DWordAcc", "QWordAcc"]
@@ -100,7 +100,7 @@ def main():
             if not theirs:
                 refused += 1  # (an access that ACPICA's compiler finds beyond the region)
                 continue
-            ours = compiled(folder / "ours", [iasl], text)
+            ours = compiled(folder / "ours", [iasl] + PLAIN, text)
             if not ours or without_creator(ours) != without_creator(theirs):
                 print(text)
                 raise SystemExit(f"source {run}: other bytes")

@@ -3,9 +3,10 @@
 
     compare/names.py IASL COUNT SEED
 
-No segment is declared twice, so that no name is searched at two places and each stands in the bytes as it is written. The
-bytes must be those of ACPICA's iasl, but for the creator's two fields and the checksum, which is checked by itself.
-It needs acpica-tools, and is no part of the tests.
+No segment is declared twice, so that no name is searched at two places. Half of the tables have Integers of 32 bits, and literals of no more.
+With names as they are written the bytes must be those of ACPICA's iasl, but for the creator's two fields and the checksum, which is checked by
+itself. With names shortened, which ACPICA's iasl of 2020 does not do to these, no table may be longer. It needs acpica-tools, and is no part of
+the tests.
 """
 
 import random
@@ -13,13 +14,14 @@ import sys
 import tempfile
 from pathlib import Path
 
-from acpica import THEIRS, compiled, number, segment, without_creator
+from acpica import PLAIN, THEIRS, compiled, number, segment, without_creator
 
 
 class Block:
     """A block's terms, made from the outside in; what is declared is used by the methods that come last."""
 
-    def __init__(self):
+    def __init__(self, bits):
+        self.bits = bits
         self.used = set()
         self.data = []
         self.methods = []
@@ -33,7 +35,7 @@ class Block:
         lines = []
         for _ in range(random.choice([1, 2, 3])):
             written, seg = self.new()
-            value, text = number()
+            value, text = number(self.bits)
             lines.append(f"Name ({written}, {text})")
             self.data.append((scope + [seg], "integer"))
         for _ in range(random.choice([0, 1, 2])):
@@ -82,7 +84,7 @@ class Block:
         if kind < 0.9 and depth:
             op = random.choice(["Add", "Subtract", "Or", "ShiftLeft"])
             return f"{op} ({self.operand(scope, arity, depth - 1)}, {self.operand(scope, arity, depth - 1)})"
-        return number()[1]
+        return number(self.bits)[1]
 
     def statements(self, scope, arity, depth, loop):
         lines = []
@@ -102,7 +104,7 @@ class Block:
             elif kind < 0.8 and loop:
                 lines.append(random.choice(["Break", "Continue"]))
             elif kind < 0.9:
-                lines.append(f"Store (Package () {{{', '.join(number()[1] for _ in range(random.randrange(5)))}}}, Local2)")
+                lines.append(f"Store (Package () {{{', '.join(number(self.bits)[1] for _ in range(random.randrange(5)))}}}, Local2)")
             else:
                 lines.append(f"Store (Buffer (4) {{{', '.join(str(random.randrange(256)) for _ in range(random.randrange(5)))}}}, Local3)")
         return lines
@@ -128,24 +130,32 @@ class Block:
 def main():
     iasl, count, seed = str(Path(sys.argv[1]).resolve()), int(sys.argv[2]), int(sys.argv[3])
     random.seed(seed)
-    crashed = 0
+    crashed, saved, size = 0, 0, 0
     with tempfile.TemporaryDirectory() as name:
         folder = Path(name)
         for run in range(count):
-            block = Block()
+            revision = 1 + run % 2
+            block = Block(32 * revision)
             lines = block.terms([], 3)
             if not block.methods:
                 continue
-            text = 'DefinitionBlock ("", "SSDT", 2, "OEMX00", "TABLE001", 1)\n' + block.braces(lines, 0)
+            text = f'DefinitionBlock ("", "SSDT", {revision}, "OEMX00", "TABLE001", 1)\n' + block.braces(lines, 0)
             theirs = compiled(folder / "theirs", THEIRS, text)
-            ours = compiled(folder / "ours", [iasl], text)
+            ours = compiled(folder / "ours", [iasl] + PLAIN, text)
             if not theirs:
                 crashed += 1  # (ACPICA's compiler ends by a signal on some sources, and leaves an empty file)
                 continue
             if without_creator(ours) != without_creator(theirs):
                 print(text)
                 raise SystemExit(f"source {run}: other bytes")
+            short = compiled(folder / "ours", [iasl, "-of"], text)
+            if len(short) > len(ours):
+                print(text)
+                raise SystemExit(f"source {run}: {len(short)} bytes with names shortened, and {len(ours)} as they are written")
+            size += len(ours)
+            saved += len(ours) - len(short)
     print(f"{count} sources: the same bytes, {crashed} on which ACPICA's compiler crashed aside")
+    print(f"with names shortened {saved} of {size} bytes fewer")
 
 
 if __name__ == "__main__":

@@ -13,7 +13,7 @@ import sys
 import tempfile
 from pathlib import Path
 
-from acpica import EDGES, THEIRS, compiled, evaluated, number, segment, without_creator
+from acpica import EDGES, PLAIN, THEIRS, compiled, evaluated, number, segment, without_creator
 
 ONES = 2**64 - 1
 # The operators with two operands and a target, with one and a target, with two, and with one.
@@ -197,7 +197,7 @@ def main():
         for run in range(count):
             text, calls = source()
             theirs = compiled(folder / "theirs", THEIRS, text)
-            ours = compiled(folder / "ours", [iasl], text)
+            ours = compiled(folder / "ours", [iasl] + PLAIN, text)
             if without_creator(ours) != without_creator(theirs):
                 sys.exit(f"run {run}: other bytes:\n{text}")
             given = evaluated(folder / "ours", [call for call, _ in calls])

@@ -14,7 +14,7 @@ import sys
 import tempfile
 from pathlib import Path
 
-from acpica import EDGES, THEIRS, compiled, evaluated, number, segment, without_creator
+from acpica import EDGES, PLAIN, THEIRS, compiled, evaluated, number, segment, without_creator
 
 ONES = 2**64 - 1
 
@@ -380,7 +380,7 @@ def main():
         for run in range(count):
             text, calls = source()
             theirs = compiled(folder / "theirs", THEIRS, text)
-            ours = compiled(folder / "ours", [iasl], text)
+            ours = compiled(folder / "ours", [iasl] + PLAIN, text)
             if not theirs:
                 crashed += 1  # (ACPICA's compiler ends by a signal on some sources, and leaves an empty file)
             elif without_creator(ours) != without_creator(theirs):

@@ -13,7 +13,7 @@ import sys
 import tempfile
 from pathlib import Path
 
-from acpica import THEIRS, compiled, without_creator
+from acpica import PLAIN, THEIRS, compiled, without_creator
 
 WORDS = {
     "usage": "ResourceProducer ResourceConsumer",
@@ -181,7 +181,7 @@ def main():
         folder = Path(name)
         for run in range(len(fixed) + count):
             text = fixed[run] if run < len(fixed) else source([some_template(number) for number in range(random.randrange(1, 6))])
-            ours, theirs = compiled(folder, [iasl], text), compiled(folder, THEIRS, text)
+            ours, theirs = compiled(folder, [iasl] + PLAIN, text), compiled(folder, THEIRS, text)
             if without_creator(ours) != without_creator(theirs):
                 sys.exit(f"source {run}: other bytes:\n{text}")
     print(f"{len(fixed)} sources of single arguments and {count} random ones: the same bytes")

@@ -1,17 +1,62 @@
 -- What follows from the definition of a dump alone.
-use Rattle.std.proofs.Common.{◌≡◌, ℕ, Bool, true, false, cond, List, [], ◌∷◌, ◌++◌, take, drop, Some, None, Result, Ok, Err, IsTrue, arith, ◌&&◌, refl, sym, subst}
+use Rattle.std.proofs.Common.{◌≡◌, ◌⊎◌, inl, inr, ℕ, Bool, true, false, cond, nat_lt, nat_le, List, [], ◌∷◌, ◌++◌, length, take, drop, Option, Some, None, Result, Ok, Err, IsTrue, arith, ◌&&◌, refl, sym, ap, subst, ◌∙◌, append-nil}
+use Rattle.std.specs.Prelude.{IsSomeAnd}
+use Rattle.std.specs.Option.{option_map}
+use Rattle.std.proofs.Math.Seq.{take-nil, drop-nil}
 use Rattle.std.specs.List.{flat_map, All}
 use Rattle.std.proofs.lemmas.List.Elements.{All-cons}
+use Rattle.iasl_ports.specs.Gained.{Named, Gains, GainsSome, IsPartOfFirst}
+use Rattle.iasl_ports.specs.Fetched.{find_file, most_bytes}
+use Rattle.iasl_ports.specs.Delivery.{Answer, due_of, OutsGained}
 use Rattle.iasl_messages.specs.Cut.{lines_of}
 use Rattle.acpi_extract.specs.Lines.{is_blank_line, is_signature, is_header_with, is_address, signature_of}
 use Rattle.acpi_extract.specs.Dump.{Dumped, Fault, Numbered, Block, Headed, Stray, Cut, strays, cut_at_line, cut_at_header, all_blocks, cut_of, numbered_from, bytes_of, tells_length, table_of, answer_of, then_all, all_of, dump_of}
-use Rattle.acpi_extract.specs.Words.{Listing}
-use Rattle.acpi_extract.specs.Due.{numbered, file_of}
+use Rattle.acpi_extract.specs.Table.{message_of}
+use Rattle.acpi_extract.specs.Words.{Asked, Listing, Request, request_of}
+use Rattle.acpi_extract.specs.Due.{numbered, file_of, refusal, answer_to_dump, answer_to_text, answer_to_request, answer_for}
 
 -- a list of tables puts no file
 pub list_puts_nothing : (before tables : List Dumped) → flat_map (file_of Listing) (numbered before tables) ≡ []
 list_puts_nothing before [] = refl
 list_puts_nothing before (table ∷ rest) = list_puts_nothing (before ++ table ∷ []) rest
+
+-- no answer to words that ask for a list has a file
+list_due : (request : Request) (text : List ℕ) → request.asked ≡ Listing → (answer_to_text request text).due ≡ []
+list_due request text e =
+    elim (nat_lt most_bytes (length text)) as (λ b. (cond b (refusal request.file (message_of (6007, 1) ∷ [])) (answer_to_dump request (dump_of text))).due ≡ []) [
+      | true ↦ refl
+      | false ↦
+          elim (dump_of text) as (λ d. (answer_to_dump request d).due ≡ []) [
+            | Err fault ↦ refl
+            | Ok tables ↦ ap (λ (asked : Asked). flat_map (file_of asked) (numbered [] tables)) e ∙ list_puts_nothing [] tables
+          ]
+    ]
+
+list_found : (request : Request) (found : Option (List ℕ)) → request.asked ≡ Listing → due_of (option_map (answer_to_text request) found) ≡ []
+list_found request None e = refl
+list_found request (Some text) e = list_due request text e
+
+list_asked : (asked : Option Request) (told : List Named) → IsSomeAnd asked (λ request. request.asked ≡ Listing) → due_of (answer_to_request asked told) ≡ []
+list_asked None told h = absurd h
+list_asked (Some request) told h = list_found request (find_file told request.file) h
+
+-- some first files of none are none
+some_of_none : (torn : Type 0) (old new : Option (List Named)) → GainsSome torn old new [] → Gains old new []
+some_of_none torn old new g =
+    let rest : (g.part ≡ []) ⊎ (torn × IsPartOfFirst [] g.part) = subst (λ (files : List Named). (g.part ≡ []) ⊎ (torn × IsPartOfFirst files g.part)) (drop-nil g.whole) g.next in
+    let part : g.part ≡ [] = elim rest as (λ r. g.part ≡ []) [ inl e ↦ e | inr e ↦ e.1 ] in
+    subst (Gains old new) (ap (λ (files : List Named). take g.whole [] ++ files) part ∙ append-nil (take g.whole []) ∙ take-nil g.whole) g.gained
+
+none_gained : (answer : Option Answer) (status : ℕ) (rose calm : Type 0) (old new : Option (List Named)) → due_of answer ≡ [] → OutsGained answer status rose calm old new → Gains old new []
+none_gained answer status rose calm old new e outs =
+    elim (nat_le status 2) as (λ b. nat_le status 2 ≡ b → Gains old new []) [
+      | true ↦ λ f. subst (Gains old new) e (outs.ended (grind arith))
+      | false ↦ λ f. some_of_none (rose × (status ≡ 3)) old new (subst (GainsSome (rose × (status ≡ 3)) old new) e (outs.stopped (grind arith)))
+    ] refl
+
+-- the outputs gain nothing where the words ask for a list
+pub list_gains_nothing : (words : List (List ℕ)) (told : List Named) (status : ℕ) (rose calm : Type 0) (old new : Option (List Named)) → IsSomeAnd (request_of words) (λ request. request.asked ≡ Listing) → OutsGained (answer_for words told) status rose calm old new → Gains old new []
+list_gains_nothing words told status rose calm old new h outs = none_gained (answer_for words told) status rose calm old new (list_asked (request_of words) told h) outs
 
 -- a table of the form: its signature is one, and it tells its length
 pub record IsTable (table : Dumped) : Type 0 where

@@ -11,7 +11,7 @@ ghost use Rattle.acpi_extract.specs.Asking.{asked_by, request_by};
 
 use crate::dump::{one_message, tables};
 use crate::names::{Counts, file_name, next_number, stem};
-use crate::table::Table;
+use crate::table::{Table, Tables};
 use crate::words::{Choice, Wish, is_asked, wish_of};
 use iasl_messages::console::{listed_line, render, summary, table_line};
 use iasl_messages::message::{Messages, Stage};
@@ -41,20 +41,19 @@ fn push_table(
     files: &mut Vec<OutFile>,
     text: &mut Vec<u8>,
     name: String,
-    table: &Table,
+    table: Table,
 ) -> Result<(), AllocError>
-    ensures files { OnOk result (map name_and_bytes files.new.items ≡ map name_and_bytes files.old.items ++ (string_bytes name, table.now.bytes) ∷ []) }
-    ensures text { OnOk result (text.new.items ≡ text.old.items ++ table_line (string_bytes name) table.now.signature (length table.now.bytes)) }
+    ensures files { OnOk result (map name_and_bytes files.new.items ≡ map name_and_bytes files.old.items ++ (string_bytes name, table.bytes) ∷ []) }
+    ensures text { OnOk result (text.new.items ≡ text.old.items ++ table_line (string_bytes name) table.signature (length table.bytes)) }
 {
-    let bytes = table.bytes.as_bytes();
     let line = table_line(
         alloc,
         name.as_bytes(),
         table.signature.as_bytes(),
-        bytes.len() as u64,
+        table.bytes.len() as u64,
     )?;
     push_text(text, &line)?;
-    push_file(files, name, bytes.to_vec(alloc)?)
+    push_file(files, name, table.bytes.into_vec())
 }
 
 // Adds what is due of a table: its file and its line, or its line in a list, or nothing.
@@ -65,18 +64,14 @@ fn push_due(
     choice: Choice<'_>,
     number: u64,
     stem: &str,
-    table: &Table,
+    table: Table,
 ) -> Result<(), AllocError>
-    requires { stem.now ≡ stem_of table.now.signature }
-    ensures files { OnOk result (map name_and_bytes files.new.items ≡ map name_and_bytes files.old.items ++ file_of (asked_by choice.entry) (number, dumped table.now)) }
-    ensures text { OnOk result (text.new.items ≡ text.old.items ++ line_of (asked_by choice.entry) (number, dumped table.now)) }
+    requires { stem.now ≡ stem_of table.signature }
+    ensures files { OnOk result (map name_and_bytes files.new.items ≡ map name_and_bytes files.old.items ++ file_of (asked_by choice.entry) (number, dumped table)) }
+    ensures text { OnOk result (text.new.items ≡ text.old.items ++ line_of (asked_by choice.entry) (number, dumped table)) }
 {
     if let Choice::Listing = choice {
-        let line = listed_line(
-            alloc,
-            table.signature.as_bytes(),
-            table.bytes.as_bytes().len() as u64,
-        )?;
+        let line = listed_line(alloc, table.signature.as_bytes(), table.bytes.len() as u64)?;
         return push_text(text, &line);
     }
     if !is_asked(choice, table.signature.as_bytes()) {
@@ -86,14 +81,14 @@ fn push_due(
 }
 
 // What is due of a dump without fault.
-fn succeed(alloc: Global, choice: Choice<'_>, tables: &[Table]) -> Result<Due, AllocError>
-    ensures due { IfOk result (λ due. answer_of due ≡ success (asked_by choice.entry) (map dumped tables.now)) }
+fn succeed(alloc: Global, choice: Choice<'_>, tables: Tables) -> Result<Due, AllocError>
+    ensures due { IfOk result (λ due. answer_of due ≡ success (asked_by choice.entry) (map dumped tables)) }
     ensures settled { IfOk result IsSettled }
 {
     let mut files = Vec::new(alloc);
     let mut text = Vec::new(alloc);
     let mut counts = Counts::new(alloc);
-    for table in tables {
+    for table in tables.into_vec() {
         let stem = stem(alloc, table.signature.as_bytes())?;
         let number = next_number(alloc, &mut counts, &stem)?;
         push_due(alloc, &mut files, &mut text, choice, number, &stem, table)?;
@@ -143,7 +138,7 @@ fn answer(alloc: Global, wish: Wish<'_>, text: &[u8]) -> Result<Due, AllocError>
     ensures settled { IfOk result IsSettled }
 {
     match tables(alloc, text) {
-        Ok(tables) => succeed(alloc, wish.choice, tables.as_slice()),
+        Ok(tables) => succeed(alloc, wish.choice, tables),
         Err(Stage::Refused(messages)) => refuse(alloc, wish.file, &messages),
         Err(Stage::Memory) => Err(AllocError),
     }

@@ -106,7 +106,7 @@ impl Reader {
         }
         self.done.push(Table {
             signature: table.signature,
-            bytes: Text::from_vec(self.alloc, table.bytes)?,
+            bytes: List::from_vec(table.bytes),
         })?;
         Ok(())
     }

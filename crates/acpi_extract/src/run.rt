@@ -1,7 +1,10 @@
 //! The top call: a dump to the files of its tables.
-ghost use Rattle.std.specs.Prelude.{map, string_bytes};
+ghost use Rattle.std.specs.Prelude.{◌≡◌, [], IsSomeAnd, map, string_bytes};
+ghost use Rattle.std.specs.Option.{ForSome};
+ghost use Rattle.iasl_ports.specs.Gained.{Gains};
 ghost use Rattle.iasl_runs.specs.Ends.{files_seen, outputs_seen, console_seen, world, Ends};
 ghost use Rattle.acpi_extract.specs.Due.{answer_for, fault_text, memory_text};
+ghost use Rattle.acpi_extract.specs.Words.{Listing, request_of};
 
 use crate::due::decide;
 use iasl_ports::files::Files;
@@ -27,9 +30,12 @@ pub fn extract<F: Files, O: Outputs, C: Sink>(
     outs: &mut O,
     console: &mut C,
 ) -> u8
-    ensures { Ends (answer_for (map string_bytes words.now)) fault_text memory_text result
+    ensures ends { Ends (answer_for (map string_bytes words.now)) fault_text memory_text result
         (world (files_seen (F.contents files.old) (F.faults files.old) (F.absents files.old)) (outputs_seen (O.written outs.old) (O.faults outs.old)) (console_seen (C.told console.old) (C.faults console.old)))
         (world (files_seen (F.contents files.new) (F.faults files.new) (F.absents files.new)) (outputs_seen (O.written outs.new) (O.faults outs.new)) (console_seen (C.told console.new) (C.faults console.new))) }
+
+    // A list puts no file, whatever the status.
+    ensures list { IsSomeAnd (request_of (map string_bytes words.now)) (λ request. request.asked ≡ Listing) → ForSome (F.contents files.old) (λ told. Gains (O.written outs.old) (O.written outs.new) []) }
 {
     let decided = decide(alloc, words, files);
     finish(outs, console, decided, STOP_TEXTS)

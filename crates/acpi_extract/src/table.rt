@@ -10,7 +10,7 @@ use std::alloc::{AllocError, Global};
 #[derive(Drop)]
 pub struct Table {
     pub signature: Text,
-    pub bytes: Text,
+    pub bytes: List<u8>,
     pub ghost named: { IsTrue (is_signature signature) },
 }
 

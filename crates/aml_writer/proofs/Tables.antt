@@ -145,12 +145,12 @@ module _ (known : Known) where
     elements_whole no_trees scope h = tt
     elements_whole (tree t ts) scope h = (element_whole t (IsReady known t scope) h.0 (ready_whole t scope), elements_whole ts scope h.1)
 
-    all_whole : (ts : Trees) (scope : AbsolutePath) → AreReady known ts scope → AreWhole ts
+    pub all_whole : (ts : Trees) (scope : AbsolutePath) → AreReady known ts scope → AreWhole ts
     all_whole no_trees scope h = tt
     all_whole (tree t ts) scope h = (ready_whole t scope h.0, all_whole ts scope h.1)
 
 -- the bodies of a Buffer and of a field are looked at as they are listed
-abbrev BodyWhole : Op → Trees → Type 0
+abbrev pub BodyWhole : Op → Trees → Type 0
 BodyWhole (Op.Special Special.Buffer) body = Unit {0}
 BodyWhole (Op.Declaration Declaration.Field) body = Unit {0}
 BodyWhole (Op.Declaration Declaration.IndexField) body = Unit {0}
@@ -178,7 +178,7 @@ by_items : {R : Type 0} (items : Option (List (FieldItem UnitName))) (f : List (
 by_items None f h g = absurd h
 by_items (Some found) f h g = g found h
 
-form_whole : (here : At) (op : Op) (args body : Trees) → IsWhole (form here op args body) → AreWhole args × BodyWhole op body
+pub form_whole : (here : At) (op : Op) (args body : Trees) → IsWhole (form here op args body) → AreWhole args × BodyWhole op body
 form_whole here (Op.Declaration Declaration.Name) (tree (Use at name) (tree value no_trees)) no_trees h = ((h.0, (h.1, tt)), tt)
 form_whole here (Op.Declaration Declaration.Alias) (tree (Use from source) (tree (Use at name) no_trees)) no_trees h = ((h.0, (h.1, tt)), tt)
 form_whole here (Op.Declaration Declaration.External) (tree (Use at name) (tree (Integer type) no_trees)) no_trees h = ((h, (tt, tt)), tt)
@@ -253,7 +253,7 @@ module _ (style : IntegerStyle) where
   mutual
     unfolding tree_of term_bytes
 
-    written : (at : At) (t : Term) → IsWhole (tree_of at t) → term_bytes style t ≡ encoded style.width style.short (tree_of at t)
+    pub written : (at : At) (t : Term) → IsWhole (tree_of at t) → term_bytes style t ≡ encoded style.width style.short (tree_of at t)
     written at (D.Local index) h = local_written 0x60 index (omega (arith, h))
     written at (D.Arg index) h = local_written 0x68 index (omega (arith, h))
     written at (D.Name path) h = name_written path h
@@ -266,7 +266,7 @@ module _ (style : IntegerStyle) where
         ∙ formed_written at op (row_trees args) (row_trees body) (row_bytes style (letters_of op) args) (row_bytes style [] body) (written_items 0 (D.items-the_row-Node _ body)) h (row_written (letters_of op) args) (λ w. row_written [] body w ∙ all_is style (row_trees body)) (items_written 0 _ body)
     written at _ h = refl
 
-    row_written : (letters : List Letter) {m : _} (row : D.Row_of-Node m) → AreWhole (row_trees row) → row_bytes style letters row ≡ trees_bytes style letters (row_trees row)
+    pub row_written : (letters : List Letter) {m : _} (row : D.Row_of-Node m) → AreWhole (row_trees row) → row_bytes style letters row ≡ trees_bytes style letters (row_trees row)
     row_written letters D.end_of-Node h = refl
     row_written letters (D.more_of-Node id place term rest) h =
         let at : At = record { id = id; place = place } in

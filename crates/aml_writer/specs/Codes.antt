@@ -1,5 +1,5 @@
 -- What each form is written with: its opcode, the letters of its arguments, and whether it is a package.
-use Rattle.std.specs.Prelude.{ℕ, Bool, true, false, List, [], ◌∷◌, ◌++◌}
+use Rattle.std.specs.Prelude.{ℕ, List, [], ◌∷◌, ◌++◌}
 use Rattle.acpi_values.specs.declared.operator.IntOp.{IntOp}
 use Rattle.acpi_values.specs.declared.operator.Plain.{Plain}
 use Rattle.acpi_values.specs.Operators.{Letter, Kept, row_of}
@@ -85,16 +85,3 @@ abbrev pub letters_of : Op → List Letter
 letters_of (Op.Declaration declaration) = declaration_letters declaration
 letters_of (Op.Plain op) = (row_of op).operands
 letters_of _ = []
-
--- whether a form's body is a list of terms, each of which begins a piece
-abbrev pub holds_terms : Op → Bool
-holds_terms (Op.Declaration Declaration.Method) = true
-holds_terms (Op.Declaration Declaration.Device) = true
-holds_terms (Op.Declaration Declaration.ThermalZone) = true
-holds_terms (Op.Declaration Declaration.PowerResource) = true
-holds_terms (Op.Declaration Declaration.Processor) = true
-holds_terms (Op.Declaration Declaration.Scope) = true
-holds_terms (Op.Control Control.If) = true
-holds_terms (Op.Control Control.Else) = true
-holds_terms (Op.Control Control.While) = true
-holds_terms _ = false

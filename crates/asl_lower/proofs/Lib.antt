@@ -9,4 +9,5 @@ pub mod Backwards
 pub mod Copies
 pub mod Givens
 pub mod Lowered
+pub mod Places
 mod Rows

@@ -1,3 +1,4 @@
 pub mod Kinds
 pub mod Nests
 pub mod Nodes
+pub mod Places

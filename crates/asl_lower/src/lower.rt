@@ -1,5 +1,5 @@
 //! A program with its symbolic operators named (ACPI Specification 6.4, 19.2.6) and its ElseIfs nested (19.6.40).
-ghost use Rattle.std.specs.Prelude.{◌≡◌, ◌≤◌, ◌∷◌, [], length, IfOk};
+ghost use Rattle.std.specs.Prelude.{◌≡◌, ◌≤◌, ◌∷◌, [], length, true, IfOk};
 ghost use Rattle.acpi_values.specs.Operators.{row_of};
 ghost use Rattle.acpi_names.specs.Parts.{term_size, nodes_size};
 ghost use Rattle.acpi_names.specs.Walked.{term_shape, node_tree};
@@ -7,10 +7,13 @@ ghost use Rattle.asl_tree.specs.Symbols.{compound_operator};
 ghost use Rattle.asl_tree.specs.Tree.{At, no_trees};
 ghost use Rattle.asl_tree.specs.View.{form, tree_of, trees_of};
 ghost use Rattle.asl_tree.specs.declared.term.Op.{Op as O};
+ghost use Rattle.iasl_messages.specs.declared.place.Place.{Place as Here};
 ghost use Rattle.asl_tree.specs.declared.term.Symbolic.TheVariants as S;
 ghost use Rattle.asl_lower.specs.Kinds.{shape_args};
 ghost use Rattle.asl_lower.specs.Nests.{joined};
 ghost use Rattle.asl_lower.specs.Nodes.{given as given_tree, last_target, named, named_args, named_all, named_body};
+ghost use Rattle.asl_lower.specs.Places.{form_places, has_terms, lowered_at, lowered_places, nested_at, nested_places, StandsAlone, TakesPlacesOf};
+ghost use Rattle.term_places.specs.Places.{places_of};
 
 use crate::copy::copied;
 use crate::kind::{Kind, fit, kind_of, targets};
@@ -41,7 +44,8 @@ fn compound(op: Compound) -> Plain
 // A form with no body.
 #[tactic(auto, using(crate::proofs::Lowered::bare_form))]
 fn bare(alloc: Global, op: Op, args: Vec<Node>) -> Term
-    ensures { (at : At) → tree_of at result ≡ form at op (trees_of args.items) no_trees }
+    ensures tree { (at : At) → tree_of at result ≡ form at op (trees_of args.items) no_trees }
+    ensures places { (here : Here) → nested_at here result ≡ form_places op (trees_of args.items) here [] }
 {
     Term::Form {
         op,
@@ -134,7 +138,8 @@ fn with_target(op: Plain, args: Vec<Node>, target: Node) -> Result<Vec<Node>, Al
 /// each ElseIf is an If in an Else (19.6.40). A node that is made has the id and the place of the one that it stands for.
 #[cycle(lower)]
 pub fn lower(alloc: Global, terms: Vec<Node>) -> Result<Vec<Node>, AllocError>
-    ensures { IfOk result (λ lowered. trees_of lowered.items ≡ named_all (trees_of terms.items)) }
+    ensures trees { IfOk result (λ lowered. trees_of lowered.items ≡ named_all (trees_of terms.items)) }
+    ensures places { IfOk result (λ lowered. places_of lowered.items ≡ lowered_places terms.items) }
 {
     let each = lower_each(alloc, terms)?;
     let nested = nest(alloc, each)?;
@@ -144,7 +149,8 @@ pub fn lower(alloc: Global, terms: Vec<Node>) -> Result<Vec<Node>, AllocError>
 // Terms each by itself.
 #[cycle(lower)]
 fn lower_each(alloc: Global, nodes: Vec<Node>) -> Result<Vec<Node>, AllocError>
-    ensures { IfOk result (λ made. trees_of made.items ≡ named_args (trees_of nodes.items)) }
+    ensures trees { IfOk result (λ made. trees_of made.items ≡ named_args (trees_of nodes.items)) }
+    ensures places { IfOk result (λ made. nested_places made.items ≡ lowered_places nodes.items) }
 {
     let mut left = nodes;
     let mut made = Vec::new(alloc);
@@ -157,7 +163,8 @@ fn lower_each(alloc: Global, nodes: Vec<Node>) -> Result<Vec<Node>, AllocError>
 
 #[cycle(lower)]
 fn lower_node(alloc: Global, node: Node) -> Result<Node, AllocError>
-    ensures { IfOk result (λ made. node_tree made ≡ named (node_tree node)) }
+    ensures tree { IfOk result (λ made. node_tree made ≡ named (node_tree node)) }
+    ensures places { IfOk result (λ made. nested_at made.place made.term ≡ lowered_at node.place node.term) }
 {
     let Node { id, place, term } = node;
     let term = lower_term(alloc, id, place, term)?;
@@ -167,7 +174,8 @@ fn lower_node(alloc: Global, node: Node) -> Result<Node, AllocError>
 // The term of a node with an id and a place.
 #[cycle(lower)]
 fn lower_term(alloc: Global, id: u32, place: Place, term: Term) -> Result<Term, AllocError>
-    ensures { IfOk result (λ made. (at : At) → tree_of at made ≡ named (tree_of at term)) }
+    ensures tree { IfOk result (λ made. (at : At) → tree_of at made ≡ named (tree_of at term)) }
+    ensures places { IfOk result (TakesPlacesOf term) }
 {
     match term {
         Term::Call { path, args } => {
@@ -191,7 +199,8 @@ fn lower_form(
     args: Vec<Node>,
     body: Vec<Node>,
 ) -> Result<Term, AllocError>
-    ensures { IfOk result (λ made. (at : At) → tree_of at made ≡ named (form at op (trees_of args.items) (trees_of body.items))) }
+    ensures tree { IfOk result (λ made. (at : At) → tree_of at made ≡ named (form at op (trees_of args.items) (trees_of body.items))) }
+    ensures places { IfOk result (λ made. (here : Here) → nested_at here made ≡ form_places op (trees_of args.items) here (lowered_places body.items)) }
 {
     match op {
         Op::Symbolic(symbol) => {
@@ -209,7 +218,8 @@ fn lower_form(
 // What stands in the braces of a form.
 #[cycle(lower)]
 fn lower_body(alloc: Global, op: Op, body: Vec<Node>) -> Result<Vec<Node>, AllocError>
-    ensures { IfOk result (λ made. trees_of made.items ≡ named_body op (trees_of body.items)) }
+    ensures trees { IfOk result (λ made. trees_of made.items ≡ named_body op (trees_of body.items)) }
+    ensures places { IfOk result (λ made. has_terms op ≡ true → places_of made.items ≡ lowered_places body.items) }
 {
     match op {
         Op::Special(Special::Package) => {
@@ -242,7 +252,8 @@ fn lower_symbol(
     args: Vec<Node>,
     body: Vec<Node>,
 ) -> Result<Term, AllocError>
-    ensures { IfOk result (λ made. (at : At) → tree_of at made ≡ named (form at (O.Symbolic symbol) (trees_of args.items) (trees_of body.items))) }
+    ensures tree { IfOk result (λ made. (at : At) → tree_of at made ≡ named (form at (O.Symbolic symbol) (trees_of args.items) (trees_of body.items))) }
+    ensures alone { IfOk result StandsAlone }
 {
     if !body.is_empty() {
         return Ok(Term::Form {
@@ -275,7 +286,8 @@ fn lower_operator(
     op: Plain,
     args: Vec<Node>,
 ) -> Result<Term, AllocError>
-    ensures { IfOk result (λ made. (at : At) → tree_of at made ≡ named (form at (O.Symbolic (S.Operator op)) (trees_of args.items) no_trees)) }
+    ensures tree { IfOk result (λ made. (at : At) → tree_of at made ≡ named (form at (O.Symbolic (S.Operator op)) (trees_of args.items) no_trees)) }
+    ensures alone { IfOk result StandsAlone }
 {
     if !fit(op, &args) {
         return Ok(bare(alloc, Op::Symbolic(Symbolic::Operator(op)), args));
@@ -293,7 +305,8 @@ fn lower_operator(
 // `X = E`: the operator of E with the target X, or else Store.
 #[cycle(lower)]
 fn lower_assignment(alloc: Global, args: Vec<Node>) -> Result<Term, AllocError>
-    ensures { IfOk result (λ made. (at : At) → tree_of at made ≡ named (form at (O.Symbolic S.Assign) (trees_of args.items) no_trees)) }
+    ensures tree { IfOk result (λ made. (at : At) → tree_of at made ≡ named (form at (O.Symbolic S.Assign) (trees_of args.items) no_trees)) }
+    ensures alone { IfOk result StandsAlone }
 {
     if args.len() != 2 {
         return Ok(bare(alloc, Op::Symbolic(Symbolic::Assign), args));
@@ -317,7 +330,8 @@ fn lower_assignment(alloc: Global, args: Vec<Node>) -> Result<Term, AllocError>
 // `X op= Y`: the operator on X and Y with the target X.
 #[cycle(lower)]
 fn lower_compound(alloc: Global, op: Compound, args: Vec<Node>) -> Result<Term, AllocError>
-    ensures { IfOk result (λ made. (at : At) → tree_of at made ≡ named (form at (O.Symbolic (S.AssignBy op)) (trees_of args.items) no_trees)) }
+    ensures tree { IfOk result (λ made. (at : At) → tree_of at made ≡ named (form at (O.Symbolic (S.AssignBy op)) (trees_of args.items) no_trees)) }
+    ensures alone { IfOk result StandsAlone }
 {
     if args.len() != 2 {
         return Ok(bare(alloc, Op::Symbolic(Symbolic::AssignBy(op)), args));

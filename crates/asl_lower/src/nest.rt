@@ -1,11 +1,14 @@
 //! A list of terms, in which an ElseIf is an Else with an If in it, and takes the Else behind it inside.
-ghost use Rattle.std.specs.Prelude.{◌≡◌, OnOk, IfOk};
+ghost use Rattle.std.specs.Prelude.{◌≡◌, ◌++◌, ◌∷◌, reverse, OnOk, IfOk};
 ghost use Rattle.acpi_names.specs.Walked.{term_shape, node_tree};
 ghost use Rattle.asl_tree.specs.Tree.{At};
 ghost use Rattle.asl_tree.specs.View.{tree_of, trees_of};
 ghost use Rattle.asl_lower.specs.Kinds.{shape_kind};
 ghost use Rattle.asl_lower.specs.Nests.{if_of, first_else, behind_else, joined, backwards};
 ghost use Rattle.asl_lower.specs.Nodes.{before, nested};
+ghost use Rattle.asl_lower.specs.Places.{nested_at, nested_places};
+ghost use Rattle.iasl_messages.specs.declared.place.Place.{Place as Here};
+ghost use Rattle.term_places.specs.Places.{inner_places, places_of};
 ghost use Rattle.asl_lower.specs.declared.kind.Kind.TheVariants as K;
 
 use crate::kind::{Kind, kind_of};
@@ -15,7 +18,8 @@ use std::alloc::{AllocError, Global};
 // The If of an ElseIf.
 fn as_if(term: Term) -> Term
     requires { shape_kind (term_shape term) ≡ K.ElseIf }
-    ensures { (at : At) → tree_of at result ≡ if_of (tree_of at term) }
+    ensures tree { (at : At) → tree_of at result ≡ if_of (tree_of at term) }
+    ensures places { (here : Here) → here ∷ here ∷ inner_places result ≡ nested_at here term }
 {
     match term {
         Term::Form { op: _, args, body } => Term::Form {
@@ -31,6 +35,7 @@ fn as_if(term: Term) -> Term
 fn take_else(made: &mut Vec<Node>, inner: &mut Vec<Node>) -> Result<(), AllocError>
     ensures rest { OnOk result (backwards made.new.items ≡ behind_else (backwards made.old.items)) }
     ensures taken { OnOk result (trees_of inner.new.items ≡ joined (trees_of inner.old.items) (first_else (backwards made.old.items))) }
+    ensures places { OnOk result (places_of inner.new.items ++ places_of (reverse made.new.items) ≡ places_of inner.old.items ++ places_of (reverse made.old.items)) }
 {
     match made.pop() {
         Some(node) => match kind_of(&node.term) {
@@ -49,7 +54,8 @@ fn take_else(made: &mut Vec<Node>, inner: &mut Vec<Node>) -> Result<(), AllocErr
 
 fn put_else(alloc: Global, made: &mut Vec<Node>, node: Node) -> Result<(), AllocError>
     requires { shape_kind (term_shape node.term) ≡ K.ElseIf }
-    ensures { OnOk result (backwards made.new.items ≡ before (node_tree node) (backwards made.old.items)) }
+    ensures trees { OnOk result (backwards made.new.items ≡ before (node_tree node) (backwards made.old.items)) }
+    ensures places { OnOk result (places_of (reverse made.new.items) ≡ nested_at node.place node.term ++ places_of (reverse made.old.items)) }
 {
     let Node { id, place, term } = node;
     let mut inner = Vec::new(alloc);
@@ -73,7 +79,8 @@ fn put_else(alloc: Global, made: &mut Vec<Node>, node: Node) -> Result<(), Alloc
 
 // Puts a node before those that stand backwards.
 fn put_before(alloc: Global, made: &mut Vec<Node>, node: Node) -> Result<(), AllocError>
-    ensures { OnOk result (backwards made.new.items ≡ before (node_tree node) (backwards made.old.items)) }
+    ensures trees { OnOk result (backwards made.new.items ≡ before (node_tree node) (backwards made.old.items)) }
+    ensures places { OnOk result (places_of (reverse made.new.items) ≡ nested_at node.place node.term ++ places_of (reverse made.old.items)) }
 {
     match kind_of(&node.term) {
         Kind::ElseIf => {
@@ -89,7 +96,8 @@ fn put_before(alloc: Global, made: &mut Vec<Node>, node: Node) -> Result<(), All
 
 /// A list of terms with its ElseIfs nested, from the last on.
 pub(crate) fn nest(alloc: Global, nodes: Vec<Node>) -> Result<Vec<Node>, AllocError>
-    ensures { IfOk result (λ made. trees_of made.items ≡ nested (trees_of nodes.items)) }
+    ensures trees { IfOk result (λ made. trees_of made.items ≡ nested (trees_of nodes.items)) }
+    ensures places { IfOk result (λ made. places_of made.items ≡ nested_places nodes.items) }
 {
     let mut left = nodes;
     let mut made = Vec::new(alloc);

@@ -4,11 +4,12 @@ use Rattle.std.specs.declared.option.Option.{Option}
 use Rattle.std.specs.Str.{bytes_eq}
 use Rattle.data_layout.specs.declared.row.Row.{Row}
 use Rattle.data_layout.specs.declared.row.Flag.{Flag}
+use Rattle.data_layout.specs.declared.row.Kind.TheVariants as k
 use Rattle.data_layout.specs.declared.row.FlagSet.{FlagSet}
 use Rattle.data_layout.specs.declared.row.FlagSet.TheVariants as f
 use Rattle.data_layout.specs.declared.table.Table.{Table}
 use Rattle.data_layout.specs.declared.table.Table.TheVariants as t
-use Rattle.data_layout.specs.declared.rows.TheConstants.{HEADER, FACP, APIC, MCFG, HPET, SRAT, SLIT, MCFG_ENTRY, STRUCTURE_TYPE}
+use Rattle.data_layout.specs.declared.rows.TheConstants.{HEADER, FACP, APIC, MCFG, HPET, SRAT, SLIT, MCFG_ENTRY, STRUCTURE_TYPE, LOCALITY}
 use Rattle.data_layout.specs.declared.rows.TheConstants.{LOCAL_APIC, IO_APIC, INTERRUPT_SOURCE_OVERRIDE, NMI_SOURCE, LOCAL_APIC_NMI, LOCAL_APIC_ADDRESS_OVERRIDE, LOCAL_X2APIC, LOCAL_X2APIC_NMI, GIC_CPU_INTERFACE, GIC_DISTRIBUTOR, GIC_MSI_FRAME, GIC_REDISTRIBUTOR, GIC_TRANSLATION_SERVICE}
 use Rattle.data_layout.specs.declared.rows.TheConstants.{PROCESSOR_AFFINITY, MEMORY_AFFINITY, X2APIC_AFFINITY, GICC_AFFINITY, TRANSLATION_SERVICE_AFFINITY, INITIATOR_AFFINITY}
 use Rattle.data_layout.specs.declared.rows.TheConstants.{FADT_FLAGS, ARM_FLAGS, MADT_FLAGS, PROCESSOR_FLAGS, INTERRUPT_FLAGS, PAGE_PROTECT_FLAGS, AFFINITY_FLAGS, MEMORY_FLAGS}
@@ -85,9 +86,13 @@ structure_rows t.Mcfg n = None
 structure_rows t.Hpet n = None
 structure_rows t.Slit n = None
 
+-- the field of a locality of the SLIT: a byte for each of so many localities
+abbrev pub locality_row : ℕ → ℕ → Row
+locality_row count number = record { label = LOCALITY; width = count; kind = k.Locality number; flags = f.None }
+
 -- the flags that decoded lines may tell
 unfoldable pub flags_of : FlagSet → List Flag
-flags_of f.No = []
+flags_of f.None = []
 flags_of f.Fadt = FADT_FLAGS.now
 flags_of f.Arm = ARM_FLAGS.now
 flags_of f.Madt = MADT_FLAGS.now

@@ -14,8 +14,7 @@ pub struct Flag {
 /// Which flags decoded lines below a field may tell.
 #[derive(Clone, Copy, PartialEq, Eq, Debug)]
 pub enum FlagSet {
-    /// None.
-    No,
+    None,
     Fadt,
     Arm,
     Madt,

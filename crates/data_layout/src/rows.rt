@@ -8,7 +8,7 @@ macro_rules! row {
             label: *$label,
             width: $width,
             kind: $kind,
-            flags: FlagSet::No,
+            flags: FlagSet::None,
         }
     };
 }
@@ -83,6 +83,12 @@ pub const MEMORY_FLAGS: &[Flag] = &[
     flag!(b"Hot Pluggable                 ", 1, 1),
     flag!(b"Non-Volatile                  ", 2, 1),
 ];
+
+/// The name of the compiler, which the header of each table has.
+pub const COMPILER_ID: [u8; 4] = *b"INTL";
+
+/// Its revision, behind the name.
+pub const COMPILER_REVISION: u32 = 0x2021_0105;
 
 /// The header that each table begins with (ACPI Specification 6.4, 5.2.6).
 pub const HEADER: &[Row] = &[

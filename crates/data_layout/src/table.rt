@@ -2,7 +2,7 @@
 ghost use Rattle.std.specs.Prelude.{◌≡◌, Some, None, MatchOption, ◌<◌, ◌≤◌, ◌^◌, ◌/◌, ◌%◌};
 ghost use Rattle.data_layout.specs.Layout as spec;
 
-use crate::row::{Flag, FlagSet, Row};
+use crate::row::{Flag, FlagSet, Kind, Row};
 use crate::rows;
 
 /// A data table.
@@ -145,13 +145,25 @@ pub fn structure_rows(table: Table, structure: u64) -> Option<&'static [Row]>
     }
 }
 
+/// The field of a locality of the SLIT: a byte for each of so many localities.
+pub fn locality_row(count: u64, number: u64) -> Row
+    ensures { result ≡ spec.locality_row count number }
+{
+    Row {
+        label: rows::LOCALITY,
+        width: count,
+        kind: Kind::Locality(number),
+        flags: FlagSet::None,
+    }
+}
+
 /// The flags of a set.
 #[tactic(auto, unfolding(crate::specs::Layout::flags_of))]
 pub fn flags_of(set: FlagSet) -> &'static [Flag]
     ensures { result.now ≡ spec.flags_of set }
 {
     match set {
-        FlagSet::No => &[],
+        FlagSet::None => &[],
         FlagSet::Fadt => rows::FADT_FLAGS,
         FlagSet::Arm => rows::ARM_FLAGS,
         FlagSet::Madt => rows::MADT_FLAGS,

@@ -1,5 +1,7 @@
 use crate::row::Row;
-use crate::table::{Table, entry_rows, fixed_rows, header_rows, structure_rows, type_rows};
+use crate::table::{
+    Table, entry_rows, fixed_rows, header_rows, locality_row, structure_rows, type_rows,
+};
 
 fn bytes_of(rows: &[Row]) -> u64 {
     let mut bytes = 0u64;
@@ -28,6 +30,7 @@ fn fixed_parts_have_their_lengths(rt: HostRuntime) {
         assert!(rt; bytes_of(fixed_rows(table, revision)).saturating_add(36) == bytes);
     }
     assert!(rt; bytes_of(entry_rows()) == 16);
+    assert!(rt; bytes_of(&[locality_row(20, 3)]) == 20);
 }
 
 // A structure has the length of the ACPI Specification 6.4, 5.2.12 and 5.2.16.

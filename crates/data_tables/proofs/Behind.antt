@@ -6,22 +6,22 @@ use Rattle.data_layout.specs.declared.row.Row.{Row}
 use Rattle.data_layout.specs.declared.row.Kind.{Kind}
 use Rattle.data_layout.specs.declared.row.Kind.TheVariants as k
 use Rattle.data_layout.specs.declared.table.Table.{Table}
-use Rattle.data_layout.specs.Layout.{entry_rows, type_rows, structure_rows}
+use Rattle.data_layout.specs.Layout.{entry_rows, type_rows, structure_rows, locality_row}
 use Rattle.data_tables.specs.declared.part.After.{After}
 use Rattle.data_tables.specs.declared.part.After.TheVariants as a
-use Rattle.data_tables.specs.Bytes.{little_number}
 use Rattle.data_tables.specs.Fields.{field_bytes, number_of_value}
-use Rattle.data_tables.specs.Parts.{Part, Opened, next_field, first_of, locality_row, behind}
+use Rattle.data_tables.specs.Parts.{Part, Opened, next_field, first_of, behind}
 use Rattle.data_tables.specs.Walk.{Field}
 use Rattle.data_tables.specs.Compiling.{piece_of, joined}
-use Rattle.data_tables.specs.Entries.{Entry, entry_of, entries_from}
-use Rattle.data_tables.specs.Reading.{bytes_at, number_read, rows_read, size_of, Stands, Stand, IsRest, entry, structure, locality}
+use Rattle.data_tables.specs.Entry.{Entry}
+use Rattle.data_tables.specs.Entries.{entry_of, entries_from}
+use Rattle.data_tables.specs.Reading.{bytes_at, number_of, number_read, rows_read, size_of, Stands, Stand, Tail, Entries, Structures, Localities, IsRest, entry, structure, locality}
 use Rattle.data_tables.proofs.Steps.{FieldsOf}
 use Rattle.data_tables.proofs.Plain.{are_plain, plain_first, states, states_size, structure_parts, of_structure, entries_plain, type_one}
 use Rattle.data_tables.proofs.ReadBack.{part, Reads, IsReadFrom, plain_spelled, type_spelled, locality_spelled, bytes_here, rows_step, shifted, behind_plain, first_is, entries_first, bytes_first, within, at_end, at_row}
 
 -- nothing is read of a part without rows but what comes after it
-closed : (table : Table) (bytes before tail : List ℕ) (after : After) (number : ℕ) (entries : List Entry) → bytes ≡ before ++ tail → IsRest table bytes after number (length before) entries → Reads table bytes [] after number (length before) entries
+closed : (table : Table) (bytes before tail : List ℕ) (after : Tail) (number : ℕ) (entries : List Entry) → bytes ≡ before ++ tail → IsRest table bytes after number (length before) entries → Reads table bytes [] after number (length before) entries
 closed table bytes before tail after number entries e r =
     let none : length before ≡ length before + 0 = omega arith in
     record {
@@ -32,11 +32,11 @@ closed table bytes before tail after number entries e r =
     }
 
 -- the same, where the values are given by way of others
-closed_by : (table : Table) (bytes before tail : List ℕ) (after : After) (number : ℕ) (all others entries : List Entry) → bytes ≡ before ++ tail → all ≡ others → others ≡ entries → IsRest table bytes after number (length before) entries → Reads table bytes [] after number (length before) all
+closed_by : (table : Table) (bytes before tail : List ℕ) (after : Tail) (number : ℕ) (all others entries : List Entry) → bytes ≡ before ++ tail → all ≡ others → others ≡ entries → IsRest table bytes after number (length before) entries → Reads table bytes [] after number (length before) all
 closed_by table bytes before tail after number all others entries e f g r =
     subst (λ (es : List Entry). Reads table bytes [] after number (length before) es) (sym (f ∙ g)) (closed table bytes before tail after number entries e r)
 
-at_entry : (table : Table) (revision number : ℕ) (bytes before : List ℕ) (field : Field) (fields : List Field) → bytes ≡ before ++ joined (map piece_of (field ∷ fields)) → FieldsOf (part table revision [] a.Entries) (field ∷ fields) → ((rows : List Row) (before' : List ℕ) → are_plain rows ≡ true → bytes ≡ before' ++ joined (map piece_of fields) → IsReadFrom table revision bytes a.Entries rows (number + 1) before' fields) → Reads table bytes [] a.Entries number (length before) (entries_from number (field ∷ fields))
+at_entry : (table : Table) (revision number : ℕ) (bytes before : List ℕ) (field : Field) (fields : List Field) → bytes ≡ before ++ joined (map piece_of (field ∷ fields)) → FieldsOf (part table revision [] a.Entries) (field ∷ fields) → ((rows : List Row) (before' : List ℕ) → are_plain rows ≡ true → bytes ≡ before' ++ joined (map piece_of fields) → IsReadFrom table revision bytes a.Entries rows (number + 1) before' fields) → Reads table bytes [] Entries number (length before) (entries_from number (field ∷ fields))
 at_entry table revision number bytes before field fields e h ih =
     let row = entries_plain.first in
     let rows = entries_plain.others in
@@ -49,9 +49,9 @@ at_entry table revision number bytes before field fields e h ih =
     let whole : bytes ≡ before ++ (here ++ tail) = e ∙ ap (λ (bs : List ℕ). before ++ bs) (bytes_first row field fields f.row_is) in
     let left : FieldsOf (part table revision rows a.Entries) fields = subst (λ (q : Part). FieldsOf q fields) (behind_plain (part table revision rows a.Entries) row.kind row.width (number_of_value field.value) plain.0) f.tail in
     let r = ih rows (before ++ here) plain.1 (shifted bytes before here tail whole) left in
-    let r1 = rows_step table bytes before here tail row rows a.Entries (number + 1) field.value (entries_from (number + 1) fields) s whole r in
-    let r2 : Reads table bytes entry_rows a.Entries (number + 1) (length before) (entry_of (number + 1) row field.value ++ entries_from (number + 1) fields) = subst (λ (rs : List Row). Reads table bytes rs a.Entries (number + 1) (length before) (entry_of (number + 1) row field.value ++ entries_from (number + 1) fields)) (sym entries_plain.are) r1 in
-    closed_by table bytes before (here ++ tail) a.Entries number (entries_from number (field ∷ fields)) (entry_of (number + 1) row field.value ++ entries_from (number + 1) fields) (rows_read (number + 1) bytes (length before) entry_rows ++ r2.more) whole (entries_first number row field fields true f.row_is f.begins_is) r2.values (entry number (length before) r2.more r2.stand r2.rest)
+    let r1 = rows_step table bytes before here tail row rows Entries (number + 1) field.value (entries_from (number + 1) fields) s whole r in
+    let r2 : Reads table bytes entry_rows Entries (number + 1) (length before) (entry_of (number + 1) row field.value ++ entries_from (number + 1) fields) = subst (λ (rs : List Row). Reads table bytes rs Entries (number + 1) (length before) (entry_of (number + 1) row field.value ++ entries_from (number + 1) fields)) (sym entries_plain.are) r1 in
+    closed_by table bytes before (here ++ tail) Entries number (entries_from number (field ∷ fields)) (entry_of (number + 1) row field.value ++ entries_from (number + 1) fields) (rows_read (number + 1) bytes (length before) entry_rows ++ r2.more) whole (entries_first number row field fields true f.row_is f.begins_is) r2.values (entry number (length before) r2.more r2.stand r2.rest)
 
 and_both : (b c : Bool) → (b && c) ≡ true → (b ≡ true) × (c ≡ true)
 and_both true c e = (refl, e)
@@ -80,7 +80,7 @@ stated_size : (bytes : List ℕ) (offset : ℕ) (rows : List Row) → states_siz
 stated_size bytes offset [] e h = absurd cc
 stated_size bytes offset (row ∷ rows) e h = stated_at bytes offset (1 + (row.width + size_of rows)) row.width row.kind e h.0
 
-at_structure : (table : Table) (revision number : ℕ) (bytes before : List ℕ) (field : Field) (fields : List Field) → bytes ≡ before ++ joined (map piece_of (field ∷ fields)) → FieldsOf (part table revision [] a.Structures) (field ∷ fields) → ((rows : List Row) (before' : List ℕ) → are_plain rows ≡ true → bytes ≡ before' ++ joined (map piece_of fields) → IsReadFrom table revision bytes a.Structures rows (number + 1) before' fields) → Reads table bytes [] a.Structures number (length before) (entries_from number (field ∷ fields))
+at_structure : (table : Table) (revision number : ℕ) (bytes before : List ℕ) (field : Field) (fields : List Field) → bytes ≡ before ++ joined (map piece_of (field ∷ fields)) → FieldsOf (part table revision [] a.Structures) (field ∷ fields) → ((rows : List Row) (before' : List ℕ) → are_plain rows ≡ true → bytes ≡ before' ++ joined (map piece_of fields) → IsReadFrom table revision bytes a.Structures rows (number + 1) before' fields) → Reads table bytes [] Structures number (length before) (entries_from number (field ∷ fields))
 at_structure table revision number bytes before field fields e h ih =
     let row = type_one.first in
     let here = field_bytes row field.value in
@@ -95,20 +95,21 @@ at_structure table revision number bytes before field fields e h ih =
     let left : FieldsOf (part table revision t.rows a.Structures) fields = subst (λ (q : Part). FieldsOf q fields) chosen f.tail in
     let parts = structure_parts t.rows (of_structure table (number_of_value field.value) t.rows t.known) in
     let r = ih t.rows (before ++ here) parts.0 (shifted bytes before here tail whole) left in
-    let r1 = rows_step table bytes before here tail row t.rows a.Structures (number + 1) field.value (entries_from (number + 1) fields) t.spelled whole r in
-    let r2 : Reads table bytes (type_rows ++ t.rows) a.Structures (number + 1) (length before) (entry_of (number + 1) row field.value ++ entries_from (number + 1) fields) = subst (λ (rs : List Row). Reads table bytes (rs ++ t.rows) a.Structures (number + 1) (length before) (entry_of (number + 1) row field.value ++ entries_from (number + 1) fields)) (sym type_one.are) r1 in
+    let r1 = rows_step table bytes before here tail row t.rows Structures (number + 1) field.value (entries_from (number + 1) fields) t.spelled whole r in
+    let r2 : Reads table bytes (type_rows ++ t.rows) Structures (number + 1) (length before) (entry_of (number + 1) row field.value ++ entries_from (number + 1) fields) = subst (λ (rs : List Row). Reads table bytes (rs ++ t.rows) Structures (number + 1) (length before) (entry_of (number + 1) row field.value ++ entries_from (number + 1) fields)) (sym type_one.are) r1 in
     let one : length here ≡ 1 = t.spelled.width ∙ type_one.width_is in
     let next : length (before ++ here) ≡ length before + 1 = length-append before here ∙ ap (λ (m : ℕ). length before + m) one in
-    let number_is : number_read bytes (length before) 1 ≡ number_of_value field.value = ap little_number (bytes_here bytes before here tail 1 whole one) ∙ t.number in
+    let number_is : number_read bytes (length before) 1 ≡ number_of_value field.value = ap number_of (bytes_here bytes before here tail 1 whole one) ∙ t.number in
     let known : structure_rows table (number_read bytes (length before) 1) ≡ Some t.rows = ap (structure_rows table) number_is ∙ t.known in
     let size : size_of (type_rows ++ t.rows) ≡ 1 + size_of t.rows = ap (λ (rs : List Row). size_of (rs ++ t.rows)) type_one.are ∙ ap (λ (m : ℕ). m + size_of t.rows) type_one.width_is in
     let stated : number_read bytes (length before + 1) 1 ≡ size_of (type_rows ++ t.rows) = ap (λ (o : ℕ). number_read bytes o 1) (sym next) ∙ stated_size bytes (length (before ++ here)) t.rows parts.1 r.stand ∙ sym size in
-    closed_by table bytes before (here ++ tail) a.Structures number (entries_from number (field ∷ fields)) (entry_of (number + 1) row field.value ++ entries_from (number + 1) fields) (rows_read (number + 1) bytes (length before) (type_rows ++ t.rows) ++ r2.more) whole (entries_first number row field fields true f.row_is f.begins_is) r2.values (structure number (length before) t.rows r2.more known stated r2.stand r2.rest)
+    closed_by table bytes before (here ++ tail) Structures number (entries_from number (field ∷ fields)) (entry_of (number + 1) row field.value ++ entries_from (number + 1) fields) (rows_read (number + 1) bytes (length before) (type_rows ++ t.rows) ++ r2.more) whole (entries_first number row field fields true f.row_is f.begins_is) r2.values (structure number (length before) t.rows r2.more known stated r2.stand r2.rest)
 
-at_locality : (table : Table) (revision number count place : ℕ) (bytes before : List ℕ) (field : Field) (fields : List Field) → bytes ≡ before ++ joined (map piece_of (field ∷ fields)) → nat_lt place count ≡ true → FieldsOf (part table revision [] (a.Matrix count place)) (field ∷ fields) → ((before' : List ℕ) → bytes ≡ before' ++ joined (map piece_of fields) → IsReadFrom table revision bytes (a.Matrix count (place + 1)) [] (number + 1) before' fields) → Reads table bytes [] (a.Matrix count place) number (length before) (entries_from number (field ∷ fields))
+at_locality : (table : Table) (revision number count place : ℕ) (bytes before : List ℕ) (field : Field) (fields : List Field) → bytes ≡ before ++ joined (map piece_of (field ∷ fields)) → nat_lt place count ≡ true → FieldsOf (part table revision [] (a.Matrix count place)) (field ∷ fields) → ((before' : List ℕ) → bytes ≡ before' ++ joined (map piece_of fields) → IsReadFrom table revision bytes (a.Matrix count (place + 1)) [] (number + 1) before' fields) → Reads table bytes [] (Localities count place) number (length before) (entries_from number (field ∷ fields))
 at_locality table revision number count place bytes before field fields e more h ih =
     let row = locality_row count place in
     let after = a.Matrix count (place + 1) in
+    let more_rows = Localities count (place + 1) in
     let here = field_bytes row field.value in
     let tail = joined (map piece_of fields) in
     let lt : place < count = grind arith in
@@ -117,9 +118,9 @@ at_locality table revision number count place bytes before field fields e more h
     let s = locality_spelled bytes table count place field.line.value field.value f.given in
     let whole : bytes ≡ before ++ (here ++ tail) = e ∙ ap (λ (bs : List ℕ). before ++ bs) (bytes_first row field fields f.row_is) in
     let r = ih (before ++ here) (shifted bytes before here tail whole) f.tail in
-    let r1 = rows_step table bytes before here tail row [] after (number + 1) field.value (entries_from (number + 1) fields) s whole r in
+    let r1 = rows_step table bytes before here tail row [] more_rows (number + 1) field.value (entries_from (number + 1) fields) s whole r in
     let end : length before + (count + 0) ≡ length before + count = omega arith in
-    closed_by table bytes before (here ++ tail) (a.Matrix count place) number (entries_from number (field ∷ fields)) (entry_of (number + 1) row field.value ++ entries_from (number + 1) fields) (rows_read (number + 1) bytes (length before) (row ∷ []) ++ r1.more) whole (entries_first number row field fields true f.row_is f.begins_is) r1.values (locality number (length before) count place r1.more lt r1.stand (subst (λ (o : ℕ). IsRest table bytes after (number + 1) o r1.more) end r1.rest))
+    closed_by table bytes before (here ++ tail) (Localities count place) number (entries_from number (field ∷ fields)) (entry_of (number + 1) row field.value ++ entries_from (number + 1) fields) (rows_read (number + 1) bytes (length before) (row ∷ []) ++ r1.more) whole (entries_first number row field fields true f.row_is f.begins_is) r1.values (locality number (length before) count place r1.more lt r1.stand (subst (λ (o : ℕ). IsRest table bytes more_rows (number + 1) o r1.more) end r1.rest))
 
 -- behind the header and the fixed part
 abbrev pub IsLater : After → Type 0
@@ -143,7 +144,7 @@ read_back table revision (field ∷ fields) [] a.Structures number bytes before 
     at_structure table revision number bytes before field fields e h (λ rows before' p' e' h'. read_back table revision fields rows a.Structures (number + 1) bytes before' tt p' e' h')
 read_back table revision (field ∷ fields) [] (a.Matrix count place) number bytes before l p e h =
     let ih = λ (before' : List ℕ) (e' : bytes ≡ before' ++ joined (map piece_of fields)) (h' : FieldsOf (part table revision [] (a.Matrix count (place + 1))) fields). read_back table revision fields [] (a.Matrix count (place + 1)) (number + 1) bytes before' tt refl e' h' in
-    elim (nat_lt place count) as (λ b. nat_lt place count ≡ b → Reads table bytes [] (a.Matrix count place) number (length before) (entries_from number (field ∷ fields))) [
+    elim (nat_lt place count) as (λ b. nat_lt place count ≡ b → Reads table bytes [] (Localities count place) number (length before) (entries_from number (field ∷ fields))) [
       | true ↦ λ more. at_locality table revision number count place bytes before field fields e more h ih
       | false ↦ λ more.
           let next : ◌≡◌ {A = Result Opened ℕ} (cond {A = Result Opened ℕ} (nat_lt place count) (Ok (locality_row count place, part table revision [] (a.Matrix count (place + 1)))) (Err 6097)) (Ok (field.row, h.0)) = h.1 in

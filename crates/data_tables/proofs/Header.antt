@@ -9,21 +9,22 @@ use Rattle.data_layout.specs.declared.row.FlagSet.{FlagSet}
 use Rattle.data_layout.specs.declared.rows.TheConstants.{HEADER}
 use Rattle.data_layout.specs.declared.table.Table.{Table}
 use Rattle.data_layout.specs.declared.table.Table.TheVariants as t
-use Rattle.data_layout.specs.Layout.{header_rows, fixed_rows, fadt_bytes}
+use Rattle.data_layout.specs.Layout.{header_rows, fixed_rows, fadt_bytes, locality_row}
 use Rattle.data_text.specs.Values.{number_in}
 use Rattle.data_tables.specs.declared.part.After.{After}
 use Rattle.data_tables.specs.declared.part.After.TheVariants as a
-use Rattle.data_tables.specs.Bytes.{little_number}
-use Rattle.data_tables.specs.Fields.{Value, field_bytes, number_of_value, value_of, revision_fault}
-use Rattle.data_tables.specs.Parts.{Part, first_part, first_of, after_fixed, behind, locality_row}
+use Rattle.data_tables.specs.Entry.{Value, Entry}
+use Rattle.data_tables.specs.Fields.{field_bytes, number_of_value, value_of, revision_fault}
+use Rattle.data_tables.specs.Parts.{Part, first_part, first_of, after_fixed, behind}
 use Rattle.data_tables.specs.Walk.{Field}
 use Rattle.data_tables.specs.Compiling.{piece_of, joined}
-use Rattle.data_tables.specs.Entries.{Entry, entries_from}
-use Rattle.data_tables.specs.Reading.{bytes_at, number_read, rest_of}
-use Rattle.data_tables.proofs.Spelled.{IsSpelled, little_back, width_bound, count_bound, given_number}
+use Rattle.data_tables.specs.Entries.{entries_from}
+use Rattle.data_tables.specs.Reading.{bytes_at, number_of, number_read, Tail, Localities, rest_of}
+use Rattle.data_tables.proofs.Numbers.{little_back}
+use Rattle.data_tables.proofs.Spelled.{IsSpelled, width_bound, count_bound, given_number}
 use Rattle.data_tables.proofs.Steps.{FieldsOf}
 use Rattle.data_tables.proofs.Plain.{IsSlit, fixed_plain, slit_one}
-use Rattle.data_tables.proofs.ReadBack.{part, row_of, Reads, IsFirst, first_is, entries_first, bytes_first, bytes_here, rows_step, shifted, numbered}
+use Rattle.data_tables.proofs.ReadBack.{part, row_of, Reads, tail_of, IsFirst, first_is, entries_first, bytes_first, bytes_here, rows_step, shifted, numbered}
 use Rattle.data_tables.proofs.Behind.{IsLater, read_back}
 
 -- the first field of a part with this row, and the fields behind it
@@ -81,7 +82,7 @@ unfolding header_rows
 header_is = refl
 
 -- one field of the header before those that are read
-pub header_step : (table : Table) (revision : ℕ) (row : Row) (rows rs : List Row) (after : After) (fields : List Field) (bytes before here tail : List ℕ) (later : After) (t : IsTaken table revision row rows after fields) → IsSpelled bytes row t.field.value here → bytes ≡ before ++ (here ++ tail) → Reads table bytes rs later 0 (length (before ++ here)) (entries_from 0 t.rest) → Reads table bytes (row ∷ rs) later 0 (length before) (entries_from 0 fields)
+pub header_step : (table : Table) (revision : ℕ) (row : Row) (rows rs : List Row) (after : After) (fields : List Field) (bytes before here tail : List ℕ) (later : Tail) (t : IsTaken table revision row rows after fields) → IsSpelled bytes row t.field.value here → bytes ≡ before ++ (here ++ tail) → Reads table bytes rs later 0 (length (before ++ here)) (entries_from 0 t.rest) → Reads table bytes (row ∷ rs) later 0 (length before) (entries_from 0 fields)
 header_step table revision row rows rs after fields bytes before here tail later t s e r =
     let all = ap (entries_from 0) t.are ∙ entries_first 0 row t.field t.rest false t.first.row_is t.first.begins_is in
     subst (λ (es : List Entry). Reads table bytes (row ∷ rs) later 0 (length before) es) (sym all)
@@ -106,7 +107,7 @@ later_fixed t.Hpet = tt
 later_fixed t.Srat = tt
 later_fixed t.Slit = tt
 
-plain_fixed : (table : Table) (revision : ℕ) (fields : List Field) (bytes before : List ℕ) → (IsSlit table → ⊥) → revision_fault table 1 revision ≡ None → bytes ≡ before ++ joined (map piece_of fields) → FieldsOf (part table revision [] a.Fixed) fields → Reads table bytes (fixed_rows table revision) (after_fixed table) 0 (length before) (entries_from 0 fields)
+plain_fixed : (table : Table) (revision : ℕ) (fields : List Field) (bytes before : List ℕ) → (IsSlit table → ⊥) → revision_fault table 1 revision ≡ None → bytes ≡ before ++ joined (map piece_of fields) → FieldsOf (part table revision [] a.Fixed) fields → Reads table bytes (fixed_rows table revision) (tail_of (after_fixed table)) 0 (length before) (entries_from 0 fields)
 plain_fixed table revision fields bytes before n known e f =
     let p = fixed_plain table revision n known in
     let g = subst (λ (rs : List Row). FieldsOf (part table revision rs (after_fixed table)) fields) (sym p.are) (first_fixed table revision p.first p.others fields p.are f) in
@@ -115,7 +116,7 @@ plain_fixed table revision fields bytes before n known e f =
 -- the number of localities
 pub record IsCounted (all : List ℕ) (row : Row) (value : Value) : Type 0 where
   pub spelled : IsSpelled all row value (field_bytes row value)
-  pub number : little_number (field_bytes row value) ≡ number_of_value value
+  pub number : number_of (field_bytes row value) ≡ number_of_value value
 
 counted_of : (all : List ℕ) (w : ℕ) (l : List ℕ) (f : FlagSet) (text : List ℕ) (value : Value) → value_of t.Slit (row_of k.Localities w l f) text ≡ Ok value → IsCounted all (row_of k.Localities w l f) value
 counted_of all w l f text value g =
@@ -142,11 +143,11 @@ slit_fixed revision fields bytes before size e f =
     let whole : bytes ≡ before ++ (here ++ tail) = e ∙ ap (λ (bs : List ℕ). before ++ bs) (bytes_taken t.Slit revision row [] (a.Matrix 0 0) fields q) in
     let left : FieldsOf (part t.Slit revision [] (a.Matrix n 0)) q.rest = subst (λ (p : Part). FieldsOf p q.rest) (ap (λ (kind : Kind). behind (part t.Slit revision [] (a.Matrix 0 0)) kind n) one.kind_is) q.first.tail in
     let r = read_back t.Slit revision q.rest [] (a.Matrix n 0) 0 bytes (before ++ here) tt refl (shifted bytes before here tail whole) left in
-    let r1 = header_step t.Slit revision row [] [] (a.Matrix 0 0) fields bytes before here tail (a.Matrix n 0) q c.spelled whole r in
+    let r1 = header_step t.Slit revision row [] [] (a.Matrix 0 0) fields bytes before here tail (Localities n 0) q c.spelled whole r in
     let at : bytes_at bytes (length before) 8 ≡ here = bytes_here bytes before here tail 8 whole (c.spelled.width ∙ one.width_is) in
-    let number : number_read bytes 36 8 ≡ n = ap (λ (o : ℕ). number_read bytes o 8) (sym size) ∙ ap little_number at ∙ c.number in
-    let r2 : Reads t.Slit bytes (row ∷ []) (a.Matrix (number_read bytes 36 8) 0) 0 (length before) (entries_from 0 fields) = subst (λ (m : ℕ). Reads t.Slit bytes (row ∷ []) (a.Matrix m 0) 0 (length before) (entries_from 0 fields)) (sym number) r1 in
-    subst (λ (rs : List Row). Reads t.Slit bytes rs (a.Matrix (number_read bytes 36 8) 0) 0 (length before) (entries_from 0 fields)) (sym one.are) r2
+    let number : number_read bytes 36 8 ≡ n = ap (λ (o : ℕ). number_read bytes o 8) (sym size) ∙ ap number_of at ∙ c.number in
+    let r2 : Reads t.Slit bytes (row ∷ []) (Localities (number_read bytes 36 8) 0) 0 (length before) (entries_from 0 fields) = subst (λ (m : ℕ). Reads t.Slit bytes (row ∷ []) (Localities m 0) 0 (length before) (entries_from 0 fields)) (sym number) r1 in
+    subst (λ (rs : List Row). Reads t.Slit bytes rs (Localities (number_read bytes 36 8) 0) 0 (length before) (entries_from 0 fields)) (sym one.are) r2
 
 pub fixed_read : (table : Table) (revision : ℕ) (fields : List Field) (bytes before : List ℕ) → length before ≡ 36 → revision_fault table 1 revision ≡ None → bytes ≡ before ++ joined (map piece_of fields) → FieldsOf (part table revision [] a.Fixed) fields → Reads table bytes (fixed_rows table revision) (rest_of table bytes) 0 (length before) (entries_from 0 fields)
 fixed_read t.Facp revision fields bytes before size known e f = plain_fixed t.Facp revision fields bytes before (λ x. x) known e f

@@ -1,5 +1,5 @@
 -- The messages of a text: what they are, in which order, and where they stand.
-use Rattle.std.proofs.Common.{◌≡◌, ℕ, ◌+◌, ◌*◌, ◌^◌, ◌==◌, ◌<◌, ◌≤◌, ◌⊎◌, inl, inr, Bool, true, false, nat_lt, nat_le, cond, List, [], ◌∷◌, ◌++◌, length, Option, Some, None, is_some, Ok, Err, Result, refl, sym, subst, arith}
+use Rattle.std.proofs.Common.{◌≡◌, ℕ, ◌+◌, ◌==◌, ◌<◌, ◌≤◌, ◌⊎◌, inl, inr, Bool, true, false, nat_lt, nat_le, cond, List, [], ◌∷◌, ◌++◌, length, Option, Some, None, is_some, Ok, Err, Result, refl, subst, arith}
 use Rattle.std.specs.List.{All}
 use Rattle.std.proofs.lemmas.Bool.{leb-true}
 use Rattle.std.proofs.lemmas.List.Elements.{All-nil, All-cons, All-head, All-tail, All-append, All-weaker}
@@ -24,7 +24,7 @@ use Rattle.data_tables.specs.declared.decoding.Told.TheVariants as told
 use Rattle.data_layout.specs.declared.row.Kind.{Kind}
 use Rattle.data_layout.specs.declared.row.Kind.TheVariants as k
 use Rattle.data_layout.specs.declared.table.Table.TheVariants as t
-use Rattle.data_layout.specs.Layout.{fadt_bytes, fixed_rows, entry_rows, type_rows}
+use Rattle.data_layout.specs.Layout.{fadt_bytes, fixed_rows, entry_rows, type_rows, locality_row}
 use Rattle.data_text.specs.Parts.{place_of}
 use Rattle.data_text.specs.Source.{first_place}
 use Rattle.data_text.specs.Values.{number_in, text_in as text_value, bytes_in}
@@ -32,9 +32,10 @@ use Rattle.data_tables.specs.declared.field.Form.{Form}
 use Rattle.data_tables.specs.declared.field.Form.TheVariants as form
 use Rattle.data_tables.specs.declared.part.After.{After}
 use Rattle.data_tables.specs.declared.part.After.TheVariants as a
-use Rattle.data_tables.specs.Bytes.{filled}
-use Rattle.data_tables.specs.Fields.{Value, Bytes, Number, form_of, has_room, has_structure, width_fault, revision_fault, type_fault, count_fault, reserved_fault, number_fault, bytes_fault, judged, value_of_number, value_of_text, value_of_bytes, value_by, value_of, row_key}
-use Rattle.data_tables.specs.Parts.{Part, Opened, after_fixed, locality_row, first_of, next_locality, open_after, open_rows, next_field, first_part, missing_after, missing_rows, missing}
+use Rattle.aml_code.specs.Header.{filled}
+use Rattle.data_tables.specs.Entry.{Value, Bytes, Number}
+use Rattle.data_tables.specs.Fields.{form_of, has_room, has_structure, width_fault, revision_fault, type_fault, count_fault, number_fault, bytes_fault, judged, value_of_number, value_of_text, value_of_bytes, value_by, value_of, row_key}
+use Rattle.data_tables.specs.Parts.{Part, Opened, after_fixed, first_of, open_after, open_rows, next_field, first_part, missing_after, missing_rows, missing}
 use Rattle.data_tables.specs.Walk.{Walked, Step, Passed, Took, Halted, with_front, message_at, told_at, label_note, after_step, fault_if, step_with, step_due, step_at, step_of, walk}
 use Rattle.data_tables.specs.Decoding.{is_decoded, told_by}
 use Rattle.data_tables.specs.Compiling.{Answer, answer_by, refused, signature_in, compiled_table, compiled_signed, compiled_lines, compiled_text}

@@ -1,8 +1,11 @@
 -- The bytes of a compiled text read as the values that the text writes.
-use Rattle.std.proofs.Common.{◌≡◌, ◌<◌, ◌+◌, ◌-◌, ◌%◌, ◌^◌, ◌*◌, ℕ, true, false, cond, List, [], ◌∷◌, ◌++◌, length, map, replicate, Option, Some, None, Ok, Err, refl, sym, ap, subst, ◌∙◌, arith, length-append, append_assoc, append-nil, zero-add, codes}
+use Rattle.std.proofs.Common.{◌≡◌, ◌<◌, ◌+◌, ◌-◌, ◌%◌, ◌^◌, ◌*◌, ℕ, true, false, cond, List, [], ◌∷◌, ◌++◌, length, take, map, replicate, Option, Some, None, Ok, Err, refl, sym, ap, subst, ◌∙◌, arith, length-append, append_assoc, append-nil, zero-add, codes}
 use Rattle.std.specs.Prelude.{sum}
 use Rattle.std.specs.Str.{bytes_eq}
 use Rattle.std.proofs.lemmas.Slice.Eq.{bytes_eq-Decides}
+use Rattle.std.proofs.lemmas.List.{take_all}
+use Rattle.byteorder.specs.Endian.{little_bytes}
+use Rattle.aml_code.specs.Header.{filled, checksum_of}
 use Rattle.iasl_messages.specs.declared.place.Piece.{Piece}
 use Rattle.iasl_messages.specs.declared.place.Line.{Line}
 use Rattle.data_layout.specs.declared.row.Row.{Row}
@@ -14,17 +17,18 @@ use Rattle.data_text.specs.declared.field_line.DataText.{DataText}
 use Rattle.data_text.specs.Source.{text_of}
 use Rattle.data_text.specs.Values.{number_in, text_in}
 use Rattle.data_tables.specs.declared.compiled.Compiled.{Compiled}
-use Rattle.data_tables.specs.declared.part.After.{After}
 use Rattle.data_tables.specs.declared.part.After.TheVariants as a
-use Rattle.data_tables.specs.Bytes.{little_bytes, little_number, filled, checksum_of}
-use Rattle.data_tables.specs.Fields.{Value, field_bytes, number_of_value, value_of, revision_fault}
+use Rattle.data_tables.specs.Entry.{Value, Entry}
+use Rattle.data_tables.specs.Fields.{field_bytes, number_of_value, value_of, revision_fault}
 use Rattle.data_tables.specs.Parts.{first_part}
 use Rattle.data_tables.specs.Walk.{Field, Walked, walk}
 use Rattle.data_tables.specs.Compiling.{piece_of, joined, sealed, with_texts, answer_with_texts, compiled_text, Answer, answer_by, answer_of, refused, signature_in, compiled_table, compiled_signed, compiled_lines, compiled}
-use Rattle.data_tables.specs.Entries.{Entry, entries_from, fields_of_table, fields_signed, fields_by, written_values, unsealed_bytes}
-use Rattle.data_tables.specs.Reading.{bytes_at, number_read, size_of, rest_of, first_rows, IsRest, ReadsAs}
+use Rattle.data_tables.specs.Entries.{entries_from, fields_of_table, fields_signed, fields_by, written_values, unsealed_bytes}
+use Rattle.data_tables.specs.Reading.{bytes_at, number_of, number_read, size_of, IsKnownRevision, Tail, rest_of, first_rows, IsRest, ReadsAs}
 use Rattle.data_tables.proofs.Sums.{sum-append}
-use Rattle.data_tables.proofs.Spelled.{IsSpelled, little_length, little_back, given_number, given_text}
+use Rattle.data_tables.proofs.Numbers.{little_length, little_back}
+use Rattle.data_tables.proofs.Plain.{known_revision}
+use Rattle.data_tables.proofs.Spelled.{IsSpelled, given_number, given_text}
 use Rattle.data_tables.proofs.Steps.{FieldsOf, walk_fields, first_field}
 use Rattle.data_tables.proofs.ReadBack.{Reads, plain_spelled, numbered, bytes_here, shifted}
 use Rattle.data_tables.proofs.Header.{headed, h, behind_h, header_is, header_step, bytes_taken, fixed_read, small_revision}
@@ -108,7 +112,7 @@ signature_four s table =
 filled_four : (s : List ℕ) → length s ≡ 4 → filled 4 s ≡ s
 filled_four s e =
     let none : 4 - length s ≡ 0 = omega arith in
-    ap (λ (n : ℕ). s ++ replicate n 0) none ∙ append-nil s
+    ap (λ (n : ℕ). take 4 s ++ replicate n 0) none ∙ append-nil (take 4 s) ∙ take_all 4 s (omega arith)
 
 -- the bytes of the first field are the signature
 signed : (table : Table) (text s : List ℕ) (value : Value) → text_in text ≡ Some s → length s ≡ 4 → value_of table (h 0) text ≡ Ok value → field_bytes (h 0) value ≡ s
@@ -121,7 +125,7 @@ signed table text s value e l g =
 record IsRevision (all : List ℕ) (table : Table) (value : Value) : Type 0 where
   known : revision_fault table 1 (number_of_value value) ≡ None
   spelled : IsSpelled all (h 2) value (field_bytes (h 2) value)
-  number : little_number (field_bytes (h 2) value) ≡ number_of_value value
+  number : number_of (field_bytes (h 2) value) ≡ number_of_value value
 
 revised : (all : List ℕ) (table : Table) (text : List ℕ) (value : Value) → value_of table (h 2) text ≡ Ok value → IsRevision all table value
 revised all table text value g =
@@ -145,7 +149,7 @@ finish table revision bytes s entries is_table signature known number r =
     record {
       table = table;
       signature = ap table_of signature ∙ is_table;
-      revision = subst (λ (n : ℕ). revision_fault table 1 n ≡ None) (sym number) known;
+      revision = subst (IsKnownRevision table) (sym number) (known_revision table revision known);
       stand = q.stand;
       more = q.more;
       rest = subst (λ (o : ℕ). IsRest table bytes (rest_of table bytes) 0 o q.more) (zero-add (size_of (first_rows table bytes))) q.rest;
@@ -209,14 +213,14 @@ table_read table fields s f is_table is_text short =
     let e8 : B ≡ B7 ++ (b8 ++ Rest8) = shifted B B6 b7 Rest7 e7 ∙ ap (λ (x : List ℕ). B7 ++ x) (bytes_taken table revision (h 8) [] a.Fixed H.t7.rest H.t8) in
     let e9 : B ≡ B8 ++ Rest8 = shifted B B7 b8 Rest8 e8 in
     let s0 : IsSpelled B (h 0) v0 b0 = plain_spelled B table (h 0) H.t0.field.line.value v0 refl H.t0.first.given in
-    let s1 : IsSpelled B (h 1) H.t1.field.value LB = record { width = little_length 4 L; reads = λ c. absurd cc; stands = little_back 4 L size ∙ sym whole } in
+    let s1 : IsSpelled B (h 1) H.t1.field.value LB = record { width = little_length 4 L; reads = refl; stands = little_back 4 L size ∙ sym whole } in
     let known = revised B table H.t2.field.line.value v2 H.t2.first.given in
-    let s3 : IsSpelled B (h 3) H.t3.field.value CB = record { width = checksum_width p0 p1 p2 p3 ps; reads = λ c. absurd cc; stands = sealed_sum p0 p1 p2 p3 ps q3 } in
+    let s3 : IsSpelled B (h 3) H.t3.field.value CB = record { width = checksum_width p0 p1 p2 p3 ps; reads = refl; stands = sealed_sum p0 p1 p2 p3 ps q3 } in
     let s4 : IsSpelled B (h 4) H.t4.field.value b4 = plain_spelled B table (h 4) H.t4.field.line.value H.t4.field.value refl H.t4.first.given in
     let s5 : IsSpelled B (h 5) H.t5.field.value b5 = plain_spelled B table (h 5) H.t5.field.line.value H.t5.field.value refl H.t5.first.given in
     let s6 : IsSpelled B (h 6) H.t6.field.value b6 = plain_spelled B table (h 6) H.t6.field.line.value H.t6.field.value refl H.t6.first.given in
-    let s7 : IsSpelled B (h 7) H.t7.field.value b7 = record { width = refl; reads = λ c. absurd cc; stands = refl } in
-    let s8 : IsSpelled B (h 8) H.t8.field.value b8 = record { width = little_length 4 0x20210105; reads = λ c. absurd cc; stands = refl } in
+    let s7 : IsSpelled B (h 7) H.t7.field.value b7 = record { width = refl; reads = refl; stands = refl } in
+    let s8 : IsSpelled B (h 8) H.t8.field.value b8 = record { width = refl; reads = refl; stands = refl } in
     let l1 : length B1 ≡ 8 = longer B0 LB 4 8 4 s0.width s1.width refl in
     let l2 : length B2 ≡ 9 = longer B1 b2 8 9 1 l1 known.spelled.width refl in
     let l3 : length B3 ≡ 10 = longer B2 CB 9 10 1 l2 s3.width refl in
@@ -225,7 +229,7 @@ table_read table fields s f is_table is_text short =
     let l6 : length B6 ≡ 28 = longer B5 b6 24 28 4 l5 s6.width refl in
     let l7 : length B7 ≡ 32 = longer B6 b7 28 32 4 l6 s7.width refl in
     let l8 : length B8 ≡ 36 = longer B7 b8 32 36 4 l7 s8.width refl in
-    let later : After = rest_of table B in
+    let later : Tail = rest_of table B in
     let rows : List Row = fixed_rows table revision in
     let r9 = fixed_read table revision H.t8.rest B B8 l8 known.known e9 H.left in
     let r8 = header_step table revision (h 8) [] rows a.Fixed H.t7.rest B B7 b8 Rest8 later H.t8 s8 e8 r9 in
@@ -237,7 +241,7 @@ table_read table fields s f is_table is_text short =
     let r2 = header_step table 0 (h 2) (behind_h 3) (h 3 ∷ h 4 ∷ h 5 ∷ h 6 ∷ h 7 ∷ h 8 ∷ rows) a.Fixed H.t1.rest B B1 b2 (CB ++ Rest3) later H.t2 known.spelled e2 r3 in
     let r1 = header_step table 0 (h 1) (behind_h 2) (h 2 ∷ h 3 ∷ h 4 ∷ h 5 ∷ h 6 ∷ h 7 ∷ h 8 ∷ rows) a.Fixed H.t0.rest B B0 LB (b2 ++ (CB ++ Rest3)) later H.t1 s1 e1 r2 in
     let r0 = header_step table 0 (h 0) (behind_h 1) (h 1 ∷ h 2 ∷ h 3 ∷ h 4 ∷ h 5 ∷ h 6 ∷ h 7 ∷ h 8 ∷ rows) a.Fixed fields B [] b0 Tail0 later H.t0 s0 e0 r1 in
-    let number : number_read B 8 1 ≡ revision = ap (λ (o : ℕ). number_read B o 1) (sym l1) ∙ ap little_number (bytes_here B B1 b2 (CB ++ Rest3) 1 e2 known.spelled.width) ∙ known.number in
+    let number : number_read B 8 1 ≡ revision = ap (λ (o : ℕ). number_read B o 1) (sym l1) ∙ ap number_of (bytes_here B B1 b2 (CB ++ Rest3) 1 e2 known.spelled.width) ∙ known.number in
     let signature : bytes_at B 0 4 ≡ s = bytes_here B [] b0 Tail0 4 e0 s0.width ∙ signed table H.t0.field.line.value s v0 is_text (signature_four s table is_table) H.t0.first.given in
     let same : joined (sealed (map piece_of fields)) ≡ B = ap (λ (fs : List Field). joined (sealed (map piece_of fs))) firsts in
     subst (λ (bs : List ℕ). ReadsAs bs (entries_from 0 fields)) (sym same) (finish table revision B s (entries_from 0 fields) is_table signature known.known number r0)

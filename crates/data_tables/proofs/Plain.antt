@@ -9,7 +9,7 @@ use Rattle.data_layout.specs.declared.table.Table.TheVariants as t
 use Rattle.data_layout.specs.Layout.{fadt_bytes, fadt_rows_of, fadt_rows, fixed_rows, entry_rows, type_rows, madt_rows, srat_rows, structure_rows}
 use Rattle.std.specs.Option.{is_some}
 use Rattle.data_tables.specs.Fields.{has_room, revision_fault}
-use Rattle.data_tables.specs.Reading.{size_of}
+use Rattle.data_tables.specs.Reading.{size_of, IsKnownRevision}
 
 abbrev pub is_plain : Kind → ℕ → Bool
 is_plain k.Number width = true
@@ -128,6 +128,15 @@ fadt_known n e =
       | true ↦ λ f. refl
       | false ↦ λ f. absurd cc
     ] e
+
+-- a revision without fault is one that the reading knows
+pub known_revision : (table : Table) (n : ℕ) → revision_fault table 1 n ≡ None → IsKnownRevision table n
+known_revision t.Facp n e = fadt_known n e
+known_revision t.Apic n e = tt
+known_revision t.Mcfg n e = tt
+known_revision t.Hpet n e = tt
+known_revision t.Srat n e = tt
+known_revision t.Slit n e = tt
 
 -- of the SLIT below
 abbrev pub IsSlit : Table → Type 0

@@ -8,18 +8,20 @@ use Rattle.data_layout.specs.declared.row.Kind.{Kind}
 use Rattle.data_layout.specs.declared.row.Kind.TheVariants as k
 use Rattle.data_layout.specs.declared.row.FlagSet.{FlagSet}
 use Rattle.data_layout.specs.declared.table.Table.{Table}
-use Rattle.data_layout.specs.Layout.{structure_rows}
+use Rattle.data_layout.specs.Layout.{structure_rows, locality_row}
 use Rattle.data_text.specs.Values.{number_in, text_in, bytes_in}
 use Rattle.data_tables.specs.declared.part.After.{After}
 use Rattle.data_tables.specs.declared.part.After.TheVariants as a
-use Rattle.data_tables.specs.Bytes.{little_bytes, little_number}
-use Rattle.data_tables.specs.Fields.{Value, Number, form_of, value_of, field_bytes, number_of_value}
-use Rattle.data_tables.specs.Parts.{Part, next_field, locality_row, begins, behind, missing_after}
+use Rattle.byteorder.specs.Endian.{little_bytes}
+use Rattle.data_tables.specs.Entry.{Value, Number, Entry}
+use Rattle.data_tables.specs.Fields.{value_of, field_bytes, number_of_value}
+use Rattle.data_tables.specs.Parts.{Part, next_field, begins, behind, missing_after}
 use Rattle.data_tables.specs.Walk.{Field}
 use Rattle.data_tables.specs.Compiling.{piece_of, joined}
-use Rattle.data_tables.specs.Entries.{Entry, entry_of, entries_from, number_at}
-use Rattle.data_tables.specs.Reading.{bytes_at, read_as, value_read, rows_read, size_of, Stands, Stand, IsEnough, IsRest, ended}
-use Rattle.data_tables.proofs.Spelled.{IsSpelled, entry_same, little_length, little_back, room_bound, width_bound, reserved_zero, type_known, given_number, given_text, given_bytes}
+use Rattle.data_tables.specs.Entries.{entry_of, entries_from, number_at}
+use Rattle.data_tables.specs.Reading.{bytes_at, number_of, said, field_said, entry_said, rows_read, size_of, Stands, Stand, Tail, Nothing, Entries, Structures, Localities, IsEnough, IsRest, ended}
+use Rattle.data_tables.proofs.Numbers.{little_length, little_back}
+use Rattle.data_tables.proofs.Spelled.{IsSpelled, told_of, entry_same, room_bound, width_bound, reserved_zero, type_known, given_number, given_text, given_bytes}
 use Rattle.data_tables.proofs.Steps.{FieldsOf}
 use Rattle.data_tables.proofs.Plain.{is_plain, are_plain, plain_first}
 
@@ -31,10 +33,10 @@ part table revision rows after = record { table = table; revision = revision; ro
 positive : (w : ℕ) → 0 < 2 ^ (8 * w)
 positive w = one-le-pow (8 * w) 2 (omega arith)
 
-pub numbered : (all : List ℕ) (row : Row) (n : ℕ) → form_of row.kind ≡ form_of k.Number → n < 2 ^ (8 * row.width) → Stands all row.kind (little_bytes row.width n) → IsSpelled all row (Number n) (little_bytes row.width n)
+pub numbered : (all : List ℕ) (row : Row) (n : ℕ) → said row.kind (little_bytes row.width n) ≡ told_of row.kind (Number (number_of (little_bytes row.width n))) → n < 2 ^ (8 * row.width) → Stands all row.kind (little_bytes row.width n) → IsSpelled all row (Number n) (little_bytes row.width n)
 numbered all row n f h s = record {
   width = little_length row.width n;
-  reads = λ c. ap (λ g. read_as g (little_bytes row.width n)) f ∙ ap Number (little_back row.width n h);
+  reads = f ∙ ap (λ (m : ℕ). told_of row.kind (Number m)) (little_back row.width n h);
   stands = s;
 }
 
@@ -50,10 +52,10 @@ spelled_of all table k.Number w l f text value p g =
     given_spelled all (row_of k.Number w l f) value (Number n.0) n.1 (numbered all (row_of k.Number w l f) n.0 refl (width_bound w n.0 n.2) tt)
 spelled_of all table k.Text w l f text value p g =
     let t = given_text (row_of k.Text w l f) (text_in text) value g in
-    given_spelled all (row_of k.Text w l f) value _ t.2 (record { width = t.3; reads = λ c. refl; stands = tt })
+    given_spelled all (row_of k.Text w l f) value _ t.2 (record { width = t.3; reads = refl; stands = tt })
 spelled_of all table k.Bytes w l f text value p g =
     let b = given_bytes (row_of k.Bytes w l f) (bytes_in text) value g in
-    given_spelled all (row_of k.Bytes w l f) value _ b.1 (record { width = b.2; reads = λ c. refl; stands = tt })
+    given_spelled all (row_of k.Bytes w l f) value _ b.1 (record { width = b.2; reads = refl; stands = tt })
 spelled_of all table k.Reserved w l f text value p g =
     let n = given_number table (row_of k.Reserved w l f) (number_in text) value g in
     let z = reserved_zero n.0 n.2 in
@@ -66,7 +68,7 @@ spelled_of all table k.CompilerId w l f text value p g = absurd cc
 spelled_of all table k.CompilerRevision w l f text value p g = absurd cc
 spelled_of all table (k.Length size) w l f text value p g = record {
   width = little_length w size;
-  reads = λ c. absurd cc;
+  reads = refl;
   stands = little_back w size (room_bound w size p);
 }
 spelled_of all table k.Revision w l f text value p g = absurd cc
@@ -82,7 +84,7 @@ pub record IsTyped (all : List ℕ) (table : Table) (row : Row) (value : Value) 
   pub rows : List Row
   pub known : structure_rows table (number_of_value value) ≡ Some rows
   pub spelled : IsSpelled all row value (field_bytes row value)
-  pub number : little_number (field_bytes row value) ≡ number_of_value value
+  pub number : number_of (field_bytes row value) ≡ number_of_value value
 
 typed_of : (all : List ℕ) (table : Table) (w : ℕ) (l : List ℕ) (f : FlagSet) (text : List ℕ) (value : Value) → value_of table (row_of k.StructureType w l f) text ≡ Ok value → IsTyped all table (row_of k.StructureType w l f) value
 typed_of all table w l f text value g =
@@ -105,38 +107,38 @@ type_spelled all table row text value e g =
 pub locality_spelled : (all : List ℕ) (table : Table) (count place : ℕ) (text : List ℕ) (value : Value) → value_of table (locality_row count place) text ≡ Ok value → IsSpelled all (locality_row count place) value (field_bytes (locality_row count place) value)
 locality_spelled all table count place text value g =
     let b = given_bytes (locality_row count place) (bytes_in text) value g in
-    given_spelled all (locality_row count place) value _ b.1 (record { width = b.2; reads = λ c. refl; stands = tt })
+    given_spelled all (locality_row count place) value _ b.1 (record { width = b.2; reads = refl; stands = tt })
 
 -- ---- reading, field by field
 
 -- fields from an offset on and what follows them are read as these values
-pub record Reads (table : Table) (bytes : List ℕ) (rows : List Row) (after : After) (number offset : ℕ) (entries : List Entry) : Type 0 where
+pub record Reads (table : Table) (bytes : List ℕ) (rows : List Row) (tail : Tail) (number offset : ℕ) (entries : List Entry) : Type 0 where
   pub more : List Entry
   pub values : entries ≡ rows_read number bytes offset rows ++ more
   pub stand : Stand bytes offset rows
-  pub rest : IsRest table bytes after number (offset + size_of rows) more
+  pub rest : IsRest table bytes tail number (offset + size_of rows) more
 
 pub bytes_here : (bytes before here tail : List ℕ) (w : ℕ) → bytes ≡ before ++ (here ++ tail) → length here ≡ w → bytes_at bytes (length before) w ≡ here
 bytes_here bytes before here tail w e h =
     ap (λ (bs : List ℕ). take w (drop (length before) bs)) e ∙ ap (λ (bs : List ℕ). take w bs) (drop-append_seam before (here ++ tail)) ∙ take_at here tail w h
 
 -- one more field before those that are read
-pub rows_step : (table : Table) (bytes before here tail : List ℕ) (row : Row) (rows : List Row) (after : After) (number : ℕ) (value : Value) (entries : List Entry) → IsSpelled bytes row value here → bytes ≡ before ++ (here ++ tail) → Reads table bytes rows after number (length (before ++ here)) entries → Reads table bytes (row ∷ rows) after number (length before) (entry_of number row value ++ entries)
-rows_step table bytes before here tail row rows after number value entries s e r =
-    let at : bytes_at bytes (length before) row.width ≡ here = bytes_here bytes before here tail row.width e s.width in
+pub rows_step : (table : Table) (bytes before here left : List ℕ) (row : Row) (rows : List Row) (tail : Tail) (number : ℕ) (value : Value) (entries : List Entry) → IsSpelled bytes row value here → bytes ≡ before ++ (here ++ left) → Reads table bytes rows tail number (length (before ++ here)) entries → Reads table bytes (row ∷ rows) tail number (length before) (entry_of number row value ++ entries)
+rows_step table bytes before here left row rows tail number value entries s e r =
+    let at : bytes_at bytes (length before) row.width ≡ here = bytes_here bytes before here left row.width e s.width in
     let next : length (before ++ here) ≡ length before + row.width = length-append before here ∙ ap (λ (m : ℕ). length before + m) s.width in
-    let r' : Reads table bytes rows after number (length before + row.width) entries = subst (λ (o : ℕ). Reads table bytes rows after number o entries) next r in
-    let read : read_as (form_of row.kind) (bytes_at bytes (length before) row.width) ≡ read_as (form_of row.kind) here = ap (read_as (form_of row.kind)) at in
-    let first : entry_of number row value ≡ entry_of number row (value_read bytes (length before) row) = entry_same number row (value_read bytes (length before) row) value (λ c. read ∙ s.reads c) in
+    let r' : Reads table bytes rows tail number (length before + row.width) entries = subst (λ (o : ℕ). Reads table bytes rows tail number o entries) next r in
+    let read : Option Value = field_said bytes (length before) row in
+    let first : entry_of number row value ≡ entry_said number row read = entry_same number row read value (ap (said row.kind) at ∙ s.reads) in
     let end : (length before + row.width) + size_of rows ≡ length before + (row.width + size_of rows) = omega arith in
     record {
       more = r'.more;
       values =
           ap (λ (es : List Entry). entry_of number row value ++ es) r'.values
           ∙ ap (λ (es : List Entry). es ++ (rows_read number bytes (length before + row.width) rows ++ r'.more)) first
-          ∙ sym (append_assoc (entry_of number row (value_read bytes (length before) row)) (rows_read number bytes (length before + row.width) rows) r'.more);
+          ∙ sym (append_assoc (entry_said number row read) (rows_read number bytes (length before + row.width) rows) r'.more);
       stand = (subst (Stands bytes row.kind) (sym at) s.stands, r'.stand);
-      rest = subst (λ (o : ℕ). IsRest table bytes after number o r'.more) end r'.rest;
+      rest = subst (λ (o : ℕ). IsRest table bytes tail number o r'.more) end r'.rest;
     }
 
 -- where the bytes of what is left begin, one field on
@@ -190,16 +192,24 @@ bytes_first row field fields e = ap (λ (r : Row). field_bytes r field.value ++ 
 
 -- ---- the fields behind the header, by what comes after a part
 
+-- what stands behind the fixed part, where this comes after a part; the header's comes before all of it
+abbrev pub tail_of : After → Tail
+tail_of a.Fixed = Nothing
+tail_of a.Nothing = Nothing
+tail_of a.Entries = Entries
+tail_of a.Structures = Structures
+tail_of (a.Matrix count place) = Localities count place
+
 -- a part with these rows is read back from a number and some bytes on
 abbrev pub IsReadFrom : Table → ℕ → List ℕ → After → List Row → ℕ → List ℕ → List Field → Type 0
 IsReadFrom table revision bytes after rows number before fields =
-    FieldsOf (part table revision rows after) fields → Reads table bytes rows after number (length before) (entries_from number fields)
+    FieldsOf (part table revision rows after) fields → Reads table bytes rows (tail_of after) number (length before) (entries_from number fields)
 
 pub within : (bytes before tail : List ℕ) → bytes ≡ before ++ tail → length before ≤ length bytes
 within bytes before tail e = let f : length bytes ≡ length before + length tail = ap length e ∙ length-append before tail in omega arith
 
-enough : (after : After) → missing_after after ≡ None → IsEnough after
-enough a.Fixed e = cc
+enough : (after : After) → missing_after after ≡ None → IsEnough (tail_of after)
+enough a.Fixed e = tt
 enough a.Nothing e = tt
 enough a.Entries e = tt
 enough a.Structures e = tt
@@ -210,7 +220,7 @@ enough (a.Matrix count number) e =
     ] refl e
 
 -- nothing is left
-pub at_end : (table : Table) (revision number : ℕ) (bytes before : List ℕ) (after : After) → missing_after after ≡ None → bytes ≡ before ++ [] → Reads table bytes [] after number (length before) []
+pub at_end : (table : Table) (revision number : ℕ) (bytes before : List ℕ) (after : After) → missing_after after ≡ None → bytes ≡ before ++ [] → Reads table bytes [] (tail_of after) number (length before) []
 at_end table revision number bytes before after m e =
     let same : bytes ≡ before = e ∙ append-nil before in
     let size : length before ≡ length bytes = ap length (sym same) in
@@ -218,11 +228,11 @@ at_end table revision number bytes before after m e =
       more = [];
       values = refl;
       stand = omega arith;
-      rest = ended after number (length before + 0) (enough after m) (omega arith);
+      rest = ended (tail_of after) number (length before + 0) (enough after m) (omega arith);
     }
 
 -- the next row of a part
-pub at_row : (table : Table) (revision number : ℕ) (bytes before : List ℕ) (after : After) (row : Row) (rows : List Row) (field : Field) (fields : List Field) → are_plain (row ∷ rows) ≡ true → bytes ≡ before ++ joined (map piece_of (field ∷ fields)) → FieldsOf (part table revision (row ∷ rows) after) (field ∷ fields) → ((bytes ≡ (before ++ field_bytes row field.value) ++ joined (map piece_of fields)) → IsReadFrom table revision bytes after rows number (before ++ field_bytes row field.value) fields) → Reads table bytes (row ∷ rows) after number (length before) (entries_from number (field ∷ fields))
+pub at_row : (table : Table) (revision number : ℕ) (bytes before : List ℕ) (after : After) (row : Row) (rows : List Row) (field : Field) (fields : List Field) → are_plain (row ∷ rows) ≡ true → bytes ≡ before ++ joined (map piece_of (field ∷ fields)) → FieldsOf (part table revision (row ∷ rows) after) (field ∷ fields) → ((bytes ≡ (before ++ field_bytes row field.value) ++ joined (map piece_of fields)) → IsReadFrom table revision bytes after rows number (before ++ field_bytes row field.value) fields) → Reads table bytes (row ∷ rows) (tail_of after) number (length before) (entries_from number (field ∷ fields))
 at_row table revision number bytes before after row rows field fields p e h ih =
     let plain = plain_first row rows p in
     let f = first_is (part table revision (row ∷ rows) after) (part table revision rows after) row field fields refl h in
@@ -230,5 +240,5 @@ at_row table revision number bytes before after row rows field fields p e h ih =
     let whole : bytes ≡ before ++ (field_bytes row field.value ++ joined (map piece_of fields)) = e ∙ ap (λ (bs : List ℕ). before ++ bs) (bytes_first row field fields f.row_is) in
     let tail : FieldsOf (part table revision rows after) fields = subst (λ (q : Part). FieldsOf q fields) (behind_plain (part table revision rows after) row.kind row.width (number_of_value field.value) plain.0) f.tail in
     let r = ih (shifted bytes before (field_bytes row field.value) (joined (map piece_of fields)) whole) tail in
-    subst (λ (es : List Entry). Reads table bytes (row ∷ rows) after number (length before) es) (sym (entries_first number row field fields false f.row_is f.begins_is))
-    (rows_step table bytes before (field_bytes row field.value) (joined (map piece_of fields)) row rows after number field.value (entries_from number fields) s whole r)
+    subst (λ (es : List Entry). Reads table bytes (row ∷ rows) (tail_of after) number (length before) es) (sym (entries_first number row field fields false f.row_is f.begins_is))
+    (rows_step table bytes before (field_bytes row field.value) (joined (map piece_of fields)) row rows (tail_of after) number field.value (entries_from number fields) s whole r)

@@ -1,10 +1,12 @@
 -- A text of at most 2^25 bytes comes to fewer than 2^32 bytes: a number or a text has at most 8 bytes, and bytes are no
 -- more than their value's characters.
-use Rattle.std.proofs.Common.{◌≡◌, ◌≤◌, ◌<◌, ◌+◌, ◌-◌, ◌*◌, ◌^◌, ◌==◌, ◌&&◌, nat_le, nat_lt, ℕ, Bool, true, false, cond, List, [], ◌∷◌, length, map, Option, Some, None, Result, Ok, Err, refl, subst, arith, length-append}
+use Rattle.std.proofs.Common.{◌≡◌, ◌≤◌, ◌<◌, ◌+◌, ◌-◌, ◌*◌, ◌^◌, ◌==◌, ◌&&◌, nat_le, nat_lt, ℕ, Bool, true, false, cond, List, [], ◌∷◌, length, drop, map, Option, Some, None, Result, Ok, Err, refl, subst, arith, length-append}
 use Rattle.std.specs.List.{sum_by}
 use Rattle.std.specs.Option.{unwrap_or}
 use Rattle.std.proofs.lemmas.Bool.{and_parts, leb-true}
 use Rattle.std.proofs.lemmas.List.Sums.{sum_by-cons}
+use Rattle.byteorder.specs.Endian.{little_bytes}
+use Rattle.aml_code.specs.Header.{filled, compiler_bytes}
 use Rattle.iasl_messages.specs.declared.place.Place.{Place}
 use Rattle.iasl_messages.specs.declared.place.Line.{Line}
 use Rattle.data_layout.specs.declared.row.Row.{Row}
@@ -13,7 +15,7 @@ use Rattle.data_layout.specs.declared.row.Kind.TheVariants as k
 use Rattle.data_layout.specs.declared.table.Table.{Table}
 use Rattle.data_layout.specs.declared.table.Table.TheVariants as t
 use Rattle.data_layout.specs.declared.rows.TheConstants.{FACP}
-use Rattle.data_layout.specs.Layout.{table_of, header_rows, fadt_bytes, first_bytes, fadt_rows_of, fadt_rows, fixed_rows, entry_rows, type_rows, madt_rows, srat_rows, structure_rows}
+use Rattle.data_layout.specs.Layout.{table_of, header_rows, fadt_bytes, first_bytes, fadt_rows_of, fadt_rows, fixed_rows, entry_rows, type_rows, madt_rows, srat_rows, structure_rows, locality_row}
 use Rattle.data_text.specs.declared.field_line.FieldLine.{FieldLine}
 use Rattle.data_text.specs.declared.field_line.DataText.{DataText}
 use Rattle.data_text.specs.Source.{text_of}
@@ -26,14 +28,15 @@ use Rattle.data_tables.specs.declared.field.Form.{Form}
 use Rattle.data_tables.specs.declared.field.Form.TheVariants as form
 use Rattle.data_tables.specs.declared.part.After.{After}
 use Rattle.data_tables.specs.declared.part.After.TheVariants as a
-use Rattle.data_tables.specs.Bytes.{little_bytes, filled}
-use Rattle.data_tables.specs.Fields.{Value, Number, Bytes, number_of_value, form_of, bytes_fault, value_of_bytes, value_by, value_of, value_bytes, bytes_by, field_bytes}
-use Rattle.data_tables.specs.Parts.{Part, Opened, first_part, first_of, after_fixed, locality_row, open_after, open_rows, next_field, behind, missing}
+use Rattle.data_tables.specs.Entry.{Value, Number, Bytes}
+use Rattle.data_tables.specs.Fields.{number_of_value, form_of, bytes_fault, value_of_bytes, value_by, value_of, value_bytes, bytes_by, field_bytes}
+use Rattle.data_tables.specs.Parts.{Part, Opened, first_part, first_of, after_fixed, open_after, open_rows, next_field, behind, missing}
 use Rattle.data_tables.specs.Decoding.{is_decoded, told_by}
 use Rattle.data_tables.specs.Walk.{Field, Walked, Step, Passed, Took, Halted, step_with, step_due, step_at, step_of, told_at, with_front, fault_if, after_step, walk}
 use Rattle.data_tables.specs.Compiling.{piece_of, joined, signature_in}
 use Rattle.data_tables.specs.Entries.{fields_of_table, fields_signed, fields_by, fields_of_text, unsealed_bytes}
-use Rattle.data_tables.proofs.Spelled.{little_length, given_number, given_text}
+use Rattle.data_tables.proofs.Numbers.{little_length}
+use Rattle.data_tables.proofs.Spelled.{given_number, given_text}
 
 -- ---- rows
 
@@ -213,7 +216,7 @@ kind_room k.Reserved width value text n h = h
 kind_room k.TableLength width value text n h = computed_room width 0 text n
 kind_room k.Checksum width value text n h = computed_room width 0 text n
 kind_room k.CompilerId width value text n h = omega arith
-kind_room k.CompilerRevision width value text n h = computed_room width 0x20210105 text n
+kind_room k.CompilerRevision width value text n h = let four : length (drop 4 compiler_bytes) ≡ 4 = refl in omega (arith, four)
 kind_room (k.Length size) width value text n h = computed_room width size text n
 kind_room k.Revision width value text n h = h
 kind_room k.StructureType width value text n h = h

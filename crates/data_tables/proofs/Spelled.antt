@@ -1,42 +1,34 @@
 -- The bytes of a value read as it.
-use Rattle.std.proofs.Common.{◌≡◌, ◌≤◌, ◌<◌, ℕ, zero, suc, ◌+◌, ◌*◌, ◌-◌, ◌/◌, ◌%◌, ◌^◌, ◌==◌, ◌&&◌, nat_lt, nat_le, Bool, true, false, cond, List, [], ◌∷◌, length, replicate, Option, Some, None, Result, Ok, Err, refl, sym, ap, ◌∙◌, arith, length-append}
+use Rattle.std.proofs.Common.{◌≡◌, ◌≤◌, ◌<◌, ℕ, ◌+◌, ◌*◌, ◌-◌, ◌^◌, ◌==◌, ◌&&◌, nat_lt, nat_le, Bool, true, false, cond, List, [], ◌∷◌, ◌++◌, length, replicate, Option, Some, None, Result, Ok, Err, refl, sym, ap, ◌∙◌, arith, length-append}
 use Rattle.std.proofs.lemmas.Grind.{common_steps}
-use Rattle.std.proofs.lemmas.List.{length-replicate}
-use Rattle.std.proofs.lemmas.Nat.{pow-add}
+use Rattle.std.proofs.lemmas.List.{length-replicate, take_all}
 use Rattle.std.specs.Option.{is_some}
 use Rattle.data_layout.specs.declared.row.Row.{Row}
+use Rattle.data_layout.specs.declared.row.Kind.{Kind}
 use Rattle.data_layout.specs.declared.table.Table.{Table}
 use Rattle.data_layout.specs.Layout.{structure_rows}
-use Rattle.data_tables.specs.Bytes.{little_bytes, little_number, filled}
-use Rattle.data_tables.specs.Fields.{Value, Number, Bytes, form_of, has_room, width_fault, reserved_fault, type_fault, count_fault, has_structure, number_fault, judged, bytes_fault, value_of_number, value_of_text, value_of_bytes}
-use Rattle.data_tables.specs.Entries.{Entry, is_computed, entry_of}
-use Rattle.data_tables.specs.Reading.{read_as, Stands}
+use Rattle.aml_code.specs.Header.{filled}
+use Rattle.data_tables.specs.Entry.{Value, Number, Bytes, Entry}
+use Rattle.data_tables.specs.Fields.{has_room, width_fault, reserved_fault, type_fault, count_fault, has_structure, number_fault, judged, bytes_fault, value_of_number, value_of_text, value_of_bytes}
+use Rattle.data_tables.specs.Entries.{is_computed, entry_of}
+use Rattle.data_tables.specs.Reading.{said, entry_said, Stands}
 
-pub little_length : (w n : ℕ) → length (little_bytes w n) ≡ w
-little_length zero n = refl
-little_length (suc w) n = ap (λ (m : ℕ). suc m) (little_length w (n / 256))
-
-power_more : (w : ℕ) → 2 ^ (8 * suc w) ≡ 256 * 2 ^ (8 * w)
-power_more w = let e : 8 * suc w ≡ 8 + 8 * w = omega arith in ap (λ (m : ℕ). 2 ^ m) e ∙ pow-add 2 8 (8 * w)
-
-pub little_back : (w n : ℕ) → n < 2 ^ (8 * w) → little_number (little_bytes w n) ≡ n
-little_back zero n h = let z : n < 1 = h in omega arith
-little_back (suc w) n h =
-    let e = power_more w in
-    let l : n / 256 < 2 ^ (8 * w) = omega (arith, e, h) in
-    ap (λ (m : ℕ). n % 256 + 256 * m) (little_back w (n / 256) l) ∙ omega arith
+-- what a field that was given a value says: the value, or nothing where it is computed
+abbrev pub told_of : Kind → Value → Option Value
+told_of kind value = cond (is_computed kind) None (Some value)
 
 -- what a field's value and its bytes have to do with each other, among all bytes of the table
 pub record IsSpelled (all : List ℕ) (row : Row) (value : Value) (here : List ℕ) : Type 0 where
   pub width : length here ≡ row.width
-  pub reads : is_computed row.kind ≡ false → read_as (form_of row.kind) here ≡ value
+  pub reads : said row.kind here ≡ told_of row.kind value
   pub stands : Stands all row.kind here
 
-pub entry_same : (n : ℕ) (row : Row) (read value : Value) → (is_computed row.kind ≡ false → read ≡ value) → entry_of n row value ≡ entry_of n row read
-entry_same n row read value h =
-    elim (is_computed row.kind) as (λ b. (b ≡ false → read ≡ value) → cond {A = List Entry} b [] (record { structure = n; row = row; value = value } ∷ []) ≡ cond {A = List Entry} b [] (record { structure = n; row = row; value = read } ∷ [])) [
-      | true ↦ λ f. refl
-      | false ↦ λ f. ap (λ (v : Value). record { structure = n; row = row; value = v } ∷ []) (sym (f refl))
+-- the entries of both definitions are the same
+pub entry_same : (n : ℕ) (row : Row) (found : Option Value) (value : Value) → found ≡ told_of row.kind value → entry_of n row value ≡ entry_said n row found
+entry_same n row found value h =
+    elim (is_computed row.kind) as (λ b. found ≡ cond b None (Some value) → cond {A = List Entry} b [] (record { structure = n; row = row; value = value } ∷ []) ≡ entry_said n row found) [
+      | true ↦ λ f. sym (ap (entry_said n row) f)
+      | false ↦ λ f. sym (ap (entry_said n row) f)
     ] h
 
 and_second : (a b : Bool) → (a && b) ≡ true → b ≡ true
@@ -95,7 +87,7 @@ given_text row (Some text) value e =
           let h : ◌≡◌ {A = Result Value ℕ} (Ok (Bytes (filled row.width text))) (Ok value) = g in
           let same : Bytes (filled row.width text) ≡ value = cc in
           let within : length text ≤ row.width = grind arith in
-          (text, refl, sym same, length-append text (replicate (row.width - length text) 0) ∙ ap (λ (m : ℕ). length text + m) (length-replicate (row.width - length text) 0) ∙ omega arith)
+          (text, refl, sym same, ap (λ (bs : List ℕ). length (bs ++ replicate (row.width - length text) 0)) (take_all row.width text within) ∙ length-append text (replicate (row.width - length text) 0) ∙ ap (λ (m : ℕ). length text + m) (length-replicate (row.width - length text) 0) ∙ omega arith)
       | false ↦ λ f g. let h : ◌≡◌ {A = Result Value ℕ} (Err 6094) (Ok value) = g in absurd cc
     ] refl e
 

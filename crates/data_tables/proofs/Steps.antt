@@ -6,7 +6,8 @@ use Rattle.data_text.specs.declared.field_line.FieldLine.{FieldLine}
 use Rattle.data_tables.specs.declared.decoding.Decoded.{Decoded}
 use Rattle.data_tables.specs.declared.decoding.Told.{Told}
 use Rattle.data_tables.specs.declared.decoding.Told.TheVariants as told
-use Rattle.data_tables.specs.Fields.{Value, value_of, number_of_value}
+use Rattle.data_tables.specs.Entry.{Value}
+use Rattle.data_tables.specs.Fields.{value_of, number_of_value}
 use Rattle.data_tables.specs.Parts.{Part, Opened, next_field, begins, behind, missing}
 use Rattle.data_tables.specs.Decoding.{is_decoded, told_by}
 use Rattle.data_tables.specs.Walk.{Field, Walked, with_front, Step, Passed, Took, Halted, step_with, step_due, step_at, step_of, told_at, fault_if, after_step, walk}

@@ -2,12 +2,9 @@
 use Rattle.std.proofs.Common.{◌≡◌, ◌≤◌, ◌<◌, ◌+◌, ◌^◌, ℕ, List, [], ◌∷◌, ◌++◌, length, map, Option, Some, Ok, refl, sym, ap, subst, ◌∙◌, arith}
 use Rattle.data_layout.specs.declared.row.Row.{Row}
 use Rattle.data_layout.specs.declared.table.Table.{Table}
-use Rattle.data_layout.specs.Layout.{entry_rows, type_rows}
-use Rattle.data_tables.specs.declared.part.After.{After}
-use Rattle.data_tables.specs.declared.part.After.TheVariants as a
-use Rattle.data_tables.specs.Parts.{locality_row}
-use Rattle.data_tables.specs.Entries.{Entry}
-use Rattle.data_tables.specs.Reading.{rows_read, size_of, Stand, IsRest, ended, entry, structure, locality, rest_of, first_rows, ReadsAs}
+use Rattle.data_layout.specs.Layout.{entry_rows, type_rows, locality_row}
+use Rattle.data_tables.specs.Entry.{Entry}
+use Rattle.data_tables.specs.Reading.{rows_read, size_of, Stand, Tail, Entries, Structures, Localities, IsRest, ended, entry, structure, locality, rest_of, first_rows, ReadsAs}
 use Rattle.iasl_messages.specs.declared.place.Line.{Line}
 use Rattle.data_tables.specs.declared.compiled.Compiled.{Compiled}
 use Rattle.data_tables.specs.Compiling.{joined, piece_of, with_texts, answer_with_texts, compiled, compiled_text}
@@ -34,24 +31,24 @@ type_size rows =
 past : (bytes : List ℕ) (offset : ℕ) (rows : List Row) → offset ≡ length bytes → 0 < size_of rows → Stand bytes offset rows → ⊥
 past bytes offset rows e p h = let k = stand_within bytes offset rows h in omega arith
 
-same_rest : (table : Table) (bytes : List ℕ) (after : After) (number offset : ℕ) (one two : List Entry) → IsRest table bytes after number offset one → IsRest table bytes after number offset two → one ≡ two
-same_rest table bytes after number offset one two (ended after1 n1 o1 enough1 e1) (ended after2 n2 o2 enough2 e2) = refl
-same_rest table bytes after number offset one two (ended after1 n1 o1 enough1 e1) (entry n2 o2 more2 stand2 rest2) = absurd (past bytes o2 entry_rows e1 entry_size stand2)
-same_rest table bytes after number offset one two (ended after1 n1 o1 enough1 e1) (structure n2 o2 rows2 more2 known2 stated2 stand2 rest2) = absurd (past bytes o2 (type_rows ++ rows2) e1 (type_size rows2) stand2)
-same_rest table bytes after number offset one two (ended after1 n1 o1 enough1 e1) (locality n2 o2 count2 place2 more2 lt2 stand2 rest2) = absurd (omega arith)
-same_rest table bytes after number offset one two (entry n1 o1 more1 stand1 rest1) (ended after2 n2 o2 enough2 e2) = absurd (past bytes o1 entry_rows e2 entry_size stand1)
-same_rest table bytes after number offset one two (entry n1 o1 more1 stand1 rest1) (entry n2 o2 more2 stand2 rest2) =
-    ap (λ (es : List Entry). rows_read (n1 + 1) bytes o1 entry_rows ++ es) (same_rest table bytes a.Entries (n1 + 1) (o1 + size_of entry_rows) more1 more2 rest1 rest2)
-same_rest table bytes after number offset one two (structure n1 o1 rows1 more1 known1 stated1 stand1 rest1) (ended after2 n2 o2 enough2 e2) = absurd (past bytes o1 (type_rows ++ rows1) e2 (type_size rows1) stand1)
-same_rest table bytes after number offset one two (structure n1 o1 rows1 more1 known1 stated1 stand1 rest1) (structure n2 o2 rows2 more2 known2 stated2 stand2 rest2) =
+same_rest : (table : Table) (bytes : List ℕ) (tail : Tail) (number offset : ℕ) (one two : List Entry) → IsRest table bytes tail number offset one → IsRest table bytes tail number offset two → one ≡ two
+same_rest table bytes tail number offset one two (ended tail1 n1 o1 enough1 e1) (ended tail2 n2 o2 enough2 e2) = refl
+same_rest table bytes tail number offset one two (ended tail1 n1 o1 enough1 e1) (entry n2 o2 more2 stand2 rest2) = absurd (past bytes o2 entry_rows e1 entry_size stand2)
+same_rest table bytes tail number offset one two (ended tail1 n1 o1 enough1 e1) (structure n2 o2 rows2 more2 known2 stated2 stand2 rest2) = absurd (past bytes o2 (type_rows ++ rows2) e1 (type_size rows2) stand2)
+same_rest table bytes tail number offset one two (ended tail1 n1 o1 enough1 e1) (locality n2 o2 count2 place2 more2 lt2 stand2 rest2) = absurd (omega arith)
+same_rest table bytes tail number offset one two (entry n1 o1 more1 stand1 rest1) (ended tail2 n2 o2 enough2 e2) = absurd (past bytes o1 entry_rows e2 entry_size stand1)
+same_rest table bytes tail number offset one two (entry n1 o1 more1 stand1 rest1) (entry n2 o2 more2 stand2 rest2) =
+    ap (λ (es : List Entry). rows_read (n1 + 1) bytes o1 entry_rows ++ es) (same_rest table bytes Entries (n1 + 1) (o1 + size_of entry_rows) more1 more2 rest1 rest2)
+same_rest table bytes tail number offset one two (structure n1 o1 rows1 more1 known1 stated1 stand1 rest1) (ended tail2 n2 o2 enough2 e2) = absurd (past bytes o1 (type_rows ++ rows1) e2 (type_size rows1) stand1)
+same_rest table bytes tail number offset one two (structure n1 o1 rows1 more1 known1 stated1 stand1 rest1) (structure n2 o2 rows2 more2 known2 stated2 stand2 rest2) =
     let both : ◌≡◌ {A = Option (List Row)} (Some rows2) (Some rows1) = sym known2 ∙ known1 in
     let rows : rows2 ≡ rows1 = cc in
-    let rest : IsRest table bytes a.Structures (n1 + 1) (o1 + size_of (type_rows ++ rows1)) more2 = subst (λ (rs : List Row). IsRest table bytes a.Structures (n1 + 1) (o1 + size_of (type_rows ++ rs)) more2) rows rest2 in
-    ap (λ (es : List Entry). rows_read (n1 + 1) bytes o1 (type_rows ++ rows1) ++ es) (same_rest table bytes a.Structures (n1 + 1) (o1 + size_of (type_rows ++ rows1)) more1 more2 rest1 rest)
+    let rest : IsRest table bytes Structures (n1 + 1) (o1 + size_of (type_rows ++ rows1)) more2 = subst (λ (rs : List Row). IsRest table bytes Structures (n1 + 1) (o1 + size_of (type_rows ++ rs)) more2) rows rest2 in
+    ap (λ (es : List Entry). rows_read (n1 + 1) bytes o1 (type_rows ++ rows1) ++ es) (same_rest table bytes Structures (n1 + 1) (o1 + size_of (type_rows ++ rows1)) more1 more2 rest1 rest)
     ∙ ap (λ (rs : List Row). rows_read (n1 + 1) bytes o1 (type_rows ++ rs) ++ more2) (sym rows)
-same_rest table bytes after number offset one two (locality n1 o1 count1 place1 more1 lt1 stand1 rest1) (ended after2 n2 o2 enough2 e2) = absurd (omega arith)
-same_rest table bytes after number offset one two (locality n1 o1 count1 place1 more1 lt1 stand1 rest1) (locality n2 o2 count2 place2 more2 lt2 stand2 rest2) =
-    ap (λ (es : List Entry). rows_read (n1 + 1) bytes o1 (locality_row count1 place1 ∷ []) ++ es) (same_rest table bytes (a.Matrix count1 (place1 + 1)) (n1 + 1) (o1 + count1) more1 more2 rest1 rest2)
+same_rest table bytes tail number offset one two (locality n1 o1 count1 place1 more1 lt1 stand1 rest1) (ended tail2 n2 o2 enough2 e2) = absurd (omega arith)
+same_rest table bytes tail number offset one two (locality n1 o1 count1 place1 more1 lt1 stand1 rest1) (locality n2 o2 count2 place2 more2 lt2 stand2 rest2) =
+    ap (λ (es : List Entry). rows_read (n1 + 1) bytes o1 (locality_row count1 place1 ∷ []) ++ es) (same_rest table bytes (Localities count1 (place1 + 1)) (n1 + 1) (o1 + count1) more1 more2 rest1 rest2)
 
 at_table : (bytes : List ℕ) (table : Table) (one two more1 more2 : List Entry) → IsRest table bytes (rest_of table bytes) 0 (size_of (first_rows table bytes)) more1 → IsRest table bytes (rest_of table bytes) 0 (size_of (first_rows table bytes)) more2 → one ≡ rows_read 0 bytes 0 (first_rows table bytes) ++ more1 → two ≡ rows_read 0 bytes 0 (first_rows table bytes) ++ more2 → one ≡ two
 at_table bytes table one two more1 more2 rest1 rest2 e f =

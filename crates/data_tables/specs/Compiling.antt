@@ -6,6 +6,8 @@ use Rattle.iasl_messages.specs.declared.place.Place.{Place}
 use Rattle.iasl_messages.specs.declared.place.Piece.{Piece}
 use Rattle.iasl_messages.specs.declared.place.Line.{Line}
 use Rattle.iasl_messages.specs.declared.message.Message.{Message}
+use Rattle.byteorder.specs.Endian.{little_bytes}
+use Rattle.aml_code.specs.Header.{checksum_of}
 use Rattle.source_lines.specs.Text.{line_text}
 use Rattle.data_layout.specs.declared.table.Table.{Table}
 use Rattle.data_layout.specs.Layout.{table_of}
@@ -14,7 +16,6 @@ use Rattle.data_text.specs.declared.field_line.DataText.{DataText}
 use Rattle.data_text.specs.Source.{text_of}
 use Rattle.data_text.specs.Values.{text_in}
 use Rattle.data_tables.specs.declared.compiled.Compiled.{Compiled}
-use Rattle.data_tables.specs.Bytes.{little_bytes, checksum_of}
 use Rattle.data_tables.specs.Fields.{field_bytes}
 use Rattle.data_tables.specs.Parts.{first_part}
 use Rattle.data_tables.specs.Walk.{Field, Walked, walk, message_at}

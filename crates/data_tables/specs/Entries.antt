@@ -10,33 +10,20 @@ use Rattle.data_layout.specs.Layout.{table_of}
 use Rattle.data_text.specs.declared.field_line.FieldLine.{FieldLine}
 use Rattle.data_text.specs.declared.field_line.DataText.{DataText}
 use Rattle.data_text.specs.Source.{text_of}
-use Rattle.data_tables.specs.Fields.{Value}
+use Rattle.data_tables.specs.Entry.{Value}
+pub use Rattle.data_tables.specs.Entry.{Entry}
 use Rattle.data_tables.specs.Parts.{first_part}
 use Rattle.data_tables.specs.Walk.{Field, walk}
 use Rattle.data_tables.specs.Compiling.{signature_in, piece_of, joined}
 
--- a value: the number of the entry or structure that it stands in, from 1, or 0 in the header and the fixed part; and
--- its field
-pub record Entry : Type 0 where
-  pub structure : ℕ
-  pub row : Row
-  pub value : Value
-
 -- the length and the checksum of the table, the compiler's name and revision, and a structure's length are computed
 abbrev pub is_computed : Kind → Bool
-is_computed k.Number = false
-is_computed k.Text = false
-is_computed k.Bytes = false
-is_computed k.Reserved = false
 is_computed k.TableLength = true
 is_computed k.Checksum = true
 is_computed k.CompilerId = true
 is_computed k.CompilerRevision = true
 is_computed (k.Length size) = true
-is_computed k.Revision = false
-is_computed k.StructureType = false
-is_computed k.Localities = false
-is_computed (k.Locality n) = false
+is_computed kind = false
 
 abbrev pub entry_of : ℕ → Row → Value → List Entry
 entry_of structure row value = cond (is_computed row.kind) [] (record { structure = structure; row = row; value = value } ∷ [])

@@ -1,8 +1,10 @@
 -- The value of a field, and its bytes.
-use Rattle.std.specs.Prelude.{ℕ, ◌*◌, ◌^◌, ◌==◌, ◌&&◌, nat_lt, nat_le, Bool, cond, List, [], ◌++◌, length, codes, decimal, Some, None, Ok, Err}
+use Rattle.std.specs.Prelude.{ℕ, ◌*◌, ◌^◌, ◌==◌, ◌&&◌, nat_lt, nat_le, Bool, cond, List, [], ◌++◌, length, take, drop, decimal, Some, None, Ok, Err}
 use Rattle.std.specs.declared.option.Option.{Option}
 use Rattle.std.specs.declared.result.Result.{Result}
 use Rattle.std.specs.Option.{is_some}
+use Rattle.byteorder.specs.Endian.{little_bytes}
+use Rattle.aml_code.specs.Header.{filled, compiler_bytes}
 use Rattle.data_layout.specs.declared.row.Row.{Row}
 use Rattle.data_layout.specs.declared.row.Kind.{Kind}
 use Rattle.data_layout.specs.declared.row.Kind.TheVariants as k
@@ -13,12 +15,7 @@ use Rattle.data_text.specs.Blanks.{label_key}
 use Rattle.data_text.specs.Values.{number_in, text_in, bytes_in}
 use Rattle.data_tables.specs.declared.field.Form.{Form}
 use Rattle.data_tables.specs.declared.field.Form.TheVariants as form
-use Rattle.data_tables.specs.Bytes.{little_bytes, filled}
-
--- a value: a number, or the bytes that a text or pairs of digits write
-pub data Value : Type 0 where
-  Number : ℕ → Value
-  Bytes : List ℕ → Value
+use Rattle.data_tables.specs.Entry.{Value, Number, Bytes}
 
 -- the value as a number
 abbrev pub number_of_value : Value → ℕ
@@ -27,19 +24,11 @@ number_of_value (Bytes bytes) = 0
 
 -- how the value of a field is written
 abbrev pub form_of : Kind → Form
-form_of k.Number = form.Number
 form_of k.Text = form.Text
-form_of k.Bytes = form.Bytes
-form_of k.Reserved = form.Number
-form_of k.TableLength = form.Number
-form_of k.Checksum = form.Number
 form_of k.CompilerId = form.Text
-form_of k.CompilerRevision = form.Number
-form_of (k.Length size) = form.Number
-form_of k.Revision = form.Number
-form_of k.StructureType = form.Number
-form_of k.Localities = form.Number
+form_of k.Bytes = form.Bytes
 form_of (k.Locality n) = form.Bytes
+form_of kind = form.Number
 
 -- whether a number has room in so many bytes, of which a number has at most 8
 abbrev pub has_room : ℕ → ℕ → Bool
@@ -52,11 +41,7 @@ width_fault width number = cond (has_room width number) None (Some 6094)
 -- or a FADT has no such revision (6093)
 abbrev pub revision_fault : Table → ℕ → ℕ → Option ℕ
 revision_fault t.Facp width number = cond (is_some (fadt_bytes number)) None (Some 6093)
-revision_fault t.Apic width number = width_fault width number
-revision_fault t.Mcfg width number = width_fault width number
-revision_fault t.Hpet width number = width_fault width number
-revision_fault t.Srat width number = width_fault width number
-revision_fault t.Slit width number = width_fault width number
+revision_fault table width number = width_fault width number
 
 abbrev pub has_structure : Table → ℕ → Bool
 has_structure table number = is_some (structure_rows table number)
@@ -74,35 +59,16 @@ abbrev pub reserved_fault : ℕ → Option ℕ
 reserved_fault number = cond (number == 0) None (Some 6093)
 
 abbrev pub number_fault : Table → Kind → ℕ → ℕ → Option ℕ
-number_fault table k.Number width number = width_fault width number
-number_fault table k.Text width number = width_fault width number
-number_fault table k.Bytes width number = width_fault width number
 number_fault table k.Reserved width number = reserved_fault number
-number_fault table k.TableLength width number = width_fault width number
-number_fault table k.Checksum width number = width_fault width number
-number_fault table k.CompilerId width number = width_fault width number
-number_fault table k.CompilerRevision width number = width_fault width number
-number_fault table (k.Length size) width number = width_fault width number
 number_fault table k.Revision width number = revision_fault table width number
 number_fault table k.StructureType width number = type_fault table width number
 number_fault table k.Localities width number = count_fault width number
-number_fault table (k.Locality n) width number = width_fault width number
+number_fault table kind width number = width_fault width number
 
 -- the message of bytes of a wrong count: 6097 in the row of a locality, else 6093
 abbrev pub bytes_fault : Kind → ℕ
-bytes_fault k.Number = 6093
-bytes_fault k.Text = 6093
-bytes_fault k.Bytes = 6093
-bytes_fault k.Reserved = 6093
-bytes_fault k.TableLength = 6093
-bytes_fault k.Checksum = 6093
-bytes_fault k.CompilerId = 6093
-bytes_fault k.CompilerRevision = 6093
-bytes_fault (k.Length size) = 6093
-bytes_fault k.Revision = 6093
-bytes_fault k.StructureType = 6093
-bytes_fault k.Localities = 6093
 bytes_fault (k.Locality n) = 6097
+bytes_fault kind = 6093
 
 abbrev pub judged : ℕ → Option ℕ → Result Value ℕ
 judged number None = Ok (Number number)
@@ -134,41 +100,23 @@ abbrev pub value_bytes : ℕ → Value → List ℕ
 value_bytes width (Number number) = little_bytes width number
 value_bytes width (Bytes bytes) = bytes
 
--- The bytes of a field. In the place of a computed value stands what is due there; the table's length and checksum
--- are 0 until the table is whole.
+-- The bytes of a field. In the place of a computed value stands what is due there: of the compiler its name and its
+-- revision. The table's length and checksum are 0 until the table is whole.
 abbrev pub bytes_by : Kind → ℕ → Value → List ℕ
-bytes_by k.Number width value = value_bytes width value
-bytes_by k.Text width value = value_bytes width value
-bytes_by k.Bytes width value = value_bytes width value
-bytes_by k.Reserved width value = value_bytes width value
 bytes_by k.TableLength width value = little_bytes width 0
 bytes_by k.Checksum width value = little_bytes width 0
-bytes_by k.CompilerId width value = codes "INTL"
-bytes_by k.CompilerRevision width value = little_bytes width 0x20210105
+bytes_by k.CompilerId width value = take 4 compiler_bytes
+bytes_by k.CompilerRevision width value = drop 4 compiler_bytes
 bytes_by (k.Length size) width value = little_bytes width size
-bytes_by k.Revision width value = value_bytes width value
-bytes_by k.StructureType width value = value_bytes width value
-bytes_by k.Localities width value = value_bytes width value
-bytes_by (k.Locality n) width value = value_bytes width value
+bytes_by kind width value = value_bytes width value
 
 abbrev pub field_bytes : Row → Value → List ℕ
 field_bytes row value = bytes_by row.kind row.width value
 
 -- a label as it is compared; behind that of a locality's row stands the locality's number
 abbrev pub number_behind : Kind → List ℕ
-number_behind k.Number = []
-number_behind k.Text = []
-number_behind k.Bytes = []
-number_behind k.Reserved = []
-number_behind k.TableLength = []
-number_behind k.Checksum = []
-number_behind k.CompilerId = []
-number_behind k.CompilerRevision = []
-number_behind (k.Length size) = []
-number_behind k.Revision = []
-number_behind k.StructureType = []
-number_behind k.Localities = []
 number_behind (k.Locality n) = decimal n
+number_behind kind = []
 
 abbrev pub row_key : Row → List ℕ
 row_key row = label_key row.label ++ number_behind row.kind

@@ -1,4 +1,4 @@
-pub mod Bytes
+pub mod Entry
 pub mod Fields
 pub mod Parts
 pub mod Labels

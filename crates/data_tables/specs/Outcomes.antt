@@ -30,4 +30,4 @@ abbrev pub outcome_with : Walker → Walked → Outcome
 outcome_with walker w = made (walker.pieces ++ map piece_of w.fields) (walker.notes ++ w.notes) (walker.faults ++ w.faults)
 
 abbrev pub told_with : Walker → Place → List FieldLine → Outcome
-told_with walker end lines = outcome_with walker (walk end (part_of walker.due) walker.decoded lines)
+told_with walker end lines = outcome_with walker (walk end (part_of walker.part) walker.decoded lines)

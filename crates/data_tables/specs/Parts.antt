@@ -6,11 +6,9 @@ use Rattle.std.specs.Option.{unwrap_or}
 use Rattle.data_layout.specs.declared.row.Row.{Row}
 use Rattle.data_layout.specs.declared.row.Kind.{Kind}
 use Rattle.data_layout.specs.declared.row.Kind.TheVariants as k
-use Rattle.data_layout.specs.declared.row.FlagSet.TheVariants as f
 use Rattle.data_layout.specs.declared.table.Table.{Table}
 use Rattle.data_layout.specs.declared.table.Table.TheVariants as t
-use Rattle.data_layout.specs.declared.rows.TheConstants.{LOCALITY}
-use Rattle.data_layout.specs.Layout.{header_rows, fixed_rows, entry_rows, type_rows, structure_rows}
+use Rattle.data_layout.specs.Layout.{header_rows, fixed_rows, entry_rows, type_rows, structure_rows, locality_row}
 use Rattle.data_tables.specs.declared.part.After.{After}
 use Rattle.data_tables.specs.declared.part.After.TheVariants as a
 
@@ -34,10 +32,6 @@ after_fixed t.Mcfg = a.Entries
 after_fixed t.Apic = a.Structures
 after_fixed t.Srat = a.Structures
 after_fixed t.Slit = a.Matrix 0 0
-
--- the row of a locality: a byte for each of so many
-abbrev pub locality_row : ℕ → ℕ → Row
-locality_row count number = record { label = LOCALITY; width = count; kind = k.Locality number; flags = f.No }
 
 -- a field, and what comes after it
 abbrev pub Opened : Type 0
@@ -87,19 +81,10 @@ begins part = begins_rows part.after part.rows
 -- What comes after a field that has this number: a revision chooses the fixed part, a type the structure, and a
 -- number of localities the rows of the matrix.
 abbrev pub behind : Part → Kind → ℕ → Part
-behind part k.Number number = part
-behind part k.Text number = part
-behind part k.Bytes number = part
-behind part k.Reserved number = part
-behind part k.TableLength number = part
-behind part k.Checksum number = part
-behind part k.CompilerId number = part
-behind part k.CompilerRevision number = part
-behind part (k.Length size) number = part
 behind part k.Revision number = record part { revision = number }
 behind part k.StructureType number = record part { rows = unwrap_or (structure_rows part.table number) [] }
 behind part k.Localities number = record part { after = a.Matrix number 0 }
-behind part (k.Locality n) number = part
+behind part kind number = part
 
 -- the number of the message where the text ends here: a field is missing (6091), or a row of a matrix (6097)
 abbrev pub missing_after : After → Option ℕ

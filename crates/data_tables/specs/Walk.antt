@@ -10,7 +10,8 @@ use Rattle.data_text.specs.declared.field_line.FieldLine.{FieldLine}
 use Rattle.data_tables.specs.declared.decoding.Decoded.{Decoded}
 use Rattle.data_tables.specs.declared.decoding.Told.{Told}
 use Rattle.data_tables.specs.declared.decoding.Told.TheVariants as told
-use Rattle.data_tables.specs.Fields.{Value, number_of_value, value_of, row_key}
+use Rattle.data_tables.specs.Entry.{Value}
+use Rattle.data_tables.specs.Fields.{number_of_value, value_of, row_key}
 use Rattle.data_tables.specs.Parts.{Part, Opened, next_field, begins, behind, missing}
 use Rattle.data_tables.specs.Decoding.{is_decoded, told_by, decoded_of}
 

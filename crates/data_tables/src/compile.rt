@@ -9,8 +9,6 @@ ghost use Rattle.data_tables.specs.Parts.{first_part};
 ghost use Rattle.data_tables.specs.Promise.{Answers, TellsWithin, TellsOf};
 
 use crate::compiled::Compiled;
-use crate::field::BAD_VALUE;
-use crate::part::FIELD_IS_MISSING;
 use crate::seal::seal;
 use crate::walk::message_at;
 use crate::walker::{Walker, walk_lines};
@@ -19,12 +17,11 @@ use data_text::field_line::{DataText, FieldLine};
 use data_text::source::data_text;
 use data_text::values::text_in;
 use iasl_messages::message::Stage;
+use iasl_messages::number::{BAD_VALUE, FIELD_IS_MISSING, UNKNOWN_TABLE};
 use iasl_messages::place::{Line, Lines, Piece, Pieces, Place};
 use iasl_ports::list::{List, Text};
 use source_lines::lines::SourceLines;
 use std::alloc::{AllocError, Global};
-
-const UNKNOWN_TABLE: u16 = 6090;
 
 // One message.
 fn refuse(alloc: Global, number: u16, place: Place) -> Stage
@@ -48,7 +45,8 @@ fn signature_in(line: &FieldLine) -> Option<&[u8]>
     }
 }
 
-fn whole(alloc: Global, signature: &[u8], walker: Walker) -> Result<Compiled, AllocError>
+// The table of what was made of a text without faults.
+fn sealed_table(alloc: Global, signature: &[u8], walker: Walker) -> Result<Compiled, AllocError>
     ensures table { IfOk result (λ table. table ≡ record { pieces = sealed walker.pieces; signature = signature.now; notes = walker.notes }) }
     ensures within { OnOk result (length (joined walker.pieces) < 2 ^ 32) }
 {
@@ -76,7 +74,7 @@ fn compile_table(
     if !walker.faults.is_empty() {
         return Err(Stage::Refused(walker.faults));
     }
-    match whole(alloc, signature, walker) {
+    match sealed_table(alloc, signature, walker) {
         Ok(table) => Ok(table),
         Err(AllocError) => Err(Stage::Memory),
     }

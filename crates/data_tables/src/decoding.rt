@@ -66,7 +66,7 @@ fn told_value(value: &[u8], bits: u64) -> Told
                 Told::Disagrees
             }
         }
-        Number::No | Number::Wide => Told::Disagrees,
+        Number::Malformed | Number::Wide => Told::Disagrees,
     }
 }
 

@@ -1,7 +1,8 @@
 // The value of a field, and its bytes.
 ghost use Rattle.std.specs.Prelude.{◌≡◌, ◌≤◌, ◌<◌, ◌^◌, ◌*◌, ◌++◌, ◌∷◌, [], MatchOption, IfOk, OnOk, Some, None, Ok, Err, ℕ, length, nat_lt, replicate};
 ghost use Rattle.data_text.specs.Values.{number_in, text_in, bytes_in};
-ghost use Rattle.data_tables.specs.Bytes.{little_bytes, filled};
+ghost use Rattle.byteorder.specs.Endian.{little_bytes};
+ghost use Rattle.aml_code.specs.Header.{filled};
 ghost use Rattle.data_tables.specs.Fields as spec;
 ghost use Rattle.data_tables.specs.Fields.{value_of, value_by, form_of, number_fault};
 ghost use Rattle.data_tables.specs.Views.{IsValue};
@@ -9,16 +10,10 @@ ghost use Rattle.data_tables.specs.Views.{IsValue};
 use data_layout::row::{Kind, Row};
 use data_layout::table::{Table, fadt_bytes, structure_rows};
 use data_text::values::{Number, bytes_in, number_in, text_in};
+use iasl_messages::number::{
+    BAD_LOCALITY_MATRIX, BAD_VALUE, UNKNOWN_STRUCTURE_TYPE, VALUE_IS_TOO_WIDE,
+};
 use std::alloc::{AllocError, Global};
-
-/// The number of the message that a value has not the form or is not one that may stand there.
-pub(crate) const BAD_VALUE: u16 = 6093;
-
-const TOO_WIDE: u16 = 6094;
-
-const UNKNOWN_TYPE: u16 = 6095;
-
-const BAD_MATRIX: u16 = 6097;
 
 /// The most localities that a table may have.
 const MOST_LOCALITIES: u64 = 4000;
@@ -71,7 +66,7 @@ fn width_fault(width: u64, number: u64) -> Option<u16>
     if has_room(width, number) {
         None
     } else {
-        Some(TOO_WIDE)
+        Some(VALUE_IS_TOO_WIDE)
     }
 }
 
@@ -102,11 +97,11 @@ fn type_fault(table: Table, width: u64, number: u64) -> Option<u16>
     ensures { result ≡ spec.type_fault table width number }
 {
     if !has_room(width, number) {
-        Some(TOO_WIDE)
+        Some(VALUE_IS_TOO_WIDE)
     } else if has_structure(table, number) {
         None
     } else {
-        Some(UNKNOWN_TYPE)
+        Some(UNKNOWN_STRUCTURE_TYPE)
     }
 }
 
@@ -114,11 +109,11 @@ fn count_fault(width: u64, number: u64) -> Option<u16>
     ensures { result ≡ spec.count_fault width number }
 {
     if !has_room(width, number) {
-        Some(TOO_WIDE)
+        Some(VALUE_IS_TOO_WIDE)
     } else if number <= MOST_LOCALITIES {
         None
     } else {
-        Some(BAD_MATRIX)
+        Some(BAD_LOCALITY_MATRIX)
     }
 }
 
@@ -158,7 +153,8 @@ fn wide_fault(table: Table, kind: Kind, width: u64) -> u16
         Kind::Reserved => BAD_VALUE,
         Kind::Revision => match table {
             Table::Facp => BAD_VALUE,
-            Table::Apic | Table::Mcfg | Table::Hpet | Table::Srat | Table::Slit => TOO_WIDE,
+            Table::Apic | Table::Mcfg | Table::Hpet | Table::Srat | Table::Slit =>
+                VALUE_IS_TOO_WIDE,
         },
         Kind::Number
         | Kind::Text
@@ -170,7 +166,7 @@ fn wide_fault(table: Table, kind: Kind, width: u64) -> u16
         | Kind::Length(_)
         | Kind::StructureType
         | Kind::Localities
-        | Kind::Locality(_) => TOO_WIDE,
+        | Kind::Locality(_) => VALUE_IS_TOO_WIDE,
     }
 }
 
@@ -178,7 +174,7 @@ fn bytes_fault(kind: Kind) -> u16
     ensures { result ≡ spec.bytes_fault kind }
 {
     match kind {
-        Kind::Locality(_) => BAD_MATRIX,
+        Kind::Locality(_) => BAD_LOCALITY_MATRIX,
         _ => BAD_VALUE,
     }
 }
@@ -187,7 +183,7 @@ fn number_value(table: Table, row: &Row, text: &[u8]) -> Value
     ensures { IsValue result (spec.value_of_number table row.now (number_in text.now)) }
 {
     match number_in(text) {
-        Number::No => Value::Fault(BAD_VALUE),
+        Number::Malformed => Value::Fault(BAD_VALUE),
         Number::Wide => Value::Fault(wide_fault(table, row.kind, row.width)),
         Number::Is(number) => match number_fault(table, row.kind, row.width, number) {
             Some(fault) => Value::Fault(fault),
@@ -214,7 +210,7 @@ fn text_value(alloc: Global, row: &Row, text: &[u8]) -> Result<Value, AllocError
         Some(found) => {
             let width = row.width as usize;
             if found.len() > width {
-                return Ok(Value::Fault(TOO_WIDE));
+                return Ok(Value::Fault(VALUE_IS_TOO_WIDE));
             }
             Ok(Value::Bytes(filled(alloc, width, found)?))
         }

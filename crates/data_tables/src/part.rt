@@ -5,16 +5,11 @@ ghost use Rattle.data_tables.specs.Views.{part_of, IsNext};
 ghost use Rattle.std.specs.Option.{unwrap_or};
 ghost use Rattle.data_layout.specs.Layout.{structure_rows};
 
-use data_layout::row::{FlagSet, Kind, Row};
-use data_layout::rows::LOCALITY;
-use data_layout::table::{Table, entry_rows, fixed_rows, header_rows, structure_rows, type_rows};
-
-/// The number of the message that a field is missing.
-pub(crate) const FIELD_IS_MISSING: u16 = 6091;
-
-const TOO_MANY_LINES: u16 = 6092;
-
-const BAD_MATRIX: u16 = 6097;
+use data_layout::row::{Kind, Row};
+use data_layout::table::{
+    Table, entry_rows, fixed_rows, header_rows, locality_row, structure_rows, type_rows,
+};
+use iasl_messages::number::{BAD_LOCALITY_MATRIX, FIELD_IS_MISSING, TOO_MANY_LINES};
 
 /// What comes after the fields of a part.
 #[derive(Clone, Copy, PartialEq, Eq, Debug)]
@@ -32,7 +27,7 @@ pub(crate) enum After {
 
 /// The fields that are still to come in the header, the fixed part or a structure, and what comes after them.
 #[derive(Clone, Copy, Debug)]
-pub(crate) struct Due {
+pub(crate) struct Part {
     pub table: Table,
     /// 0 until it has been read.
     pub revision: u64,
@@ -43,15 +38,15 @@ pub(crate) struct Due {
 /// The next field and what comes after it, or the number of the message that there is none.
 #[derive(Debug)]
 pub(crate) enum Next {
-    Field(Row, Due),
+    Field(Row, Part),
     Fault(u16),
 }
 
 /// The header of a table, and then its fixed part.
-pub(crate) fn first_part(table: Table) -> Due
+pub(crate) fn first_part(table: Table) -> Part
     ensures { part_of result ≡ first_part table }
 {
-    Due {
+    Part {
         table,
         revision: 0,
         rows: header_rows(),
@@ -70,80 +65,74 @@ fn after_fixed(table: Table) -> After
     }
 }
 
-fn with_rows(due: Due, rows: &'static [Row]) -> Due
-    ensures { part_of result ≡ record (part_of due) { rows = rows.now } }
+fn with_rows(part: Part, rows: &'static [Row]) -> Part
+    ensures { part_of result ≡ record (part_of part) { rows = rows.now } }
 {
-    Due {
-        table: due.table,
-        revision: due.revision,
+    Part {
+        table: part.table,
+        revision: part.revision,
         rows,
-        after: due.after,
+        after: part.after,
     }
 }
 
-fn with_after(due: Due, after: After) -> Due
-    ensures { part_of result ≡ record (part_of due) { after = after } }
+fn with_after(part: Part, after: After) -> Part
+    ensures { part_of result ≡ record (part_of part) { after = after } }
 {
-    Due {
-        table: due.table,
-        revision: due.revision,
-        rows: due.rows,
+    Part {
+        table: part.table,
+        revision: part.revision,
+        rows: part.rows,
         after,
     }
 }
 
-fn first_of(due: Due, rows: &'static [Row]) -> Next
-    ensures { IsNext result (first_of (part_of due) rows.now) }
+fn first_of(part: Part, rows: &'static [Row]) -> Next
+    ensures { IsNext result (first_of (part_of part) rows.now) }
 {
     match rows {
-        [row, rest @ ..] => Next::Field(*row, with_rows(due, rest)),
+        [row, rest @ ..] => Next::Field(*row, with_rows(part, rest)),
         [] => Next::Fault(TOO_MANY_LINES),
     }
 }
 
-fn next_locality(due: Due, count: u64, number: u64) -> Next
-    ensures { IsNext result (next_locality (part_of due) count number) }
+fn next_locality(part: Part, count: u64, number: u64) -> Next
+    ensures { IsNext result (next_locality (part_of part) count number) }
 {
     if number >= count {
-        return Next::Fault(BAD_MATRIX);
+        return Next::Fault(BAD_LOCALITY_MATRIX);
     }
-    let row = Row {
-        label: LOCALITY,
-        width: count,
-        kind: Kind::Locality(number),
-        flags: FlagSet::No,
-    };
-    let rest = Due {
-        table: due.table,
-        revision: due.revision,
+    let rest = Part {
+        table: part.table,
+        revision: part.revision,
         rows: &[],
         after: After::Matrix(count, number + 1),
     };
-    Next::Field(row, rest)
+    Next::Field(locality_row(count, number), rest)
 }
 
-fn next_after(due: Due) -> Next
-    ensures { IsNext result (open_after (part_of due) due.after) }
+fn next_after(part: Part) -> Next
+    ensures { IsNext result (open_after (part_of part) part.after) }
 {
-    match due.after {
+    match part.after {
         After::Fixed => first_of(
-            with_after(due, after_fixed(due.table)),
-            fixed_rows(due.table, due.revision),
+            with_after(part, after_fixed(part.table)),
+            fixed_rows(part.table, part.revision),
         ),
         After::Nothing => Next::Fault(TOO_MANY_LINES),
-        After::Entries => first_of(due, entry_rows()),
-        After::Structures => first_of(due, type_rows()),
-        After::Matrix(count, number) => next_locality(due, count, number),
+        After::Entries => first_of(part, entry_rows()),
+        After::Structures => first_of(part, type_rows()),
+        After::Matrix(count, number) => next_locality(part, count, number),
     }
 }
 
 /// The next field and what comes after it.
-pub(crate) fn next_field(due: Due) -> Next
-    ensures { IsNext result (next_field (part_of due)) }
+pub(crate) fn next_field(part: Part) -> Next
+    ensures { IsNext result (next_field (part_of part)) }
 {
-    match due.rows {
-        [row, rest @ ..] => Next::Field(*row, with_rows(due, rest)),
-        [] => next_after(due),
+    match part.rows {
+        [row, rest @ ..] => Next::Field(*row, with_rows(part, rest)),
+        [] => next_after(part),
     }
 }
 
@@ -157,18 +146,18 @@ fn chosen_rows(table: Table, number: u64) -> &'static [Row]
 }
 
 /// What comes after a field that has this number.
-pub(crate) fn behind(due: Due, kind: Kind, number: u64) -> Due
-    ensures { part_of result ≡ behind (part_of due) kind number }
+pub(crate) fn behind(part: Part, kind: Kind, number: u64) -> Part
+    ensures { part_of result ≡ behind (part_of part) kind number }
 {
     match kind {
-        Kind::Revision => Due {
-            table: due.table,
+        Kind::Revision => Part {
+            table: part.table,
             revision: number,
-            rows: due.rows,
-            after: due.after,
+            rows: part.rows,
+            after: part.after,
         },
-        Kind::StructureType => with_rows(due, chosen_rows(due.table, number)),
-        Kind::Localities => with_after(due, After::Matrix(number, 0)),
+        Kind::StructureType => with_rows(part, chosen_rows(part.table, number)),
+        Kind::Localities => with_after(part, After::Matrix(number, 0)),
         Kind::Number
         | Kind::Text
         | Kind::Bytes
@@ -178,7 +167,7 @@ pub(crate) fn behind(due: Due, kind: Kind, number: u64) -> Due
         | Kind::CompilerId
         | Kind::CompilerRevision
         | Kind::Length(_)
-        | Kind::Locality(_) => due,
+        | Kind::Locality(_) => part,
     }
 }
 
@@ -187,17 +176,17 @@ fn missing_after(after: After) -> Option<u16>
 {
     match after {
         After::Fixed => Some(FIELD_IS_MISSING),
-        After::Matrix(count, number) if number < count => Some(BAD_MATRIX),
+        After::Matrix(count, number) if number < count => Some(BAD_LOCALITY_MATRIX),
         After::Nothing | After::Entries | After::Structures | After::Matrix(_, _) => None,
     }
 }
 
 /// The number of the message where the text ends here.
-pub(crate) fn missing(due: Due) -> Option<u16>
-    ensures { result ≡ missing (part_of due) }
+pub(crate) fn missing(part: Part) -> Option<u16>
+    ensures { result ≡ missing (part_of part) }
 {
-    if due.rows.is_empty() {
-        missing_after(due.after)
+    if part.rows.is_empty() {
+        missing_after(part.after)
     } else {
         Some(FIELD_IS_MISSING)
     }

@@ -1,26 +1,16 @@
 // The length and the checksum of a table, which stand in its second and its fourth field.
 ghost use Rattle.std.specs.Prelude.{◌≡◌, ◌+◌, ◌%◌, ◌^◌, ◌<◌, ◌≤◌, length, sum, IfOk, IfSome, OnOk};
-ghost use Rattle.data_tables.specs.Bytes.{checksum_of};
+ghost use Rattle.aml_code.specs.Header.{checksum_of};
 ghost use Rattle.data_tables.specs.Compiling.{joined, put_at, with_length, with_checksum, sealed};
 
 use crate::field::little_bytes;
+use aml_code::checksum::byte_sum;
 use iasl_messages::place::{Piece, Pieces};
 use iasl_ports::list::{List, Text};
 use std::alloc::{AllocError, Global};
 
 /// The most bytes of a table: its length has 32 bits.
 const MOST_BYTES: u64 = (1 << 32) - 1;
-
-// The sum of some bytes modulo 256.
-fn byte_sum(bytes: &[u8]) -> u8
-    ensures { result ≡ sum bytes.now % 256 }
-{
-    let mut total: u8 = 0;
-    for byte in bytes {
-        total = total.wrapping_add(*byte);
-    }
-    total
-}
 
 fn pieces_sum(pieces: &[Piece]) -> u8
     ensures { result ≡ sum (joined pieces.now) % 256 }

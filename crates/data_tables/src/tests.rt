@@ -4,7 +4,7 @@ mod parts;
 
 use crate::compile::compile_data;
 use crate::compiled::Compiled;
-use cases::{CASES, Case};
+use cases::{CASES, Case, HPET, SLIT};
 use iasl_messages::message::{Messages, Stage};
 use iasl_messages::place::{Line, Lines, Pieces};
 use iasl_ports::list::{List, Text};
@@ -205,7 +205,7 @@ fn checksum_of(alloc: Global, case: &Case) -> Result<Option<u8>, AllocError> {
 
 #[test]
 fn the_hpet_table_has_its_checksum(rt: HostRuntime) -> Result<(), AllocError> {
-    assert_eq!(rt; checksum_of(rt.alloc(), &CASES[0])?, Some(0x4E));
+    assert_eq!(rt; checksum_of(rt.alloc(), &HPET)?, Some(0x4E));
     Ok(())
 }
 
@@ -333,7 +333,7 @@ fn has_its_lines(alloc: Global, case: &Case) -> Result<bool, AllocError> {
 // Each field line is a piece, with its place and its text.
 #[test]
 fn pieces_have_their_lines(rt: HostRuntime) -> Result<(), AllocError> {
-    assert!(rt; has_its_lines(rt.alloc(), &CASES[6])?);
+    assert!(rt; has_its_lines(rt.alloc(), &SLIT)?);
     Ok(())
 }
 
@@ -358,7 +358,7 @@ fn last_source(alloc: Global, case: &Case) -> Result<Text, AllocError> {
 // Of lines with one place the first gives the text.
 #[test]
 fn first_line_of_a_place_is_the_source(rt: HostRuntime) -> Result<(), AllocError> {
-    let source = last_source(rt.alloc(), &CASES[6])?;
+    let source = last_source(rt.alloc(), &SLIT)?;
     let first = b"[0004]                Signature : \"SLIT\"    [Description]";
     assert_eq!(rt; source.as_bytes(), first.as_slice());
     Ok(())

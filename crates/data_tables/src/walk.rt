@@ -1,24 +1,24 @@
 // The fields of a text, one line after another.
 ghost use Rattle.std.specs.Prelude.{◌≡◌, IfOk, MatchOption};
 ghost use Rattle.data_text.specs.declared.field_line.FieldLine.{FieldLine};
-ghost use Rattle.data_tables.specs.Fields.{Value as Given, Number, Bytes, field_bytes, value_bytes, value_of};
+ghost use Rattle.data_tables.specs.Entry.{Value as Given, Number, Bytes};
+ghost use Rattle.data_tables.specs.Fields.{field_bytes, value_bytes, value_of};
 ghost use Rattle.data_tables.specs.Parts.{next_field};
 ghost use Rattle.data_tables.specs.Walk.{step_of, message_at};
 ghost use Rattle.data_tables.specs.Views.{IsStep, IsTaken, part_of};
 ghost use Rattle.data_tables.specs.Walk as spec;
 
 use crate::decoding::{Decoded, Told, decoded_of, is_decoded_below, told_by_field};
-use crate::field::{BAD_VALUE, Value, little_bytes, value_of};
-use crate::part::{Due, Next, behind, next_field};
+use crate::field::{Value, little_bytes, value_of};
+use crate::part::{Next, Part, behind, next_field};
 use data_layout::row::{Kind, Row};
+use data_layout::rows::{COMPILER_ID, COMPILER_REVISION};
 use data_text::field_line::FieldLine;
 use iasl_messages::message::Message;
+use iasl_messages::number::BAD_VALUE;
 use iasl_messages::place::Place;
 use iasl_ports::list::Text;
 use std::alloc::{AllocError, Global};
-
-/// The compiler's revision, which each table has.
-const COMPILER_REVISION: u64 = 0x2021_0105;
 
 /// What a line is.
 #[derive(Drop)]
@@ -29,7 +29,7 @@ pub(crate) enum Step {
     Took {
         row: Row,
         bytes: Vec<u8>,
-        due: Due,
+        rest: Part,
         decoded: Option<Decoded>,
     },
     /// A fault: the number of its message.
@@ -53,8 +53,8 @@ fn computed_bytes(alloc: Global, row: &Row) -> Result<Option<Vec<u8>>, AllocErro
 {
     match row.kind {
         Kind::TableLength | Kind::Checksum => Ok(Some(little_bytes(alloc, row.width, 0)?)),
-        Kind::CompilerId => Ok(Some(b"INTL".to_vec(alloc)?)),
-        Kind::CompilerRevision => Ok(Some(little_bytes(alloc, row.width, COMPILER_REVISION)?)),
+        Kind::CompilerId => Ok(Some(COMPILER_ID.to_vec(alloc)?)),
+        Kind::CompilerRevision => Ok(Some(COMPILER_REVISION.to_le_bytes().to_vec(alloc)?)),
         Kind::Length(size) => Ok(Some(little_bytes(alloc, row.width, u64::from(size))?)),
         Kind::Number
         | Kind::Text
@@ -87,40 +87,40 @@ fn other_bytes(alloc: Global, row: &Row, bytes: Vec<u8>) -> Result<Vec<u8>, Allo
     }
 }
 
-fn took(row: Row, number: u64, bytes: Vec<u8>, rest: Due, line: &FieldLine) -> Step
+fn field_step(row: Row, number: u64, bytes: Vec<u8>, rest: Part, line: &FieldLine) -> Step
     ensures { IsTaken result row number bytes.items (part_of rest) line.now }
 {
     Step::Took {
         row,
         bytes,
-        due: behind(rest, row.kind, number),
+        rest: behind(rest, row.kind, number),
         decoded: decoded_of(&row, number, line),
     }
 }
 
-fn step_with(alloc: Global, row: Row, rest: Due, line: &FieldLine) -> Result<Step, AllocError>
+fn step_with(alloc: Global, row: Row, rest: Part, line: &FieldLine) -> Result<Step, AllocError>
     ensures { IfOk result (λ step. IsStep step (spec.step_with row (part_of rest) line.now (value_of rest.table row line.now.value))) }
 {
     match value_of(alloc, rest.table, &row, line.value.as_slice())? {
         Value::Fault(fault) => Ok(Step::Halted(fault)),
         Value::Number(number) => {
             let bytes = number_bytes(alloc, &row, number)?;
-            Ok(took(row, number, bytes, rest, line))
+            Ok(field_step(row, number, bytes, rest, line))
         }
         Value::Bytes(found) => {
             let bytes = other_bytes(alloc, &row, found)?;
-            Ok(took(row, 0, bytes, rest, line))
+            Ok(field_step(row, 0, bytes, rest, line))
         }
     }
 }
 
-fn step_at(alloc: Global, due: Due, line: &FieldLine) -> Result<Step, AllocError>
-    ensures { IfOk result (λ step. IsStep step (spec.step_at line.now (next_field (part_of due)))) }
+fn step_at(alloc: Global, part: Part, line: &FieldLine) -> Result<Step, AllocError>
+    ensures { IfOk result (λ step. IsStep step (spec.step_at line.now (next_field (part_of part)))) }
 {
     if !line.colon {
         return Ok(Step::Halted(BAD_VALUE));
     }
-    match next_field(due) {
+    match next_field(part) {
         Next::Fault(fault) => Ok(Step::Halted(fault)),
         Next::Field(row, rest) => step_with(alloc, row, rest, line),
     }
@@ -129,16 +129,16 @@ fn step_at(alloc: Global, due: Due, line: &FieldLine) -> Result<Step, AllocError
 /// What a line is.
 pub(crate) fn step_of(
     alloc: Global,
-    due: Due,
+    part: Part,
     decoded: Option<Decoded>,
     line: &FieldLine,
 ) -> Result<Step, AllocError>
-    ensures { IfOk result (λ step. IsStep step (step_of (part_of due) decoded line.now)) }
+    ensures { IfOk result (λ step. IsStep step (step_of (part_of part) decoded line.now)) }
 {
     if let Some(field) = decoded {
         if is_decoded_below(&field, line) {
             return Ok(Step::Passed(told_by_field(&field, line)));
         }
     }
-    step_at(alloc, due, line)
+    step_at(alloc, part, line)
 }

@@ -8,27 +8,22 @@ ghost use Rattle.data_tables.specs.Outcomes.{outcome_of, so_far};
 
 use crate::decoding::{Decoded, Told};
 use crate::label::is_row_label;
-use crate::part::{Due, first_part, missing};
+use crate::part::{Part, first_part, missing};
 use crate::walk::{Step, message_at, step_of};
 use data_layout::row::Row;
 use data_layout::table::Table;
 use data_text::field_line::FieldLine;
 use iasl_messages::message::Messages;
+use iasl_messages::number::{DECODED_LINE_DISAGREES, LABEL_DIFFERS, UNKNOWN_LABEL};
 use iasl_messages::place::{Piece, Pieces, Place};
 use iasl_ports::list::{List, Text};
 use std::alloc::{AllocError, Global};
-
-const UNKNOWN_LABEL: u16 = 2002;
-
-const LABEL_DIFFERS: u16 = 3005;
-
-const DECODED_LINE_DISAGREES: u16 = 6096;
 
 // What has been made of a text: the fields' pieces, the notes and the faults; and what comes next.
 #[derive(Drop)]
 pub(crate) struct Walker {
     alloc: Global,
-    due: Due,
+    part: Part,
     decoded: Option<Decoded>,
     pub pieces: Pieces,
     pub notes: Messages,
@@ -47,7 +42,7 @@ impl Walker {
     {
         Walker {
             alloc,
-            due: first_part(table),
+            part: first_part(table),
             decoded: None,
             pieces: List::new(alloc),
             notes: List::new(alloc),
@@ -60,7 +55,7 @@ impl Walker {
         ensures notes { OnOk result (self.new.notes ≡ self.old.notes ++ (told_at place told).notes) }
         ensures faults { OnOk result (self.new.faults ≡ self.old.faults ++ (told_at place told).faults) }
         ensures pieces { self.new.pieces ≡ self.old.pieces }
-        ensures due { self.new.due ≡ self.old.due }
+        ensures part { self.new.part ≡ self.old.part }
         ensures decoded { self.new.decoded ≡ self.old.decoded }
     {
         match told {
@@ -115,18 +110,18 @@ impl Walker {
         line: &FieldLine,
         row: Row,
         bytes: Vec<u8>,
-        due: Due,
+        part: Part,
         decoded: Option<Decoded>,
     ) -> Result<(), AllocError>
         ensures pieces { OnOk result (self.new.pieces ≡ self.old.pieces ++ piece_at line.now bytes.items ∷ []) }
         ensures notes { OnOk result (self.new.notes ≡ self.old.notes ++ label_note row line.now) }
         ensures faults { OnOk result (self.new.faults ≡ self.old.faults) }
-        ensures due { OnOk result (self.new.due ≡ due) }
+        ensures part { OnOk result (self.new.part ≡ part) }
         ensures decoded { OnOk result (self.new.decoded ≡ decoded) }
     {
         self.note_label(&row, line)?;
         self.add_piece(line, bytes)?;
-        self.due = due;
+        self.part = part;
         self.decoded = decoded;
         Ok(())
     }
@@ -136,7 +131,7 @@ impl Walker {
         ensures taken { IfOk result (λ more. IsTrue more → (end : Place) (lines : AList FieldLine) → told_with self.old end (line.now ∷ lines) ≡ told_with self.new end lines) }
         ensures halted { IfOk result (λ more. more ≡ false → (end : Place) (lines : AList FieldLine) → told_with self.old end (line.now ∷ lines) ≡ so_far self.new) }
     {
-        match step_of(self.alloc, self.due, self.decoded, line)? {
+        match step_of(self.alloc, self.part, self.decoded, line)? {
             Step::Passed(told) => {
                 self.pass(told, line.place)?;
                 Ok(true)
@@ -144,10 +139,10 @@ impl Walker {
             Step::Took {
                 row,
                 bytes,
-                due,
+                rest,
                 decoded,
             } => {
-                self.add_field(line, row, bytes, due, decoded)?;
+                self.add_field(line, row, bytes, rest, decoded)?;
                 Ok(true)
             }
             Step::Halted(fault) => {
@@ -161,7 +156,7 @@ impl Walker {
     fn end(&mut self, end: Place) -> Result<(), AllocError>
         ensures { OnOk result (told_with self.old end [] ≡ so_far self.new) }
     {
-        match missing(self.due) {
+        match missing(self.part) {
             Some(fault) => self.halt(fault, end),
             None => Ok(()),
         }

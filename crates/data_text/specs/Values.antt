@@ -85,6 +85,6 @@ bytes_in value = bytes_at p.Ready value
 
 -- what the code found is this number; one that needs more than 64 bits is not told
 abbrev pub IsNumber : Number → Option ℕ → Type 0
-IsNumber n.No found = found ≡ None
+IsNumber n.Malformed found = found ≡ None
 IsNumber n.Wide found = (number : ℕ) × (found ≡ Some number) × (2 ^ 64 ≤ number)
 IsNumber (n.Is number) found = (found ≡ Some number) × (number < 2 ^ 64)

@@ -73,10 +73,10 @@ fn values_are_numbers(rt: HostRuntime) {
         (b"FFFFFFFFFFFFFFFF", Number::Is(0xffff_ffff_ffff_ffff)),
         (b"00000000000000000001", Number::Is(1)),
         (b"10000000000000000", Number::Wide),
-        (b"0X1", Number::No),
-        (b"1 2", Number::No),
-        (b"0x", Number::No),
-        (b"", Number::No),
+        (b"0X1", Number::Malformed),
+        (b"1 2", Number::Malformed),
+        (b"0x", Number::Malformed),
+        (b"", Number::Malformed),
     ];
     for (value, expected) in rows {
         assert!(rt; number_in(value) == expected);

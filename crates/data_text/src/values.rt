@@ -68,7 +68,7 @@ fn capped_number(digits: &[u8]) -> u128
 #[derive(Clone, Copy, PartialEq, Eq, Debug)]
 pub enum Number {
     /// The value is no number.
-    No,
+    Malformed,
     /// A number of more than 64 bits.
     Wide,
     /// A number.
@@ -92,7 +92,7 @@ pub fn number_in(value: &[u8]) -> Number
 {
     let (digits, rest) = split_digits(behind_prefix(skip_blanks(value)));
     if digits.is_empty() || !has_blanks_alone(rest) {
-        return Number::No;
+        return Number::Malformed;
     }
     number_of_digits(digits)
 }
@@ -138,7 +138,7 @@ pub fn text_in(value: &[u8]) -> Option<&[u8]>
 
 /// How much of a pair of digits has been read.
 #[derive(Clone, Copy, PartialEq, Eq, Debug)]
-pub enum Pair {
+pub(crate) enum Pair {
     /// A pair may begin.
     Ready,
     /// The first digit, or what stands in its place.

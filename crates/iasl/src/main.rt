@@ -1,6 +1,10 @@
 //! iasl: an ASL source to its table.
 #![tactic(auto)]
 
+use iasl_backends::c_hex::CHex;
+use iasl_backends::lent::one_of_each;
+use iasl_backends::listing::Listing;
+use iasl_backends::raw_aml::RawAml;
 use iasl_ports::delivery::tell;
 use iasl_ports::host::{HostFiles, HostOutputs, HostSink};
 use iasl_ports::sink::{Sink, write_all};
@@ -18,11 +22,16 @@ const HELP: &[u8] = b"usage: iasl [options] FILE
   -Pn             no preprocessor
   -vi             print messages in the brief form
   -we             refuse a source with a warning
+  -tc             write the bytes of the table as an array of C too
+  -of             do not fold constants
+  -oi             do not write literals by the opcodes of 0, 1 and Ones
+  -on             do not shorten names
+  -oa             -of, -oi and -on together
   --help          this text
   --version       the version of this program
 ";
 
-const VERSION: &[u8] = b"iasl (Ruvdoant) 0.2\n";
+const VERSION: &[u8] = b"iasl (Ruvdoant) 0.3\n";
 
 // The words of the call. Where one is not UTF-8 there are none, and to have none is as bad.
 fn given_words(rt: HostRuntime) -> Result<Vec<String>, AllocError> {
@@ -55,19 +64,36 @@ fn tell_text<C: Sink>(console: &mut C, text: &[u8]) -> u8 {
     }
 }
 
-fn run<C: Sink>(rt: HostRuntime, words: &[String], console: &mut C) -> u8 {
-    if let Some(text) = text_asked(words) {
-        return tell_text(console, text);
-    }
+// Compiles, with one box of each kind of outputs.
+fn compile<C: Sink>(rt: HostRuntime, words: &[String], console: &mut C) -> Result<u8, AllocError> {
+    let alloc = rt.alloc();
     let mut files = HostFiles::new(rt);
     let mut outs = HostOutputs::new(rt);
-    iasl(rt.alloc(), words, &mut files, &mut outs, console)
+    let mut backends = one_of_each(
+        alloc,
+        Box::new(alloc, RawAml::new(alloc))?,
+        Box::new(alloc, CHex::new(alloc))?,
+        Box::new(alloc, Listing::new(alloc))?,
+    )?;
+    Ok(iasl(alloc, words, &mut files, &mut outs, console, &mut backends))
+}
+
+fn run<C: Sink>(rt: HostRuntime, words: &[String], console: &mut C) -> Result<u8, AllocError> {
+    match text_asked(words) {
+        Some(text) => Ok(tell_text(console, text)),
+        None => compile(rt, words, console),
+    }
+}
+
+// The status of a call with these words.
+fn status_of<C: Sink>(rt: HostRuntime, console: &mut C) -> Result<u8, AllocError> {
+    run(rt, &given_words(rt)?, console)
 }
 
 fn main(rt: HostRuntime) -> ExitCode {
     let mut console = HostSink::new(rt);
-    let status = match given_words(rt) {
-        Ok(words) => run(rt, &words, &mut console),
+    let status = match status_of(rt, &mut console) {
+        Ok(status) => status,
         Err(AllocError) => {
             tell(&mut console, b"iasl: out of memory\n");
             4

@@ -1,5 +1,6 @@
 -- Which outputs are asked for.
-use Rattle.std.specs.Prelude.{Bool, true}
+use Rattle.std.specs.Prelude.{◌≡◌, Bool, true, false, List, length}
+use Rattle.std.specs.List.{filter, list_any}
 use Rattle.iasl_backends.specs.declared.asked.Asked.{Asked}
 use Rattle.iasl_backends.specs.declared.backend.Kind.{Kind}
 use Rattle.iasl_backends.specs.declared.backend.Kind.TheVariants.{RawAml, CHex, Listing}
@@ -9,3 +10,18 @@ abbrev pub is_asked : Asked → Kind → Bool
 is_asked asked RawAml = true
 is_asked asked CHex = asked.c_text
 is_asked asked Listing = asked.listing
+
+-- whether two kinds are the same
+abbrev pub same_kind : Kind → Kind → Bool
+same_kind RawAml RawAml = true
+same_kind CHex CHex = true
+same_kind Listing Listing = true
+same_kind _ _ = false
+
+-- whether a list has a member of this kind
+abbrev pub has_kind : {X : Type 0} → (X → Kind) → Kind → List X → Bool
+has_kind kind_of kind xs = list_any (λ x. same_kind kind (kind_of x)) xs
+
+-- each kind occurs exactly once in a list
+abbrev pub IsOneOfEach : {X : Type 0} → (X → Kind) → List X → Type 0
+IsOneOfEach kind_of xs = (kind : Kind) → length (filter (λ x. same_kind kind (kind_of x)) xs) ≡ 1

@@ -1,15 +1,17 @@
 //! A list of boxed outputs that a caller lends.
-ghost use Rattle.std.specs.Prelude.{◌≡◌, ◌≢◌, ◌∷◌, ◌++◌, [], List, true, false, IfSome, IfNone, OnOk};
+ghost use Rattle.std.specs.Prelude.{◌≡◌, ◌≢◌, ◌∷◌, ◌++◌, [], List, true, false, IfSome, IfNone, IfOk, OnOk};
 ghost use Rattle.std.specs.List.{filter, All, Any};
 ghost use Rattle.iasl_messages.specs.declared.place.Piece.{Piece as SpecPiece};
-ghost use Rattle.iasl_backends.specs.Asked.{is_asked};
+ghost use Rattle.iasl_backends.specs.Asked.{is_asked, has_kind, IsOneOfEach};
+ghost use Rattle.iasl_backends.specs.declared.backend.Kind.{Kind as SpecKind};
+ghost use Rattle.iasl_backends.specs.declared.backend.Kind.TheVariants as kinds;
 ghost use Rattle.iasl_backends.specs.Each.{Each};
 ghost use Rattle.iasl_backends.specs.Rendering.{rendering};
 
 use crate::asked::Asked;
 use crate::backend::{Backend, Kind};
 use iasl_messages::place::Piece;
-use std::alloc::AllocError;
+use std::alloc::{AllocError, Global};
 
 fn kind_of_box(backend: &Box<dyn Backend>) -> Kind
     ensures { result ≡ kind_of backend.now }
@@ -21,6 +23,26 @@ fn is_asked_box(asked: Asked, backend: &Box<dyn Backend>) -> bool
     ensures { result ≡ is_asked asked (kind_of backend.now) }
 {
     asked.has(backend.kind())
+}
+
+/// Three outputs, one of each kind, as a list.
+#[tactic(auto, using(crate::proofs::KindLaws::three))]
+pub fn one_of_each(
+    alloc: Global,
+    table: Box<dyn Backend>,
+    c_text: Box<dyn Backend>,
+    listing: Box<dyn Backend>,
+) -> Result<Vec<Box<dyn Backend>>, AllocError>
+    requires table { kind_of table ≡ kinds.RawAml }
+    requires c_text { kind_of c_text ≡ kinds.CHex }
+    requires listing { kind_of listing ≡ kinds.Listing }
+    ensures { IfOk result (λ backends. IsOneOfEach (λ b. kind_of b) backends.items) }
+{
+    let mut backends: Vec<Box<dyn Backend>> = Vec::new(alloc);
+    backends.push(table)?;
+    backends.push(c_text)?;
+    backends.push(listing)?;
+    Ok(backends)
 }
 
 /// Lets the outputs go whose kinds are not asked for. The others stay in their order.
@@ -118,6 +140,22 @@ pub fn render_all(backends: &mut Vec<Box<dyn Backend>>, table: &[Piece]) -> Resu
     finish_all(backends)
 }
 
+/// Lets the outputs go whose kinds are not asked for, and makes the texts of the others over the pieces of a table. After an error they
+/// are still there, in their order.
+pub fn render_asked(
+    backends: &mut Vec<Box<dyn Backend>>,
+    asked: Asked,
+    table: &[Piece],
+) -> Result<(), AllocError>
+    ensures kinds { Each (λ b b2. kind_of b2 ≡ kind_of b) (filter (λ b. is_asked asked (kind_of b)) backends.old.items) backends.new.items }
+    ensures there { IsOneOfEach (λ b. kind_of b) backends.old.items → (kind : SpecKind) → is_asked asked kind ≡ true → has_kind (λ b. kind_of b) kind backends.new.items ≡ true }
+    ensures done { OnOk result (All (λ b. finished b ≡ true) backends.new.items) }
+    ensures shared { OnOk result (All (λ b. pieces b ≡ table.now) backends.new.items) }
+{
+    keep_asked(backends, asked);
+    render_all(backends, table)
+}
+
 fn text_of_box(backend: &Box<dyn Backend>) -> &[u8]
     requires { finished backend.now ≡ true }
     ensures { result.now ≡ rendering (kind_of backend.now) (pieces backend.now) }
@@ -138,4 +176,16 @@ pub fn text_of_kind(backends: &Vec<Box<dyn Backend>>, kind: Kind) -> Option<&[u8
         }
     }
     None
+}
+
+/// The text of the outputs of a kind, of which there is one at least, in bytes.
+pub fn rendered_text(backends: &Vec<Box<dyn Backend>>, kind: Kind) -> &[u8]
+    requires done { All (λ b. finished b ≡ true) backends.now.items }
+    requires there { has_kind (λ b. kind_of b) kind backends.now.items ≡ true }
+    ensures { (all : List SpecPiece) → All (λ b. pieces b ≡ all) backends.now.items → result.now ≡ rendering kind all }
+{
+    match text_of_kind(backends, kind) {
+        Some(text) => text,
+        None => unreachable!(),
+    }
 }

@@ -1,7 +1,7 @@
 use crate::asked::Asked;
 use crate::backend::{Backend, Kind};
 use crate::c_hex::CHex;
-use crate::lent::{keep_asked, render_all, text_of_kind};
+use crate::lent::{keep_asked, one_of_each, render_all, text_of_kind};
 use crate::listing::Listing;
 use crate::raw_aml::RawAml;
 use iasl_messages::place::{Piece, Place};
@@ -39,11 +39,12 @@ fn table(alloc: Global) -> Result<Vec<Piece>, AllocError> {
 
 // One output of each kind.
 fn outputs(alloc: Global) -> Result<Vec<Box<dyn Backend>>, AllocError> {
-    let mut backends: Vec<Box<dyn Backend>> = Vec::new(alloc);
-    backends.push(Box::new(alloc, RawAml::new(alloc))?)?;
-    backends.push(Box::new(alloc, CHex::new(alloc))?)?;
-    backends.push(Box::new(alloc, Listing::new(alloc))?)?;
-    Ok(backends)
+    one_of_each(
+        alloc,
+        Box::new(alloc, RawAml::new(alloc))?,
+        Box::new(alloc, CHex::new(alloc))?,
+        Box::new(alloc, Listing::new(alloc))?,
+    )
 }
 
 const C_TEXT: &str = "unsigned char AmlCode[] =

@@ -3,12 +3,12 @@ use Rattle.std.proofs.Common.{◌≡◌, ℕ, suc, Bool, true, false, List, [], 
 use Rattle.std.specs.Prelude.{is_some, not, if◌then◌else◌, option_and_then}
 use Rattle.iasl_options.specs.declared.words.Key.{Key}
 use Rattle.iasl_options.specs.declared.words.Key.TheVariants as key
-use Rattle.iasl_options.specs.Words.{Setting, PreprocessOnly, NoPreprocessor, Brief, Strict, File, Word, Asks, Opens, Unknown, with_value, word_of}
+use Rattle.iasl_options.specs.Words.{Setting, PreprocessOnly, NoPreprocessor, Turned, File, Word, Asks, Opens, Unknown, with_value, word_of}
 use Rattle.iasl_options.specs.Asking.{Asked, Behind, nothing, with_setting, may_open, settled, behind_word, one_more, at_end, or_spoilt, asked_from, begin, asked_by}
-use Rattle.iasl_options.specs.CommandLine.{mark, IsValue, AskFor, no_word, preprocess_only, no_preprocessor, brief_messages, strict_warnings, rest_of_word, next_word, source_file, gathered, IsCommandLine}
+use Rattle.iasl_options.specs.CommandLine.{mark, IsValue, AskFor, no_word, preprocess_only, no_preprocessor, switched, rest_of_word, next_word, source_file, gathered, IsCommandLine}
 use Rattle.iasl_options.proofs.Values.{value_is, value_only}
 use Rattle.iasl_options.proofs.Settings.{after, good_settings, good_comes}
-use Rattle.iasl_options.proofs.WordForms.{Form, form_of, word_opens, word_with_value, word_file}
+use Rattle.iasl_options.proofs.WordForms.{Form, form_of, word_switch, word_opens, word_with_value, word_file}
 
 -- words that begin with the value of an option that waits for it
 abbrev AskFrom : Option Key → List (List ℕ) → List Setting → Type 0
@@ -98,7 +98,7 @@ by_one n asked word setting words settings found is e go =
 may_come : (asked : Asked) (key : Key) (value : List ℕ) (next : Asked) → with_setting asked (with_value key value) ≡ Some next → may_open asked key ≡ true
 may_come asked key.Prefix value next e = by_test (is_some asked.prefix) e
   where
-    by_test : (b : Bool) → (if b then None else Some (record { file = asked.file; prefix = Some value; directories = asked.directories; definitions = asked.definitions; only = asked.only; enabled = asked.enabled; brief = asked.brief; strict = asked.strict })) ≡ Some next → not b ≡ true
+    by_test : (b : Bool) → (if b then None else Some (record { file = asked.file; prefix = Some value; directories = asked.directories; definitions = asked.definitions; only = asked.only; enabled = asked.enabled; switches = asked.switches })) ≡ Some next → not b ≡ true
     by_test true k = absurd cc
     by_test false k = refl
 may_come asked key.Directory value next e = refl
@@ -123,8 +123,7 @@ found_for n asked words settings found no_word e named =
     named_end n asked asked.file (ap (λ a. is_some a.file) same ∙ named) ∙ ap Ok same
 found_for n asked ws ss found (preprocess_only word words settings is ask) e named = by_one n asked word PreprocessOnly words settings found (ap word_of is) e (λ next k. found_for (suc n) next words settings found ask k named)
 found_for n asked ws ss found (no_preprocessor word words settings is ask) e named = by_one n asked word NoPreprocessor words settings found (ap word_of is) e (λ next k. found_for (suc n) next words settings found ask k named)
-found_for n asked ws ss found (brief_messages word words settings is ask) e named = by_one n asked word Brief words settings found (ap word_of is) e (λ next k. found_for (suc n) next words settings found ask k named)
-found_for n asked ws ss found (strict_warnings word words settings is ask) e named = by_one n asked word Strict words settings found (ap word_of is) e (λ next k. found_for (suc n) next words settings found ask k named)
+found_for n asked ws ss found (switched switch word words settings is ask) e named = by_one n asked word (Turned switch) words settings found (ap word_of is ∙ word_switch switch) e (λ next k. found_for (suc n) next words settings found ask k named)
 found_for n asked ws ss found (rest_of_word key c cs word setting words settings is value ask) e named =
     by_one n asked word setting words settings found (ap word_of is ∙ word_with_value key c cs ∙ ap Asks (sym (value_only key (c ∷ cs) setting value))) e (λ next k. found_for (suc n) next words settings found ask k named)
 found_for n asked ws ss found (next_word key word value setting words settings is of_value ask) e named =

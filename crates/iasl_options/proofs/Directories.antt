@@ -6,9 +6,9 @@ use Rattle.std.proofs.lemmas.Str.{IsUtf8-take, IsUtf8-from_ascii, IsCharBoundary
 use Rattle.std.proofs.lemmas.Str.Ascii.{IsAscii-nil}
 use Rattle.std.proofs.lemmas.List.{drop_more, drop_all, take_at, get_or_at}
 use Rattle.std.proofs.lemmas.Grind.{take_at_read}
-use Rattle.iasl_options.specs.Names.{has_slash, directory_of, IsDirectory, table_name, IsTableName}
+use Rattle.iasl_options.specs.Names.{has_slash, stem_of, directory_of, IsDirectory, table_name, IsTableName, further_name, IsFurtherName}
 use Rattle.iasl_options.specs.Found.{length_with}
-use Rattle.iasl_options.proofs.Extensions.{named}
+use Rattle.iasl_options.proofs.Extensions.{named, stem_is}
 
 -- the directory, where one of `found` bytes was found among the first ones, and these are the others
 abbrev pub with_rest : List ℕ → ℕ → ℕ → List ℕ → List ℕ
@@ -73,6 +73,11 @@ pub is_named : (prefix : Option (List ℕ)) (file own name : List ℕ) → name 
 is_named (Some prefix) file own name e = named (Some prefix) file (codes ".aml") name e
 is_named None file [] name e = named None file (codes ".aml") name e
 is_named None file (c ∷ own) name e = (directory_of file, is_directory file, e)
+
+pub is_further : (prefix : Option (List ℕ)) (file own extension name : List ℕ) → name ≡ further_name prefix file own extension → IsFurtherName prefix file own extension name
+is_further (Some prefix) file own extension name e = named (Some prefix) file extension name e
+is_further None file [] extension name e = named None file extension name e
+is_further None file (c ∷ own) extension name e = (directory_of file, stem_of (c ∷ own), is_directory file, stem_is (c ∷ own), e)
 
 front_text : (file front rest : List ℕ) → file ≡ front ++ 47 ∷ rest → IsUtf8 file → IsUtf8 (front ++ 47 ∷ [])
 front_text file front rest e u =

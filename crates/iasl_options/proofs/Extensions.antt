@@ -108,7 +108,7 @@ slash_behind : (front rest : List ℕ) → before_extension (front ++ 46 ∷ res
 slash_behind [] rest e = (here_none 46 rest (before_extension rest) e).1 refl
 slash_behind (c ∷ cs) rest e = slash_behind cs rest (here_none c (cs ++ 46 ∷ rest) (before_extension (cs ++ 46 ∷ rest)) e).0
 
-stem_is : (file : List ℕ) → IsStem file (stem_of file)
+pub stem_is : (file : List ℕ) → IsStem file (stem_of file)
 unfolding Split
 stem_is file = by_front (before_extension file) refl
   where
@@ -127,7 +127,7 @@ front_utf8 file front rest e u =
     let ascii : get_or (front ++ 46 ∷ rest) (length front) 0 < 128 = subst (λ n. n < 128) (sym (get_or_at front 46 rest 0 (length front) refl)) (omega arith) in
     subst IsUtf8 (take_at front (46 ∷ rest) (length front) refl) (IsUtf8-take (front ++ 46 ∷ rest) (length front) whole (IsCharBoundary-before_ascii (front ++ 46 ∷ rest) (length front) below ascii))
 
-stem_text : (file : List ℕ) → IsUtf8 file → IsUtf8 (stem_of file)
+pub stem_text : (file : List ℕ) → IsUtf8 file → IsUtf8 (stem_of file)
 unfolding Split
 stem_text file u = by_front (before_extension file) refl
   where

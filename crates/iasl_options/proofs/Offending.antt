@@ -10,6 +10,7 @@ use Rattle.iasl_options.specs.declared.request.WordsStop.{WordsStop}
 use Rattle.iasl_options.specs.declared.request.WordsStop.TheVariants as stop
 use Rattle.iasl_options.specs.Words.{Word, Asks, Opens, Unknown, with_value, word_of}
 use Rattle.iasl_options.specs.Asking.{Asked, Behind, with_setting, may_open, settled, behind_word, one_more, at_end, or_spoilt, asked_from, begin, asked_by}
+use Rattle.iasl_options.specs.declared.switches.Switches.{Switches}
 use Rattle.iasl_options.specs.Shown.{asked_of, Answers, IfBad}
 use Rattle.iasl_options.specs.CommandLine.{IsCommandLine, HasHope, IsHopeless, IsOffending, hopeless, ended}
 use Rattle.iasl_options.proofs.Settings.{made}
@@ -28,22 +29,22 @@ CanGoOn behind = CanWait behind.waiting behind.asked.prefix
 Hope : ℕ → Behind → List (List ℕ) → Type 0
 Hope n behind words = (more : List (List ℕ)) × (asked : Asked) × (asked_from n behind (words ++ more) ≡ Ok asked)
 
-hope_at : (n : ℕ) (file prefix : Option (List ℕ)) (directories : List (List ℕ)) (definitions : List Define) (only enabled brief strict : Bool) (waiting : Option Key) → CanWait waiting prefix
-    → (more : List (List ℕ)) × (asked : Asked) × (asked_from n (record { asked = made file prefix directories definitions only enabled brief strict; waiting = waiting }) more ≡ Ok asked)
-hope_at n None prefix directories definitions only enabled brief strict None h = (codes "t" ∷ [], _, refl)
-hope_at n (Some file) prefix directories definitions only enabled brief strict None h = ([], _, refl)
-hope_at n None (Some prefix) directories definitions only enabled brief strict (Some key.Prefix) h = absurd h
-hope_at n (Some file) (Some prefix) directories definitions only enabled brief strict (Some key.Prefix) h = absurd h
-hope_at n None None directories definitions only enabled brief strict (Some key.Prefix) h = ([] ∷ codes "t" ∷ [], _, refl)
-hope_at n (Some file) None directories definitions only enabled brief strict (Some key.Prefix) h = ([] ∷ [], _, refl)
-hope_at n None prefix directories definitions only enabled brief strict (Some key.Directory) h = ([] ∷ codes "t" ∷ [], _, refl)
-hope_at n (Some file) prefix directories definitions only enabled brief strict (Some key.Directory) h = ([] ∷ [], _, refl)
-hope_at n None prefix directories definitions only enabled brief strict (Some key.Definition) h = ([] ∷ codes "t" ∷ [], _, refl)
-hope_at n (Some file) prefix directories definitions only enabled brief strict (Some key.Definition) h = ([] ∷ [], _, refl)
+hope_at : (n : ℕ) (file prefix : Option (List ℕ)) (directories : List (List ℕ)) (definitions : List Define) (only enabled : Bool) (switches : Switches) (waiting : Option Key) → CanWait waiting prefix
+    → (more : List (List ℕ)) × (asked : Asked) × (asked_from n (record { asked = made file prefix directories definitions only enabled switches; waiting = waiting }) more ≡ Ok asked)
+hope_at n None prefix directories definitions only enabled switches None h = (codes "t" ∷ [], _, refl)
+hope_at n (Some file) prefix directories definitions only enabled switches None h = ([], _, refl)
+hope_at n None (Some prefix) directories definitions only enabled switches (Some key.Prefix) h = absurd h
+hope_at n (Some file) (Some prefix) directories definitions only enabled switches (Some key.Prefix) h = absurd h
+hope_at n None None directories definitions only enabled switches (Some key.Prefix) h = ([] ∷ codes "t" ∷ [], _, refl)
+hope_at n (Some file) None directories definitions only enabled switches (Some key.Prefix) h = ([] ∷ [], _, refl)
+hope_at n None prefix directories definitions only enabled switches (Some key.Directory) h = ([] ∷ codes "t" ∷ [], _, refl)
+hope_at n (Some file) prefix directories definitions only enabled switches (Some key.Directory) h = ([] ∷ [], _, refl)
+hope_at n None prefix directories definitions only enabled switches (Some key.Definition) h = ([] ∷ codes "t" ∷ [], _, refl)
+hope_at n (Some file) prefix directories definitions only enabled switches (Some key.Definition) h = ([] ∷ [], _, refl)
 
 hope_here : (n : ℕ) (behind : Behind) → CanGoOn behind → Hope n behind []
 unfolding Hope
-hope_here n behind h = hope_at n behind.asked.file behind.asked.prefix behind.asked.directories behind.asked.definitions behind.asked.only behind.asked.enabled behind.asked.brief behind.asked.strict behind.waiting h
+hope_here n behind h = hope_at n behind.asked.file behind.asked.prefix behind.asked.directories behind.asked.definitions behind.asked.only behind.asked.enabled behind.asked.switches behind.waiting h
 
 -- a word that does not spoil those before it leaves what can go on
 settled_goes_on : (o : Option Asked) (next : Behind) → settled o ≡ Some next → CanGoOn next

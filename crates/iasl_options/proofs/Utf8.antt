@@ -10,7 +10,9 @@ use Rattle.iasl_options.specs.declared.request.Options.{Options}
 use Rattle.iasl_options.specs.declared.request.WordsStop.{WordsStop}
 use Rattle.iasl_options.specs.declared.words.Key.{Key}
 use Rattle.iasl_options.specs.declared.words.Key.TheVariants as key
-use Rattle.iasl_options.specs.Words.{Setting, PreprocessOnly, NoPreprocessor, Brief, Strict, Prefix, Directory, Definition, File, Word, Asks, Opens, Unknown, with_value, valued, behind, begins_with_hyphen, or_valued, word_of}
+use Rattle.iasl_options.specs.declared.switches.Switch.{Switch}
+use Rattle.iasl_options.specs.Switches.{switch_of}
+use Rattle.iasl_options.specs.Words.{Setting, PreprocessOnly, NoPreprocessor, Turned, Prefix, Directory, Definition, File, Word, Asks, Opens, Unknown, with_value, valued, behind, begins_with_hyphen, or_turned, or_valued, word_of}
 use Rattle.iasl_options.specs.Asking.{Asked, Behind, with_setting, may_open, settled, behind_word, one_more, at_end, or_spoilt, asked_from, begin, asked_by}
 use Rattle.iasl_options.specs.Shown.{IsText, AreTexts, asked_of, Answers}
 
@@ -54,16 +56,19 @@ cond_text : (c : Bool) (w v : Word) → WordIsText w → WordIsText v → WordIs
 cond_text true w v h k = h
 cond_text false w v h k = k
 
+switch_text : (found : Option Switch) (rest : Word) → WordIsText rest → WordIsText (or_turned found rest)
+switch_text None rest h = h
+switch_text (Some switch) rest h = tt
+
 word_text : (word : List ℕ) → IsUtf8 word → WordIsText (word_of word)
 word_text word u =
     cond_text (bytes_eq word (codes "-P")) _ _ tt (
     cond_text (bytes_eq word (codes "-Pn")) _ _ tt (
-    cond_text (bytes_eq word (codes "-vi")) _ _ tt (
-    cond_text (bytes_eq word (codes "-we")) _ _ tt (
+    switch_text (switch_of word) _ (
     or_text key.Prefix (behind (codes "-p") word) _ (behind_mark 45 112 word (omega arith) u) (
     or_text key.Directory (behind (codes "-I") word) _ (behind_mark 45 73 word (omega arith) u) (
     or_text key.Definition (behind (codes "-D") word) _ (behind_mark 45 68 word (omega arith) u) (
-    cond_text (begins_with_hyphen word) Unknown (Asks (File word)) tt u)))))))
+    cond_text (begins_with_hyphen word) Unknown (Asks (File word)) tt u))))))
 
 abbrev AskedText : Asked → Type 0
 AskedText asked = IsText asked.file × IsText asked.prefix
@@ -90,8 +95,7 @@ set_text asked (Directory directory) h u = h
 set_text asked (Definition name text) h u = h
 set_text asked PreprocessOnly h u = when_text asked.enabled _ h
 set_text asked NoPreprocessor h u = unless_text asked.only _ h
-set_text asked Brief h u = h
-set_text asked Strict h u = h
+set_text asked (Turned switch) h u = h
 set_text asked (File []) h u = tt
 set_text asked (File (c ∷ cs)) h u = unless_text (is_some asked.file) _ (u, h.1)
 

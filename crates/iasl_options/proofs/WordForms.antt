@@ -1,13 +1,16 @@
 -- What a word by itself is, and what words ask for by it.
-use Rattle.std.proofs.Common.{◌≡◌, ℕ, Bool, true, false, cond, List, [], ◌∷◌, ◌++◌, take, drop, codes, Some, None, refl, sym, ap, ◌∙◌}
+use Rattle.std.proofs.Common.{◌≡◌, ℕ, Bool, true, false, cond, List, [], ◌∷◌, ◌++◌, take, drop, codes, Option, Some, None, refl, sym, ap, ◌∙◌}
 use Rattle.std.specs.Prelude.{◌==◌}
 use Rattle.std.specs.Str.{bytes_eq}
 use Rattle.std.proofs.lemmas.Slice.Eq.{bytes_eq-Decides}
 use Rattle.std.proofs.lemmas.List.{take-append-drop}
 use Rattle.iasl_options.specs.declared.words.Key.{Key}
 use Rattle.iasl_options.specs.declared.words.Key.TheVariants as key
-use Rattle.iasl_options.specs.Words.{Setting, PreprocessOnly, NoPreprocessor, Brief, Strict, File, Word, Asks, Opens, Unknown, with_value, valued, behind, begins_with_hyphen, or_valued, word_of}
-use Rattle.iasl_options.specs.CommandLine.{mark, AskFor, preprocess_only, no_preprocessor, brief_messages, strict_warnings, rest_of_word, source_file}
+use Rattle.iasl_options.specs.declared.switches.Switch.{Switch}
+use Rattle.iasl_options.specs.declared.switches.Switch.TheVariants as switch
+use Rattle.iasl_options.specs.Switches.{switch_word, switch_of, or_other}
+use Rattle.iasl_options.specs.Words.{Setting, PreprocessOnly, NoPreprocessor, Turned, File, Word, Asks, Opens, Unknown, with_value, valued, behind, begins_with_hyphen, or_turned, or_valued, word_of}
+use Rattle.iasl_options.specs.CommandLine.{mark, AskFor, preprocess_only, no_preprocessor, switched, rest_of_word, source_file}
 use Rattle.iasl_options.proofs.Values.{value_is}
 
 -- what is known of a word that is this
@@ -34,16 +37,41 @@ marked_form key a b word rest is h = by_mark (bytes_eq (take 2 word) (a ∷ b �
         let whole : word ≡ a ∷ b ∷ drop 2 word = sym (take-append-drop 2 word) ∙ ap (λ xs. xs ++ drop 2 word) front in
         valued_form key word (drop 2 word) (whole ∙ ap (λ xs. xs ++ drop 2 word) (sym is)) (ap (λ xs. xs ++ []) is ∙ sym is)
 
+-- a switch that is found is written so
+abbrev IsSwitch : List ℕ → Option Switch → Type 0
+IsSwitch word None = Unit {0}
+IsSwitch word (Some one) = word ≡ switch_word one
+
+or_is : (word : List ℕ) (one : Switch) (other : Option Switch) → IsSwitch word other → IsSwitch word (or_other word one other)
+or_is word one other h = by_test (bytes_eq word (switch_word one)) refl
+  where
+    by_test : (b : Bool) → bytes_eq word (switch_word one) ≡ b → IsSwitch word (cond b (Some one) other)
+    by_test true e = (bytes_eq-Decides word (switch_word one)).0 e
+    by_test false e = h
+
+switch_is : (word : List ℕ) → IsSwitch word (switch_of word)
+switch_is word =
+    or_is word switch.Brief _ (
+    or_is word switch.Strict _ (
+    or_is word switch.CText _ (
+    or_is word switch.LongIntegers _ (
+    or_is word switch.WrittenNames _ (
+    or_is word switch.Unfolded _ (
+    or_is word switch.Unoptimised _ tt))))))
+
+turned_form : (word : List ℕ) (found : Option Switch) (rest : Word) → IsSwitch word found → Form word rest → Form word (or_turned found rest)
+turned_form word None rest is h = h
+turned_form word (Some one) rest is h = λ words settings ask. switched one word words settings is ask
+
 pub form_of : (word : List ℕ) → Form word (word_of word)
 form_of word =
     cond_form word (bytes_eq word (codes "-P")) _ _ (λ e words settings h. preprocess_only word words settings ((bytes_eq-Decides word (codes "-P")).0 e) h) (λ _.
     cond_form word (bytes_eq word (codes "-Pn")) _ _ (λ e words settings h. no_preprocessor word words settings ((bytes_eq-Decides word (codes "-Pn")).0 e) h) (λ _.
-    cond_form word (bytes_eq word (codes "-vi")) _ _ (λ e words settings h. brief_messages word words settings ((bytes_eq-Decides word (codes "-vi")).0 e) h) (λ _.
-    cond_form word (bytes_eq word (codes "-we")) _ _ (λ e words settings h. strict_warnings word words settings ((bytes_eq-Decides word (codes "-we")).0 e) h) (λ _.
+    turned_form word (switch_of word) _ (switch_is word) (
     marked_form key.Prefix 45 112 word _ refl (
     marked_form key.Directory 45 73 word _ refl (
     marked_form key.Definition 45 68 word _ refl (
-    cond_form word (begins_with_hyphen word) Unknown (Asks (File word)) (λ _. tt) (λ e words settings h. source_file word words settings e h))))))))
+    cond_form word (begins_with_hyphen word) Unknown (Asks (File word)) (λ _. tt) (λ e words settings h. source_file word words settings e h)))))))
 
 -- ---- the other way
 
@@ -53,11 +81,14 @@ word_preprocess_only = refl
 pub word_no_preprocessor : word_of (codes "-Pn") ≡ Asks NoPreprocessor
 word_no_preprocessor = refl
 
-pub word_brief : word_of (codes "-vi") ≡ Asks Brief
-word_brief = refl
-
-pub word_strict : word_of (codes "-we") ≡ Asks Strict
-word_strict = refl
+pub word_switch : (one : Switch) → word_of (switch_word one) ≡ Asks (Turned one)
+word_switch switch.Brief = refl
+word_switch switch.Strict = refl
+word_switch switch.CText = refl
+word_switch switch.LongIntegers = refl
+word_switch switch.WrittenNames = refl
+word_switch switch.Unfolded = refl
+word_switch switch.Unoptimised = refl
 
 pub word_opens : (key : Key) → word_of (mark key) ≡ Opens key
 word_opens key.Prefix = refl

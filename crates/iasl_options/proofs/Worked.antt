@@ -2,22 +2,23 @@
 use Rattle.std.proofs.Common.{◌≡◌, ℕ, false, true, List, [], ◌∷◌, Some, None, Ok, Err, inr, codes, refl, arith}
 use Rattle.iasl_options.specs.declared.words.Key.TheVariants as key
 use Rattle.iasl_options.specs.Words.{Setting, Prefix, Definition, File}
+use Rattle.iasl_options.specs.Switches.{no_switch}
 use Rattle.iasl_options.specs.Asking.{define_of, asked_by}
 use Rattle.iasl_options.specs.CommandLine.{AskFor, no_word, rest_of_word, next_word, source_file, IsGood, IsCommandLine}
 use Rattle.iasl_options.specs.Names.{output_name}
 
 -- a definition, and a file
-one_definition : asked_by (codes "-D" ∷ codes "A=7" ∷ codes "t.asl" ∷ []) ≡ Ok (record { file = Some (codes "t.asl"); prefix = None; directories = []; definitions = define_of (codes "A") (codes "7") ∷ []; only = false; enabled = true; brief = false; strict = false })
+one_definition : asked_by (codes "-D" ∷ codes "A=7" ∷ codes "t.asl" ∷ []) ≡ Ok (record { file = Some (codes "t.asl"); prefix = None; directories = []; definitions = define_of (codes "A") (codes "7") ∷ []; only = false; enabled = true; switches = no_switch })
 one_definition = refl
 
 -- a text with `=`, an option behind the file, and a value that looks like an option
 all_options : asked_by (codes "-DB=C=D" ∷ codes "t" ∷ codes "-P" ∷ codes "-I" ∷ codes "-P" ∷ codes "-pout" ∷ codes "-DE" ∷ [])
-    ≡ Ok (record { file = Some (codes "t"); prefix = Some (codes "out"); directories = codes "-P" ∷ []; definitions = define_of (codes "B") (codes "C=D") ∷ define_of (codes "E") [] ∷ []; only = true; enabled = true; brief = false; strict = false })
+    ≡ Ok (record { file = Some (codes "t"); prefix = Some (codes "out"); directories = codes "-P" ∷ []; definitions = define_of (codes "B") (codes "C=D") ∷ define_of (codes "E") [] ∷ []; only = true; enabled = true; switches = no_switch })
 all_options = refl
 
 -- short messages and no warnings, one of them asked for twice
 quiet_options : asked_by (codes "-we" ∷ codes "t" ∷ codes "-vi" ∷ codes "-we" ∷ [])
-    ≡ Ok (record { file = Some (codes "t"); prefix = None; directories = []; definitions = []; only = false; enabled = true; brief = true; strict = true })
+    ≡ Ok (record { file = Some (codes "t"); prefix = None; directories = []; definitions = []; only = false; enabled = true; switches = record { brief = true; strict = true; c_text = false; fold = true; short = true; shorten = true } })
 quiet_options = refl
 
 -- the words that spoil others: a second prefix, `-Pn` behind `-P`, a second file, an unknown option; a value or a file is missing
@@ -52,7 +53,7 @@ forms = next_word key.Definition _ _ _ _ _ refl (codes "A", codes "7", (refl, in
 good : IsGood settings
 good = record { file = (116, _, refl); prefix = omega arith; preprocessor = refl }
 
-line : IsCommandLine words (record { file = Some (codes "t.asl"); prefix = Some (codes "out"); directories = []; definitions = define_of (codes "A") (codes "7") ∷ []; only = false; enabled = true; brief = false; strict = false })
+line : IsCommandLine words (record { file = Some (codes "t.asl"); prefix = Some (codes "out"); directories = []; definitions = define_of (codes "A") (codes "7") ∷ []; only = false; enabled = true; switches = no_switch })
 line = (settings, forms, good, refl)
 
 -- names: the extension is replaced, a dot before a slash begins none, a prefix is whole

@@ -5,7 +5,10 @@ use Rattle.std.specs.List.{list_any}
 use Rattle.asl_preprocess.specs.declared.define.Define.{Define}
 use Rattle.iasl_options.specs.declared.words.Key.{Key}
 use Rattle.iasl_options.specs.declared.words.Key.TheVariants as key
-use Rattle.iasl_options.specs.Words.{Setting, PreprocessOnly, NoPreprocessor, Brief, Strict, Prefix, Directory, Definition, File, begins_with_hyphen}
+use Rattle.iasl_options.specs.declared.switches.Switch.{Switch}
+use Rattle.iasl_options.specs.declared.switches.Switches.{Switches}
+use Rattle.iasl_options.specs.Switches.{switch_word, is_brief, is_strict, is_c_text, keeps_constants, keeps_integers, keeps_names}
+use Rattle.iasl_options.specs.Words.{Setting, PreprocessOnly, NoPreprocessor, Turned, Prefix, Directory, Definition, File, begins_with_hyphen}
 use Rattle.iasl_options.specs.Asking.{Asked, define_of}
 
 -- ---- words and settings
@@ -36,8 +39,7 @@ pub data AskFor : List (List ℕ) → List Setting → Type 0 where
   -- an option without value
   preprocess_only : (word : List ℕ) (words : List (List ℕ)) (settings : List Setting) → word ≡ codes "-P" → AskFor words settings → AskFor (word ∷ words) (PreprocessOnly ∷ settings)
   no_preprocessor : (word : List ℕ) (words : List (List ℕ)) (settings : List Setting) → word ≡ codes "-Pn" → AskFor words settings → AskFor (word ∷ words) (NoPreprocessor ∷ settings)
-  brief_messages : (word : List ℕ) (words : List (List ℕ)) (settings : List Setting) → word ≡ codes "-vi" → AskFor words settings → AskFor (word ∷ words) (Brief ∷ settings)
-  strict_warnings : (word : List ℕ) (words : List (List ℕ)) (settings : List Setting) → word ≡ codes "-we" → AskFor words settings → AskFor (word ∷ words) (Strict ∷ settings)
+  switched : (switch : Switch) (word : List ℕ) (words : List (List ℕ)) (settings : List Setting) → word ≡ switch_word switch → AskFor words settings → AskFor (word ∷ words) (Turned switch ∷ settings)
   -- an option whose value is the rest of its word, where something is left
   rest_of_word : (key : Key) (c : ℕ) (cs word : List ℕ) (setting : Setting) (words : List (List ℕ)) (settings : List Setting) → word ≡ mark key ++ c ∷ cs → IsValue key (c ∷ cs) setting → AskFor words settings → AskFor (word ∷ words) (setting ∷ settings)
   -- an option whose value is the next word
@@ -71,13 +73,10 @@ abbrev pub is_no_preprocessor : Setting → Bool
 is_no_preprocessor NoPreprocessor = true
 is_no_preprocessor _ = false
 
-abbrev pub is_brief : Setting → Bool
-is_brief Brief = true
-is_brief _ = false
-
-abbrev pub is_strict : Setting → Bool
-is_strict Strict = true
-is_strict _ = false
+-- a switch of some kind
+abbrev pub turns : (Switch → Bool) → Setting → Bool
+turns kind (Turned switch) = kind switch
+turns kind _ = false
 
 -- Exactly one file, whose name is not empty; at most one prefix; not both to preprocess only and no preprocessor.
 pub record IsGood (settings : List Setting) : Type 0 where
@@ -89,6 +88,17 @@ abbrev pub first : List (List ℕ) → Option (List ℕ)
 first [] = None
 first (text ∷ texts) = Some text
 
+-- what the switches among settings ask for
+abbrev pub switches_in : List Setting → Switches
+switches_in settings = record {
+  brief = list_any (turns is_brief) settings;
+  strict = list_any (turns is_strict) settings;
+  c_text = list_any (turns is_c_text) settings;
+  fold = not (list_any (turns keeps_constants) settings);
+  short = not (list_any (turns keeps_integers) settings);
+  shorten = not (list_any (turns keeps_names) settings);
+}
+
 -- all that settings ask for; directories and definitions are in the order of the words
 abbrev pub gathered : List Setting → Asked
 gathered settings = record {
@@ -98,8 +108,7 @@ gathered settings = record {
   definitions = flat_map definition_of settings;
   only = list_any is_preprocess_only settings;
   enabled = not (list_any is_no_preprocessor settings);
-  brief = list_any is_brief settings;
-  strict = list_any is_strict settings;
+  switches = switches_in settings;
 }
 
 -- ---- command lines

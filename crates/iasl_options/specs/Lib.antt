@@ -1,3 +1,4 @@
+pub mod Switches
 pub mod Words
 pub mod Asking
 pub mod Shown

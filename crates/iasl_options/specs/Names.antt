@@ -40,6 +40,12 @@ table_name (Some prefix) file own = output_name (Some prefix) file (codes ".aml"
 table_name None file [] = output_name None file (codes ".aml")
 table_name None file (c ∷ own) = directory_of file ++ (c ∷ own)
 
+-- the name of a further output of a table: as the table's, with this extension in place of that
+abbrev pub further_name : Option (List ℕ) → List ℕ → List ℕ → List ℕ → List ℕ
+further_name (Some prefix) file own extension = output_name (Some prefix) file extension
+further_name None file [] extension = output_name None file extension
+further_name None file (c ∷ own) extension = (directory_of file ++ stem_of (c ∷ own)) ++ extension
+
 -- ---- what is true of them
 
 abbrev pub has_dot : List ℕ → Bool
@@ -68,3 +74,9 @@ abbrev pub IsTableName : Option (List ℕ) → List ℕ → List ℕ → List �
 IsTableName (Some prefix) file own name = IsOutputName (Some prefix) file (codes ".aml") name
 IsTableName None file [] name = IsOutputName None file (codes ".aml") name
 IsTableName None file (c ∷ own) name = (directory : List ℕ) × IsDirectory file directory × (name ≡ directory ++ (c ∷ own))
+
+-- the name of a further output of a table
+abbrev pub IsFurtherName : Option (List ℕ) → List ℕ → List ℕ → List ℕ → List ℕ → Type 0
+IsFurtherName (Some prefix) file own extension name = IsOutputName (Some prefix) file extension name
+IsFurtherName None file [] extension name = IsOutputName None file extension name
+IsFurtherName None file (c ∷ own) extension name = (directory : List ℕ) × (stem : List ℕ) × IsDirectory file directory × IsStem (c ∷ own) stem × (name ≡ (directory ++ stem) ++ extension)

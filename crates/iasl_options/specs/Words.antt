@@ -5,15 +5,15 @@ use Rattle.std.specs.Option.{unwrap_or}
 use Rattle.std.specs.Str.{bytes_eq}
 use Rattle.iasl_options.specs.declared.words.Key.{Key}
 use Rattle.iasl_options.specs.declared.words.Key.TheVariants as key
+use Rattle.iasl_options.specs.declared.switches.Switch.{Switch}
+use Rattle.iasl_options.specs.Switches.{switch_of}
 
 -- one thing that is asked for
 pub data Setting : Type 0 where
   PreprocessOnly : Setting
   NoPreprocessor : Setting
-  -- messages in the brief form
-  Brief : Setting
-  -- a source with a warning is refused
-  Strict : Setting
+  -- an option without value that may stand together with every other
+  Turned : Switch → Setting
   -- the front of the output names
   Prefix : List ℕ → Setting
   -- a further directory for includes
@@ -55,6 +55,10 @@ begins_with_hyphen (c ∷ cs) = c == 45
 abbrev pub other : List ℕ → Word
 other word = cond (begins_with_hyphen word) Unknown (Asks (File word))
 
+abbrev pub or_turned : Option Switch → Word → Word
+or_turned (Some switch) rest = Asks (Turned switch)
+or_turned None rest = rest
+
 abbrev pub or_valued : Key → Option (List ℕ) → Word → Word
 or_valued key (Some value) rest = valued key value
 or_valued key None rest = rest
@@ -64,9 +68,8 @@ abbrev pub word_of : List ℕ → Word
 word_of word =
     cond (bytes_eq word (codes "-P")) (Asks PreprocessOnly) (
     cond (bytes_eq word (codes "-Pn")) (Asks NoPreprocessor) (
-    cond (bytes_eq word (codes "-vi")) (Asks Brief) (
-    cond (bytes_eq word (codes "-we")) (Asks Strict) (
+    or_turned (switch_of word) (
     or_valued key.Prefix (behind (codes "-p") word) (
     or_valued key.Directory (behind (codes "-I") word) (
     or_valued key.Definition (behind (codes "-D") word) (
-    other word)))))))
+    other word))))))

@@ -4,6 +4,7 @@ ghost use Rattle.iasl_options.specs.Asking.{with_setting, settled, may_open, one
 ghost use Rattle.iasl_options.specs.Shown.{shown_setting, shown_word, asked_in, stepped, Answers};
 
 use crate::request::{Options, WordsStop};
+use crate::switches::Switches;
 use crate::words::{Key, Setting, Word, with_value, word_of};
 use asl_preprocess::{Define, Defines};
 use iasl_ports::list::{Text, Texts};
@@ -18,8 +19,7 @@ pub(crate) struct Draft {
     defines: Defines,
     only: bool,
     enabled: bool,
-    brief: bool,
-    strict: bool,
+    switches: Switches,
 }
 
 // What one more word does: the option that then waits for its value, or that no words make them good any more.
@@ -41,8 +41,7 @@ impl Draft {
             defines: Defines::new(alloc),
             only: false,
             enabled: true,
-            brief: false,
-            strict: false,
+            switches: Switches::new(),
         }
     }
 
@@ -75,8 +74,7 @@ impl Draft {
                 }
                 self.enabled = false;
             }
-            Setting::Brief => self.brief = true,
-            Setting::Strict => self.strict = true,
+            Setting::Turned(switch) => self.switches = self.switches.with(switch),
             Setting::File(file) => {
                 if file.is_empty() || self.file.is_some() {
                     return Ok(false);
@@ -142,8 +140,7 @@ impl Draft {
                 defines: self.defines,
                 only: self.only,
                 enabled: self.enabled,
-                brief: self.brief,
-                strict: self.strict,
+                switches: self.switches,
             }),
             _ => Err(WordsStop::Bad { word: count }),
         }

@@ -5,6 +5,7 @@ pub mod command_line;
 mod draft;
 pub mod names;
 pub mod request;
+pub mod switches;
 #[cfg(test)]
 mod tests;
 mod words;

@@ -133,10 +133,36 @@ pub fn table_name(alloc: Global, options: &Options, own: &Text) -> Result<String
     }
 }
 
+/// The name of a further output of a table, with this extension, which begins with its dot: that of the table's file with it in place of
+/// its own extension (docs/OPTIONS.md).
+#[tactic(auto, using(crate::proofs::Directories::is_further))]
+pub fn further_name(
+    alloc: Global,
+    options: &Options,
+    own: &Text,
+    extension: &str,
+) -> Result<String, AllocError>
+    requires texts { AreTexts options.now }
+    requires own { IsAscii own.now }
+    // What it is made of.
+    ensures named { IfOk result (λ name. spec.IsFurtherName options.now.prefix options.now.file own.now extension.now (string_bytes name)) }
+    // The same as a function.
+    ensures exact { IfOk result (λ name. string_bytes name ≡ spec.further_name options.now.prefix options.now.file own.now extension.now) }
+{
+    match (&options.prefix, own.as_bytes()) {
+        (Some(_), _) | (None, []) => output_name(alloc, options, extension),
+        (None, own) => {
+            let mut name = name_beside(alloc, options.file.as_bytes(), stem_of(own))?;
+            name.push_str(extension)?;
+            Ok(name)
+        }
+    }
+}
+
 // A name in the directory of a file.
 fn name_beside(alloc: Global, file: &[u8], own: &[u8]) -> Result<String, AllocError>
     requires file { IsUtf8 file.now }
-    requires own { IsAscii own.now }
+    requires own { IsUtf8 own.now }
     ensures { IfOk result (λ name. string_bytes name ≡ spec.directory_of file.now ++ own.now) }
 {
     let mut name = String::from_str(alloc, text_of(directory_of(file)))?;

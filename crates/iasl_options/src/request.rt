@@ -1,6 +1,7 @@
 //! What the words of a call ask for, or why they give nothing.
 ghost use Rattle.std.specs.Prelude.{◌≡◌};
 
+use crate::switches::Switches;
 use asl_preprocess::Defines;
 use iasl_ports::list::{Text, Texts};
 use std::alloc::AllocError;
@@ -20,10 +21,8 @@ pub struct Options {
     pub only: bool,
     /// Whether the preprocessor is on (it is off with `-Pn`).
     pub enabled: bool,
-    /// Whether messages are printed in the brief form (`-vi`).
-    pub brief: bool,
-    /// Whether a source with a warning is refused (`-we`).
-    pub strict: bool,
+    /// What the options without value ask for that may stand together with every other.
+    pub switches: Switches,
 }
 
 /// Why words give no options.

@@ -4,6 +4,7 @@ ghost use Rattle.iasl_options.specs.Shown.{AreTexts};
 use crate::command_line::options;
 use crate::names::{file_name, output_name};
 use crate::request::{Options, WordsStop};
+use crate::switches::Switches;
 use asl_preprocess::Defines;
 use iasl_ports::list::Texts;
 use std::alloc::{AllocError, Global};
@@ -46,8 +47,7 @@ struct Good {
     defines: &'static [(&'static [u8], &'static [u8])],
     only: bool,
     enabled: bool,
-    brief: bool,
-    strict: bool,
+    switches: Switches,
 }
 
 fn has_prefix(options: &Options, wanted: Option<&[u8]>) -> bool {
@@ -65,9 +65,18 @@ fn ask_for(options: &Options, row: &Good) -> bool {
         && define(&options.defines, row.defines)
         && options.only == row.only
         && options.enabled == row.enabled
-        && options.brief == row.brief
-        && options.strict == row.strict
+        && options.switches == row.switches
 }
+
+// What no switch asks for.
+const NONE: Switches = Switches {
+    brief: false,
+    strict: false,
+    c_text: false,
+    fold: true,
+    short: true,
+    shorten: true,
+};
 
 // What `t.asl` alone asks for.
 const PLAIN: Good = Good {
@@ -78,8 +87,7 @@ const PLAIN: Good = Good {
     defines: &[],
     only: false,
     enabled: true,
-    brief: false,
-    strict: false,
+    switches: NONE,
 };
 
 #[test]
@@ -141,13 +149,61 @@ fn good_words(rt: HostRuntime) -> Result<(), AllocError> {
         },
         Good {
             words: &["-vi", "t.asl", "-vi"],
-            brief: true,
+            switches: Switches {
+                brief: true,
+                ..NONE
+            },
             ..PLAIN
         },
         Good {
             words: &["-we", "-P", "t.asl", "-we"],
             only: true,
-            strict: true,
+            switches: Switches {
+                strict: true,
+                ..NONE
+            },
+            ..PLAIN
+        },
+        Good {
+            words: &["-oi", "t.asl"],
+            switches: Switches {
+                short: false,
+                ..NONE
+            },
+            ..PLAIN
+        },
+        Good {
+            words: &["t.asl", "-on", "-on"],
+            switches: Switches {
+                shorten: false,
+                ..NONE
+            },
+            ..PLAIN
+        },
+        Good {
+            words: &["-of", "t.asl", "-of"],
+            switches: Switches {
+                fold: false,
+                ..NONE
+            },
+            ..PLAIN
+        },
+        Good {
+            words: &["-oa", "-oi", "t.asl"],
+            switches: Switches {
+                fold: false,
+                short: false,
+                shorten: false,
+                ..NONE
+            },
+            ..PLAIN
+        },
+        Good {
+            words: &["-tc", "t.asl", "-tc"],
+            switches: Switches {
+                c_text: true,
+                ..NONE
+            },
             ..PLAIN
         },
         Good {
@@ -189,7 +245,7 @@ fn bad_words(rt: HostRuntime) -> Result<(), AllocError> {
         (&["t.asl", "--generate", "2"], 1),
         (&["--generate", "2"], 0),
         (&["-l", "t.asl"], 0),
-        (&["-vi", "-we", "-tc", "-oa", "-of", "-oi", "-on"], 2),
+        (&["-vi", "-we", "-oa", "-of", "-oi", "-on"], 6),
         (&["-v", "t.asl"], 0),
         (&["t.asl", "-vi", "-wea"], 2),
         (&["-vi", "-we"], 2),

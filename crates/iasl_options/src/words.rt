@@ -5,6 +5,8 @@ ghost use Rattle.iasl_options.specs.declared.words.Key.TheVariants as key;
 ghost use Rattle.iasl_options.specs.Words as spec;
 ghost use Rattle.iasl_options.specs.Shown.{shown_setting, shown_word};
 
+use crate::switches::{Switch, switch_of};
+
 /// An option that has a value.
 #[derive(Clone, Copy, Debug, PartialEq, Eq)]
 pub(crate) enum Key {
@@ -21,8 +23,8 @@ pub(crate) enum Key {
 pub(crate) enum Setting<'a> {
     PreprocessOnly,
     NoPreprocessor,
-    Brief,
-    Strict,
+    /// An option without value that may stand together with every other.
+    Turned(Switch),
     Prefix(&'a [u8]),
     Directory(&'a [u8]),
     Definition { name: &'a [u8], text: &'a [u8] },
@@ -135,11 +137,8 @@ pub(crate) fn word_of(word: &[u8]) -> Word<'_>
     if word == b"-Pn".as_slice() {
         return Word::Asks(Setting::NoPreprocessor);
     }
-    if word == b"-vi".as_slice() {
-        return Word::Asks(Setting::Brief);
-    }
-    if word == b"-we".as_slice() {
-        return Word::Asks(Setting::Strict);
+    if let Some(switch) = switch_of(word) {
+        return Word::Asks(Setting::Turned(switch));
     }
     if let Some(value) = behind(b"-p", word) {
         return valued(Key::Prefix, value);

@@ -31,7 +31,8 @@ use Rattle.aml_writer.specs.Written.{most_table_bytes}
 use Rattle.iasl_tool.specs.declared.compile.Compiled.{Compiled}
 use Rattle.iasl_tool.specs.declared.compile.Compiled.TheVariants.{Table, Refused}
 use Rattle.iasl_tool.specs.Syntax.{at_token}
-use Rattle.iasl_tool.specs.Compiled.{own_in, literals_in, is_of_names, with_notes, others_in, AreWithin, too_long, of_table, unless_wrong, is_of_kinds, with_others, of_terms, of_items, TellsWithin}
+use Rattle.iasl_tool.specs.declared.compile.Style.{Style}
+use Rattle.iasl_tool.specs.Compiled.{own_in, literals_in, is_of_names, with_notes, others_in, AreWithin, too_long, of_table, unless_wrong, is_of_kinds, with_others, of_terms, of_items, written_in, TellsWithin}
 
 module _ (files : ℕ) where
   abbrev TokenHome : Token → Type 0
@@ -102,18 +103,18 @@ module _ (files : ℕ) where
   block_home _ h main = main
 
   -- a tree whose parts stand in the files tells nothing outside them
-  pub items_home : (items : List Raw) → PartsWithin files (writtens items) → 0 < files → TellsWithin files (of_items items)
-  items_home items parts main =
+  pub items_home : (style : Style) (items : List Raw) → PartsWithin files (writtens items) → 0 < files → TellsWithin files (of_items style items)
+  items_home style items parts main =
       let names = told_home (terms_in items) (source_within files 0 (writtens items) parts) in
       let plans = terms_within files (writtens items) parts in
       let lists = All-append (λ (m : Message). m.place.file < files) (statements_in items) (layouts_in items) (statement_errors_within files (terms_of (writtens items)) plans) (list_errors_within files (terms_of (writtens items)) plans) in
       let statements = All-append (λ (m : Message). m.place.file < files) (statements_in items ++ layouts_in items) (regions_in items) lists
-      (access_errors_within files (terms_in items) (terms_of (writtens items)) (source_within files 0 (writtens items) parts)) in
-      let told = of_terms (block_place (writtens items)) (own_in items) (fields_in items) (others_in items) (terms_in items) in
+      (access_errors_within files (width_in items) (terms_in items) (terms_of (writtens items)) (source_within files 0 (writtens items) parts)) in
+      let told = of_terms style (block_place (writtens items)) (own_in items) (fields_in items) (others_in items) (terms_in items) in
       wrong_home (errors_at items) (with_notes (literals_in items) told) (errors_within files main items parts)
       (notes_home (literals_in items) told (literals_within files (width_in items) items parts)
-      (wrong_home (with_others (told_errors (terms_in items)) (others_in items)) (of_table (block_place (writtens items)) (fields_in items).signature (own_in items) (table_in true false items)) (statements_home (told_errors (terms_in items)) (others_in items) names statements)
-      (of_table_home (block_place (writtens items)) (fields_in items).signature (own_in items) (table_in true false items) (block_home (writtens items) parts main))))
+      (wrong_home (with_others (told_errors (terms_in items)) (others_in items)) (of_table (block_place (writtens items)) (fields_in items).signature (own_in items) (written_in style items)) (statements_home (told_errors (terms_in items)) (others_in items) names statements)
+      (of_table_home (block_place (writtens items)) (fields_in items).signature (own_in items) (written_in style items) (block_home (writtens items) parts main))))
 
   -- ---- tokens that are no source
 

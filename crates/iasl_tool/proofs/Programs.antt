@@ -22,7 +22,7 @@ use Rattle.asl_shape.specs.Forms.{IsBlockOf, errors_at, args_of, block_place}
 use Rattle.asl_numbers.specs.Numbers.{numbered_all}
 use Rattle.name_checks.specs.Messages.{message_of, first_errors, told_errors}
 use Rattle.program_shapes.specs.Kept.{IsKeptSource}
-use Rattle.program_shapes.specs.Sources.{terms_in, statements_in, layouts_in, regions_in, fields_in, table_in}
+use Rattle.program_shapes.specs.Sources.{terms_in, statements_in, layouts_in, regions_in, fields_in, width_in}
 use Rattle.std.specs.Str.{IsAscii}
 use Rattle.iasl_messages.specs.declared.place.Place.{Place}
 use Rattle.aml_writer.specs.Written.{most_table_bytes}
@@ -32,11 +32,13 @@ use Rattle.program_shapes.proofs.Headers.{HaveRoom}
 use Rattle.field_checks.specs.Lists.{all_errors}
 use Rattle.region_checks.specs.Regions.{region_errors}
 use Rattle.program_shapes.proofs.Tables.{terms_are_formed, core_is_shaped}
+use Rattle.acpi_values.specs.declared.width.Width.{Width}
 use Rattle.acpi_values.specs.Revisions.{width_of}
 use Rattle.literal_checks.specs.Literals.{cut_literals_at}
 use Rattle.iasl_tool.specs.declared.compile.Compiled.{Compiled}
 use Rattle.iasl_tool.specs.declared.compile.Compiled.TheVariants.{Table, Refused}
-use Rattle.iasl_tool.specs.Compiled.{table_with, with_notes, literals_in, unless_wrong, is_of_kinds, others_in, with_others, own_in, of_table, of_terms, of_items, too_long, HasAsciiName}
+use Rattle.iasl_tool.specs.declared.compile.Style.{Style}
+use Rattle.iasl_tool.specs.Compiled.{table_with, with_notes, literals_in, unless_wrong, is_of_kinds, others_in, with_others, own_in, of_table, of_terms, of_items, written_in, too_long, HasAsciiName}
 use Rattle.iasl_tool.specs.Ready.{HasRoom}
 
 abbrev pub ok_block : Block → Result Block AllocError
@@ -97,13 +99,15 @@ same_terms : (items : List Raw) (block : Block) (terms : Trees) → IsBlockOf it
 unfolding IsBlockOf
 same_terms items block terms h e = e ∙ ap (numbered_all 0) h.terms
 
--- what is wrong with the statements of some plans, then with their lists of fields, and then with the accesses of these
-abbrev pub others_of : Trees → Plans → List Message
-others_of terms ps = errors_of_statements ps ++ all_errors ps ++ region_errors terms ps
+-- what is wrong with the statements of some plans, then with their lists of fields, and then with the accesses of these, at a width
+abbrev pub others_of : Width → Trees → Plans → List Message
+others_of width terms ps = errors_of_statements ps ++ all_errors ps ++ region_errors width terms ps
 
-same_others : (items : List Raw) (block : Block) (terms : Trees) → IsBlockOf items block → terms ≡ numbered_all 0 (plans_of block.terms.items) → others_of terms (plans_of block.terms.items) ≡ others_in items
+same_others : (items : List Raw) (block : Block) (terms : Trees) → IsBlockOf items block → terms ≡ numbered_all 0 (plans_of block.terms.items) → others_of (width_of block.revision) terms (plans_of block.terms.items) ≡ others_in items
 unfolding IsBlockOf
-same_others items block terms h is = ap (λ ts. others_of ts (plans_of block.terms.items)) (same_terms items block terms h is) ∙ ap (others_of (terms_in items)) h.terms
+same_others items block terms h is =
+    ap (λ n. others_of (width_of n) terms (plans_of block.terms.items)) h.revision ∙ ap (λ ts. others_of (width_in items) ts (plans_of block.terms.items)) (same_terms items block terms h is)
+    ∙ ap (others_of (width_in items) (terms_in items)) h.terms
 
 -- its terms, numbered, are formed
 pub block_formed : (items : List Raw) (block : Block) (terms : Trees) → errors_at items ≡ [] → IsBlockOf items block → IsKeptSource (writtens items) → terms ≡ numbered_all 0 (plans_of block.terms.items) → AreFormed AreNamed (Unit {0}) terms
@@ -124,7 +128,7 @@ pub both_right : (items : List Raw) → statements_in items ≡ [] → layouts_i
 both_right items s l r = ap (λ ms. ms ++ layouts_in items ++ regions_in items) s ∙ ap (λ ms. ms ++ regions_in items) l ∙ r
 
 -- and shaped, where nothing else is wrong
-pub block_shaped : (items : List Raw) (block : Block) (terms : Trees) (others : List Message) → errors_at items ≡ [] → IsBlockOf items block → IsKeptSource (writtens items) → terms ≡ numbered_all 0 (plans_of block.terms.items) → others ≡ others_of terms (plans_of block.terms.items) → others ≡ [] → AreShaped (named_all terms)
+pub block_shaped : (items : List Raw) (block : Block) (terms : Trees) (others : List Message) → errors_at items ≡ [] → IsBlockOf items block → IsKeptSource (writtens items) → terms ≡ numbered_all 0 (plans_of block.terms.items) → others ≡ others_of (width_of block.revision) terms (plans_of block.terms.items) → others ≡ [] → AreShaped (named_all terms)
 block_shaped items block terms others e h k is are none =
     let nothing : others_in items ≡ [] = sym (same_others items block terms h is) ∙ sym are ∙ none in
     subst (λ ts. AreShaped (named_all ts)) (sym (same_terms items block terms h is)) (core_is_shaped items e (none_of_others items nothing).1 k)
@@ -147,15 +151,15 @@ unfolding IsBlockOf
 same_literals items block h = ap (λ n. cut_literals_at (width_of n) items) h.revision
 
 -- and it comes to what its source comes to
-pub block_comes : (items : List Raw) (block : Block) (terms : Trees) (statements : List Message) (it : Compiled) → errors_at items ≡ [] → IsBlockOf items block → terms ≡ numbered_all 0 (plans_of block.terms.items) → statements ≡ others_of terms (plans_of block.terms.items)
-    → it ≡ with_notes (cut_literals_at (width_of block.revision) items) (of_terms block.place block.file (fields_of block) statements terms) → it ≡ of_items items
-block_comes items block terms statements it e h is are comes =
-    let told = of_terms (block_place (writtens items)) (own_in items) (fields_in items) (others_in items) (terms_in items) in
-    let same : of_terms block.place block.file (fields_of block) statements terms ≡ told =
-    ap (λ p. of_terms p block.file (fields_of block) statements terms) (same_place items block h) ∙ ap (λ own. of_terms (block_place (writtens items)) own (fields_of block) statements terms) (same_own items block h)
-    ∙ ap (λ f. of_terms (block_place (writtens items)) (own_in items) f statements terms) (same_fields items block h)
-    ∙ ap (λ ss. of_terms (block_place (writtens items)) (own_in items) (fields_in items) ss terms) (are ∙ same_others items block terms h is)
-    ∙ ap (of_terms (block_place (writtens items)) (own_in items) (fields_in items) (others_in items)) (same_terms items block terms h is) in
+pub block_comes : (style : Style) (items : List Raw) (block : Block) (terms : Trees) (statements : List Message) (it : Compiled) → errors_at items ≡ [] → IsBlockOf items block → terms ≡ numbered_all 0 (plans_of block.terms.items) → statements ≡ others_of (width_of block.revision) terms (plans_of block.terms.items)
+    → it ≡ with_notes (cut_literals_at (width_of block.revision) items) (of_terms style block.place block.file (fields_of block) statements terms) → it ≡ of_items style items
+block_comes style items block terms statements it e h is are comes =
+    let told = of_terms style (block_place (writtens items)) (own_in items) (fields_in items) (others_in items) (terms_in items) in
+    let same : of_terms style block.place block.file (fields_of block) statements terms ≡ told =
+    ap (λ p. of_terms style p block.file (fields_of block) statements terms) (same_place items block h) ∙ ap (λ own. of_terms style (block_place (writtens items)) own (fields_of block) statements terms) (same_own items block h)
+    ∙ ap (λ f. of_terms style (block_place (writtens items)) (own_in items) f statements terms) (same_fields items block h)
+    ∙ ap (λ ss. of_terms style (block_place (writtens items)) (own_in items) (fields_in items) ss terms) (are ∙ same_others items block terms h is)
+    ∙ ap (of_terms style (block_place (writtens items)) (own_in items) (fields_in items) (others_in items)) (same_terms items block terms h is) in
     right_is (errors_at items) it (with_notes (literals_in items) told) e
     (comes ∙ ap (λ it. with_notes (cut_literals_at (width_of block.revision) items) it) same ∙ ap (λ ns. with_notes ns told) (same_literals items block h))
 
@@ -165,12 +169,12 @@ right_comes (Ok made) errors it e h = right_is errors made it e h
 right_comes (Err error) errors it e h = tt
 
 -- a block with the place, the file and the header of another
-pub like_another : (r : Result Compiled AllocError) (place other : Place) (file own : List ℕ) (fields header : HeaderFields) (terms : Trees) → place ≡ other → file ≡ own → fields ≡ header
-    → IfOk r (λ it. it ≡ of_table place fields.signature file (table_with fields terms)) → IfOk r (λ it. it ≡ of_table other header.signature own (table_with header terms))
-like_another r place other file own fields header terms p f h e =
-    subst (λ p. IfOk r (λ it. it ≡ of_table p header.signature own (table_with header terms))) p
-    (subst (λ f. IfOk r (λ it. it ≡ of_table place header.signature f (table_with header terms))) f
-    (subst (λ (h : HeaderFields). IfOk r (λ it. it ≡ of_table place h.signature file (table_with h terms))) h e))
+pub like_another : (style : Style) (r : Result Compiled AllocError) (place other : Place) (file own : List ℕ) (fields header : HeaderFields) (terms : Trees) → place ≡ other → file ≡ own → fields ≡ header
+    → IfOk r (λ it. it ≡ of_table place fields.signature file (table_with style fields terms)) → IfOk r (λ it. it ≡ of_table other header.signature own (table_with style header terms))
+like_another style r place other file own fields header terms p f h e =
+    subst (λ p. IfOk r (λ it. it ≡ of_table p header.signature own (table_with style header terms))) p
+    (subst (λ f. IfOk r (λ it. it ≡ of_table place header.signature f (table_with style header terms))) f
+    (subst (λ (h : HeaderFields). IfOk r (λ it. it ≡ of_table place h.signature file (table_with style h terms))) h e))
 
 -- a stage that refuses, with errors of statements behind its own
 pub stage_comes : (stage : Stage) (messages errors statements all : List Message) (it : Compiled) → Refuses stage errors → stage ≡ Refused' messages → all ≡ with_others messages statements → Refused all ≡ unless_wrong (with_others errors statements) it
@@ -182,10 +186,10 @@ pub shape_comes : (stage : Stage) (messages errors : List Message) (it : Compile
 shape_comes stage messages errors it h e = refused_is messages errors it (subst (λ (s : Stage). ShapeRefuses s errors) e h)
 
 -- what a block that is compiled comes to is what its source comes to
-pub program_comes : (r : Result Compiled AllocError) (items : List Raw) (block : Block) (terms : Trees) (statements : List Message) → errors_at items ≡ [] → IsBlockOf items block → terms ≡ numbered_all 0 (plans_of block.terms.items) → statements ≡ others_of terms (plans_of block.terms.items)
-    → IfOk r (λ it. it ≡ with_notes (cut_literals_at (width_of block.revision) items) (of_terms block.place block.file (fields_of block) statements terms)) → IfOk r (λ it. it ≡ of_items items)
-program_comes (Ok it) items block terms statements e h is are comes = block_comes items block terms statements it e h is are comes
-program_comes (Err error) items block terms statements e h is are comes = tt
+pub program_comes : (style : Style) (r : Result Compiled AllocError) (items : List Raw) (block : Block) (terms : Trees) (statements : List Message) → errors_at items ≡ [] → IsBlockOf items block → terms ≡ numbered_all 0 (plans_of block.terms.items) → statements ≡ others_of (width_of block.revision) terms (plans_of block.terms.items)
+    → IfOk r (λ it. it ≡ with_notes (cut_literals_at (width_of block.revision) items) (of_terms style block.place block.file (fields_of block) statements terms)) → IfOk r (λ it. it ≡ of_items style items)
+program_comes style (Ok it) items block terms statements e h is are comes = block_comes style items block terms statements it e h is are comes
+program_comes style (Err error) items block terms statements e h is are comes = tt
 
 -- lists that are empty, and others
 pub no_length : (messages : List Message) → length messages ≡ 0 → messages ≡ []
@@ -197,26 +201,26 @@ some_length [] it errors e h = absurd (h refl)
 some_length (m ∷ ms) it errors e h = sym (ap (λ es. unless_wrong (with_others es (m ∷ ms)) it) e)
 
 -- the name that a source states for its file
-pub named_in_ascii : (items : List Raw) → IsKeptSource (writtens items) → HasAsciiName (of_items items)
-named_in_ascii items kept = by (errors_at items) refl
+pub named_in_ascii : (style : Style) (items : List Raw) → IsKeptSource (writtens items) → HasAsciiName (of_items style items)
+named_in_ascii style items kept = by (errors_at items) refl
   where
     place : Place
     place = block_place (writtens items)
 
-    by_length : (c : Bool) → IsAscii (own_in items) → HasAsciiName (if c then Table (fields_in items).signature (own_in items) (table_in true false items) [] else Refused (too_long place ∷ []))
+    by_length : (c : Bool) → IsAscii (own_in items) → HasAsciiName (if c then Table (fields_in items).signature (own_in items) (written_in style items) [] else Refused (too_long place ∷ []))
     by_length true h = h
     by_length false h = tt
 
-    by_names : (ms : List Message) → IsAscii (own_in items) → HasAsciiName (unless_wrong ms (of_table place (fields_in items).signature (own_in items) (table_in true false items)))
-    by_names [] h = by_length (nat_le (length (table_in true false items)) most_table_bytes) h
+    by_names : (ms : List Message) → IsAscii (own_in items) → HasAsciiName (unless_wrong ms (of_table place (fields_in items).signature (own_in items) (written_in style items)))
+    by_names [] h = by_length (nat_le (length (written_in style items)) most_table_bytes) h
     by_names (m ∷ ms) h = tt
 
     noted : (it : Compiled) → HasAsciiName it → HasAsciiName (with_notes (literals_in items) it)
     noted (Table signature own bytes notes) h = h
     noted (Refused messages) h = tt
 
-    by : (ms : List Message) → errors_at items ≡ ms → HasAsciiName (unless_wrong ms (with_notes (literals_in items) (of_terms place (own_in items) (fields_in items) (others_in items) (terms_in items))))
-    by [] e = noted (of_terms place (own_in items) (fields_in items) (others_in items) (terms_in items)) (by_names (with_others (told_errors (terms_in items)) (others_in items)) (own_is_ascii items e kept))
+    by : (ms : List Message) → errors_at items ≡ ms → HasAsciiName (unless_wrong ms (with_notes (literals_in items) (of_terms style place (own_in items) (fields_in items) (others_in items) (terms_in items))))
+    by [] e = noted (of_terms style place (own_in items) (fields_in items) (others_in items) (terms_in items)) (by_names (with_others (told_errors (terms_in items)) (others_in items)) (own_is_ascii items e kept))
     by (m ∷ ms) e = tt
 
 pub ascii_comes : (r : Result Compiled AllocError) (it : Compiled) → HasAsciiName it → IfOk r (λ made. made ≡ it) → IfOk r HasAsciiName

@@ -38,16 +38,16 @@ all_pass (note ∷ notes) e =
     All-cons IsNoWarning note notes (is_no_warning (severity_of note.number) both.0) (all_pass notes both.1)
 
 -- notes that are let pass refuse nothing
-pub is_passed : (asked : Asked) (notes : List Message) → LetsPass asked notes → (asked.strict && has_warning notes) ≡ false
-is_passed asked notes h = by_strict asked.strict h
+pub is_passed : (asked : Asked) (notes : List Message) → LetsPass asked notes → (asked.switches.strict && has_warning notes) ≡ false
+is_passed asked notes h = by_strict asked.switches.strict h
   where
     by_strict : (strict : Bool) → (strict ≡ true → All IsNoWarning notes) → (strict && has_warning notes) ≡ false
     by_strict true k = no_warning notes (k refl)
     by_strict false k = refl
 
 -- notes that refuse nothing are let pass
-pub lets_pass : (asked : Asked) (notes : List Message) → (asked.strict && has_warning notes) ≡ false → LetsPass asked notes
-lets_pass asked notes e = by_strict asked.strict e
+pub lets_pass : (asked : Asked) (notes : List Message) → (asked.switches.strict && has_warning notes) ≡ false → LetsPass asked notes
+lets_pass asked notes e = by_strict asked.switches.strict e
   where
     by_strict : (strict : Bool) → (strict && has_warning notes) ≡ false → strict ≡ true → All IsNoWarning notes
     by_strict true k same = all_pass notes k

@@ -19,31 +19,32 @@ use Rattle.aml_writer.proofs.Tables.{ready_bytes}
 use Rattle.named_sessions.specs.Core.{core_of}
 use Rattle.named_sessions.proofs.Settles.{knows_start}
 use Rattle.named_sessions.proofs.Main.{is_ready}
+use Rattle.iasl_tool.specs.declared.compile.Style.{Style}
 use Rattle.iasl_tool.specs.declared.compile.Compiled.{Compiled}
 use Rattle.iasl_tool.specs.declared.compile.Compiled.TheVariants.{Table, Refused}
 use Rattle.iasl_tool.specs.Compiled.{too_long, its_table, of_table}
 use Rattle.iasl_tool.specs.Ready.{IsCoreOf}
 
-pub block_ready : (terms : Trees) (block : Block) → IsCoreOf terms block → IsReadyBlock (known_of terms) block
-block_ready terms block is = record {
+pub block_ready : (shorten : Bool) (terms : Trees) (block : Block) → IsCoreOf shorten terms block → IsReadyBlock (known_of terms) block
+block_ready shorten terms block is = record {
   signature = is.room.signature;
   oem_id = is.room.oem_id;
   table_id = is.room.table_id;
   oem_revision = is.room.oem_revision;
-  terms = subst (λ ts. AreReady (known_of terms) ts []) (sym is.core) (is_ready false terms is.shaped is.names is.counts);
+  terms = subst (λ ts. AreReady (known_of terms) ts []) (sym is.core) (is_ready shorten terms is.shaped is.names is.counts);
 }
 
 abbrev by_size : Bool → Place → List ℕ → List ℕ → List ℕ → Compiled
 by_size c place signature own bytes = if c then Table signature own bytes [] else Refused (too_long place ∷ [])
 
-pub table_written : (terms : Trees) (block : Block) (signature own bytes : List ℕ) (notes : List Message) → IsCoreOf terms block → signature ≡ block.signature → own ≡ block.file → notes ≡ [] → IsTable block true bytes
-    → Table signature own bytes notes ≡ of_table block.place block.signature block.file (its_table terms block)
-table_written terms block signature own bytes notes is esig eown enotes any =
-    let table : IsTableOf (known_of terms) (externals terms) block true bytes = any.table (known_of terms) (externals terms) (knows_start terms is.names) (block_ready terms block is) in
-    let e : bytes ≡ its_table terms block = table.encoded ∙ ap (λ ts. table_bytes (fields_of block) (encoded_all (width_of block.revision) true ts)) is.core in
-    let within : length (its_table terms block) ≤ most_table_bytes = subst (λ bs. length bs ≤ most_table_bytes) e table.within in
-    let fits : nat_le (length (its_table terms block)) most_table_bytes ≡ true = grind (arith, nat_tests) in
-    ap (Table signature own bytes) enotes ∙ ap (λ s. Table s own bytes []) esig ∙ ap (λ o. Table block.signature o bytes []) eown ∙ ap (λ bs. Table block.signature block.file bs []) e ∙ sym (ap (λ c. by_size c block.place block.signature block.file (its_table terms block)) fits)
+pub table_written : (style : Style) (terms : Trees) (block : Block) (signature own bytes : List ℕ) (notes : List Message) → IsCoreOf style.shorten terms block → signature ≡ block.signature → own ≡ block.file → notes ≡ [] → IsTable block style.short bytes
+    → Table signature own bytes notes ≡ of_table block.place block.signature block.file (its_table style terms block)
+table_written style terms block signature own bytes notes is esig eown enotes any =
+    let table : IsTableOf (known_of terms) (externals terms) block style.short bytes = any.table (known_of terms) (externals terms) (knows_start terms is.names) (block_ready style.shorten terms block is) in
+    let e : bytes ≡ its_table style terms block = table.encoded ∙ ap (λ ts. table_bytes (fields_of block) (encoded_all (width_of block.revision) style.short ts)) is.core in
+    let within : length (its_table style terms block) ≤ most_table_bytes = subst (λ bs. length bs ≤ most_table_bytes) e table.within in
+    let fits : nat_le (length (its_table style terms block)) most_table_bytes ≡ true = grind (arith, nat_tests) in
+    ap (Table signature own bytes) enotes ∙ ap (λ s. Table s own bytes []) esig ∙ ap (λ o. Table block.signature o bytes []) eown ∙ ap (λ bs. Table block.signature block.file bs []) e ∙ sym (ap (λ c. by_size c block.place block.signature block.file (its_table style terms block)) fits)
 
 abbrev made : ℕ → Place → List ℕ → Message
 made number place name = record { number = number; place = place; name = name }
@@ -51,14 +52,14 @@ made number place name = record { number = number; place = place; name = name }
 message_is : (message other : Message) → message.number ≡ other.number → message.place ≡ other.place → message.name ≡ other.name → message ≡ other
 message_is message other en ep ex = ap (λ n. made n message.place message.name) en ∙ ap (λ p. made other.number p message.name) ep ∙ ap (λ name. made other.number other.place name) ex
 
-pub refused_written : (terms : Trees) (block : Block) (message : Message) (messages : List Message) → IsCoreOf terms block → messages ≡ message ∷ [] → IsTooLong block true message → Refused messages ≡ of_table block.place block.signature block.file (its_table terms block)
-refused_written terms block message messages is em long =
-    let style = style_of block true in
-    let size : most_table_bytes < length (its_table terms block) =
-    let l : length (its_table terms block) ≡ 36 + length (encoded_all style.width true (core_of false terms)) = length_is (fields_of block) (encoded_all style.width true (core_of false terms)) is.room.signature in
-    let c : nodes_bytes style [] block.terms.items ≡ encoded_all style.width true (core_of false terms) = ready_bytes (known_of terms) style block.terms.items (block_ready terms block is).terms ∙ ap (encoded_all style.width true) is.core in
-    let n : length (nodes_bytes style [] block.terms.items) ≡ length (encoded_all style.width true (core_of false terms)) = ap length c in
+pub refused_written : (style : Style) (terms : Trees) (block : Block) (message : Message) (messages : List Message) → IsCoreOf style.shorten terms block → messages ≡ message ∷ [] → IsTooLong block style.short message → Refused messages ≡ of_table block.place block.signature block.file (its_table style terms block)
+refused_written style terms block message messages is em long =
+    let written = style_of block style.short in
+    let size : most_table_bytes < length (its_table style terms block) =
+    let l : length (its_table style terms block) ≡ 36 + length (encoded_all written.width style.short (core_of style.shorten terms)) = length_is (fields_of block) (encoded_all written.width style.short (core_of style.shorten terms)) is.room.signature in
+    let c : nodes_bytes written [] block.terms.items ≡ encoded_all written.width style.short (core_of style.shorten terms) = ready_bytes (known_of terms) written block.terms.items (block_ready style.shorten terms block is).terms ∙ ap (encoded_all written.width style.short) is.core in
+    let n : length (nodes_bytes written [] block.terms.items) ≡ length (encoded_all written.width style.short (core_of style.shorten terms)) = ap length c in
     omega (arith, long.passes, l, n) in
-    let passes : nat_le (length (its_table terms block)) most_table_bytes ≡ false = grind (arith, nat_tests) in
+    let passes : nat_le (length (its_table style terms block)) most_table_bytes ≡ false = grind (arith, nat_tests) in
     let same : message ≡ too_long block.place = message_is message (too_long block.place) long.number long.place long.no_name in
-    ap Refused (em ∙ ap (λ m. m ∷ []) same) ∙ sym (ap (λ c. by_size c block.place block.signature block.file (its_table terms block)) passes)
+    ap Refused (em ∙ ap (λ m. m ∷ []) same) ∙ sym (ap (λ c. by_size c block.place block.signature block.file (its_table style terms block)) passes)

@@ -14,6 +14,7 @@ use Rattle.aml_meaning.specs.Encoded.{encoded_all}
 use Rattle.aml_writer.specs.Written.{most_table_bytes}
 use Rattle.named_sessions.specs.Core.{core_of}
 use Rattle.asl_lower.specs.Nodes.{named_all}
+use Rattle.asl_fold.specs.Folds.{folded_where}
 use Rattle.name_checks.specs.Messages.{told_errors}
 use Rattle.asl_parser.specs.declared.raw.Raw.{Raw}
 use Rattle.asl_parser.specs.Parse.{Outcome, outcome, read, stopped, sunk, tall}
@@ -21,8 +22,9 @@ use Rattle.asl_parser.specs.Written.{writtens}
 use Rattle.std.specs.Str.{IsAscii}
 use Rattle.asl_shape.specs.Plans.{plan_at, text_of}
 use Rattle.asl_shape.specs.Forms.{errors_at, block_place, args_of}
-use Rattle.program_shapes.specs.Sources.{terms_in, statements_in, layouts_in, regions_in, fields_in, width_in}
+use Rattle.program_shapes.specs.Sources.{terms_in, statements_in, layouts_in, regions_in, fields_in, width_in, table_in}
 use Rattle.literal_checks.specs.Literals.{cut_literals_at}
+use Rattle.iasl_tool.specs.declared.compile.Style.{Style}
 use Rattle.iasl_tool.specs.declared.compile.Compiled.{Compiled}
 use Rattle.iasl_tool.specs.declared.compile.Compiled.TheVariants.{Table, Refused}
 use Rattle.data_text.specs.Kinds.{is_data_table}
@@ -38,12 +40,16 @@ abbrev pub of_table : Place → List ℕ → List ℕ → List ℕ → Compiled
 of_table place signature own bytes = if nat_le (length bytes) most_table_bytes then Table signature own bytes [] else Refused (too_long place ∷ [])
 
 -- the table with this header of these terms, at the width that its revision gives
-abbrev pub table_with : HeaderFields → Trees → List ℕ
-table_with fields terms = table_bytes fields (encoded_all (width_of fields.revision) true (core_of false terms))
+abbrev pub table_with : Style → HeaderFields → Trees → List ℕ
+table_with style fields terms = table_bytes fields (encoded_all (width_of fields.revision) style.short (core_of style.shorten terms))
 
 -- the table of a block of these terms
-abbrev pub its_table : Trees → Block → List ℕ
-its_table terms block = table_with (fields_of block) terms
+abbrev pub its_table : Style → Trees → Block → List ℕ
+its_table style terms block = table_with style (fields_of block) terms
+
+-- terms with their symbols named, and their constants folded where that is asked for
+abbrev pub lowered_in : Style → HeaderFields → Trees → Trees
+lowered_in style fields terms = folded_where style.fold (width_of fields.revision) (named_all terms)
 
 -- errors, where there are any
 abbrev pub unless_wrong : List Message → Compiled → Compiled
@@ -61,9 +67,9 @@ with_others [] others = others
 with_others (m ∷ ms) others = if is_of_kinds m.number then (m ∷ ms) ++ others else m ∷ ms
 
 -- a block of this form, that is refused with what is wrong with its names, its statements or the lists of its fields
-abbrev pub of_terms : Place → List ℕ → HeaderFields → List Message → Trees → Compiled
-of_terms place own fields others terms =
-    unless_wrong (with_others (told_errors terms) others) (of_table place fields.signature own (table_with fields (named_all terms)))
+abbrev pub of_terms : Style → Place → List ℕ → HeaderFields → List Message → Trees → Compiled
+of_terms style place own fields others terms =
+    unless_wrong (with_others (told_errors terms) others) (of_table place fields.signature own (table_with style fields (lowered_in style fields terms)))
 
 -- the numbers of the errors of the class of names
 abbrev pub is_of_names : ℕ → Bool
@@ -79,6 +85,10 @@ abbrev pub with_notes : List Message → Compiled → Compiled
 with_notes notes (Table signature own bytes others) = Table signature own bytes (others ++ notes)
 with_notes notes (Refused messages) = Refused (with_notes_behind notes messages)
 
+-- the table of a source in which nothing is wrong
+abbrev pub written_in : Style → List Raw → List ℕ
+written_in style items = table_in style.fold style.short style.shorten items
+
 -- the literals of a source that are cut to 32 bits
 abbrev pub literals_in : List Raw → List Message
 literals_in items = cut_literals_at (width_in items) items
@@ -92,24 +102,24 @@ abbrev pub others_in : List Raw → List Message
 others_in items = statements_in items ++ layouts_in items ++ regions_in items
 
 -- the tree of a source's syntax, that is refused with what is wrong with its form
-abbrev pub of_items : List Raw → Compiled
-of_items items = unless_wrong (errors_at items) (with_notes (literals_in items) (of_terms (block_place (writtens items)) (own_in items) (fields_in items) (others_in items) (terms_in items)))
+abbrev pub of_items : Style → List Raw → Compiled
+of_items style items = unless_wrong (errors_at items) (with_notes (literals_in items) (of_terms style (block_place (writtens items)) (own_in items) (fields_in items) (others_in items) (terms_in items)))
 
 -- tokens that are a source, or the place where they stop being one or nest too deep
-abbrev pub of_outcome : List Token → Outcome → Compiled
-of_outcome tokens (read items) = of_items items
-of_outcome tokens (stopped rest) = Refused (not_source tokens (length tokens - length rest) ∷ [])
-of_outcome tokens (sunk rest) = Refused (too_deep tokens (length tokens - suc (length rest)) ∷ [])
-of_outcome tokens (tall number) = Refused (too_deep tokens number ∷ [])
+abbrev pub of_outcome : Style → List Token → Outcome → Compiled
+of_outcome style tokens (read items) = of_items style items
+of_outcome style tokens (stopped rest) = Refused (not_source tokens (length tokens - length rest) ∷ [])
+of_outcome style tokens (sunk rest) = Refused (too_deep tokens (length tokens - suc (length rest)) ∷ [])
+of_outcome style tokens (tall number) = Refused (too_deep tokens number ∷ [])
 
 -- the first fault of the tokens, or what they come to
-abbrev pub of_tokens : Result (List Token) Fault → Compiled
-of_tokens (Err fault) = Refused (message_of fault ∷ [])
-of_tokens (Ok tokens) = of_outcome tokens (outcome tokens)
+abbrev pub of_tokens : Style → Result (List Token) Fault → Compiled
+of_tokens style (Err fault) = Refused (message_of fault ∷ [])
+of_tokens style (Ok tokens) = of_outcome style tokens (outcome tokens)
 
 -- what lines of ASL come to
-abbrev pub of_lines : List Line → Compiled
-of_lines lines = of_tokens (tokens_of lines)
+abbrev pub of_lines : Style → List Line → Compiled
+of_lines style lines = of_tokens style (tokens_of lines)
 
 -- a data table with its notes, or the faults of its text; it states no name for its file
 abbrev pub of_data : Answer → Compiled
@@ -117,8 +127,8 @@ of_data (Ok table) = Table table.signature [] (joined table.pieces) table.notes
 of_data (Err faults) = Refused faults
 
 -- what lines come to: those of a data table, or those of ASL
-abbrev pub of_source : List Line → Compiled
-of_source lines = cond (is_data_table lines) (of_data (compiled lines)) (of_lines lines)
+abbrev pub of_source : Style → List Line → Compiled
+of_source style lines = cond (is_data_table lines) (of_data (compiled lines)) (of_lines style lines)
 
 -- each message stands in one of so many files
 abbrev pub AreWithin : ℕ → List Message → Type 0

@@ -3,7 +3,6 @@ use Rattle.std.specs.Prelude.{ℕ, Bool, ◌&&◌, cond, List, [], ◌∷◌, �
 use Rattle.std.specs.declared.option.Option.{Option}
 use Rattle.std.specs.List.{list_any}
 use Rattle.iasl_ports.specs.Gained.{Named}
-use Rattle.iasl_ports.specs.Fetched.{same_name}
 use Rattle.iasl_ports.specs.Delivery.{Answer}
 use Rattle.iasl_messages.specs.declared.place.Line.{Line}
 use Rattle.iasl_messages.specs.declared.message.Message.{Message}
@@ -13,7 +12,9 @@ use Rattle.iasl_messages.specs.Order.{sorted_messages}
 use Rattle.iasl_messages.specs.Console.{messages_text, summary_line, table_line, preprocessed_line}
 use Rattle.asl_preprocess.specs.Preprocess.{Preprocessed, Given, Stopped, Absent, preprocessed}
 use Rattle.iasl_options.specs.Asking.{Asked, asked_by}
-use Rattle.iasl_options.specs.Names.{output_name, table_name as name_of_table}
+use Rattle.iasl_options.specs.Names.{output_name}
+use Rattle.table_outputs.specs.Files.{name_in_use, table_name, table_files}
+use Rattle.iasl_tool.specs.declared.compile.Style.{Style}
 use Rattle.iasl_tool.specs.declared.compile.Compiled.{Compiled}
 use Rattle.iasl_tool.specs.declared.compile.Compiled.TheVariants.{Table, Refused}
 use Rattle.iasl_tool.specs.Compiled.{of_source}
@@ -26,36 +27,33 @@ console_text brief files messages made = messages_text files brief (sorted_messa
 abbrev pub refusal : Bool → List (List ℕ) → List Message → Answer
 refusal brief files messages = record { status = 1; text = console_text brief files messages []; due = [] }
 
--- of a file that is made: the file, and the line that tells of it
-abbrev pub made_file : Bool → List (List ℕ) → List Message → List ℕ → List ℕ → List ℕ → Answer
-made_file brief files notes line name bytes = record { status = 0; text = console_text brief files notes line; due = (name, bytes) ∷ [] }
+-- of files that are made: these files, and the line that tells of them
+abbrev pub made_files : Bool → List (List ℕ) → List Message → List ℕ → List Named → Answer
+made_files brief files notes line due = record { status = 0; text = console_text brief files notes line; due = due }
 
 -- of an output that has the name of a file that was fetched
 abbrev pub in_use : List ℕ → Answer
 in_use name = record { status = 2; text = codes "iasl: output name is in use: " ++ name ++ codes "\n"; due = [] }
 
-abbrev pub is_fetched : List (List ℕ) → List ℕ → Bool
-is_fetched files name = list_any (λ file. same_name file name) files
+abbrev pub unless_in_use : Option (List ℕ) → Answer → Answer
+unless_in_use None answer = answer
+unless_in_use (Some name) answer = in_use name
 
--- a file that is made, if its name is not in use
-abbrev pub made_or_in_use : Bool → List (List ℕ) → List Message → List ℕ → List ℕ → List ℕ → Answer
-made_or_in_use brief files notes line name bytes = cond (is_fetched files name) (in_use name) (made_file brief files notes line name bytes)
+-- files that are made, if none of their names is in use
+abbrev pub made_or_in_use : Bool → List (List ℕ) → List Message → List ℕ → List Named → Answer
+made_or_in_use brief files notes line due = unless_in_use (name_in_use files due) (made_files brief files notes line due)
 
 -- whether one of the messages is a warning
 abbrev pub has_warning : List Message → Bool
 has_warning messages = list_any (λ message. is_same Warning (severity_of message.number)) messages
 
--- an answer with a file, if no warning among the notes refuses it
+-- an answer with files, if no warning among the notes refuses them
 abbrev pub unless_strict : Asked → List (List ℕ) → List Message → Answer → Answer
-unless_strict asked files notes answer = cond (asked.strict && has_warning notes) (refusal asked.brief files notes) answer
+unless_strict asked files notes answer = cond (asked.switches.strict && has_warning notes) (refusal asked.switches.brief files notes) answer
 
--- a file that is made, if no warning refuses it and its name is not in use
-abbrev pub made_or_refused : Asked → List (List ℕ) → List Message → List ℕ → List ℕ → List ℕ → Answer
-made_or_refused asked files notes line name bytes = unless_strict asked files notes (made_or_in_use asked.brief files notes line name bytes)
-
--- the name of the table's file, where its block states a name of its own
-abbrev pub table_name : Asked → List ℕ → List ℕ → List ℕ
-table_name asked file own = name_of_table asked.prefix file own
+-- files that are made, if no warning refuses them and none of their names is in use
+abbrev pub made_or_refused : Asked → List (List ℕ) → List Message → List ℕ → List Named → Answer
+made_or_refused asked files notes line due = unless_strict asked files notes (made_or_in_use asked.switches.brief files notes line due)
 
 -- the name of the preprocessed text's file
 abbrev pub text_name : Asked → List ℕ → List ℕ
@@ -68,21 +66,25 @@ text_of_lines (line ∷ lines) = line.text ++ 10 ∷ text_of_lines lines
 
 -- of preprocessed lines that are all that is asked for
 abbrev pub answer_to_text : Asked → List ℕ → List (List ℕ) → List Line → List Message → Answer
-answer_to_text asked file files lines notes = made_or_refused asked files notes (preprocessed_line (text_name asked file)) (text_name asked file) (text_of_lines lines)
+answer_to_text asked file files lines notes = made_or_refused asked files notes (preprocessed_line (text_name asked file)) ((text_name asked file, text_of_lines lines) ∷ [])
 
 abbrev pub answer_to_compiled : Asked → List ℕ → List (List ℕ) → List Message → Compiled → Answer
 answer_to_compiled asked file files notes (Table signature own bytes told) =
-    made_or_refused asked files (notes ++ told) (table_line (table_name asked file own) signature (length bytes)) (table_name asked file own) bytes
-answer_to_compiled asked file files notes (Refused messages) = refusal asked.brief files (notes ++ messages)
+    made_or_refused asked files (notes ++ told) (table_line (table_name asked file own) signature (length bytes)) (table_files asked file own bytes)
+answer_to_compiled asked file files notes (Refused messages) = refusal asked.switches.brief files (notes ++ messages)
+
+-- how a table is to be written
+abbrev pub style_of : Asked → Style
+style_of asked = record { fold = asked.switches.fold; short = asked.switches.short; shorten = asked.switches.shorten }
 
 -- of lines, with the files that they are of and the notes of the preprocessor
 abbrev pub answer_to_lines : Asked → List ℕ → List (List ℕ) → List Line → List Message → Answer
-answer_to_lines asked file files lines notes = cond asked.only (answer_to_text asked file files lines notes) (answer_to_compiled asked file files notes (of_source lines))
+answer_to_lines asked file files lines notes = cond asked.only (answer_to_text asked file files lines notes) (answer_to_compiled asked file files notes (of_source (style_of asked) lines))
 
 -- none where the main file is not there
 abbrev pub answer_to_preprocessed : Asked → List ℕ → Preprocessed → Option Answer
 answer_to_preprocessed asked file (Given files lines notes) = Some (answer_to_lines asked file files lines notes)
-answer_to_preprocessed asked file (Stopped message files) = Some (refusal asked.brief files (message ∷ []))
+answer_to_preprocessed asked file (Stopped message files) = Some (refusal asked.switches.brief files (message ∷ []))
 answer_to_preprocessed asked file Absent = None
 
 -- of words that are not good

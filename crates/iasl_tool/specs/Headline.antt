@@ -1,5 +1,5 @@
 -- What a call does with a source that is read.
-use Rattle.std.specs.Prelude.{◌≡◌, ◌⊎◌, ℕ, ◌≤◌, Bool, true, false, List, [], ◌∷◌, ◌++◌, length, All, Option, Some, Result, Ok, Err}
+use Rattle.std.specs.Prelude.{◌≡◌, ◌⊎◌, ℕ, ◌≤◌, Bool, true, false, List, [], ◌∷◌, ◌++◌, length, All, Option, None, Some, Result, Ok}
 use Rattle.iasl_ports.specs.Gained.{Named, Gains}
 use Rattle.iasl_ports.specs.Delivery.{due_of, status_of}
 use Rattle.iasl_messages.specs.declared.place.Line.{Line}
@@ -20,11 +20,12 @@ use Rattle.data_tables.specs.declared.compiled.Compiled.{Compiled as DataTable}
 use Rattle.data_tables.specs.Compiling.{compiled, joined}
 use Rattle.data_tables.specs.Entries.{Entry, written_values}
 use Rattle.data_tables.specs.Reading.{ReadsAs}
-use Rattle.iasl_options.specs.Asking.{Asked, asked_by}
+use Rattle.iasl_options.specs.Asking.{Asked}
 use Rattle.iasl_options.specs.CommandLine.{IsCommandLine}
-use Rattle.program_shapes.specs.Sources.{IsRight, IsTableOf, table_in}
-use Rattle.iasl_tool.specs.Compiled.{own_in, literals_in}
-use Rattle.iasl_tool.specs.Due.{table_name, is_fetched, answer_for}
+use Rattle.program_shapes.specs.Sources.{IsRight, IsTableOf}
+use Rattle.iasl_tool.specs.Compiled.{own_in, literals_in, written_in}
+use Rattle.table_outputs.specs.Files.{table_name, further_files, table_files, name_in_use}
+use Rattle.iasl_tool.specs.Due.{style_of, answer_for}
 
 -- what good words ask for, and the file that they name
 pub record Request : Type 0 where
@@ -39,6 +40,18 @@ table_of request items = table_name request.asked request.file (own_in items)
 abbrev pub data_file_of : Request → List ℕ
 data_file_of request = table_name request.asked request.file []
 
+-- the table of a source in which nothing is wrong, as it is asked for
+abbrev pub table_for : Request → List Raw → List ℕ
+table_for request items = written_in (style_of request.asked) items
+
+-- the files of the table of a source, in the order of their putting
+abbrev pub files_of : Request → List Raw → List Named
+files_of request items = table_files request.asked request.file (own_in items) (table_for request items)
+
+-- those of a data table
+abbrev pub data_files_of : Request → DataTable → List Named
+data_files_of request table = table_files request.asked request.file [] (joined table.pieces)
+
 -- what the words name, whatever its kind: a file whose lines, with those of its includes, these are
 pub record NamesLines (words : List (List ℕ)) (told : List Named) (request : Request) : Type 0 where
   pub files : List (List ℕ)
@@ -51,11 +64,12 @@ pub record NamesLines (words : List (List ℕ)) (told : List Named) (request : R
 
 -- what words ask for lets these notes pass: where it asks that warnings refuse a source, none of them is a warning
 abbrev pub LetsPass : Asked → List Message → Type 0
-LetsPass asked notes = asked.strict ≡ true → All (λ note. severity_of note.number ≡ Warning → ⊥) notes
+LetsPass asked notes = asked.switches.strict ≡ true → All (λ note. severity_of note.number ≡ Warning → ⊥) notes
 
 -- The words are a command line that asks for a compilation of this file; its lines, with those of its includes, are no data table and are
 -- cut into tokens that spell this source, nowhere too deep; nothing is wrong with it, and its table is not too long; none of its notes, those on its
--- literals among them, is a warning, where warnings refuse a source; and the name of the table's file is not that of a file that was fetched.
+-- literals among them, is a warning, where warnings refuse a source; and no name of the table's files is that of a file that was fetched,
+-- or of another of them.
 pub record NamesSource (words : List (List ℕ)) (told : List Named) (request : Request) (items : List Raw) : Type 0 where
   pub named : NamesLines words told request
   pub tokens : List Token
@@ -65,81 +79,78 @@ pub record NamesSource (words : List (List ℕ)) (told : List Named) (request : 
   pub shallow : IsShallow limit (marks 0 tokens)
   pub low : IsLow limit (marks 0 tokens)
   pub right : IsRight items
-  pub table_within : length (table_in true false items) ≤ most_table_bytes
+  pub table_within : length (table_for request items) ≤ most_table_bytes
   pub notes_pass : LetsPass request.asked (named.notes ++ literals_in items)
-  pub name_is_free : is_fetched named.files (table_of request items) ≡ false
+  pub names_are_free : name_in_use named.files (files_of request items) ≡ None
 
 -- The words are a command line that asks for a compilation of this file; its lines are a data table in whose text there is no fault, with
--- this table; none of its notes and the table's is a warning, where warnings refuse a source; and the name of the table's file is not that
--- of a file that was fetched.
+-- this table; none of its notes and the table's is a warning, where warnings refuse a source; and no name of the table's files is that of
+-- a file that was fetched, or of another of them.
 pub record NamesData (words : List (List ℕ)) (told : List Named) (request : Request) (table : DataTable) : Type 0 where
   pub named : NamesLines words told request
   pub is_data : is_data_table named.lines ≡ true
   pub table_is : compiled named.lines ≡ Ok table
   pub notes_pass : LetsPass request.asked (named.notes ++ table.notes)
-  pub name_is_free : is_fetched named.files (data_file_of request) ≡ false
+  pub names_are_free : name_in_use named.files (data_files_of request table) ≡ None
 
--- the call puts the source's table, and nothing else; the table has the source's header and does what the source says
+-- the call puts the files of the source's table, and nothing else; the table has the source's header and does what the source says
 pub record PutsFaithfulTable (words : List (List ℕ)) (told : List Named) (request : Request) (items : List Raw) : Type 0 where
   pub status : status_of (answer_for words told) ≡ 0
-  pub due : due_of (answer_for words told) ≡ (table_of request items, table_in true false items) ∷ []
-  pub does : IsTableOf items (table_in true false items)
+  pub due : due_of (answer_for words told) ≡ files_of request items
+  pub does : IsTableOf items (table_for request items)
 
 -- bytes that read by offset as the values that some lines write, and as no others
 pub record ReadsBack (lines : List Line) (bytes : List ℕ) : Type 0 where
   pub reads : ReadsAs bytes (written_values lines)
   pub only : (values : List Entry) → ReadsAs bytes values → values ≡ written_values lines
 
--- the call puts the data table, and nothing else; its bytes read as the values that the text writes
+-- the call puts the data table's files, and nothing else; its bytes read as the values that the text writes
 pub record PutsDataTable (words : List (List ℕ)) (told : List Named) (request : Request) (table : DataTable) (lines : List Line) : Type 0 where
   pub status : status_of (answer_for words told) ≡ 0
-  pub due : due_of (answer_for words told) ≡ (data_file_of request, joined table.pieces) ∷ []
+  pub due : due_of (answer_for words told) ≡ data_files_of request table
   pub reads : ReadsBack lines (joined table.pieces)
 
--- a file is the table of an ASL source that the words name: it has the source's header and does what the source says
-pub record IsItsTable (words : List (List ℕ)) (told : List Named) (file : Named) : Type 0 where
+-- A file is the table of an ASL source that the words name: it has the source's header and does what the source says. The files that
+-- follow it are its further outputs: its bytes as an array of C, where that is asked for.
+pub record IsItsTable (words : List (List ℕ)) (told : List Named) (file : Named) (further : List Named) : Type 0 where
   pub request : Request
   pub items : List Raw
   pub names : NamesSource words told request items
   pub name : file.0 ≡ table_of request items
-  pub bytes : file.1 ≡ table_in true false items
+  pub bytes : file.1 ≡ table_for request items
   pub does : IsTableOf items file.1
+  pub others : further ≡ further_files request.asked request.file (own_in items) file.1
 
--- a file is the data table whose text the words name: its bytes read as the values that the text writes
-pub record IsItsDataTable (words : List (List ℕ)) (told : List Named) (file : Named) : Type 0 where
+-- A file is the data table whose text the words name: its bytes read as the values that the text writes. The files that follow it are its
+-- further outputs.
+pub record IsItsDataTable (words : List (List ℕ)) (told : List Named) (file : Named) (further : List Named) : Type 0 where
   pub request : Request
   pub table : DataTable
   pub names : NamesData words told request table
   pub name : file.0 ≡ data_file_of request
   pub bytes : file.1 ≡ joined table.pieces
   pub reads : ReadsBack names.named.lines file.1
+  pub others : further ≡ further_files request.asked request.file [] file.1
 
-abbrev pub AreItsTables : List (List ℕ) → List Named → List Named → Type 0
-AreItsTables words told [] = Unit {0}
-AreItsTables words told (file ∷ files) = (IsItsTable words told file ⊎ IsItsDataTable words told file) × AreItsTables words told files
+-- the first file is the table, and the others are its further outputs
+abbrev pub AreItsFiles : List (List ℕ) → List Named → List Named → Type 0
+AreItsFiles words told [] = Unit {0}
+AreItsFiles words told (file ∷ further) = IsItsTable words told file further ⊎ IsItsDataTable words told file further
 
--- The words name an ASL source, and the outputs gained its table and nothing else. The table has the header that the
--- source states, and every session over its bytes is the source's.
+-- The words name an ASL source, and the outputs gained the files of its table and nothing else. The table, which is the first of them, has
+-- the header that the source states, and every session over its bytes is the source's; the others are its further outputs.
 pub record WritesItsTable (words : List (List ℕ)) (told : List Named) (old new : Option (List Named)) : Type 0 where
   pub request : Request
   pub items : List Raw
   pub names : NamesSource words told request items
-  pub table : Gains old new ((table_of request items, table_in true false items) ∷ [])
-  pub does : IsTableOf items (table_in true false items)
+  pub table : Gains old new ((table_of request items, table_for request items) ∷ further_files request.asked request.file (own_in items) (table_for request items))
+  pub does : IsTableOf items (table_for request items)
 
--- The words name the text of a data table, and the outputs gained its table and nothing else. The bytes read as the values that the text
--- writes.
+-- The words name the text of a data table, and the outputs gained its files and nothing else. The bytes of the first, the table, read as
+-- the values that the text writes; the others are its further outputs.
 pub record WritesItsDataTable (words : List (List ℕ)) (told : List Named) (old new : Option (List Named)) : Type 0 where
   pub request : Request
   pub table : DataTable
   pub names : NamesData words told request table
-  pub gained : Gains old new ((data_file_of request, joined table.pieces) ∷ [])
+  pub gained : Gains old new ((data_file_of request, joined table.pieces) ∷ further_files request.asked request.file [] (joined table.pieces))
   pub reads : ReadsBack names.named.lines (joined table.pieces)
-
--- whether words ask for preprocessed text alone
-abbrev pub only_by : Result Asked ℕ → Bool
-only_by (Ok asked) = asked.only
-only_by (Err word) = false
-
-abbrev pub asks_for_text : List (List ℕ) → Bool
-asks_for_text words = only_by (asked_by words)

@@ -1,5 +1,5 @@
 -- Blocks whose tables can be written.
-use Rattle.std.specs.Prelude.{◌≡◌, ◌<◌, ◌≤◌, ◌^◌, [], length, false}
+use Rattle.std.specs.Prelude.{◌≡◌, ◌<◌, ◌≤◌, ◌^◌, [], length, Bool}
 use Rattle.asl_tree.specs.declared.program.Block.{Block}
 use Rattle.asl_tree.specs.Tree.{Trees}
 use Rattle.asl_tree.specs.View.{trees_of}
@@ -15,10 +15,10 @@ pub record HasRoom (fields : HeaderFields) : Type 0 where
   pub table_id : length fields.table_id ≤ 8
   pub oem_revision : fields.oem_revision < 2 ^ 32
 
--- the terms are these, which are shaped and whose names are right, with their names spelled
-pub record IsCoreOf (terms : Trees) (block : Block) : Type 0 where
+-- the terms are these, which are shaped and whose names are right, with their names spelled, shortest or not
+pub record IsCoreOf (shorten : Bool) (terms : Trees) (block : Block) : Type 0 where
   pub room : HasRoom (fields_of block)
   pub shaped : AreShaped terms
   pub names : name_errors terms ≡ []
   pub counts : type_errors terms ≡ []
-  pub core : trees_of block.terms.items ≡ core_of false terms
+  pub core : trees_of block.terms.items ≡ core_of shorten terms

@@ -19,6 +19,7 @@ ghost use Rattle.asl_shape.specs.Plans.{plans_of};
 ghost use Rattle.named_sessions.specs.Shaped.{AreFormed, AreNamed, AreShaped};
 ghost use Rattle.asl_lower.specs.Nodes.{named_all};
 ghost use Rattle.program_shapes.specs.Kept.{IsKeptSource};
+ghost use Rattle.asl_fold.specs.Folds.{folded_where};
 ghost use Rattle.program_shapes.proofs.Kept.{HaveShortTexts};
 ghost use Rattle.iasl_messages.specs.declared.message.Stage.TheVariants as stages;
 ghost use Rattle.iasl_tool.specs.Syntax.{at_token};
@@ -29,6 +30,7 @@ ghost use Rattle.iasl_tool.specs.Compiled.{its_table, of_table, of_terms, is_of_
 use acpi_values::width::Width;
 use aml_writer::stop::WriteStop;
 use aml_writer::write::write;
+use asl_fold::fold::fold_where;
 use asl_lexer::token::Tokens;
 use asl_lexer::tokens;
 use asl_lower::lower::lower;
@@ -54,6 +56,17 @@ use std::alloc::{AllocError, Global};
 
 /// The most tokens that are numbered.
 const MOST_TOKENS: usize = 4_294_967_295;
+
+/// How a table is written.
+#[derive(Clone, Copy)]
+pub(crate) struct Style {
+    /// Whether constants are folded.
+    pub(crate) fold: bool,
+    /// Whether 0, 1 and Ones are written by their opcodes where they are literals too.
+    pub(crate) short: bool,
+    /// Whether names have their shortest spelling.
+    pub(crate) shorten: bool,
+}
 
 /// What a source comes to.
 #[derive(Drop)]
@@ -112,8 +125,8 @@ fn core_of(alloc: Global, block: Block) -> Result<Core, AllocError>
 }
 
 // The table of a core's block, or its refusal where that is too long. No listing shows the lines, so its pieces have no text.
-fn write_block(alloc: Global, block: Block) -> Result<Compiled, AllocError>
-    ensures { (terms : Trees) → IsCoreOf terms block → IfOk result (λ it. it ≡ of_table block.place block.signature block.file (its_table terms block)) }
+fn write_block(alloc: Global, style: Style, block: Block) -> Result<Compiled, AllocError>
+    ensures { (terms : Trees) → IsCoreOf style.shorten terms block → IfOk result (λ it. it ≡ of_table block.place block.signature block.file (its_table style terms block)) }
 {
     let signature = Text::from_bytes(alloc, block.signature.as_bytes())?;
     let own = Text::from_bytes(alloc, block.file.as_bytes())?;
@@ -122,7 +135,7 @@ fn write_block(alloc: Global, block: Block) -> Result<Compiled, AllocError>
         files: Texts::new(alloc),
         list: LineList::new(alloc),
     };
-    match write(alloc, &core, &lines, 0, true) {
+    match write(alloc, &core, &lines, 0, style.short) {
         Ok(pieces) => Ok(Compiled::Table {
             signature,
             own,
@@ -165,9 +178,9 @@ fn with_others(errors: Messages, others: Messages) -> Result<Messages, AllocErro
     }
 }
 
-// The block with its symbolic operators named and its ElseIfs nested.
-fn lowered(alloc: Global, block: Block) -> Result<Block, AllocError>
-    ensures terms { IfOk result (λ core. trees_of core.terms.items ≡ named_all (trees_of block.terms.items)) }
+// The block with its symbolic operators named and its ElseIfs nested, and its constants folded where that is asked for.
+fn lowered(alloc: Global, style: Style, block: Block) -> Result<Block, AllocError>
+    ensures terms { IfOk result (λ core. trees_of core.terms.items ≡ folded_where style.fold (width_of block.revision) (named_all (trees_of block.terms.items))) }
     ensures place { IfOk result (λ core. core.place ≡ block.place) }
     ensures file { IfOk result (λ core. core.file ≡ block.file) }
     ensures fields { IfOk result (λ core. fields_of core ≡ fields_of block) }
@@ -182,7 +195,8 @@ fn lowered(alloc: Global, block: Block) -> Result<Block, AllocError>
         oem_revision,
         terms,
     } = block;
-    let terms = lower(alloc, terms)?;
+    let named = lower(alloc, terms)?;
+    let terms = fold_where(alloc, style.fold, Width::of_revision(revision), named)?;
     Ok(Block {
         place,
         file,
@@ -197,26 +211,31 @@ fn lowered(alloc: Global, block: Block) -> Result<Block, AllocError>
 
 // A block whose nodes have their numbers: its table, with its symbols named and its names spelled, or what is wrong with its
 // names, its statements and the lists of its fields.
-fn compile_block(alloc: Global, block: Block, others: Messages) -> Result<Compiled, AllocError>
+fn compile_block(
+    alloc: Global,
+    style: Style,
+    block: Block,
+    others: Messages,
+) -> Result<Compiled, AllocError>
     requires room { HasRoom (fields_of block) }
     requires formed { AreFormed AreNamed (Unit {0}) (trees_of block.terms.items) }
     requires shaped { others ≡ [] → AreShaped (named_all (trees_of block.terms.items)) }
-    ensures { IfOk result (λ it. it ≡ of_terms block.place block.file (fields_of block) others (trees_of block.terms.items)) }
+    ensures { IfOk result (λ it. it ≡ of_terms style block.place block.file (fields_of block) others (trees_of block.terms.items)) }
 {
     match check(alloc, block.terms.as_slice()) {
         Ok(mut names) => {
             if !others.is_empty() {
                 return Ok(Compiled::Refused(others));
             }
-            let mut core = lowered(alloc, block)?;
+            let mut core = lowered(alloc, style, block)?;
             spell(
                 alloc,
                 &mut names.index,
                 names.calls.as_slice(),
-                false,
+                style.shorten,
                 &mut core.terms,
             )?;
-            write_block(alloc, core)
+            write_block(alloc, style, core)
         }
         Err(stage) => Ok(Compiled::Refused(with_others(refusal(stage)?, others)?)),
     }
@@ -267,6 +286,7 @@ fn with_notes(notes: Messages, it: Compiled) -> Result<Compiled, AllocError>
 // A block, with the notes on the literals of its source.
 fn compile_noted(
     alloc: Global,
+    style: Style,
     unit: &RawUnit,
     block: Block,
     others: Messages,
@@ -274,10 +294,10 @@ fn compile_noted(
     requires room { HasRoom (fields_of block) }
     requires formed { AreFormed AreNamed (Unit {0}) (trees_of block.terms.items) }
     requires shaped { others ≡ [] → AreShaped (named_all (trees_of block.terms.items)) }
-    ensures { IfOk result (λ it. it ≡ with_notes (cut_literals_at (width_of block.revision) unit.now.items) (of_terms block.place block.file (fields_of block) others (trees_of block.terms.items))) }
+    ensures { IfOk result (λ it. it ≡ with_notes (cut_literals_at (width_of block.revision) unit.now.items) (of_terms style block.place block.file (fields_of block) others (trees_of block.terms.items))) }
 {
     let notes = cut_literals(alloc, Width::of_revision(block.revision), unit)?;
-    with_notes(notes, compile_block(alloc, block, others)?)
+    with_notes(notes, compile_block(alloc, style, block, others)?)
 }
 
 // The one block of a program.
@@ -291,18 +311,18 @@ fn block_of(program: Program) -> Result<Block, AllocError>
 }
 
 // What is wrong with statements, then with the lists of fields, and then with their accesses.
-fn other_errors(alloc: Global, terms: &[Node]) -> Result<Messages, AllocError>
+fn other_errors(alloc: Global, width: Width, terms: &[Node]) -> Result<Messages, AllocError>
     requires { are_terms (trees_of terms.now) ≡ true }
-    ensures { IfOk result (λ ms. ms ≡ errors_of_statements (plans_of terms.now) ++ all_errors (plans_of terms.now) ++ region_errors (trees_of terms.now) (plans_of terms.now)) }
+    ensures { IfOk result (λ ms. ms ≡ errors_of_statements (plans_of terms.now) ++ all_errors (plans_of terms.now) ++ region_errors width (trees_of terms.now) (plans_of terms.now)) }
 {
     let errors = both(statement_errors(alloc, terms)?, list_faults(alloc, terms)?)?;
-    both(errors, region_faults(alloc, terms)?)
+    both(errors, region_faults(alloc, width, terms)?)
 }
 
 // The tree of a source's syntax.
-fn compile_unit(alloc: Global, unit: &RawUnit) -> Result<Compiled, AllocError>
+fn compile_unit(alloc: Global, style: Style, unit: &RawUnit) -> Result<Compiled, AllocError>
     requires { IsKeptSource (writtens unit.now.items) }
-    ensures value { IfOk result (λ compiled. compiled ≡ of_items unit.now.items) }
+    ensures value { IfOk result (λ compiled. compiled ≡ of_items style unit.now.items) }
     ensures own { IfOk result HasAsciiName }
 {
     match shape(alloc, unit) {
@@ -310,8 +330,9 @@ fn compile_unit(alloc: Global, unit: &RawUnit) -> Result<Compiled, AllocError>
             let mut block = block_of(program)?;
             match number_nodes(&mut block.terms, 0) {
                 Some(_) => {
-                    let others = other_errors(alloc, block.terms.as_slice())?;
-                    compile_noted(alloc, unit, block, others)
+                    let width = Width::of_revision(block.revision);
+                    let others = other_errors(alloc, width, block.terms.as_slice())?;
+                    compile_noted(alloc, style, unit, block, others)
                 }
                 None => Err(AllocError),
             }
@@ -342,15 +363,15 @@ fn refuse_at(
 }
 
 #[tactic(auto, using(crate::proofs::Outcomes::read_is, crate::proofs::Outcomes::stop_is, crate::proofs::Outcomes::deep_is))]
-fn compile_tokens(alloc: Global, tokens: &Tokens) -> Result<Compiled, AllocError>
+fn compile_tokens(alloc: Global, style: Style, tokens: &Tokens) -> Result<Compiled, AllocError>
     requires few { length tokens.now < 2 ^ 32 }
     requires short { HaveShortTexts tokens.now }
-    ensures value { IfOk result (λ compiled. compiled ≡ of_outcome tokens.now (outcome tokens.now)) }
+    ensures value { IfOk result (λ compiled. compiled ≡ of_outcome style tokens.now (outcome tokens.now)) }
     ensures own { IfOk result HasAsciiName }
     ensures within { (files : ℕ) → 0 < files → All (λ token. token.place.file < files) tokens.now → IfOk result (TellsWithin files) }
 {
     match parse(alloc, tokens) {
-        Ok(unit) => compile_unit(alloc, &unit),
+        Ok(unit) => compile_unit(alloc, style, &unit),
         Err(Syntax::Stop { token }) => refuse_at(alloc, tokens, SYNTAX, token),
         Err(Syntax::TooDeep { token }) => refuse_at(alloc, tokens, NESTING_TOO_DEEP, token),
         Err(Syntax::Memory) => Err(AllocError),
@@ -359,18 +380,18 @@ fn compile_tokens(alloc: Global, tokens: &Tokens) -> Result<Compiled, AllocError
 
 /// What lines of ASL come to. Each refusal stands in one of their files.
 #[tactic(auto, using(crate::proofs::Outcomes::fault_is))]
-pub(crate) fn compile(alloc: Global, lines: &Lines) -> Result<Compiled, AllocError>
+pub(crate) fn compile(alloc: Global, style: Style, lines: &Lines) -> Result<Compiled, AllocError>
     requires short { All (λ line. length line.text < 2 ^ 32) lines.now.list }
     requires main { 0 < length lines.now.files }
     requires files { All (λ line. line.file < length lines.now.files) lines.now.list }
-    ensures value { IfOk result (λ it. it ≡ of_lines lines.now.list) }
+    ensures value { IfOk result (λ it. it ≡ of_lines style lines.now.list) }
     ensures own { IfOk result HasAsciiName }
     ensures within { IfOk result (TellsWithin (length lines.now.files)) }
 {
     match tokens(alloc, lines) {
         // (no more tokens have room)
         Ok(tokens) if tokens.len() > MOST_TOKENS => Err(AllocError),
-        Ok(tokens) => compile_tokens(alloc, &tokens),
+        Ok(tokens) => compile_tokens(alloc, style, &tokens),
         Err(stage) => Ok(Compiled::Refused(refusal(stage)?)),
     }
 }

@@ -1,17 +1,20 @@
 //! What a call is to end with.
-ghost use Rattle.std.specs.Prelude.{◌≡◌, ◌≤◌, ◌++◌, [], ◌∷◌, ℕ, List, length, map, All, IfOk, OnOk, IsErrOf, ◌⊎◌, Some, None, string_bytes};
+ghost use Rattle.std.specs.Prelude.{◌≡◌, ◌≤◌, ◌++◌, ◌&&◌, [], ◌∷◌, ℕ, List, length, map, All, IfOk, OnOk, IsErrOf, ◌⊎◌, Some, None, string_bytes, false};
 ghost use Rattle.iasl_ports.specs.Delivery.{name_and_bytes, answer_of, IsSettled};
-ghost use Rattle.iasl_runs.specs.Ends.{files_seen, Decides};
+ghost use Rattle.iasl_runs.specs.Ends.{files_seen};
+ghost use Rattle.iasl_options.specs.Asking.{asked_by};
 ghost use Rattle.asl_preprocess.specs.Sound.{IsGoodLine, IsGoodNote};
 ghost use Rattle.iasl_options.specs.Shown.{AreTexts, asked_of};
 ghost use Rattle.iasl_tool.specs.Compiled.{AreWithin, of_source};
-ghost use Rattle.iasl_tool.specs.Due.{console_text, refusal, made_file, in_use, is_fetched, has_warning, made_or_refused, text_of_lines, answer_to_text, answer_to_compiled, answer_to_lines, answer_to_file, table_name, usage, answer_for};
+ghost use Rattle.table_outputs.specs.Files.{table_name, table_files};
+ghost use Rattle.table_outputs.specs.Decision.{end_of, IsDecidedBy, IsDecidedFor, Settles};
+ghost use Rattle.iasl_tool.specs.Due.{console_text, refusal, made_files, in_use, has_warning, made_or_refused, text_of_lines, answer_to_text, answer_to_compiled, answer_to_lines, answer_to_file, usage, answer_for, style_of as style_by};
 ghost use Rattle.iasl_messages.specs.declared.severity.Severity.TheVariants.{Warning};
 ghost use Rattle.iasl_messages.specs.Severity.{severity_of, is_same};
 ghost use Rattle.iasl_messages.specs.Console.{table_line};
 ghost use Rattle.std.specs.Str.{IsAscii};
 
-use crate::compile::{Compiled, both, one_message};
+use crate::compile::{Compiled, Style, both, one_message};
 use crate::source::compile_source;
 use asl_preprocess::{PreStop, Preprocessed, preprocess};
 use iasl_messages::console::{preprocessed_line, render, summary, table_line};
@@ -20,12 +23,14 @@ use iasl_messages::order::sort;
 use iasl_messages::place::{Line, Lines};
 use iasl_messages::severity::{Severity, severity_of};
 use iasl_options::command_line::options;
-use iasl_options::names::{file_name, output_name, table_name};
+use iasl_options::names::{file_name, output_name};
 use iasl_options::request::{Options, WordsStop};
 use iasl_ports::delivery::{Due, OutFile, Stop};
 use iasl_ports::files::Files;
 use iasl_ports::list::{List, Text, Texts};
 use std::alloc::{AllocError, Global};
+use table_outputs::decision::{Decision, Making};
+use table_outputs::names::{is_fetched, name_in_use, names_of_table};
 
 // Adds a line to the text.
 fn push_text(text: &mut Vec<u8>, line: &Text) -> Result<(), AllocError>
@@ -85,7 +90,7 @@ fn make_file(
     bytes: Vec<u8>,
 ) -> Result<Due, AllocError>
     requires { AreWithin (length files.now) notes }
-    ensures due { IfOk result (λ due. answer_of due ≡ made_file brief files.now notes line.now (string_bytes name) bytes.items) }
+    ensures due { IfOk result (λ due. answer_of due ≡ made_files brief files.now notes line.now ((string_bytes name, bytes.items) ∷ [])) }
     ensures settled { IfOk result IsSettled }
 {
     Ok(Due {
@@ -111,13 +116,6 @@ fn refuse_name(alloc: Global, name: &str) -> Result<Due, AllocError>
     })
 }
 
-// Whether a file of this name was fetched.
-fn is_fetched(files: &[Text], name: &[u8]) -> bool
-    ensures { result ≡ is_fetched files.now name.now }
-{
-    files.iter().any(|file| file.as_bytes() == name)
-}
-
 // Whether the message of this number is a warning.
 fn is_warning(number: u16) -> bool
     ensures { result ≡ is_same Warning (severity_of number) }
@@ -135,6 +133,13 @@ fn has_warning(messages: &Messages) -> bool
         .any(|message| is_warning(message.number))
 }
 
+// Whether a warning among the notes refuses what is made.
+fn is_refused(options: &Options, notes: &Messages) -> bool
+    ensures { result ≡ ((asked_of options.now).switches.strict && has_warning notes.now) }
+{
+    options.switches.strict && has_warning(notes)
+}
+
 // What is due of a file that is made, if no warning refuses it and its name is not in use.
 fn make_or_refuse(
     alloc: Global,
@@ -146,15 +151,23 @@ fn make_or_refuse(
     bytes: Vec<u8>,
 ) -> Result<Due, AllocError>
     requires { AreWithin (length files.now) notes }
-    ensures due { IfOk result (λ due. answer_of due ≡ made_or_refused (asked_of options.now) files.now notes line.now (string_bytes name) bytes.items) }
+    ensures due { IfOk result (λ due. answer_of due ≡ made_or_refused (asked_of options.now) files.now notes line.now ((string_bytes name, bytes.items) ∷ [])) }
     ensures settled { IfOk result IsSettled }
 {
-    if options.strict && has_warning(&notes) {
-        refuse(alloc, options.brief, files, notes)
+    if is_refused(options, &notes) {
+        refuse(alloc, options.switches.brief, files, notes)
     } else if is_fetched(files.as_slice(), name.as_bytes()) {
         refuse_name(alloc, &name)
     } else {
-        make_file(alloc, options.brief, files, notes, line, name, bytes)
+        make_file(
+            alloc,
+            options.switches.brief,
+            files,
+            notes,
+            line,
+            name,
+            bytes,
+        )
     }
 }
 
@@ -197,31 +210,37 @@ fn make_table(
     notes: Messages,
     signature: &Text,
     own: &Text,
-    bytes: &Text,
-) -> Result<Due, AllocError>
+    bytes: Text,
+) -> Result<Decision, AllocError>
     requires texts { AreTexts options.now }
     requires own { IsAscii own.now }
+    requires compiles { options.now.only ≡ false }
     requires notes { AreWithin (length files.now) notes }
-    ensures due { IfOk result (λ due. answer_of due ≡ made_or_refused (asked_of options.now) files.now notes (table_line (table_name (asked_of options.now) options.now.file own.now) signature.now (length bytes.now)) (table_name (asked_of options.now) options.now.file own.now) bytes.now) }
-    ensures settled { IfOk result IsSettled }
+    ensures due { IfOk result (λ decision. end_of decision ≡ made_or_refused (asked_of options.now) files.now notes (table_line (table_name (asked_of options.now) options.now.file own.now) signature.now (length bytes)) (table_files (asked_of options.now) options.now.file own.now bytes)) }
+    ensures decided { IfOk result (IsDecidedBy (asked_of options.now)) }
 {
-    let name = table_name(alloc, options, own)?;
-    let bytes = bytes.as_bytes();
-    let line = table_line(
-        alloc,
-        name.as_bytes(),
-        signature.as_bytes(),
-        bytes.len() as u64,
-    )?;
-    make_or_refuse(
-        alloc,
-        options,
-        files,
-        notes,
-        &line,
-        name,
-        bytes.to_vec(alloc)?,
-    )
+    let names = names_of_table(alloc, options, own)?;
+    if is_refused(options, &notes) {
+        return Ok(Decision::Ends(refuse(alloc, options.switches.brief, files, notes)?));
+    }
+    if let Some(name) = name_in_use(files.as_slice(), &names) {
+        return Ok(Decision::Ends(refuse_name(alloc, name)?));
+    }
+    let size = bytes.as_bytes().len() as u64;
+    let line = table_line(alloc, names.table.as_bytes(), signature.as_bytes(), size)?;
+    let text = console_text(alloc, options.switches.brief, files, notes, &line)?;
+    Ok(Decision::Makes(Making { text, names, bytes }))
+}
+
+// How a table is to be written.
+fn style_of(options: &Options) -> Style
+    ensures { result ≡ style_by (asked_of options.now) }
+{
+    Style {
+        fold: options.switches.fold,
+        short: options.switches.short,
+        shorten: options.switches.shorten,
+    }
 }
 
 // What is due of lines that are compiled.
@@ -231,15 +250,16 @@ fn make_compiled(
     options: &Options,
     lines: &Lines,
     notes: Messages,
-) -> Result<Due, AllocError>
+) -> Result<Decision, AllocError>
     requires texts { AreTexts options.now }
+    requires compiles { options.now.only ≡ false }
     requires main { 1 ≤ length lines.now.files }
     requires lines { All (IsGoodLine (length lines.now.files)) lines.now.list }
     requires notes { AreWithin (length lines.now.files) notes }
-    ensures due { IfOk result (λ due. answer_of due ≡ answer_to_compiled (asked_of options.now) options.now.file lines.now.files notes (of_source lines.now.list)) }
-    ensures settled { IfOk result IsSettled }
+    ensures due { IfOk result (λ decision. end_of decision ≡ answer_to_compiled (asked_of options.now) options.now.file lines.now.files notes (of_source (style_by (asked_of options.now)) lines.now.list)) }
+    ensures decided { IfOk result (IsDecidedBy (asked_of options.now)) }
 {
-    match compile_source(alloc, lines)? {
+    match compile_source(alloc, style_of(options), lines)? {
         Compiled::Table {
             signature,
             own,
@@ -252,29 +272,33 @@ fn make_compiled(
             both(notes, told)?,
             &signature,
             &own,
-            &bytes,
+            bytes,
         ),
-        Compiled::Refused(messages) => refuse(
+        Compiled::Refused(messages) => Ok(Decision::Ends(refuse(
             alloc,
-            options.brief,
+            options.switches.brief,
             &lines.files,
             both(notes, messages)?,
-        ),
+        )?)),
     }
 }
 
 // What is due of preprocessed lines.
-fn answer_to_lines(alloc: Global, options: &Options, given: Preprocessed) -> Result<Due, AllocError>
+fn answer_to_lines(
+    alloc: Global,
+    options: &Options,
+    given: Preprocessed,
+) -> Result<Decision, AllocError>
     requires texts { AreTexts options.now }
     requires main { 1 ≤ length given.lines.files }
     requires lines { All (IsGoodLine (length given.lines.files)) given.lines.list }
     requires notes { All (IsGoodNote (length given.lines.files)) given.notes }
-    ensures due { IfOk result (λ due. answer_of due ≡ answer_to_lines (asked_of options.now) options.now.file given.lines.files given.lines.list given.notes) }
-    ensures settled { IfOk result IsSettled }
+    ensures due { IfOk result (λ decision. end_of decision ≡ answer_to_lines (asked_of options.now) options.now.file given.lines.files given.lines.list given.notes) }
+    ensures decided { IfOk result (IsDecidedBy (asked_of options.now)) }
 {
     let Preprocessed { lines, notes } = given;
     if options.only {
-        make_text(alloc, options, &lines, notes)
+        Ok(Decision::Ends(make_text(alloc, options, &lines, notes)?))
     } else {
         make_compiled(alloc, options, &lines, notes)
     }
@@ -293,9 +317,9 @@ fn usage(alloc: Global) -> Result<Due, AllocError>
 }
 
 // What is due for these options, where their file and its includes are fetched.
-fn answer<F: Files>(alloc: Global, options: &Options, files: &mut F) -> Result<Due, Stop>
+fn answer<F: Files>(alloc: Global, options: &Options, files: &mut F) -> Result<Decision, Stop>
     requires { AreTexts options.now }
-    ensures { Decides (λ told. answer_to_file (asked_of options.now) told (Some options.now.file)) result (files_seen (F.contents files.old) (F.faults files.old) (F.absents files.old)) (files_seen (F.contents files.new) (F.faults files.new) (F.absents files.new)) }
+    ensures { Settles (λ told. answer_to_file (asked_of options.now) told (Some options.now.file)) (IsDecidedBy (asked_of options.now)) result (files_seen (F.contents files.old) (F.faults files.old) (F.absents files.old)) (files_seen (F.contents files.new) (F.faults files.new) (F.absents files.new)) }
 {
     match preprocess(
         alloc,
@@ -306,12 +330,12 @@ fn answer<F: Files>(alloc: Global, options: &Options, files: &mut F) -> Result<D
         options.enabled,
     ) {
         Ok(given) => Ok(answer_to_lines(alloc, options, given)?),
-        Err(PreStop::Refused { message, files }) => Ok(refuse(
+        Err(PreStop::Refused { message, files }) => Ok(Decision::Ends(refuse(
             alloc,
-            options.brief,
+            options.switches.brief,
             &files,
             one_message(alloc, message)?,
-        )?),
+        )?)),
         Err(PreStop::Absent | PreStop::ReadFault) => Err(Stop::Fault),
         Err(PreStop::Memory) => Err(Stop::Memory),
     }
@@ -319,12 +343,16 @@ fn answer<F: Files>(alloc: Global, options: &Options, files: &mut F) -> Result<D
 
 /// What is due for these words, where the file that they name and its includes are fetched. It ends without an answer only
 /// where the file is absent, a fetch failed, or memory is wanted.
-pub(crate) fn decide<F: Files>(alloc: Global, words: &[String], files: &mut F) -> Result<Due, Stop>
-    ensures { Decides (answer_for (map string_bytes words.now)) result (files_seen (F.contents files.old) (F.faults files.old) (F.absents files.old)) (files_seen (F.contents files.new) (F.faults files.new) (F.absents files.new)) }
+pub(crate) fn decide<F: Files>(
+    alloc: Global,
+    words: &[String],
+    files: &mut F,
+) -> Result<Decision, Stop>
+    ensures { Settles (answer_for (map string_bytes words.now)) (IsDecidedFor (asked_by (map string_bytes words.now))) result (files_seen (F.contents files.old) (F.faults files.old) (F.absents files.old)) (files_seen (F.contents files.new) (F.faults files.new) (F.absents files.new)) }
 {
     match options(alloc, words) {
         Ok(options) => answer(alloc, &options, files),
-        Err(WordsStop::Bad { .. }) => Ok(usage(alloc)?),
+        Err(WordsStop::Bad { .. }) => Ok(Decision::Ends(usage(alloc)?)),
         Err(WordsStop::Memory) => Err(Stop::Memory),
     }
 }

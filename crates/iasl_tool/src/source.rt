@@ -3,7 +3,7 @@ ghost use Rattle.std.specs.Prelude.{◌≡◌, ◌<◌, ◌^◌, length, All, If
 ghost use Rattle.data_tables.specs.Compiling.{compiled};
 ghost use Rattle.iasl_tool.specs.Compiled.{of_data, of_source, HasAsciiName, TellsWithin};
 
-use crate::compile::{Compiled, compile, join, refusal};
+use crate::compile::{Compiled, Style, compile, join, refusal};
 use data_tables::compile::compile_data;
 use data_text::kind::is_data_table;
 use iasl_messages::place::Lines;
@@ -30,17 +30,21 @@ fn compile_table(alloc: Global, lines: &Lines) -> Result<Compiled, AllocError>
 }
 
 /// What lines come to: those of a data table, or those of ASL. Each message stands in one of their files.
-pub(crate) fn compile_source(alloc: Global, lines: &Lines) -> Result<Compiled, AllocError>
+pub(crate) fn compile_source(
+    alloc: Global,
+    style: Style,
+    lines: &Lines,
+) -> Result<Compiled, AllocError>
     requires short { All (λ line. length line.text < 2 ^ 32) lines.now.list }
     requires main { 0 < length lines.now.files }
     requires files { All (λ line. line.file < length lines.now.files) lines.now.list }
-    ensures value { IfOk result (λ it. it ≡ of_source lines.now.list) }
+    ensures value { IfOk result (λ it. it ≡ of_source style lines.now.list) }
     ensures own { IfOk result HasAsciiName }
     ensures within { IfOk result (TellsWithin (length lines.now.files)) }
 {
     if is_data_table(alloc, lines.list.as_slice())? {
         compile_table(alloc, lines)
     } else {
-        compile(alloc, lines)
+        compile(alloc, style, lines)
     }
 }

@@ -1,10 +1,22 @@
 mod data;
+mod data_rows;
+mod folding;
+mod lending;
+mod limits;
 mod options;
 mod rows;
+mod spelling;
 mod widths;
 
+ghost use Rattle.std.specs.Prelude.{IfOk};
+ghost use Rattle.iasl_backends.specs.Asked.{IsOneOfEach};
+
 use crate::run::iasl;
-use iasl_ports::files::MOST_BYTES;
+use iasl_backends::backend::Backend;
+use iasl_backends::c_hex::CHex;
+use iasl_backends::lent::one_of_each;
+use iasl_backends::listing::Listing;
+use iasl_backends::raw_aml::RawAml;
 use iasl_ports::list::Texts;
 use iasl_ports::memory::{MemoryFiles, MemoryOutputs, MemorySink};
 use std::alloc::{AllocError, Global};
@@ -175,6 +187,18 @@ struct Ran {
     console: MemorySink,
 }
 
+// One box of each kind of outputs.
+fn boxes(alloc: Global) -> Result<Vec<Box<dyn Backend>>, AllocError>
+    ensures { IfOk result (λ backends. IsOneOfEach (λ b. kind_of b) backends.items) }
+{
+    one_of_each(
+        alloc,
+        Box::new(alloc, RawAml::new(alloc))?,
+        Box::new(alloc, CHex::new(alloc))?,
+        Box::new(alloc, Listing::new(alloc))?,
+    )
+}
+
 fn run(alloc: Global, words: &[&str], text: &[u8], failing: &Failing) -> Result<Ran, AllocError> {
     let mut files = MemoryFiles::new(alloc);
     files.add("t.asl", text)?;
@@ -187,7 +211,15 @@ fn run(alloc: Global, words: &[&str], text: &[u8], failing: &Failing) -> Result<
     for word in words {
         given.push(String::from_str(alloc, word)?)?;
     }
-    let status = iasl(alloc, &given, &mut files, &mut outs, &mut console);
+    let mut backends = boxes(alloc)?;
+    let status = iasl(
+        alloc,
+        &given,
+        &mut files,
+        &mut outs,
+        &mut console,
+        &mut backends,
+    );
     Ok(Ran {
         status,
         outs,
@@ -475,24 +507,6 @@ fn failing_ports(rt: HostRuntime) -> Result<(), AllocError> {
     Ok(())
 }
 
-#[test]
-fn too_large(rt: HostRuntime) -> Result<(), AllocError> {
-    let text = vec![in rt.alloc(); b'\n'; MOST_BYTES + 1]?;
-    let none = Failing {
-        fetch: 9,
-        put: 9,
-        write: 9,
-    };
-    let ran = run(rt.alloc(), &["t.asl"], &text, &none)?;
-    assert_eq!(rt; ran.status, 1);
-    assert_eq!(rt; ran.outs.names().len(), 0);
-    assert!(rt;
-        ran.console.as_bytes()
-            == b"t.asl:1:1: error 6007: text is too large\n1 errors, 0 warnings, 0 remarks\n".as_slice()
-    );
-    Ok(())
-}
-
 // A run over several files.
 #[derive(Drop)]
 struct Case {
@@ -695,7 +709,15 @@ fn run_case(alloc: Global, case: &Case) -> Result<Ran, AllocError> {
     for word in case.words {
         given.push(String::from_str(alloc, word)?)?;
     }
-    let status = iasl(alloc, &given, &mut files, &mut outs, &mut console);
+    let mut backends = boxes(alloc)?;
+    let status = iasl(
+        alloc,
+        &given,
+        &mut files,
+        &mut outs,
+        &mut console,
+        &mut backends,
+    );
     Ok(Ran {
         status,
         outs,
@@ -711,54 +733,6 @@ fn words_and_files(rt: HostRuntime) -> Result<(), AllocError> {
         assert!(rt; are(ran.outs.names(), case.names));
         assert!(rt; are(ran.outs.bodies(), case.bodies));
         assert!(rt; ran.console.as_bytes() == case.told);
-    }
-    Ok(())
-}
-
-// A method that returns 1 inside so many brackets.
-fn nested(alloc: Global, brackets: usize) -> Result<Vec<u8>, AllocError> {
-    let mut text = Vec::new(alloc);
-    text.extend_from_slice(
-        b"DefinitionBlock (\"\", \"SSDT\", 2, \"OEMX00\", \"TABLE001\", 1)\n{\n",
-    )?;
-    text.extend_from_slice(b"    Method (M, 0)\n    {\n        Return (")?;
-    text.extend_from_slice(&vec![in alloc; b'('; brackets]?)?;
-    text.extend_from_slice(b"1")?;
-    text.extend_from_slice(&vec![in alloc; b')'; brackets]?)?;
-    text.extend_from_slice(b")\n    }\n}\n")?;
-    Ok(text)
-}
-
-// The block, the method and the Return are open too, so 125 brackets are the most. They leave no node in the tree.
-#[test]
-fn nesting(rt: HostRuntime) -> Result<(), AllocError> {
-    let rows: [(usize, u8, &[u8]); 3] = [
-        (
-            125,
-            0,
-            b"t.aml: SSDT, 45 bytes\n0 errors, 0 warnings, 0 remarks\n",
-        ),
-        (
-            126,
-            1,
-            b"t.asl:5:142: error 6016: nesting is too deep\n1 errors, 0 warnings, 0 remarks\n",
-        ),
-        (
-            129,
-            1,
-            b"t.asl:5:142: error 6016: nesting is too deep\n1 errors, 0 warnings, 0 remarks\n",
-        ),
-    ];
-    let none = Failing {
-        fetch: 9,
-        put: 9,
-        write: 9,
-    };
-    for (brackets, status, told) in &rows {
-        let text = nested(rt.alloc(), *brackets)?;
-        let ran = run(rt.alloc(), &["t.asl"], &text, &none)?;
-        assert_eq!(rt; ran.status, *status);
-        assert!(rt; ran.console.as_bytes() == *told);
     }
     Ok(())
 }

@@ -8,8 +8,8 @@ use Rattle.std.proofs.lemmas.List.{length-reverse, length-take-le, reverse-appen
 use Rattle.acpi_values.specs.Paths.{NameSeg, AbsolutePath, is_same_path}
 use Rattle.acpi_state.proofs.Lookups.{is_same_path-true}
 use Rattle.asl_tree.specs.declared.path.Path.{Path as Name}
-use Rattle.asl_tree.specs.Names.{below, place_of, enclosing, search_path, candidates, first_of, absolute, is_searched}
-use Rattle.acpi_names.specs.Shortest.{segments_length, name_length, shortest, last_alone, upward, unsearched, is_only, leads_to, short_use, short_element}
+use Rattle.asl_tree.specs.Names.{below, enclosing, candidates, first_of, absolute, is_searched}
+use Rattle.acpi_names.specs.Shortest.{segments_length, name_length, shortest, upward, unsearched, is_only, leads_to, short_use, short_element}
 use Rattle.acpi_names.proofs.Numbers.{same_path_refl}
 use Rattle.acpi_names.proofs.Shortest.{Each, each_kept, unsearched_path}
 use Rattle.name_spelling.specs.declared.form.Form.{Form}

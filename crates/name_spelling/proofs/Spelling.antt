@@ -5,7 +5,7 @@ use Rattle.std.proofs.lemmas.List.{reverse-append}
 use Rattle.acpi_values.specs.Paths.{NameSeg, AbsolutePath}
 use Rattle.acpi_state.specs.Outcomes.{choose}
 use Rattle.asl_tree.specs.declared.path.Path.{Path as Name}
-use Rattle.asl_tree.specs.Names.{place_of, enclosing, candidates, first_of, denoted, single_segment, search_path, absolute, spelled_by, spelled_name, is_searched, spelled_element}
+use Rattle.asl_tree.specs.Names.{place_of, enclosing, candidates, first_of, denoted, single_segment, absolute, spelled_by, spelled_name, spelled_element}
 use Rattle.asl_tree.specs.Tree.{Trees}
 use Rattle.acpi_names.specs.Parts.{name_at}
 use mathlib.Core.Path.{fun_ext}

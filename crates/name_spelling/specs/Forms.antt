@@ -1,5 +1,5 @@
 -- A form of a path by numbers.
-use Rattle.std.specs.Prelude.{ℕ, ◌+◌, Bool, true, false, ◌&&◌, ◌||◌, nat_lt, if◌then◌else◌, List, ◌∷◌, [], reverse, take}
+use Rattle.std.specs.Prelude.{ℕ, ◌+◌, Bool, false, ◌&&◌, ◌||◌, nat_lt, if◌then◌else◌, List, ◌∷◌, [], reverse, take}
 use Rattle.acpi_values.specs.Paths.{NameSeg, AbsolutePath}
 use Rattle.asl_tree.specs.declared.path.Path.{Path as Name}
 use Rattle.asl_tree.specs.Names.{enclosing}

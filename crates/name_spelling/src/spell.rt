@@ -10,6 +10,7 @@ ghost use Rattle.acpi_names.specs.Spelled.{spelled, spelled_all, element_spelled
 ghost use Rattle.acpi_names.specs.Tables.{Tabled};
 ghost use Rattle.name_spelling.specs.Spelling.{Grows, Knowing, SpellsAll, SpellsBut, SpellsElements, SpellsOpened, SpellsArgs, SpellsBody, SpellsExternal, place_at, opened_at, other_spelled, with_number_at};
 ghost use Rattle.acpi_names.specs.Walked.{node_tree, value_form_of};
+ghost use Rattle.term_places.specs.Places.{places_of, term_places};
 ghost use Rattle.acpi_names.specs.declared.part.Part.TheVariants as P;
 
 use crate::written::{other_element, other_name, spell_name, written_external};
@@ -35,6 +36,7 @@ fn spell_all(
     requires short { length calls.now ≤ length index.old.paths }
     ensures grows { OnOk result (Grows index.old.paths index.old.named.items index.new.paths index.new.named.items calls.now) }
     ensures spells { OnOk result (SpellsAll shorten index.old.paths index.old.named.items calls.now (trees_of nodes.old.items) (trees_of nodes.new.items) (get_or index.old.paths scope [])) }
+    ensures places { OnOk result (places_of nodes.new.items ≡ places_of nodes.old.items) }
 {
     for node in nodes.iter_mut() {
         spell_one(alloc, index, calls, shorten, node, scope)?;
@@ -104,6 +106,7 @@ fn spell_elements(
     requires short { length calls.now ≤ length index.old.paths }
     ensures grows { OnOk result (Grows index.old.paths index.old.named.items index.new.paths index.new.named.items calls.now) }
     ensures spells { OnOk result (SpellsElements shorten index.old.paths index.old.named.items calls.now (trees_of nodes.old.items) (trees_of nodes.new.items) (get_or index.old.paths scope [])) }
+    ensures places { OnOk result (places_of nodes.new.items ≡ places_of nodes.old.items) }
 {
     for node in nodes.iter_mut() {
         spell_item(alloc, index, calls, shorten, node, scope)?;
@@ -125,6 +128,7 @@ fn spell_item(
     requires short { length calls.now ≤ length index.old.paths }
     ensures grows { OnOk result (Grows index.old.paths index.old.named.items index.new.paths index.new.named.items calls.now) }
     ensures spells { OnOk result (Knowing index.old.paths index.old.named.items calls.now (λ d counts. node_tree node.new ≡ element_spelled shorten (is_named d) (node_tree node.old) (spelled shorten (is_named d) (written_for counts) (node_tree node.old) (get_or index.old.paths scope [])) (get_or index.old.paths scope []))) }
+    ensures places { OnOk result (term_places node.new ≡ term_places node.old) }
 {
     match &node.term {
         Term::Name(path) => match other_element(alloc, index, shorten, path, scope)? {
@@ -155,6 +159,7 @@ fn spell_one(
     requires short { length calls.now ≤ length index.old.paths }
     ensures grows { OnOk result (Grows index.old.paths index.old.named.items index.new.paths index.new.named.items calls.now) }
     ensures spells { OnOk result (Knowing index.old.paths index.old.named.items calls.now (λ d counts. node_tree node.new ≡ spelled shorten (is_named d) (written_for counts) (node_tree node.old) (get_or index.old.paths scope []))) }
+    ensures places { OnOk result (term_places node.new ≡ term_places node.old) }
 {
     match &node.term {
         Term::Name(path) => match other_name(alloc, index, shorten, path, scope)? {
@@ -187,6 +192,7 @@ fn spell_inner(
     requires unnamed { path_of node.old.term ≡ None }
     ensures grows { OnOk result (Grows index.old.paths index.old.named.items index.new.paths index.new.named.items calls.now) }
     ensures spells { OnOk result (Knowing index.old.paths index.old.named.items calls.now (λ d counts. node_tree node.new ≡ spelled shorten (is_named d) (written_for counts) (node_tree node.old) (get_or index.old.paths scope []))) }
+    ensures places { OnOk result (term_places node.new ≡ term_places node.old) }
 {
     let here = spot_of(node);
     match &mut node.term {
@@ -221,6 +227,7 @@ fn spell_form(
     ensures grows { OnOk result (Grows index.old.paths index.old.named.items index.new.paths index.new.named.items calls.now) }
     ensures args { OnOk result (SpellsArgs shorten index.old.paths index.old.named.items calls.now (part_of op (trees_of args.old.items) (trees_of body.old.items)) (value_form_of op (trees_of args.old.items) (trees_of body.old.items)) (trees_of args.old.items) (trees_of args.new.items) (get_or index.old.paths scope [])) }
     ensures body { OnOk result (SpellsBody shorten index.old.paths index.old.named.items calls.now (part_of op (trees_of args.old.items) (trees_of body.old.items)) (value_form_of op (trees_of args.old.items) (trees_of body.old.items)) (trees_of args.old.items) (trees_of body.old.items) (trees_of body.new.items) (get_or index.old.paths scope [])) }
+    ensures places { OnOk result (places_of body.new.items ≡ places_of body.old.items) }
 {
     match part_for(op, args, body) {
         Part::Nothing => {
@@ -288,6 +295,7 @@ fn spell_value(
     ensures grows { OnOk result (Grows index.old.paths index.old.named.items index.new.paths index.new.named.items calls.now) }
     ensures args { OnOk result (SpellsArgs shorten index.old.paths index.old.named.items calls.now P.Nothing form (trees_of args.old.items) (trees_of args.new.items) (get_or index.old.paths scope [])) }
     ensures body { OnOk result (SpellsBody shorten index.old.paths index.old.named.items calls.now P.Nothing form (trees_of args.old.items) (trees_of body.old.items) (trees_of body.new.items) (get_or index.old.paths scope [])) }
+    ensures places { OnOk result (places_of body.new.items ≡ places_of body.old.items) }
 {
     match form {
         ValueForm::Nothing => Ok(()),
@@ -338,6 +346,7 @@ fn spell_declared(
     ensures grows { OnOk result (Grows index.old.paths index.old.named.items index.new.paths index.new.named.items calls.now) }
     ensures args { OnOk result (SpellsBut shorten index.old.paths index.old.named.items calls.now place (trees_of args.old.items) (trees_of args.new.items) (get_or index.old.paths scope [])) }
     ensures body { OnOk result (SpellsOpened shorten index.old.paths index.old.named.items calls.now opens (trees_of body.old.items) (trees_of body.new.items) (place_at place (trees_of args.old.items) (get_or index.old.paths scope []))) }
+    ensures places { OnOk result (places_of body.new.items ≡ places_of body.old.items) }
 {
     spell_inside(
         alloc, index, calls, shorten, place, opens, args, body, scope,
@@ -364,6 +373,7 @@ fn spell_inside(
     requires short { length calls.now ≤ length index.old.paths }
     ensures grows { OnOk result (Grows index.old.paths index.old.named.items index.new.paths index.new.named.items calls.now) }
     ensures body { OnOk result (SpellsOpened shorten index.old.paths index.old.named.items calls.now opens (trees_of body.old.items) (trees_of body.new.items) (place_at place (trees_of args.now) (get_or index.old.paths scope []))) }
+    ensures places { OnOk result (places_of body.new.items ≡ places_of body.old.items) }
 {
     if !opens {
         return Ok(());
@@ -476,7 +486,8 @@ pub fn spell(
 ) -> Result<(), AllocError>
     requires all { length index.old.named.items ≡ length index.old.paths }
     requires short { length calls.now ≤ length index.old.paths }
-    ensures { OnOk result ((d : Declarations) (counts : List (AbsolutePath × ℕ)) → Agrees index.old.paths index.old.named.items d → Tabled index.old.paths calls.now (lookup counts) → trees_of terms.new.items ≡ spelled_all shorten (is_named d) (written_for counts) (trees_of terms.old.items) []) }
+    ensures trees { OnOk result ((d : Declarations) (counts : List (AbsolutePath × ℕ)) → Agrees index.old.paths index.old.named.items d → Tabled index.old.paths calls.now (lookup counts) → trees_of terms.new.items ≡ spelled_all shorten (is_named d) (written_for counts) (trees_of terms.old.items) []) }
+    ensures places { OnOk result (places_of terms.new.items ≡ places_of terms.old.items) }
 {
     let count = index.paths.len();
     spell_all(alloc, index, calls, shorten, terms, 0)?;

@@ -1,7 +1,8 @@
--- A program with its symbols named, and then its names spelled by what is known of the program itself, is the core of the first.
+-- A program with its symbols named, its constants folded, and then its names spelled by what is known of the program itself, is the core of the first.
 use Rattle.std.proofs.Common.{◌≡◌, ℕ, Bool, true, List, [], Option, sym, ap, ◌∙◌, subst}
 use Rattle.acpi_values.specs.Paths.{AbsolutePath}
 use Rattle.acpi_state.specs.Objects.{lookup}
+use Rattle.acpi_values.specs.declared.width.Width.{Width}
 use Rattle.asl_tree.specs.Tree.{Trees}
 use Rattle.asl_meaning.specs.Declarations.{Declarations, declarations, is_named, nothing_declared, written_external, called, calls_all}
 use Rattle.acpi_names.specs.Errors.{whole_of}
@@ -13,14 +14,18 @@ use Rattle.asl_lower.specs.Nodes.{named_all}
 use Rattle.asl_lower.proofs.Declared.{same_declarations, same_first_call}
 use Rattle.named_sessions.specs.Core.{core_of}
 use Rattle.named_sessions.proofs.Core.{core_spelled}
+use Rattle.asl_fold.specs.Folds.{folded_where}
+use Rattle.asl_fold.proofs.Asked.{where_declarations, where_whole}
 
 -- each path is called first with as many arguments
 same_calls : (program : Trees) → are_terms program ≡ true → (path : AbsolutePath) → lookup (whole_of (named_all program)).calls path ≡ lookup (whole_of program).calls path
 same_calls program terms path =
     ap (λ d. lookup (called (calls_all (is_named d) (named_all program) [] nothing_declared)) path) (same_declarations program) ∙ same_first_call program terms (is_named (declarations program)) path
 
-pub core_lowered : (shorten : Bool) (paths : List AbsolutePath) (named : List Bool) (table : List (Option ℕ)) (program spelt : Trees) → are_terms program ≡ true
-    → ((d : Declarations) (counts : List (AbsolutePath × ℕ)) → Agrees paths named d → Tabled paths table (lookup counts) → spelt ≡ spelled_all shorten (is_named d) (written_external counts) (named_all program) [])
-    → Agrees paths named (declarations program) → Tabled paths table (lookup (whole_of program).calls) → spelt ≡ core_of shorten (named_all program)
-core_lowered shorten paths named table program spelt terms spells agrees tabled =
-    core_spelled shorten paths named table (named_all program) spelt spells (subst (Agrees paths named) (sym (same_declarations program)) agrees) (λ path. tabled path ∙ sym (same_calls program terms path))
+pub core_lowered : (fold : Bool) (width : Width) (shorten : Bool) (paths : List AbsolutePath) (named : List Bool) (table : List (Option ℕ)) (program spelt : Trees) → are_terms program ≡ true
+    → ((d : Declarations) (counts : List (AbsolutePath × ℕ)) → Agrees paths named d → Tabled paths table (lookup counts) → spelt ≡ spelled_all shorten (is_named d) (written_external counts) (folded_where fold width (named_all program)) [])
+    → Agrees paths named (declarations program) → Tabled paths table (lookup (whole_of program).calls) → spelt ≡ core_of shorten (folded_where fold width (named_all program))
+core_lowered fold width shorten paths named table program spelt terms spells agrees tabled =
+    let core = folded_where fold width (named_all program) in
+    core_spelled shorten paths named table core spelt spells (subst (Agrees paths named) (sym (where_declarations fold width (named_all program) ∙ same_declarations program)) agrees)
+    (λ path. tabled path ∙ sym (ap (λ whole. lookup whole.calls path) (where_whole fold width (named_all program)) ∙ same_calls program terms path))

@@ -21,6 +21,7 @@ pub mod OwnNames
 pub mod Lists
 pub mod Laid
 pub mod Lowered
+pub mod Folded
 pub mod Cores
 pub mod Tables
 pub mod ListPlaces

@@ -6,6 +6,7 @@ use Rattle.asl_shape.specs.Plans.{Plans}
 use Rattle.asl_tree.specs.Tree.{Tree, Method, Container', Scope, Trees, no_trees, tree, Field, BankField, If, ElseIf, Else, While}
 use Rattle.named_sessions.specs.Places.{IsWithin, AreWithin}
 use Rattle.region_checks.specs.Places.{IsFieldWithin, AreFieldsWithin}
+use Rattle.acpi_values.specs.declared.width.Width.{Width}
 use Rattle.region_checks.specs.Regions.{region_errors}
 use Rattle.region_checks.proofs.Places.{region_errors_within}
 use Rattle.program_shapes.proofs.ListPlaces.{as_all}
@@ -28,5 +29,5 @@ module _ (files : ℕ) where
     fields_within no_trees h = tt
     fields_within (tree t ts) h = (field_within t h.0, fields_within ts h.1)
 
-pub access_errors_within : (files : ℕ) (ts : Trees) (ps : Plans) → AreWithin files ts → All (λ (m : Message). m.place.file < files) (region_errors ts ps)
-access_errors_within files ts ps h = as_all files (region_errors ts ps) (region_errors_within files ts ps (fields_within files ts h))
+pub access_errors_within : (files : ℕ) (width : Width) (ts : Trees) (ps : Plans) → AreWithin files ts → All (λ (m : Message). m.place.file < files) (region_errors width ts ps)
+access_errors_within files width ts ps h = as_all files (region_errors width ts ps) (region_errors_within files width ts ps (fields_within files ts h))

@@ -15,6 +15,8 @@ use Rattle.asl_meaning.specs.Declarations.{known_of, externals}
 use Rattle.aml_meaning.specs.ByteSession.{IsFaithful}
 use Rattle.aml_sessions.specs.Ready.{AreItems}
 use Rattle.asl_lower.specs.Nodes.{named_all}
+use Rattle.asl_fold.specs.Folds.{folded_where}
+use Rattle.asl_fold.proofs.Asked.{where_shaped, where_name_errors, where_type_errors}
 use Rattle.asl_lower.proofs.Named.{same_named}
 use Rattle.asl_lower.proofs.Declared.{same_known, same_externals}
 use Rattle.asl_lower.proofs.Errors.{no_name_errors, no_type_errors}
@@ -28,6 +30,7 @@ use Rattle.program_shapes.specs.Kept.{IsKeptSource}
 use Rattle.program_shapes.proofs.Lists.{plans_laid}
 use Rattle.program_shapes.proofs.Laid.{terms_laid}
 use Rattle.program_shapes.specs.Sources.{terms_in, layouts_in, fields_in, width_in, table_in, IsRight, IsTableOf}
+use Rattle.program_shapes.proofs.Folded.{does_unfolded}
 use Rattle.program_shapes.proofs.Blocks.{terms_as, room_in}
 use Rattle.program_shapes.proofs.Headers.{HaveRoom}
 
@@ -53,13 +56,14 @@ lowered_faithful width program bytes terms faithful =
       whole = both.whole;
     }
 
-pub does_as : (short shorten : Bool) (items : List Raw) → IsRight items → IsKeptSource (writtens items) → length (table_in short shorten items) ≤ 16777216 → IsTableOf items (table_in short shorten items)
+pub does_as : (fold short shorten : Bool) (items : List Raw) → IsRight items → IsKeptSource (writtens items) → length (table_in fold short shorten items) ≤ 16777216 → IsTableOf items (table_in fold short shorten items)
 unfolding errors_at
-does_as short shorten items right kept within =
+does_as fold short shorten items right kept within =
     let fields = fields_in items in
     let width = width_in items in
     let program = terms_in items in
-    let core = named_all program in
+    let named = named_all program in
+    let core = folded_where fold width named in
     let content = encoded_all width short (core_of shorten core) in
     let size = header_length + length content in
     let header = header_with fields size (checksum_of (header_with fields size 0 ++ content)) in
@@ -69,6 +73,6 @@ does_as short shorten items right kept within =
     let signature : length fields.signature ≡ 4 = room.signature in
     record {
       header = is_header fields content signature (omega (arith, small)) (mod_below (number_of (plan_at (args_of (writtens items)) 5)) 4294967296 (omega arith));
-      faithful = lowered_faithful width program (table_in short shorten items) terms
-          (is_faithful shorten width short core (table_in short shorten items) (core_is_shaped items right.form right.layouts kept) (no_name_errors program terms right.names) (no_type_errors program terms right.counts) (width_is fields content signature) (omega (arith, small)) (definition_is fields content signature (omega (arith, small))));
+      faithful = lowered_faithful width program (table_in fold short shorten items) terms (does_unfolded fold width named (table_in fold short shorten items)
+          (is_faithful shorten width short core (table_in fold short shorten items) (where_shaped fold width named (core_is_shaped items right.form right.layouts kept)) (where_name_errors fold width named ∙ no_name_errors program terms right.names) (where_type_errors fold width named ∙ no_type_errors program terms right.counts) (width_is fields content signature) (omega (arith, small)) (definition_is fields content signature (omega (arith, small)))));
     }

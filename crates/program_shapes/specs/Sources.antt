@@ -10,6 +10,7 @@ use Rattle.aml_meaning.specs.ByteSession.{IsFaithful}
 use Rattle.acpi_names.specs.Errors.{name_errors, type_errors}
 use Rattle.named_sessions.specs.Core.{core_of}
 use Rattle.asl_lower.specs.Nodes.{named_all}
+use Rattle.asl_fold.specs.Folds.{folded_where}
 use Rattle.asl_parser.specs.declared.raw.Raw.{Raw}
 use Rattle.asl_parser.specs.Written.{writtens}
 use Rattle.asl_shape.specs.Plans.{Plans, plan_at, text_of, number_of}
@@ -32,10 +33,6 @@ statements_in items = errors_of_statements (terms_of (writtens items))
 abbrev pub layouts_in : List Raw → List Message
 layouts_in items = all_errors (terms_of (writtens items))
 
--- what is wrong with the accesses of its fields to their regions
-abbrev pub regions_in : List Raw → List Message
-regions_in items = region_errors (terms_in items) (terms_of (writtens items))
-
 -- what the arguments of a definition block say of the table's header (ACPI Specification 6.4, 19.6.29)
 abbrev pub stated_by : Plans → HeaderFields
 stated_by args = record {
@@ -53,10 +50,14 @@ fields_in items = stated_by (args_of (writtens items))
 abbrev pub width_in : List Raw → Width
 width_in items = width_of (fields_in items).revision
 
--- its table: the header, and the bytes of its terms with their symbols named and their names spelled; whether 0, 1 and all ones
--- have a byte of their own, and whether names are shortened, is the caller's choice
-abbrev pub table_in : Bool → Bool → List Raw → List ℕ
-table_in short shorten items = table_bytes (fields_in items) (encoded_all (width_in items) short (core_of shorten (named_all (terms_in items))))
+-- what is wrong with the accesses of its fields to their regions
+abbrev pub regions_in : List Raw → List Message
+regions_in items = region_errors (width_in items) (terms_in items) (terms_of (writtens items))
+
+-- its table: the header, and the bytes of its terms with their symbols named, their constants folded and their names spelled; whether constants are
+-- folded, whether 0, 1 and all ones have a byte of their own, and whether names are shortened, is the caller's choice
+abbrev pub table_in : Bool → Bool → Bool → List Raw → List ℕ
+table_in fold short shorten items = table_bytes (fields_in items) (encoded_all (width_in items) short (core_of shorten (folded_where fold (width_in items) (named_all (terms_in items)))))
 
 -- nothing is wrong with its form, its names, how many arguments its calls have, its statements, the lists of its fields,
 -- and their accesses

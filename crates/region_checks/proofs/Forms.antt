@@ -1,6 +1,7 @@
 -- What a form says is what its part says.
 use Rattle.std.proofs.Common.{◌≡◌, ℕ, Bool, true, false, List, [], Option, Some, None, refl}
 use Rattle.std.specs.Prelude.{nat_le, if◌then◌else◌}
+use Rattle.acpi_values.specs.declared.width.Width.{Width}
 use Rattle.asl_tree.specs.FieldItems.{FieldItem}
 use Rattle.asl_tree.specs.View.{fits, operands_as, operated, symbol_of, form, apply_of, buffer, body_bytes, packaged, counted, items_in}
 use Rattle.acpi_values.specs.declared.operator.IntOp.{IntOp}
@@ -19,85 +20,86 @@ use Rattle.field_checks.specs.Lists.{term_errors}
 use Rattle.region_checks.specs.declared.measure.Measure.{Measure}
 use Rattle.region_checks.specs.Measures.{measures, part_measures}
 
-by_items : (o : Option (List (FieldItem UnitName))) (p : Plan) (made : List (FieldItem UnitName) → Tree) (told : List Measure) → ((items : List (FieldItem UnitName)) → measures (made items) p ≡ told) → measures (choose o Misshapen made) p ≡ choose o [] (λ items. told)
-by_items None p made told h = refl
-by_items (Some items) p made told h = h items
+module _ (width : Width) where
+  by_items : (o : Option (List (FieldItem UnitName))) (p : Plan) (made : List (FieldItem UnitName) → Tree) (told : List Measure) → ((items : List (FieldItem UnitName)) → measures width (made items) p ≡ told) → measures width (choose o Misshapen made) p ≡ choose o [] (λ items. told)
+  by_items None p made told h = refl
+  by_items (Some items) p made told h = h items
 
-no_items : (o : Option (List (FieldItem UnitName))) (p : Plan) (made : List (FieldItem UnitName) → Tree) → ((items : List (FieldItem UnitName)) → measures (made items) p ≡ []) → measures (choose o Misshapen made) p ≡ []
-no_items None p made h = refl
-no_items (Some items) p made h = h items
+  no_items : (o : Option (List (FieldItem UnitName))) (p : Plan) (made : List (FieldItem UnitName) → Tree) → ((items : List (FieldItem UnitName)) → measures width (made items) p ≡ []) → measures width (choose o Misshapen made) p ≡ []
+  no_items None p made h = refl
+  no_items (Some items) p made h = h items
 
-measured_apply : (op : Plain) (args : Trees) (p : Plan) → measures (apply_of op args) p ≡ []
-measured_apply (Plain.Number IntOp.LNotEqual) args p = refl
-measured_apply (Plain.Number IntOp.LLessEqual) args p = refl
-measured_apply (Plain.Number IntOp.LGreaterEqual) args p = refl
-measured_apply op args p = refl
+  measured_apply : (op : Plain) (args : Trees) (p : Plan) → measures width (apply_of op args) p ≡ []
+  measured_apply (Plain.Number IntOp.LNotEqual) args p = refl
+  measured_apply (Plain.Number IntOp.LLessEqual) args p = refl
+  measured_apply (Plain.Number IntOp.LGreaterEqual) args p = refl
+  measured_apply op args p = refl
 
-measured_operated : (op : Plain) (args : Trees) (p : Plan) → measures (operated op args) p ≡ []
-measured_operated (Plain.Number IntOp.LNotEqual) args p = refl
-measured_operated (Plain.Number IntOp.LLessEqual) args p = refl
-measured_operated (Plain.Number IntOp.LGreaterEqual) args p = refl
-measured_operated op args p = refl
+  measured_operated : (op : Plain) (args : Trees) (p : Plan) → measures width (operated op args) p ≡ []
+  measured_operated (Plain.Number IntOp.LNotEqual) args p = refl
+  measured_operated (Plain.Number IntOp.LLessEqual) args p = refl
+  measured_operated (Plain.Number IntOp.LGreaterEqual) args p = refl
+  measured_operated op args p = refl
 
-measured_symbol : (op : Plain) (args : Trees) (p : Plan) → measures (symbol_of op args) p ≡ []
-measured_symbol op args p = by_fit (fits (row_of op).operands args)
-  where
-    by_fit : (c : Bool) → measures (if c then operated op (operands_as (row_of op).operands args) else Misshapen) p ≡ []
-    by_fit true = measured_operated op (operands_as (row_of op).operands args) p
-    by_fit false = refl
+  measured_symbol : (op : Plain) (args : Trees) (p : Plan) → measures width (symbol_of op args) p ≡ []
+  measured_symbol op args p = by_fit (fits (row_of op).operands args)
+    where
+      by_fit : (c : Bool) → measures width (if c then operated op (operands_as (row_of op).operands args) else Misshapen) p ≡ []
+      by_fit true = measured_operated op (operands_as (row_of op).operands args) p
+      by_fit false = refl
 
-measured_buffer : (size : Tree) (bytes : List ℕ) (p : Plan) → measures (buffer size bytes) p ≡ []
-measured_buffer Omitted bytes p = refl
-measured_buffer size bytes p = refl
+  measured_buffer : (size : Tree) (bytes : List ℕ) (p : Plan) → measures width (buffer size bytes) p ≡ []
+  measured_buffer Omitted bytes p = refl
+  measured_buffer size bytes p = refl
 
-measured_counted : (n : ℕ) (elements : Trees) (p : Plan) → measures (counted n elements) p ≡ []
-measured_counted n elements p = by_less (nat_le n 255)
-  where
-    by_less : (c : Bool) → measures (if c then Package n elements else VarPackage (Integer n) elements) p ≡ []
-    by_less true = refl
-    by_less false = refl
+  measured_counted : (n : ℕ) (elements : Trees) (p : Plan) → measures width (counted n elements) p ≡ []
+  measured_counted n elements p = by_less (nat_le n 255)
+    where
+      by_less : (c : Bool) → measures width (if c then Package n elements else VarPackage (Integer n) elements) p ≡ []
+      by_less true = refl
+      by_less false = refl
 
-measured_packaged : (size : Tree) (elements : Trees) (p : Plan) → measures (packaged size elements) p ≡ []
-measured_packaged Omitted elements p = measured_counted (count elements) elements p
-measured_packaged (Integer n) elements p = measured_counted n elements p
-measured_packaged size elements p = refl
+  measured_packaged : (size : Tree) (elements : Trees) (p : Plan) → measures width (packaged size elements) p ≡ []
+  measured_packaged Omitted elements p = measured_counted (count elements) elements p
+  measured_packaged (Integer n) elements p = measured_counted n elements p
+  measured_packaged size elements p = refl
 
-pub measured_form : (at : At) (op : Op) (args body : Trees) (given plans : Plans) → measures (form at op args body) (a_form op given plans) ≡ part_measures (part_of op args body) args body given plans (term_errors (a_form op given plans))
-measured_form here (Op.Declaration Declaration.Name) (tree (Use at name) (tree value no_trees)) no_trees given plans = refl
-measured_form here (Op.Declaration Declaration.Alias) (tree (Use from source) (tree (Use at name) no_trees)) no_trees given plans = refl
-measured_form here (Op.Declaration Declaration.External) (tree (Use at name) (tree (Integer type) no_trees)) no_trees given plans = refl
-measured_form here (Op.Declaration Declaration.External) (tree (Use at name) (tree (Integer type) (tree (Integer count) no_trees))) no_trees given plans = refl
-measured_form here (Op.Declaration Declaration.Method) (tree (Use at name) (tree (Integer arity) no_trees)) body given plans = refl
-measured_form here (Op.Declaration Declaration.Mutex) (tree (Use at name) (tree (Integer level) no_trees)) no_trees given plans = refl
-measured_form here (Op.Declaration Declaration.Event) (tree (Use at name) no_trees) no_trees given plans = refl
-measured_form here (Op.Declaration Declaration.Device) (tree (Use at name) no_trees) body given plans = refl
-measured_form here (Op.Declaration Declaration.ThermalZone) (tree (Use at name) no_trees) body given plans = refl
-measured_form here (Op.Declaration Declaration.PowerResource) (tree (Use at name) (tree (Integer level) (tree (Integer order) no_trees))) body given plans = refl
-measured_form here (Op.Declaration Declaration.Processor) (tree (Use at name) (tree (Integer number) (tree (Integer address) (tree (Integer size) no_trees)))) body given plans = refl
-measured_form here (Op.Declaration Declaration.Scope) (tree (Use at name) no_trees) body given plans = refl
-measured_form here (Op.Declaration Declaration.OperationRegion) (tree (Use at name) (tree (Integer space) (tree offset (tree size no_trees)))) no_trees given plans = refl
-measured_form here (Op.Declaration Declaration.Field) (tree (Use from region) (tree (Integer flags) no_trees)) body given plans = by_items (items_in body) (a_form (Op.Declaration Declaration.Field) given plans) (λ items. Field here from region flags items) _ (λ items. refl)
-measured_form here (Op.Declaration Declaration.IndexField) (tree (Use from index) (tree (Use to register) (tree (Integer flags) no_trees))) body given plans = no_items (items_in body) (a_form (Op.Declaration Declaration.IndexField) given plans) (λ items. IndexField here from index to register flags items) (λ items. refl)
-measured_form here (Op.Declaration Declaration.BankField) (tree (Use from region) (tree (Use to bank) (tree value (tree (Integer flags) no_trees)))) body given plans = by_items (items_in body) (a_form (Op.Declaration Declaration.BankField) given plans) (λ items. BankField here from region to bank value flags items) _ (λ items. refl)
-measured_form here (Op.Declaration Declaration.CreateField) (tree source (tree index (tree bits (tree (Use at name) no_trees)))) no_trees given plans = refl
-measured_form here (Op.Declaration Declaration.CreateBitField) (tree source (tree index (tree (Use at name) no_trees))) no_trees given plans = refl
-measured_form here (Op.Declaration Declaration.CreateByteField) (tree source (tree index (tree (Use at name) no_trees))) no_trees given plans = refl
-measured_form here (Op.Declaration Declaration.CreateWordField) (tree source (tree index (tree (Use at name) no_trees))) no_trees given plans = refl
-measured_form here (Op.Declaration Declaration.CreateDWordField) (tree source (tree index (tree (Use at name) no_trees))) no_trees given plans = refl
-measured_form here (Op.Declaration Declaration.CreateQWordField) (tree source (tree index (tree (Use at name) no_trees))) no_trees given plans = refl
-measured_form here (Op.Control Control.Return) (tree value no_trees) no_trees given plans = refl
-measured_form here (Op.Control Control.If) (tree test no_trees) body given plans = refl
-measured_form here (Op.Control Control.ElseIf) (tree test no_trees) body given plans = refl
-measured_form here (Op.Control Control.Else) no_trees body given plans = refl
-measured_form here (Op.Control Control.While) (tree test no_trees) body given plans = refl
-measured_form here (Op.Control Control.Break) no_trees no_trees given plans = refl
-measured_form here (Op.Control Control.Continue) no_trees no_trees given plans = refl
-measured_form here (Op.Literal literal) no_trees no_trees given plans = refl
-measured_form here (Op.Plain op) args no_trees given plans = measured_apply op args _
-measured_form here (Op.Special Special.CondRefOf) (tree place (tree target no_trees)) no_trees given plans = refl
-measured_form here (Op.Special Special.Buffer) (tree size no_trees) body given plans = measured_buffer size (body_bytes body) _
-measured_form here (Op.Special Special.Package) (tree size no_trees) body given plans = measured_packaged size body _
-measured_form here (Op.Symbolic (Symbolic.Operator op)) args no_trees given plans = measured_symbol op args _
-measured_form here (Op.Symbolic Symbolic.Assign) (tree target (tree value no_trees)) no_trees given plans = refl
-measured_form here (Op.Symbolic (Symbolic.AssignBy op)) (tree target (tree value no_trees)) no_trees given plans = refl
-measured_form here _ _ _ given plans = refl
+  pub measured_form : (at : At) (op : Op) (args body : Trees) (given plans : Plans) → measures width (form at op args body) (a_form op given plans) ≡ part_measures width (part_of op args body) args body given plans (term_errors (a_form op given plans))
+  measured_form here (Op.Declaration Declaration.Name) (tree (Use at name) (tree value no_trees)) no_trees given plans = refl
+  measured_form here (Op.Declaration Declaration.Alias) (tree (Use from source) (tree (Use at name) no_trees)) no_trees given plans = refl
+  measured_form here (Op.Declaration Declaration.External) (tree (Use at name) (tree (Integer type) no_trees)) no_trees given plans = refl
+  measured_form here (Op.Declaration Declaration.External) (tree (Use at name) (tree (Integer type) (tree (Integer count) no_trees))) no_trees given plans = refl
+  measured_form here (Op.Declaration Declaration.Method) (tree (Use at name) (tree (Integer arity) no_trees)) body given plans = refl
+  measured_form here (Op.Declaration Declaration.Mutex) (tree (Use at name) (tree (Integer level) no_trees)) no_trees given plans = refl
+  measured_form here (Op.Declaration Declaration.Event) (tree (Use at name) no_trees) no_trees given plans = refl
+  measured_form here (Op.Declaration Declaration.Device) (tree (Use at name) no_trees) body given plans = refl
+  measured_form here (Op.Declaration Declaration.ThermalZone) (tree (Use at name) no_trees) body given plans = refl
+  measured_form here (Op.Declaration Declaration.PowerResource) (tree (Use at name) (tree (Integer level) (tree (Integer order) no_trees))) body given plans = refl
+  measured_form here (Op.Declaration Declaration.Processor) (tree (Use at name) (tree (Integer number) (tree (Integer address) (tree (Integer size) no_trees)))) body given plans = refl
+  measured_form here (Op.Declaration Declaration.Scope) (tree (Use at name) no_trees) body given plans = refl
+  measured_form here (Op.Declaration Declaration.OperationRegion) (tree (Use at name) (tree (Integer space) (tree offset (tree size no_trees)))) no_trees given plans = refl
+  measured_form here (Op.Declaration Declaration.Field) (tree (Use from region) (tree (Integer flags) no_trees)) body given plans = by_items (items_in body) (a_form (Op.Declaration Declaration.Field) given plans) (λ items. Field here from region flags items) _ (λ items. refl)
+  measured_form here (Op.Declaration Declaration.IndexField) (tree (Use from index) (tree (Use to register) (tree (Integer flags) no_trees))) body given plans = no_items (items_in body) (a_form (Op.Declaration Declaration.IndexField) given plans) (λ items. IndexField here from index to register flags items) (λ items. refl)
+  measured_form here (Op.Declaration Declaration.BankField) (tree (Use from region) (tree (Use to bank) (tree value (tree (Integer flags) no_trees)))) body given plans = by_items (items_in body) (a_form (Op.Declaration Declaration.BankField) given plans) (λ items. BankField here from region to bank value flags items) _ (λ items. refl)
+  measured_form here (Op.Declaration Declaration.CreateField) (tree source (tree index (tree bits (tree (Use at name) no_trees)))) no_trees given plans = refl
+  measured_form here (Op.Declaration Declaration.CreateBitField) (tree source (tree index (tree (Use at name) no_trees))) no_trees given plans = refl
+  measured_form here (Op.Declaration Declaration.CreateByteField) (tree source (tree index (tree (Use at name) no_trees))) no_trees given plans = refl
+  measured_form here (Op.Declaration Declaration.CreateWordField) (tree source (tree index (tree (Use at name) no_trees))) no_trees given plans = refl
+  measured_form here (Op.Declaration Declaration.CreateDWordField) (tree source (tree index (tree (Use at name) no_trees))) no_trees given plans = refl
+  measured_form here (Op.Declaration Declaration.CreateQWordField) (tree source (tree index (tree (Use at name) no_trees))) no_trees given plans = refl
+  measured_form here (Op.Control Control.Return) (tree value no_trees) no_trees given plans = refl
+  measured_form here (Op.Control Control.If) (tree test no_trees) body given plans = refl
+  measured_form here (Op.Control Control.ElseIf) (tree test no_trees) body given plans = refl
+  measured_form here (Op.Control Control.Else) no_trees body given plans = refl
+  measured_form here (Op.Control Control.While) (tree test no_trees) body given plans = refl
+  measured_form here (Op.Control Control.Break) no_trees no_trees given plans = refl
+  measured_form here (Op.Control Control.Continue) no_trees no_trees given plans = refl
+  measured_form here (Op.Literal literal) no_trees no_trees given plans = refl
+  measured_form here (Op.Plain op) args no_trees given plans = measured_apply op args _
+  measured_form here (Op.Special Special.CondRefOf) (tree place (tree target no_trees)) no_trees given plans = refl
+  measured_form here (Op.Special Special.Buffer) (tree size no_trees) body given plans = measured_buffer size (body_bytes body) _
+  measured_form here (Op.Special Special.Package) (tree size no_trees) body given plans = measured_packaged size body _
+  measured_form here (Op.Symbolic (Symbolic.Operator op)) args no_trees given plans = measured_symbol op args _
+  measured_form here (Op.Symbolic Symbolic.Assign) (tree target (tree value no_trees)) no_trees given plans = refl
+  measured_form here (Op.Symbolic (Symbolic.AssignBy op)) (tree target (tree value no_trees)) no_trees given plans = refl
+  measured_form here _ _ _ given plans = refl

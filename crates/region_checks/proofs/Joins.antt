@@ -6,6 +6,7 @@ use Rattle.acpi_values.specs.Operators.{Letter, Used, row_of}
 use Rattle.acpi_values.specs.declared.operator.Plain.{Plain}
 use Rattle.acpi_values.specs.declared.operator.EventOp.TheVariants as EventOp
 use Rattle.acpi_state.specs.FieldActs.{region_letters, field_letters}
+use Rattle.acpi_values.specs.declared.width.Width.{Width}
 use Rattle.asl_tree.specs.declared.path.Path.{Path}
 use Rattle.asl_tree.specs.FieldItems.{FieldItem, UnitItem, SkipItem, OffsetItem}
 use Rattle.asl_tree.specs.Names.{place_of}
@@ -111,47 +112,9 @@ quiet_items (UnitItem name bits ∷ items) scope = quiet_items items scope
 quiet_items (SkipItem bits ∷ items) scope = quiet_items items scope
 quiet_items (OffsetItem bytes ∷ items) scope = quiet_items items scope
 
-mutual
-  join_term : (t : Tree) (p : Plan) (scope : AbsolutePath) (d : Declarations) → Joins (term_mentions t scope d) (measures t p) (sites t p scope d)
-  join_term (Return value) p scope d = quiet true value scope
-  join_term (Name at name value) p scope d = quiet true value scope
-  join_term (Alias from source at name) p scope d = λ more mores. refl
-  join_term (External here at name type parameters) p scope d = λ more mores. refl
-  join_term (Method at name flags body) p scope d = join_block body (body_of p) (place_of name scope) _
-  join_term (Mutex at name level) p scope d = λ more mores. refl
-  join_term (Event at name) p scope d = λ more mores. refl
-  join_term (Container' kind at name body) p scope d = join_block body (body_of p) (place_of name scope) _
-  join_term (Scope here at name body) p scope d = join_block body (body_of p) (scope_path d name scope) d
-  join_term (If test body) p scope d =
-      join_both (mentions true test scope) (block_mentions body scope d) [] (measures_all body (body_of p)) [] (sites_all body (body_of p) scope d) (quiet true test scope) (join_block body (body_of p) scope d)
-  join_term (ElseIf test body) p scope d =
-      join_both (mentions true test scope) (block_mentions body scope d) [] (measures_all body (body_of p)) [] (sites_all body (body_of p) scope d) (quiet true test scope) (join_block body (body_of p) scope d)
-  join_term (Else body) p scope d = join_block body (body_of p) scope d
-  join_term (While test body) p scope d =
-      join_both (mentions true test scope) (block_mentions body scope d) [] (measures_all body (body_of p)) [] (sites_all body (body_of p) scope d) (quiet true test scope) (join_block body (body_of p) scope d)
-  join_term (OperationRegion at name space args) p scope d =
-      λ more mores. ap (λ ss. RegionAt (place_of name scope) (region_size p) ∷ ss) (quiet_operands true Anything region_letters args scope refl more mores)
-  join_term (Field here from region flags items) p scope d = λ more mores. ap (λ ss. FieldIn here region scope (field_access flags p) ∷ ss) (quiet_items items scope more mores)
-  join_term (IndexField here from index to register flags items) p scope d = quiet_items items scope
-  join_term (BankField here from region to bank value flags items) p scope d =
-      λ more mores. ap (λ ss. FieldIn here region scope (field_access flags p) ∷ ss) (both (mentions true value scope) (item_mentions items scope) (quiet true value scope) (quiet_items items scope) more mores)
-  join_term (CreateField form args at name) p scope d =
-      both (operand_mentions true Anything (field_letters form) args scope) _ (quiet_operands true Anything (field_letters form) args scope refl) (λ more mores. refl)
-  join_term t p scope d = quiet true t scope
-
-  join_block : (ts : Trees) (ps : Plans) (scope : AbsolutePath) (d : Declarations) → Joins (block_mentions ts scope d) (measures_all ts ps) (sites_all ts ps scope d)
-  join_block no_trees ps scope d = λ more mores. refl
-  join_block (tree t ts) ps scope d =
-      join_both (term_mentions t scope d) (block_mentions ts scope (declare t scope d)) (measures t (plan_at ps 0)) (measures_all ts (rest_of ps)) (sites t (plan_at ps 0) scope d) (sites_all ts (rest_of ps) scope (declare t scope d)) (join_term t (plan_at ps 0) scope d) (join_block ts (rest_of ps) scope (declare t scope d))
-
 pub right_nil : {A : Type 0} (xs : List A) → xs ++ [] ≡ xs
 right_nil [] = refl
 right_nil (x ∷ xs) = ap (λ ys. x ∷ ys) (right_nil xs)
-
-pub sites_joined : (ts : Trees) (ps : Plans) (scope : AbsolutePath) (d : Declarations) → joined (block_mentions ts scope d) (measures_all ts ps) ≡ sites_all ts ps scope d
-sites_joined ts ps scope d =
-    ap (λ ms. joined ms (measures_all ts ps)) (sym (right_nil (block_mentions ts scope d))) ∙ ap (joined (block_mentions ts scope d ++ [])) (sym (right_nil (measures_all ts ps)))
-    ∙ join_block ts ps scope d [] [] ∙ right_nil (sites_all ts ps scope d)
 
 first_empty : {A : Type 0} (xs ys : List A) → xs ++ ys ≡ [] → xs ≡ []
 first_empty [] ys e = refl
@@ -161,24 +124,63 @@ second_empty : {A : Type 0} (xs ys : List A) → xs ++ ys ≡ [] → ys ≡ []
 second_empty [] ys e = e
 second_empty (x ∷ xs) ys e = absurd cc
 
--- where nothing is said there are no sites
-mutual
-  no_site : (t : Tree) (p : Plan) (scope : AbsolutePath) (d : Declarations) → measures t p ≡ [] → sites t p scope d ≡ []
-  no_site (OperationRegion at name space args) p scope d e = absurd cc
-  no_site (Field here from region flags items) p scope d e = absurd cc
-  no_site (BankField here from region to bank value flags items) p scope d e = absurd cc
-  no_site (Method at name flags body) p scope d e = no_sites body (body_of p) (place_of name scope) _ e
-  no_site (Container' kind at name body) p scope d e = no_sites body (body_of p) (place_of name scope) _ e
-  no_site (Scope here at name body) p scope d e = no_sites body (body_of p) (scope_path d name scope) d e
-  no_site (If test body) p scope d e = no_sites body (body_of p) scope d e
-  no_site (ElseIf test body) p scope d e = no_sites body (body_of p) scope d e
-  no_site (Else body) p scope d e = no_sites body (body_of p) scope d e
-  no_site (While test body) p scope d e = no_sites body (body_of p) scope d e
-  no_site t p scope d e = refl
+module _ (width : Width) where
+  mutual
+    join_term : (t : Tree) (p : Plan) (scope : AbsolutePath) (d : Declarations) → Joins (term_mentions t scope d) (measures width t p) (sites width t p scope d)
+    join_term (Return value) p scope d = quiet true value scope
+    join_term (Name at name value) p scope d = quiet true value scope
+    join_term (Alias from source at name) p scope d = λ more mores. refl
+    join_term (External here at name type parameters) p scope d = λ more mores. refl
+    join_term (Method at name flags body) p scope d = join_block body (body_of p) (place_of name scope) _
+    join_term (Mutex at name level) p scope d = λ more mores. refl
+    join_term (Event at name) p scope d = λ more mores. refl
+    join_term (Container' kind at name body) p scope d = join_block body (body_of p) (place_of name scope) _
+    join_term (Scope here at name body) p scope d = join_block body (body_of p) (scope_path d name scope) d
+    join_term (If test body) p scope d =
+        join_both (mentions true test scope) (block_mentions body scope d) [] (measures_all width body (body_of p)) [] (sites_all width body (body_of p) scope d) (quiet true test scope) (join_block body (body_of p) scope d)
+    join_term (ElseIf test body) p scope d =
+        join_both (mentions true test scope) (block_mentions body scope d) [] (measures_all width body (body_of p)) [] (sites_all width body (body_of p) scope d) (quiet true test scope) (join_block body (body_of p) scope d)
+    join_term (Else body) p scope d = join_block body (body_of p) scope d
+    join_term (While test body) p scope d =
+        join_both (mentions true test scope) (block_mentions body scope d) [] (measures_all width body (body_of p)) [] (sites_all width body (body_of p) scope d) (quiet true test scope) (join_block body (body_of p) scope d)
+    join_term (OperationRegion at name space args) p scope d =
+        λ more mores. ap (λ ss. RegionAt (place_of name scope) (region_size width p) ∷ ss) (quiet_operands true Anything region_letters args scope refl more mores)
+    join_term (Field here from region flags items) p scope d = λ more mores. ap (λ ss. FieldIn here region scope (field_access flags p) ∷ ss) (quiet_items items scope more mores)
+    join_term (IndexField here from index to register flags items) p scope d = quiet_items items scope
+    join_term (BankField here from region to bank value flags items) p scope d =
+        λ more mores. ap (λ ss. FieldIn here region scope (field_access flags p) ∷ ss) (both (mentions true value scope) (item_mentions items scope) (quiet true value scope) (quiet_items items scope) more mores)
+    join_term (CreateField form args at name) p scope d =
+        both (operand_mentions true Anything (field_letters form) args scope) _ (quiet_operands true Anything (field_letters form) args scope refl) (λ more mores. refl)
+    join_term t p scope d = quiet true t scope
 
-  pub no_sites : (ts : Trees) (ps : Plans) (scope : AbsolutePath) (d : Declarations) → measures_all ts ps ≡ [] → sites_all ts ps scope d ≡ []
-  no_sites no_trees ps scope d e = refl
-  no_sites (tree t ts) ps scope d e =
-      let here = no_site t (plan_at ps 0) scope d (first_empty (measures t (plan_at ps 0)) (measures_all ts (rest_of ps)) e) in
-      let rest = no_sites ts (rest_of ps) scope (declare t scope d) (second_empty (measures t (plan_at ps 0)) (measures_all ts (rest_of ps)) e) in
-      ap (λ xs. xs ++ sites_all ts (rest_of ps) scope (declare t scope d)) here ∙ rest
+    join_block : (ts : Trees) (ps : Plans) (scope : AbsolutePath) (d : Declarations) → Joins (block_mentions ts scope d) (measures_all width ts ps) (sites_all width ts ps scope d)
+    join_block no_trees ps scope d = λ more mores. refl
+    join_block (tree t ts) ps scope d =
+        join_both (term_mentions t scope d) (block_mentions ts scope (declare t scope d)) (measures width t (plan_at ps 0)) (measures_all width ts (rest_of ps)) (sites width t (plan_at ps 0) scope d) (sites_all width ts (rest_of ps) scope (declare t scope d)) (join_term t (plan_at ps 0) scope d) (join_block ts (rest_of ps) scope (declare t scope d))
+
+  pub sites_joined : (ts : Trees) (ps : Plans) (scope : AbsolutePath) (d : Declarations) → joined (block_mentions ts scope d) (measures_all width ts ps) ≡ sites_all width ts ps scope d
+  sites_joined ts ps scope d =
+      ap (λ ms. joined ms (measures_all width ts ps)) (sym (right_nil (block_mentions ts scope d))) ∙ ap (joined (block_mentions ts scope d ++ [])) (sym (right_nil (measures_all width ts ps)))
+      ∙ join_block ts ps scope d [] [] ∙ right_nil (sites_all width ts ps scope d)
+
+  -- where nothing is said there are no sites
+  mutual
+    no_site : (t : Tree) (p : Plan) (scope : AbsolutePath) (d : Declarations) → measures width t p ≡ [] → sites width t p scope d ≡ []
+    no_site (OperationRegion at name space args) p scope d e = absurd cc
+    no_site (Field here from region flags items) p scope d e = absurd cc
+    no_site (BankField here from region to bank value flags items) p scope d e = absurd cc
+    no_site (Method at name flags body) p scope d e = no_sites body (body_of p) (place_of name scope) _ e
+    no_site (Container' kind at name body) p scope d e = no_sites body (body_of p) (place_of name scope) _ e
+    no_site (Scope here at name body) p scope d e = no_sites body (body_of p) (scope_path d name scope) d e
+    no_site (If test body) p scope d e = no_sites body (body_of p) scope d e
+    no_site (ElseIf test body) p scope d e = no_sites body (body_of p) scope d e
+    no_site (Else body) p scope d e = no_sites body (body_of p) scope d e
+    no_site (While test body) p scope d e = no_sites body (body_of p) scope d e
+    no_site t p scope d e = refl
+
+    pub no_sites : (ts : Trees) (ps : Plans) (scope : AbsolutePath) (d : Declarations) → measures_all width ts ps ≡ [] → sites_all width ts ps scope d ≡ []
+    no_sites no_trees ps scope d e = refl
+    no_sites (tree t ts) ps scope d e =
+        let here = no_site t (plan_at ps 0) scope d (first_empty (measures width t (plan_at ps 0)) (measures_all width ts (rest_of ps)) e) in
+        let rest = no_sites ts (rest_of ps) scope (declare t scope d) (second_empty (measures width t (plan_at ps 0)) (measures_all width ts (rest_of ps)) e) in
+        ap (λ xs. xs ++ sites_all width ts (rest_of ps) scope (declare t scope d)) here ∙ rest

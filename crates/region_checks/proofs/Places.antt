@@ -4,6 +4,7 @@ use Rattle.acpi_values.specs.Paths.{AbsolutePath}
 use Rattle.iasl_messages.specs.declared.message.Message.{Message}
 use Rattle.iasl_messages.specs.declared.place.Place.{Place}
 use Rattle.asl_parser.specs.Within.{IsIn}
+use Rattle.acpi_values.specs.declared.width.Width.{Width}
 use Rattle.asl_tree.specs.Names.{place_of}
 use Rattle.asl_tree.specs.Tree.{Tree, Method, Container', Scope, Trees, no_trees, tree, OperationRegion, Field, BankField, If, ElseIf, Else, While}
 use Rattle.asl_meaning.specs.Declarations.{Declarations, scope_path, declare, nothing_declared}
@@ -27,23 +28,23 @@ module _ (files : ℕ) where
   both_sites (FieldIn here region scope access ∷ xs) ys h k = (h.0, both_sites xs ys h.1 k)
 
   mutual
-    site_within : (t : Tree) (p : Plan) (scope : AbsolutePath) (d : Declarations) → IsFieldWithin files t → AreSitesWithin (sites t p scope d)
-    site_within (OperationRegion at name space args) p scope d h = tt
-    site_within (Field here from region flags items) p scope d h = (h, tt)
-    site_within (BankField here from region to bank value flags items) p scope d h = (h, tt)
-    site_within (Method at name flags body) p scope d h = sites_within body (body_of p) (place_of name scope) _ h
-    site_within (Container' kind at name body) p scope d h = sites_within body (body_of p) (place_of name scope) _ h
-    site_within (Scope here at name body) p scope d h = sites_within body (body_of p) (scope_path d name scope) d h
-    site_within (If test body) p scope d h = sites_within body (body_of p) scope d h
-    site_within (ElseIf test body) p scope d h = sites_within body (body_of p) scope d h
-    site_within (Else body) p scope d h = sites_within body (body_of p) scope d h
-    site_within (While test body) p scope d h = sites_within body (body_of p) scope d h
-    site_within t p scope d h = tt
+    site_within : (width : Width) (t : Tree) (p : Plan) (scope : AbsolutePath) (d : Declarations) → IsFieldWithin files t → AreSitesWithin (sites width t p scope d)
+    site_within width (OperationRegion at name space args) p scope d h = tt
+    site_within width (Field here from region flags items) p scope d h = (h, tt)
+    site_within width (BankField here from region to bank value flags items) p scope d h = (h, tt)
+    site_within width (Method at name flags body) p scope d h = sites_within width body (body_of p) (place_of name scope) _ h
+    site_within width (Container' kind at name body) p scope d h = sites_within width body (body_of p) (place_of name scope) _ h
+    site_within width (Scope here at name body) p scope d h = sites_within width body (body_of p) (scope_path d name scope) d h
+    site_within width (If test body) p scope d h = sites_within width body (body_of p) scope d h
+    site_within width (ElseIf test body) p scope d h = sites_within width body (body_of p) scope d h
+    site_within width (Else body) p scope d h = sites_within width body (body_of p) scope d h
+    site_within width (While test body) p scope d h = sites_within width body (body_of p) scope d h
+    site_within width t p scope d h = tt
 
-    sites_within : (ts : Trees) (ps : Plans) (scope : AbsolutePath) (d : Declarations) → AreFieldsWithin files ts → AreSitesWithin (sites_all ts ps scope d)
-    sites_within no_trees ps scope d h = tt
-    sites_within (tree t ts) ps scope d h =
-        both_sites (sites t (plan_at ps 0) scope d) (sites_all ts (rest_of ps) scope (declare t scope d)) (site_within t (plan_at ps 0) scope d h.0) (sites_within ts (rest_of ps) scope (declare t scope d) h.1)
+    sites_within : (width : Width) (ts : Trees) (ps : Plans) (scope : AbsolutePath) (d : Declarations) → AreFieldsWithin files ts → AreSitesWithin (sites_all width ts ps scope d)
+    sites_within width no_trees ps scope d h = tt
+    sites_within width (tree t ts) ps scope d h =
+        both_sites (sites width t (plan_at ps 0) scope d) (sites_all width ts (rest_of ps) scope (declare t scope d)) (site_within width t (plan_at ps 0) scope d h.0) (sites_within width ts (rest_of ps) scope (declare t scope d) h.1)
 
   both_told : (xs ys : List Message) → AreTold files xs → AreTold files ys → AreTold files (xs ++ ys)
   both_told [] ys h k = k
@@ -63,7 +64,7 @@ module _ (files : ℕ) where
   errors_within whole regions (FieldIn here region scope access ∷ ss) h =
       both_told (access_errors here.place access (size_at regions (name_end whole region scope))) (all_site_errors whole regions ss) (access_within here.place access (size_at regions (name_end whole region scope)) h.0) (errors_within whole regions ss h.1)
 
-pub region_errors_within : (files : ℕ) (ts : Trees) (ps : Plans) → AreFieldsWithin files ts → AreTold files (region_errors ts ps)
-region_errors_within files ts ps h =
-    let ss = sites_all ts ps [] nothing_declared in
-    errors_within files (whole_of ts) (sizes ss) ss (sites_within files ts ps [] nothing_declared h)
+pub region_errors_within : (files : ℕ) (width : Width) (ts : Trees) (ps : Plans) → AreFieldsWithin files ts → AreTold files (region_errors width ts ps)
+region_errors_within files width ts ps h =
+    let ss = sites_all width ts ps [] nothing_declared in
+    errors_within files (whole_of ts) (sizes ss) ss (sites_within files width ts ps [] nothing_declared h)

@@ -4,6 +4,7 @@ use Rattle.std.specs.Prelude.{slice_get}
 use Rattle.std.proofs.lemmas.List.{drop_all, length-map}
 use Rattle.acpi_values.specs.Paths.{AbsolutePath}
 use Rattle.iasl_messages.specs.declared.message.Message.{Message}
+use Rattle.acpi_values.specs.declared.width.Width.{Width}
 use Rattle.asl_tree.specs.declared.term.Op.{Op}
 use Rattle.asl_tree.specs.declared.term.Node.{Node}
 use Rattle.asl_tree.specs.declared.term.Term.{Term}
@@ -44,127 +45,128 @@ use Rattle.acpi_names.specs.Mentions.{Mention, block_mentions}
 use Rattle.std.specs.List.{All}
 use Rattle.std.proofs.lemmas.List.Elements.{All-append, All-cons}
 
-abbrev pub measures_of : List Node → List Measure
-measures_of ns = measures_all (trees_of ns) (plans_of ns)
+module _ (width : Width) where
+  abbrev pub measures_of : List Node → List Measure
+  measures_of ns = measures_all width (trees_of ns) (plans_of ns)
 
--- the nodes from one on: that one alone, and those behind it
-alone_first : (ns : List Node) (i : ℕ) → i < length ns → measures_of (drop i ns) ≡ measures_of (take 1 (drop i ns)) ++ measures_of (drop (suc i) ns)
-unfolding trees_of plans_of
-alone_first [] i lt = absurd (omega (arith, lt))
-alone_first (n ∷ ns) zero lt = ap (λ ms. ms ++ measures_of ns) (sym (right_nil (measures (tree_of (record { id = n.id; place = n.place }) n.term) (plan_of n.term))))
-alone_first (n ∷ ns) (suc i) lt = alone_first ns i (omega (arith, lt))
+  -- the nodes from one on: that one alone, and those behind it
+  alone_first : (ns : List Node) (i : ℕ) → i < length ns → measures_of (drop i ns) ≡ measures_of (take 1 (drop i ns)) ++ measures_of (drop (suc i) ns)
+  unfolding trees_of plans_of
+  alone_first [] i lt = absurd (omega (arith, lt))
+  alone_first (n ∷ ns) zero lt = ap (λ ms. ms ++ measures_of ns) (sym (right_nil (measures width (tree_of (record { id = n.id; place = n.place }) n.term) (plan_of n.term))))
+  alone_first (n ∷ ns) (suc i) lt = alone_first ns i (omega (arith, lt))
 
-none_left : (ns : List Node) (i : ℕ) → length ns ≤ i → measures_of (drop i ns) ≡ []
-unfolding trees_of
-none_left [] zero le = refl
-none_left [] (suc i) le = refl
-none_left (n ∷ ns) zero le = absurd (omega (arith, le))
-none_left (n ∷ ns) (suc i) le = none_left ns i (omega (arith, le))
+  none_left : (ns : List Node) (i : ℕ) → length ns ≤ i → measures_of (drop i ns) ≡ []
+  unfolding trees_of
+  none_left [] zero le = refl
+  none_left [] (suc i) le = refl
+  none_left (n ∷ ns) zero le = absurd (omega (arith, le))
+  none_left (n ∷ ns) (suc i) le = none_left ns i (omega (arith, le))
 
--- some first nodes are measured, and those behind them are not yet
-abbrev pub Remains : List Node → ℕ → List Measure → List Measure → Type 0
-Remains ns i initial now = now ++ measures_of (drop i ns) ≡ initial ++ measures_of ns
+  -- some first nodes are measured, and those behind them are not yet
+  abbrev pub Remains : List Node → ℕ → List Measure → List Measure → Type 0
+  Remains ns i initial now = now ++ measures_of (drop i ns) ≡ initial ++ measures_of ns
 
-pub next_measured : (ns alone : List Node) (i : ℕ) (initial now next : List Measure) → i < length ns → alone ≡ take 1 (drop i ns) → Remains ns i initial now → next ≡ now ++ measures_of alone → Remains ns (i + 1) initial next
-next_measured ns alone i initial now next lt e before told =
-    let more : i + 1 ≡ suc i = omega arith in
-    ap (λ k. next ++ measures_of (drop k ns)) more
-    ∙ ap (λ ms. ms ++ measures_of (drop (suc i) ns)) (told ∙ ap (λ ns. now ++ measures_of ns) e)
-    ∙ append_assoc now (measures_of (take 1 (drop i ns))) (measures_of (drop (suc i) ns))
-    ∙ ap (λ ms. now ++ ms) (sym (alone_first ns i lt))
-    ∙ before
+  pub next_measured : (ns alone : List Node) (i : ℕ) (initial now next : List Measure) → i < length ns → alone ≡ take 1 (drop i ns) → Remains ns i initial now → next ≡ now ++ measures_of alone → Remains ns (i + 1) initial next
+  next_measured ns alone i initial now next lt e before told =
+      let more : i + 1 ≡ suc i = omega arith in
+      ap (λ k. next ++ measures_of (drop k ns)) more
+      ∙ ap (λ ms. ms ++ measures_of (drop (suc i) ns)) (told ∙ ap (λ ns. now ++ measures_of ns) e)
+      ∙ append_assoc now (measures_of (take 1 (drop i ns))) (measures_of (drop (suc i) ns))
+      ∙ ap (λ ms. now ++ ms) (sym (alone_first ns i lt))
+      ∙ before
 
-pub all_measured : (ns : List Node) (i : ℕ) (initial now : List Measure) → length ns ≤ i → Remains ns i initial now → now ≡ initial ++ measures_of ns
-all_measured ns i initial now le before = sym (right_nil now) ∙ ap (λ ms. now ++ ms) (sym (none_left ns i le)) ∙ before
+  pub all_measured : (ns : List Node) (i : ℕ) (initial now : List Measure) → length ns ≤ i → Remains ns i initial now → now ≡ initial ++ measures_of ns
+  all_measured ns i initial now le before = sym (right_nil now) ∙ ap (λ ms. now ++ ms) (sym (none_left ns i le)) ∙ before
 
-one_smaller : (ns : List Node) (i : ℕ) → nodes (plans_of (take 1 (drop i ns))) ≤ nodes (plans_of ns)
-unfolding plans_of
-one_smaller [] zero = omega arith
-one_smaller [] (suc i) = omega arith
-one_smaller (n ∷ ns) zero = omega arith
-one_smaller (n ∷ ns) (suc i) = omega (arith, one_smaller ns i)
+  one_smaller : (ns : List Node) (i : ℕ) → nodes (plans_of (take 1 (drop i ns))) ≤ nodes (plans_of ns)
+  unfolding plans_of
+  one_smaller [] zero = omega arith
+  one_smaller [] (suc i) = omega arith
+  one_smaller (n ∷ ns) zero = omega arith
+  one_smaller (n ∷ ns) (suc i) = omega (arith, one_smaller ns i)
 
-one_alone : (ns : List Node) (i : ℕ) → i < length ns → length (take 1 (drop i ns)) ≡ 1
-one_alone [] i lt = absurd (omega (arith, lt))
-one_alone (n ∷ ns) zero lt = refl
-one_alone (n ∷ ns) (suc i) lt = one_alone ns i (omega (arith, lt))
+  one_alone : (ns : List Node) (i : ℕ) → i < length ns → length (take 1 (drop i ns)) ≡ 1
+  one_alone [] i lt = absurd (omega (arith, lt))
+  one_alone (n ∷ ns) zero lt = refl
+  one_alone (n ∷ ns) (suc i) lt = one_alone ns i (omega (arith, lt))
 
--- a slice of one node
-pub slice_smaller : (ns : List Node) (i k : ℕ) → k ≡ 1 → nodes (plans_of (take k (drop i ns))) ≤ nodes (plans_of ns)
-slice_smaller ns i k e = subst (λ n. nodes (plans_of (take n (drop i ns))) ≤ nodes (plans_of ns)) (sym e) (one_smaller ns i)
+  -- a slice of one node
+  pub slice_smaller : (ns : List Node) (i k : ℕ) → k ≡ 1 → nodes (plans_of (take k (drop i ns))) ≤ nodes (plans_of ns)
+  slice_smaller ns i k e = subst (λ n. nodes (plans_of (take n (drop i ns))) ≤ nodes (plans_of ns)) (sym e) (one_smaller ns i)
 
-pub slice_alone : (ns : List Node) (i k : ℕ) → k ≡ 1 → i < length ns → length (take k (drop i ns)) ≡ 1
-slice_alone ns i k e lt = ap (λ n. length (take n (drop i ns))) e ∙ one_alone ns i lt
+  pub slice_alone : (ns : List Node) (i k : ℕ) → k ≡ 1 → i < length ns → length (take k (drop i ns)) ≡ 1
+  slice_alone ns i k e lt = ap (λ n. length (take n (drop i ns))) e ∙ one_alone ns i lt
 
--- a node that stands alone
-pub alone_nodes : (alone : List Node) (node d : Node) → length alone ≡ 1 → get_or alone 0 d ≡ node → nodes (plans_of alone) ≡ suc (inside (plan_of node.term))
-unfolding plans_of
-alone_nodes [] node d e h = absurd (omega (arith, e))
-alone_nodes (n ∷ []) node d e h = let s : inside (plan_of n.term) ≡ inside (plan_of node.term) = ap (λ (m : Node). inside (plan_of m.term)) h in omega (arith, s)
-alone_nodes (n ∷ m ∷ ns) node d e h = absurd (omega (arith, e))
+  -- a node that stands alone
+  pub alone_nodes : (alone : List Node) (node d : Node) → length alone ≡ 1 → get_or alone 0 d ≡ node → nodes (plans_of alone) ≡ suc (inside (plan_of node.term))
+  unfolding plans_of
+  alone_nodes [] node d e h = absurd (omega (arith, e))
+  alone_nodes (n ∷ []) node d e h = let s : inside (plan_of n.term) ≡ inside (plan_of node.term) = ap (λ (m : Node). inside (plan_of m.term)) h in omega (arith, s)
+  alone_nodes (n ∷ m ∷ ns) node d e h = absurd (omega (arith, e))
 
-alone_is : (alone : List Node) (node d : Node) → length alone ≡ 1 → get_or alone 0 d ≡ node → alone ≡ node ∷ []
-alone_is [] node d e h = absurd (omega (arith, e))
-alone_is (n ∷ []) node d e h = ap (λ m. m ∷ []) h
-alone_is (n ∷ m ∷ ns) node d e h = absurd (omega (arith, e))
+  alone_is : (alone : List Node) (node d : Node) → length alone ≡ 1 → get_or alone 0 d ≡ node → alone ≡ node ∷ []
+  alone_is [] node d e h = absurd (omega (arith, e))
+  alone_is (n ∷ []) node d e h = ap (λ m. m ∷ []) h
+  alone_is (n ∷ m ∷ ns) node d e h = absurd (omega (arith, e))
 
-measures_alone : (node : Node) → measures_of (node ∷ []) ≡ measures (tree_of (record { id = node.id; place = node.place }) node.term) (plan_of node.term) ++ []
-unfolding trees_of plans_of
-measures_alone node = refl
+  measures_alone : (node : Node) → measures_of (node ∷ []) ≡ measures width (tree_of (record { id = node.id; place = node.place }) node.term) (plan_of node.term) ++ []
+  unfolding trees_of plans_of
+  measures_alone node = refl
 
-errors_alone : (node : Node) → all_errors (plans_of (node ∷ [])) ≡ term_errors (plan_of node.term) ++ []
-unfolding plans_of
-errors_alone node = refl
+  errors_alone : (node : Node) → all_errors (plans_of (node ∷ [])) ≡ term_errors (plan_of node.term) ++ []
+  unfolding plans_of
+  errors_alone node = refl
 
-by_form : (at : At) (t : Term) (op : Op) (args body : Vec Node Global) → t ≡ D.Form op args body → measures (tree_of at t) (plan_of t) ≡ part_measures (part_of op (trees_of args.items) (trees_of body.items)) (trees_of args.items) (trees_of body.items) (plans_of args.items) (plans_of body.items) (term_errors (plan_of t))
-by_form at t op args body e =
-    let xs = plans_of args.items in
-    let ys = plans_of body.items in
-    let p : plan_of t ≡ a_form op xs ys = ap plan_of e ∙ plan_form op args body in
-    ap (λ u. measures u (plan_of t)) (ap (tree_of at) e ∙ form_tree at op args body)
-    ∙ ap (measures (form at op (trees_of args.items) (trees_of body.items))) p
-    ∙ measured_form at op (trees_of args.items) (trees_of body.items) xs ys
-    ∙ ap (λ q. part_measures (part_of op (trees_of args.items) (trees_of body.items)) (trees_of args.items) (trees_of body.items) xs ys (term_errors q)) (sym p)
+  by_form : (at : At) (t : Term) (op : Op) (args body : Vec Node Global) → t ≡ D.Form op args body → measures width (tree_of at t) (plan_of t) ≡ part_measures width (part_of op (trees_of args.items) (trees_of body.items)) (trees_of args.items) (trees_of body.items) (plans_of args.items) (plans_of body.items) (term_errors (plan_of t))
+  by_form at t op args body e =
+      let xs = plans_of args.items in
+      let ys = plans_of body.items in
+      let p : plan_of t ≡ a_form op xs ys = ap plan_of e ∙ plan_form op args body in
+      ap (λ u. measures width u (plan_of t)) (ap (tree_of at) e ∙ form_tree at op args body)
+      ∙ ap (measures width (form at op (trees_of args.items) (trees_of body.items))) p
+      ∙ measured_form width at op (trees_of args.items) (trees_of body.items) xs ys
+      ∙ ap (λ q. part_measures width (part_of op (trees_of args.items) (trees_of body.items)) (trees_of args.items) (trees_of body.items) xs ys (term_errors q)) (sym p)
 
--- a form that stands alone
-pub form_alone : (alone : List Node) (node d : Node) (op : Op) (args body : Vec Node Global) (xs ys : List Node) → length alone ≡ 1 → get_or alone 0 d ≡ node → node.term ≡ D.Form op args body → xs ≡ args.items → ys ≡ body.items → part_measures (part_of op (trees_of xs) (trees_of ys)) (trees_of xs) (trees_of ys) (plans_of xs) (plans_of ys) (all_errors (plans_of alone)) ≡ measures_of alone
-form_alone alone node d op args body xs ys e h is ax by =
-    let told = λ (xs ys : List Node) (es : List Message). part_measures (part_of op (trees_of xs) (trees_of ys)) (trees_of xs) (trees_of ys) (plans_of xs) (plans_of ys) es in
-    let one : alone ≡ node ∷ [] = alone_is alone node d e h in
-    ap (λ ns. told ns ys (all_errors (plans_of alone))) ax ∙ ap (λ ns. told args.items ns (all_errors (plans_of alone))) by
-    ∙ ap (told args.items body.items) (ap (λ ns. all_errors (plans_of ns)) one ∙ errors_alone node ∙ right_nil (term_errors (plan_of node.term)))
-    ∙ sym (by_form (record { id = node.id; place = node.place }) node.term op args body is)
-    ∙ sym (right_nil (measures (tree_of (record { id = node.id; place = node.place }) node.term) (plan_of node.term)))
-    ∙ sym (measures_alone node) ∙ ap measures_of (sym one)
+  -- a form that stands alone
+  pub form_alone : (alone : List Node) (node d : Node) (op : Op) (args body : Vec Node Global) (xs ys : List Node) → length alone ≡ 1 → get_or alone 0 d ≡ node → node.term ≡ D.Form op args body → xs ≡ args.items → ys ≡ body.items → part_measures width (part_of op (trees_of xs) (trees_of ys)) (trees_of xs) (trees_of ys) (plans_of xs) (plans_of ys) (all_errors (plans_of alone)) ≡ measures_of alone
+  form_alone alone node d op args body xs ys e h is ax by =
+      let told = λ (xs ys : List Node) (es : List Message). part_measures width (part_of op (trees_of xs) (trees_of ys)) (trees_of xs) (trees_of ys) (plans_of xs) (plans_of ys) es in
+      let one : alone ≡ node ∷ [] = alone_is alone node d e h in
+      ap (λ ns. told ns ys (all_errors (plans_of alone))) ax ∙ ap (λ ns. told args.items ns (all_errors (plans_of alone))) by
+      ∙ ap (told args.items body.items) (ap (λ ns. all_errors (plans_of ns)) one ∙ errors_alone node ∙ right_nil (term_errors (plan_of node.term)))
+      ∙ sym (by_form (record { id = node.id; place = node.place }) node.term op args body is)
+      ∙ sym (right_nil (measures width (tree_of (record { id = node.id; place = node.place }) node.term) (plan_of node.term)))
+      ∙ sym (measures_alone node) ∙ ap measures_of (sym one)
 
--- what is no form says nothing
-nothing_said : (at : At) (p : Plan) (t : Term) → ((o : Op) (v w : Vec Node Global) → t ≡ D.Form o v w → ⊥) → measures (tree_of at t) p ≡ []
-unfolding tree_of
-nothing_said at p t not_form = by_layer (D.out-Term t) (sym (D.roll-out-Term t))
-  where
-    said : Term → List Measure
-    said u = measures (tree_of at u) p
+  -- what is no form says nothing
+  nothing_said : (at : At) (p : Plan) (t : Term) → ((o : Op) (v w : Vec Node Global) → t ≡ D.Form o v w → ⊥) → measures width (tree_of at t) p ≡ []
+  unfolding tree_of
+  nothing_said at p t not_form = by_layer (D.out-Term t) (sym (D.roll-out-Term t))
+    where
+      said : Term → List Measure
+      said u = measures width (tree_of at u) p
 
-    by_layer : (f : D.Term-F Term Node) → t ≡ D.roll-Term f → measures (tree_of at t) p ≡ []
-    by_layer (D.Term-F.Integer n) e = ap said (e ∙ V.rolls-Integer n)
-    by_layer (D.Term-F.Text text) e = ap said (e ∙ V.rolls-Text text)
-    by_layer (D.Term-F.Fill bytes) e = ap said (e ∙ V.rolls-Fill bytes)
-    by_layer (D.Term-F.Word word) e = ap said (e ∙ V.rolls-Word word)
-    by_layer (D.Term-F.Local n) e = ap said (e ∙ V.rolls-Local n)
-    by_layer (D.Term-F.Arg n) e = ap said (e ∙ V.rolls-Arg n)
-    by_layer (D.Term-F.Debug) e = ap said (e ∙ V.rolls-Debug)
-    by_layer (D.Term-F.Omitted) e = ap said (e ∙ V.rolls-Omitted)
-    by_layer (D.Term-F.Name name) e = ap said (e ∙ V.rolls-Name name)
-    by_layer (D.Term-F.Unit s n) e = ap said (e ∙ V.rolls-Unit s n)
-    by_layer (D.Term-F.Skip n) e = ap said (e ∙ V.rolls-Skip n)
-    by_layer (D.Term-F.Offset n) e = ap said (e ∙ V.rolls-Offset n)
-    by_layer (D.Term-F.Call name v) e = ap said (e ∙ V.rolls-Call name v) ∙ ap (λ u. measures u p) (call_tree at name v)
-    by_layer (D.Term-F.Form o v w) e = absurd (not_form o v w (e ∙ V.rolls-Form o v w))
+      by_layer : (f : D.Term-F Term Node) → t ≡ D.roll-Term f → measures width (tree_of at t) p ≡ []
+      by_layer (D.Term-F.Integer n) e = ap said (e ∙ V.rolls-Integer n)
+      by_layer (D.Term-F.Text text) e = ap said (e ∙ V.rolls-Text text)
+      by_layer (D.Term-F.Fill bytes) e = ap said (e ∙ V.rolls-Fill bytes)
+      by_layer (D.Term-F.Word word) e = ap said (e ∙ V.rolls-Word word)
+      by_layer (D.Term-F.Local n) e = ap said (e ∙ V.rolls-Local n)
+      by_layer (D.Term-F.Arg n) e = ap said (e ∙ V.rolls-Arg n)
+      by_layer (D.Term-F.Debug) e = ap said (e ∙ V.rolls-Debug)
+      by_layer (D.Term-F.Omitted) e = ap said (e ∙ V.rolls-Omitted)
+      by_layer (D.Term-F.Name name) e = ap said (e ∙ V.rolls-Name name)
+      by_layer (D.Term-F.Unit s n) e = ap said (e ∙ V.rolls-Unit s n)
+      by_layer (D.Term-F.Skip n) e = ap said (e ∙ V.rolls-Skip n)
+      by_layer (D.Term-F.Offset n) e = ap said (e ∙ V.rolls-Offset n)
+      by_layer (D.Term-F.Call name v) e = ap said (e ∙ V.rolls-Call name v) ∙ ap (λ u. measures width u p) (call_tree at name v)
+      by_layer (D.Term-F.Form o v w) e = absurd (not_form o v w (e ∙ V.rolls-Form o v w))
 
-pub other_alone : (alone : List Node) (node d : Node) → length alone ≡ 1 → get_or alone 0 d ≡ node → ((o : Op) (v w : Vec Node Global) → node.term ≡ D.Form o v w → ⊥) → measures_of alone ≡ []
-other_alone alone node d e h not_form =
-    ap measures_of (alone_is alone node d e h) ∙ measures_alone node ∙ right_nil (measures (tree_of (record { id = node.id; place = node.place }) node.term) (plan_of node.term))
-    ∙ nothing_said (record { id = node.id; place = node.place }) (plan_of node.term) node.term not_form
+  pub other_alone : (alone : List Node) (node d : Node) → length alone ≡ 1 → get_or alone 0 d ≡ node → ((o : Op) (v w : Vec Node Global) → node.term ≡ D.Form o v w → ⊥) → measures_of alone ≡ []
+  other_alone alone node d e h not_form =
+      ap measures_of (alone_is alone node d e h) ∙ measures_alone node ∙ right_nil (measures width (tree_of (record { id = node.id; place = node.place }) node.term) (plan_of node.term))
+      ∙ nothing_said (record { id = node.id; place = node.place }) (plan_of node.term) node.term not_form
 
 first_at : (ps : List Measure) (n : ℕ) → first_measure (drop n ps) ≡ slice_get ps n
 first_at [] zero = refl
@@ -271,22 +273,23 @@ pub within_more : (n : ℕ) (site : CodeSite) (old new out : List CodeSite) → 
 within_more n site old new out same push h k =
     subst (All (IsWithin n)) (sym (same ∙ push)) (All-append (IsWithin n) old (site ∷ []) k (All-cons (IsWithin n) site [] h (λ i d lt. absurd (omega (arith, lt)))))
 
--- what is told of a block
-pub block_faults : (ts : Trees) (ps : Plans) (ms : List Mention) (given : List Measure) (out : List Message) → ms ≡ block_mentions ts [] nothing_declared → given ≡ measures_all ts ps → out ≡ sited_errors (seen ms) (joined ms given) → out ≡ sited_errors (seen (block_mentions ts [] nothing_declared)) (sites_all ts ps [] nothing_declared)
-block_faults ts ps ms given out mentioned measured told =
-    let bm = block_mentions ts [] nothing_declared in
-    told ∙ ap (λ xs. sited_errors (seen xs) (joined xs given)) mentioned ∙ ap (λ qs. sited_errors (seen bm) (joined bm qs)) measured
-    ∙ ap (sited_errors (seen bm)) (sites_joined ts ps [] nothing_declared)
+module _ (width : Width) where
+  -- what is told of a block
+  pub block_faults : (ts : Trees) (ps : Plans) (ms : List Mention) (given : List Measure) (out : List Message) → ms ≡ block_mentions ts [] nothing_declared → given ≡ measures_all width ts ps → out ≡ sited_errors (seen ms) (joined ms given) → out ≡ sited_errors (seen (block_mentions ts [] nothing_declared)) (sites_all width ts ps [] nothing_declared)
+  block_faults ts ps ms given out mentioned measured told =
+      let bm = block_mentions ts [] nothing_declared in
+      told ∙ ap (λ xs. sited_errors (seen xs) (joined xs given)) mentioned ∙ ap (λ qs. sited_errors (seen bm) (joined bm qs)) measured
+      ∙ ap (sited_errors (seen bm)) (sites_joined width ts ps [] nothing_declared)
 
--- without regions and fields nothing is told
-pub nothing_told : (ts : Trees) (ps : Plans) (whole : Whole) (given : List Measure) (out : List Message) → given ≡ measures_all ts ps → length given ≡ 0 → out ≡ [] → out ≡ sited_errors whole (sites_all ts ps [] nothing_declared)
-nothing_told ts ps whole given out measured none nothing =
-    nothing ∙ ap (sited_errors whole) (sym (no_sites ts ps [] nothing_declared (sym measured ∙ no_measures given none)))
-  where
-    no_measures : (xs : List Measure) → length xs ≡ 0 → xs ≡ []
-    no_measures [] e = refl
-    no_measures (x ∷ xs) e = absurd (omega (arith, e))
+  -- without regions and fields nothing is told
+  pub nothing_told : (ts : Trees) (ps : Plans) (whole : Whole) (given : List Measure) (out : List Message) → given ≡ measures_all width ts ps → length given ≡ 0 → out ≡ [] → out ≡ sited_errors whole (sites_all width ts ps [] nothing_declared)
+  nothing_told ts ps whole given out measured none nothing =
+      nothing ∙ ap (sited_errors whole) (sym (no_sites width ts ps [] nothing_declared (sym measured ∙ no_measures given none)))
+    where
+      no_measures : (xs : List Measure) → length xs ≡ 0 → xs ≡ []
+      no_measures [] e = refl
+      no_measures (x ∷ xs) e = absurd (omega (arith, e))
 
--- the same by what the trees say
-pub block_seen_errors : (ts : Trees) (ps : Plans) → are_terms ts ≡ true → sited_errors (seen (block_mentions ts [] nothing_declared)) (sites_all ts ps [] nothing_declared) ≡ region_errors ts ps
-block_seen_errors ts ps are = ap (λ w. sited_errors w (sites_all ts ps [] nothing_declared)) (block_seen ts are)
+  -- the same by what the trees say
+  pub block_seen_errors : (ts : Trees) (ps : Plans) → are_terms ts ≡ true → sited_errors (seen (block_mentions ts [] nothing_declared)) (sites_all width ts ps [] nothing_declared) ≡ region_errors width ts ps
+  block_seen_errors ts ps are = ap (λ w. sited_errors w (sites_all width ts ps [] nothing_declared)) (block_seen ts are)

@@ -18,50 +18,53 @@ use Rattle.acpi_names.specs.declared.part.Part.TheVariants as P
 use Rattle.acpi_names.specs.declared.part.What.{What}
 use Rattle.acpi_names.specs.declared.part.What.TheVariants as W
 use Rattle.acpi_names.specs.declared.part.Over.TheVariants as O
-use Rattle.acpi_values.specs.declared.width.Width.TheVariants.{W64}
+use Rattle.acpi_values.specs.declared.width.Width.{Width}
 use Rattle.asl_shape.specs.Plans.{Plan, Plans, plan_at, constant_of}
 use Rattle.region_checks.specs.declared.measure.Measure.{Measure}
 use Rattle.region_checks.specs.declared.measure.Measure.TheVariants as M
 use Rattle.region_checks.specs.Sites.{Site, RegionAt, FieldIn, body_of, rest_of, region_size, if_none, field_access}
 
-abbrev mutual
-  pub measures : Tree → Plan → List Measure
-  measures (OperationRegion at name space args) p = M.Size (region_size p) ∷ []
-  measures (Field here from region flags items) p = M.Access (field_access flags p) ∷ []
-  measures (BankField here from region to bank value flags items) p = M.Access (field_access flags p) ∷ []
-  measures (Method at name flags body) p = measures_all body (body_of p)
-  measures (Container' kind at name body) p = measures_all body (body_of p)
-  measures (Scope here at name body) p = measures_all body (body_of p)
-  measures (If test body) p = measures_all body (body_of p)
-  measures (ElseIf test body) p = measures_all body (body_of p)
-  measures (Else body) p = measures_all body (body_of p)
-  measures (While test body) p = measures_all body (body_of p)
-  measures t p = []
-
-  pub measures_all : Trees → Plans → List Measure
-  measures_all no_trees ps = []
-  measures_all (tree t ts) ps = measures t (plan_at ps 0) ++ measures_all ts (rest_of ps)
-
--- the same by the part of a form, with the errors of its list
+-- what a field says with these flags, by its items and the errors of its list
 abbrev pub list_measures : Option ℕ → Trees → List Message → List Measure
 list_measures None body errors = []
 list_measures (Some flags) body errors = choose (items_in body) [] (λ items. M.Access (if_none errors (access_bytes flags)) ∷ [])
 
-abbrev pub opened_measures : Bool → Trees → Plans → List Measure
-opened_measures true body plans = measures_all body plans
-opened_measures false body plans = []
+-- constants are taken at this width
+module _ (width : Width) where
+  abbrev mutual
+    pub measures : Tree → Plan → List Measure
+    measures (OperationRegion at name space args) p = M.Size (region_size width p) ∷ []
+    measures (Field here from region flags items) p = M.Access (field_access flags p) ∷ []
+    measures (BankField here from region to bank value flags items) p = M.Access (field_access flags p) ∷ []
+    measures (Method at name flags body) p = measures_all body (body_of p)
+    measures (Container' kind at name body) p = measures_all body (body_of p)
+    measures (Scope here at name body) p = measures_all body (body_of p)
+    measures (If test body) p = measures_all body (body_of p)
+    measures (ElseIf test body) p = measures_all body (body_of p)
+    measures (Else body) p = measures_all body (body_of p)
+    measures (While test body) p = measures_all body (body_of p)
+    measures t p = []
 
-abbrev pub declared_measures : What → Bool → Trees → Plans → Plans → List Measure
-declared_measures (W.Region space) opens body given plans = M.Size (result_ok (constant_of W64 (plan_at given 3))) ∷ []
-declared_measures what opens body given plans = opened_measures opens body plans
+    pub measures_all : Trees → Plans → List Measure
+    measures_all no_trees ps = []
+    measures_all (tree t ts) ps = measures t (plan_at ps 0) ++ measures_all ts (rest_of ps)
 
-abbrev pub part_measures : Part → Trees → Trees → Plans → Plans → List Message → List Measure
-part_measures (P.Declares n what opens) args body given plans errors = declared_measures what opens body given plans
-part_measures P.Scope args body given plans errors = measures_all body plans
-part_measures P.Within args body given plans errors = measures_all body plans
-part_measures (P.Units O.Region) args body given plans errors = list_measures (number_at 1 args) body errors
-part_measures (P.Units O.Bank) args body given plans errors = list_measures (number_at 3 args) body errors
-part_measures _ args body given plans errors = []
+  -- the same by the part of a form
+  abbrev pub opened_measures : Bool → Trees → Plans → List Measure
+  opened_measures true body plans = measures_all body plans
+  opened_measures false body plans = []
+
+  abbrev pub declared_measures : What → Bool → Trees → Plans → Plans → List Measure
+  declared_measures (W.Region space) opens body given plans = M.Size (result_ok (constant_of width (plan_at given 3))) ∷ []
+  declared_measures what opens body given plans = opened_measures opens body plans
+
+  abbrev pub part_measures : Part → Trees → Trees → Plans → Plans → List Message → List Measure
+  part_measures (P.Declares n what opens) args body given plans errors = declared_measures what opens body given plans
+  part_measures P.Scope args body given plans errors = measures_all body plans
+  part_measures P.Within args body given plans errors = measures_all body plans
+  part_measures (P.Units O.Region) args body given plans errors = list_measures (number_at 1 args) body errors
+  part_measures (P.Units O.Bank) args body given plans errors = list_measures (number_at 3 args) body errors
+  part_measures _ args body given plans errors = []
 
 -- a mention of a region that is declared, or of one that a field uses
 abbrev pub is_site : Mention → Bool

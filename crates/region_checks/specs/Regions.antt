@@ -1,6 +1,7 @@
 -- The fields whose accesses are wider than their regions.
 use Rattle.std.specs.Prelude.{ℕ, List, [], ◌∷◌, ◌++◌, Option, Some, None}
 use Rattle.acpi_values.specs.Paths.{AbsolutePath}
+use Rattle.acpi_values.specs.declared.width.Width.{Width}
 use Rattle.iasl_messages.specs.declared.message.Message.{Message}
 use Rattle.iasl_messages.specs.declared.place.Place.{Place}
 use Rattle.acpi_state.specs.Objects.{Object, lookup}
@@ -45,6 +46,6 @@ module _ (whole : Whole) (regions : List (AbsolutePath × ℕ)) where
 abbrev pub sited_errors : Whole → List Site → List Message
 sited_errors whole sites = all_site_errors whole (sizes sites) sites
 
--- the errors of a block, read as trees and as plans
-abbrev pub region_errors : Trees → Plans → List Message
-region_errors terms plans = sited_errors (whole_of terms) (sites_all terms plans [] nothing_declared)
+-- the errors of a block, read as trees and as plans, whose constants are taken at this width
+abbrev pub region_errors : Width → Trees → Plans → List Message
+region_errors width terms plans = sited_errors (whole_of terms) (sites_all width terms plans [] nothing_declared)

@@ -10,7 +10,7 @@ use Rattle.asl_tree.specs.declared.path.Path.{Path}
 use Rattle.asl_tree.specs.Names.{place_of}
 use Rattle.asl_tree.specs.Tree.{At, Tree, Method, Container', Scope, Trees, no_trees, tree, OperationRegion, Field, BankField, If, ElseIf, Else, While}
 use Rattle.asl_meaning.specs.Declarations.{As, Declarations, with_declared, scope_path, declare}
-use Rattle.acpi_values.specs.declared.width.Width.TheVariants.{W64}
+use Rattle.acpi_values.specs.declared.width.Width.{Width}
 use Rattle.asl_shape.specs.Plans.{Plan, a_form, Plans, no_plans, plan, plan_at, constant_of}
 use Rattle.field_checks.specs.Lists.{term_errors}
 
@@ -31,9 +31,9 @@ rest_of no_plans = no_plans
 rest_of (plan place p ps) = ps
 
 -- the length of a region is its fourth argument
-abbrev pub region_size : Plan → Option ℕ
-region_size (a_form op args body) = result_ok (constant_of W64 (plan_at args 3))
-region_size _ = None
+abbrev pub region_size : Width → Plan → Option ℕ
+region_size width (a_form op args body) = result_ok (constant_of width (plan_at args 3))
+region_size width _ = None
 
 -- a list has one error at most
 abbrev pub if_none : List Message → ℕ → Option ℕ
@@ -43,22 +43,24 @@ if_none (m ∷ ms) bytes = None
 abbrev pub field_access : ℕ → Plan → Option ℕ
 field_access flags p = if_none (term_errors p) (access_bytes flags)
 
-abbrev mutual
-  pub sites : Tree → Plan → AbsolutePath → Declarations → List Site
-  sites (OperationRegion at name space args) p scope d = RegionAt (place_of name scope) (region_size p) ∷ []
-  sites (Field here from region flags items) p scope d = FieldIn here region scope (field_access flags p) ∷ []
-  sites (BankField here from region to bank value flags items) p scope d = FieldIn here region scope (field_access flags p) ∷ []
-  sites (Method at name flags body) p scope d =
-      sites_all body (body_of p) (place_of name scope) (with_declared (place_of name scope) (As (MethodObject flags)) d)
-  sites (Container' kind at name body) p scope d =
-      sites_all body (body_of p) (place_of name scope) (with_declared (place_of name scope) (As (ContainerObject kind)) d)
-  sites (Scope here at name body) p scope d = sites_all body (body_of p) (scope_path d name scope) d
-  sites (If test body) p scope d = sites_all body (body_of p) scope d
-  sites (ElseIf test body) p scope d = sites_all body (body_of p) scope d
-  sites (Else body) p scope d = sites_all body (body_of p) scope d
-  sites (While test body) p scope d = sites_all body (body_of p) scope d
-  sites t p scope d = []
+-- constants are taken at this width
+module _ (width : Width) where
+  abbrev mutual
+    pub sites : Tree → Plan → AbsolutePath → Declarations → List Site
+    sites (OperationRegion at name space args) p scope d = RegionAt (place_of name scope) (region_size width p) ∷ []
+    sites (Field here from region flags items) p scope d = FieldIn here region scope (field_access flags p) ∷ []
+    sites (BankField here from region to bank value flags items) p scope d = FieldIn here region scope (field_access flags p) ∷ []
+    sites (Method at name flags body) p scope d =
+        sites_all body (body_of p) (place_of name scope) (with_declared (place_of name scope) (As (MethodObject flags)) d)
+    sites (Container' kind at name body) p scope d =
+        sites_all body (body_of p) (place_of name scope) (with_declared (place_of name scope) (As (ContainerObject kind)) d)
+    sites (Scope here at name body) p scope d = sites_all body (body_of p) (scope_path d name scope) d
+    sites (If test body) p scope d = sites_all body (body_of p) scope d
+    sites (ElseIf test body) p scope d = sites_all body (body_of p) scope d
+    sites (Else body) p scope d = sites_all body (body_of p) scope d
+    sites (While test body) p scope d = sites_all body (body_of p) scope d
+    sites t p scope d = []
 
-  pub sites_all : Trees → Plans → AbsolutePath → Declarations → List Site
-  sites_all no_trees ps scope d = []
-  sites_all (tree t ts) ps scope d = sites t (plan_at ps 0) scope d ++ sites_all ts (rest_of ps) scope (declare t scope d)
+    pub sites_all : Trees → Plans → AbsolutePath → Declarations → List Site
+    sites_all no_trees ps scope d = []
+    sites_all (tree t ts) ps scope d = sites t (plan_at ps 0) scope d ++ sites_all ts (rest_of ps) scope (declare t scope d)

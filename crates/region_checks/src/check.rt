@@ -24,6 +24,7 @@ use crate::site::{Site, sites, sizes};
 use acpi_names::index::names_of;
 use acpi_names::mention::Mention;
 use acpi_names::place::scope_in;
+use acpi_values::width::Width;
 use asl_tree::path::Path;
 use asl_tree::term::Node;
 use iasl_messages::message::{Message, Messages};
@@ -133,11 +134,15 @@ fn all_site_errors(
 }
 
 // What is told of a block, by what its mentions say.
-pub(crate) fn seen_faults(alloc: Global, terms: &[Node]) -> Result<Messages, AllocError>
-    ensures { IfOk result (λ ms. ms ≡ sited_errors (seen (block_mentions (trees_of terms.now) [] nothing_declared)) (sites_all (trees_of terms.now) (plans_of terms.now) [] nothing_declared)) }
+pub(crate) fn seen_faults(
+    alloc: Global,
+    width: Width,
+    terms: &[Node],
+) -> Result<Messages, AllocError>
+    ensures { IfOk result (λ ms. ms ≡ sited_errors (seen (block_mentions (trees_of terms.now) [] nothing_declared)) (sites_all width (trees_of terms.now) (plans_of terms.now) [] nothing_declared)) }
 {
     let mut measures = Vec::new(alloc);
-    all_measures(alloc, &mut measures, terms)?;
+    all_measures(alloc, width, &mut measures, terms)?;
     if measures.is_empty() {
         return Ok(Messages::new(alloc));
     }
@@ -150,14 +155,13 @@ pub(crate) fn seen_faults(alloc: Global, terms: &[Node]) -> Result<Messages, All
 /// The fields of a block whose accesses are wider than their regions (ACPI Specification 6.4, 19.6.7, 19.6.48 and
 /// 19.6.100), in the order of the source: 6072 at each Field and BankField whose list has no error of its own, and whose
 /// access has more bytes than the constant length of the region at which its name ends, through aliases too. A region
-/// of another table, and one whose length is no constant, has no such length. A length is taken at 64 bits. The only error
+/// of another table, and one whose length is no constant, has no such length. A length is taken at the width of the table. The only error
 /// is want of memory, as which a list is answered that reaches behind 2^62 bits.
-#[tactic(auto, using(crate::proofs::Walks::block_seen_errors))]
-pub fn region_faults(alloc: Global, terms: &[Node]) -> Result<Messages, AllocError>
+pub fn region_faults(alloc: Global, width: Width, terms: &[Node]) -> Result<Messages, AllocError>
     requires terms { are_terms (trees_of terms.now) ≡ true }
-    ensures told { IfOk result (λ ms. ms ≡ region_errors (trees_of terms.now) (plans_of terms.now)) }
+    ensures told { IfOk result (λ ms. ms ≡ region_errors width (trees_of terms.now) (plans_of terms.now)) }
     ensures places { (files : ℕ) → AreFieldsWithin files (trees_of terms.now) → IfOk result (AreTold files) }
 {
-    let out = seen_faults(alloc, terms)?;
+    let out = seen_faults(alloc, width, terms)?;
     Ok(out)
 }

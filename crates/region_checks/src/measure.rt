@@ -5,7 +5,6 @@ ghost use Rattle.std.specs.Result.{result_ok};
 ghost use Rattle.acpi_state.specs.Access.{access_bytes as bytes_of};
 ghost use Rattle.asl_tree.specs.View.{trees_of};
 ghost use Rattle.acpi_names.specs.Parts.{is_item_list, is_item_term, part_of};
-ghost use Rattle.acpi_values.specs.declared.width.Width.TheVariants.{W64};
 ghost use Rattle.asl_shape.specs.Plans.{plan_of, plans_of, plan_at, constant_of};
 ghost use Rattle.field_checks.specs.Lists.{all_errors};
 ghost use Rattle.region_checks.specs.Measures as spec;
@@ -44,21 +43,21 @@ fn node_at(nodes: &[Node], place: usize) -> Option<&Node>
     nodes.get(place)
 }
 
-// The value of a constant.
+// The value of a constant at a width.
 #[tactic(auto, using(asl_shape::proofs::Constants::constant_is))]
-fn constant_in(term: &Term) -> Option<u64>
-    ensures { result ≡ result_ok (constant_of W64 (plan_of term.now)) }
+fn constant_in(width: Width, term: &Term) -> Option<u64>
+    ensures { result ≡ result_ok (constant_of width (plan_of term.now)) }
 {
-    constant(term, Width::W64).ok()
+    constant(term, width).ok()
 }
 
 // The constant length of a region by its arguments.
 #[tactic(auto, using(crate::proofs::Nodes::constant_there, crate::proofs::Nodes::constant_none))]
-fn region_size(args: &[Node]) -> Option<u64>
-    ensures { result ≡ result_ok (constant_of W64 (plan_at (plans_of args.now) 3)) }
+fn region_size(width: Width, args: &[Node]) -> Option<u64>
+    ensures { result ≡ result_ok (constant_of width (plan_at (plans_of args.now) 3)) }
 {
     match node_at(args, 3) {
-        Some(node) => constant_in(&node.term),
+        Some(node) => constant_in(width, &node.term),
         None => None,
     }
 }
@@ -118,24 +117,25 @@ fn list_measures(
 #[cycle(walk)]
 fn form_measures(
     alloc: Global,
+    width: Width,
     out: &mut Vec<Measure>,
     alone: &[Node],
     op: Op,
     args: &[Node],
     body: &[Node],
 ) -> Result<(), AllocError>
-    ensures { OnOk result (out.new.items ≡ out.old.items ++ spec.part_measures (part_of op (trees_of args.now) (trees_of body.now)) (trees_of args.now) (trees_of body.now) (plans_of args.now) (plans_of body.now) (all_errors (plans_of alone.now))) }
+    ensures { OnOk result (out.new.items ≡ out.old.items ++ spec.part_measures width (part_of op (trees_of args.now) (trees_of body.now)) (trees_of args.now) (trees_of body.now) (plans_of args.now) (plans_of body.now) (all_errors (plans_of alone.now))) }
 {
     match part_for(op, args, body) {
         Part::Declares {
             what: What::Region(_),
             ..
         } => {
-            out.push(Measure::Size(region_size(args)))?;
+            out.push(Measure::Size(region_size(width, args)))?;
             Ok(())
         }
         Part::Declares { opens: true, .. } | Part::Scope | Part::Within => {
-            all_measures(alloc, out, body)?;
+            all_measures(alloc, width, out, body)?;
             Ok(())
         }
         Part::Units(Over::Region) => {
@@ -152,26 +152,36 @@ fn form_measures(
 
 // What one term says.
 #[cycle(walk)]
-fn term_measures(alloc: Global, out: &mut Vec<Measure>, alone: &[Node]) -> Result<(), AllocError>
+fn term_measures(
+    alloc: Global,
+    width: Width,
+    out: &mut Vec<Measure>,
+    alone: &[Node],
+) -> Result<(), AllocError>
     requires { length alone.now ≡ 1 }
-    ensures { OnOk result (out.new.items ≡ out.old.items ++ spec.measures_all (trees_of alone.now) (plans_of alone.now)) }
+    ensures { OnOk result (out.new.items ≡ out.old.items ++ spec.measures_all width (trees_of alone.now) (plans_of alone.now)) }
 {
     match &alone[0].term {
         Term::Form { op, args, body } => {
-            form_measures(alloc, out, alone, *op, args, body)?;
+            form_measures(alloc, width, out, alone, *op, args, body)?;
             Ok(())
         }
         _ => Ok(()),
     }
 }
 
-/// What the regions and fields of terms say, in order.
+/// What the regions and fields of terms say, in order; constants are taken at this width.
 #[cycle(walk)]
-pub fn all_measures(alloc: Global, out: &mut Vec<Measure>, nodes: &[Node]) -> Result<(), AllocError>
-    ensures { OnOk result (out.new.items ≡ out.old.items ++ spec.measures_all (trees_of nodes.now) (plans_of nodes.now)) }
+pub fn all_measures(
+    alloc: Global,
+    width: Width,
+    out: &mut Vec<Measure>,
+    nodes: &[Node],
+) -> Result<(), AllocError>
+    ensures { OnOk result (out.new.items ≡ out.old.items ++ spec.measures_all width (trees_of nodes.now) (plans_of nodes.now)) }
 {
     for index in 0..nodes.len() {
-        term_measures(alloc, out, &nodes[index..index + 1])?;
+        term_measures(alloc, width, out, &nodes[index..index + 1])?;
     }
     Ok(())
 }

@@ -1,5 +1,6 @@
 use crate::check::{region_faults, seen_faults};
 use acpi_values::operator::{IntOp, Plain};
+use acpi_values::width::Width;
 use asl_tree::path::{Path, Segs};
 use asl_tree::term::{Declaration, Node, Op, Symbolic, Term};
 use iasl_messages::message::Messages;
@@ -336,7 +337,7 @@ fn accesses_are_no_wider_than_regions(rt: HostRuntime) -> Result<(), Fail> {
     ];
     for (items, lines) in cases {
         let nodes = block(alloc, items, &[])?;
-        let messages = seen_faults(alloc, &nodes)?;
+        let messages = seen_faults(alloc, Width::W64, &nodes)?;
         assert!(rt; are_on(&messages, lines));
     }
     Ok(())
@@ -345,23 +346,26 @@ fn accesses_are_no_wider_than_regions(rt: HostRuntime) -> Result<(), Fail> {
 #[test]
 fn a_length_is_a_constant(rt: HostRuntime) -> Result<(), Fail> {
     let alloc = rt.alloc();
-    let cases: [(Size, &[u32]); 7] = [
-        (Size::Add(1, 1), &[3]),
-        (Size::Add(2, 2), &[]),
-        (Size::Plus(1, 1), &[3]),
-        (Size::Plus(0xFFFF_FFFF_FFFF_FFFF, 2), &[2, 3]),
-        (Size::Number(0x1_0000_0000), &[]),
-        (Size::Divide(1, 0), &[]),
-        (Size::Local, &[]),
+    let cases: [(Width, Size, &[u32]); 10] = [
+        (Width::W64, Size::Add(1, 1), &[3]),
+        (Width::W64, Size::Add(2, 2), &[]),
+        (Width::W64, Size::Plus(1, 1), &[3]),
+        (Width::W64, Size::Plus(0xFFFF_FFFF_FFFF_FFFF, 2), &[2, 3]),
+        (Width::W64, Size::Number(0x1_0000_0000), &[]),
+        (Width::W64, Size::Divide(1, 0), &[]),
+        (Width::W64, Size::Local, &[]),
+        (Width::W64, Size::Plus(0xFFFF_FFFF, 2), &[]),
+        (Width::W32, Size::Plus(0xFFFF_FFFF, 2), &[2, 3]),
+        (Width::W32, Size::Number(0x1_0000_0000), &[2, 3]),
     ];
-    for (size, lines) in cases {
+    for (width, size, lines) in cases {
         let items = [
             Item::Region("R___", size),
             Item::Field("R___", WORD, 8),
             Item::Field("R___", DWORD, 8),
         ];
         let nodes = block(alloc, &items, &[])?;
-        let messages = seen_faults(alloc, &nodes)?;
+        let messages = seen_faults(alloc, width, &nodes)?;
         assert!(rt; are_on(&messages, lines));
     }
     Ok(())
@@ -382,7 +386,7 @@ fn a_region_is_the_nearest(rt: HostRuntime) -> Result<(), Fail> {
     ];
     for (outer, inner, lines) in cases {
         let nodes = block(alloc, outer, inner)?;
-        let messages = seen_faults(alloc, &nodes)?;
+        let messages = seen_faults(alloc, Width::W64, &nodes)?;
         assert!(rt; are_on(&messages, lines));
     }
     Ok(())
@@ -391,7 +395,7 @@ fn a_region_is_the_nearest(rt: HostRuntime) -> Result<(), Fail> {
 #[test]
 #[tactic(auto, unfolding(asl_tree::specs::View::trees_of))]
 fn an_empty_block_has_no_fault(rt: HostRuntime) -> Result<(), Fail> {
-    let messages = region_faults(rt.alloc(), &[])?;
+    let messages = region_faults(rt.alloc(), Width::W64, &[])?;
     assert_eq!(rt; messages.len(), 0);
     Ok(())
 }

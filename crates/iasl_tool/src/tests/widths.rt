@@ -1,4 +1,4 @@
-// Tables whose integers have 32 bits, beside those of 64 bits. The bytes are those of ACPICA's compiler where it computes them.
+// Tables whose integers have 32 bits, beside those of 64 bits, without folding. The bytes are those of ACPICA's compiler where it computes them.
 use super::{Failing, run};
 use std::alloc::{AllocError, Global};
 
@@ -77,15 +77,20 @@ fn source(alloc: Global, revision: &str, terms: &str) -> Result<Vec<u8>, AllocEr
     Ok(text)
 }
 
-// The bytes behind the header, or none where no table is put.
-fn compiled(alloc: Global, revision: &str, terms: &str) -> Result<Vec<u8>, AllocError> {
+// The bytes behind the header of the table that these words put, or none where no table is put.
+pub(super) fn compiled(
+    alloc: Global,
+    words: &[&str],
+    revision: &str,
+    terms: &str,
+) -> Result<Vec<u8>, AllocError> {
     let none = Failing {
         fetch: 0,
         put: 0,
         write: 0,
     };
     let text = source(alloc, revision, terms)?;
-    let ran = run(alloc, &["t.asl"], &text, &none)?;
+    let ran = run(alloc, words, &text, &none)?;
     let mut bytes = Vec::new(alloc);
     if let Some(body) = ran.outs.bodies().get(0) {
         let body = body.as_bytes();
@@ -98,10 +103,12 @@ fn compiled(alloc: Global, revision: &str, terms: &str) -> Result<Vec<u8>, Alloc
 
 #[test]
 fn tables_of_both_widths(rt: HostRuntime) -> Result<(), AllocError> {
+    let alloc = rt.alloc();
+    let words = ["-of", "t.asl"];
     for row in ROWS {
-        assert!(rt; compiled(rt.alloc(), "0", row.terms)?.as_slice() == row.narrow);
-        assert!(rt; compiled(rt.alloc(), "1", row.terms)?.as_slice() == row.narrow);
-        assert!(rt; compiled(rt.alloc(), "2", row.terms)?.as_slice() == row.wide);
+        assert!(rt; compiled(alloc, &words, "0", row.terms)?.as_slice() == row.narrow);
+        assert!(rt; compiled(alloc, &words, "1", row.terms)?.as_slice() == row.narrow);
+        assert!(rt; compiled(alloc, &words, "2", row.terms)?.as_slice() == row.wide);
     }
     Ok(())
 }

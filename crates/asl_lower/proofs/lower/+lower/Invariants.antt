@@ -1,14 +1,16 @@
-use Rattle.std.proofs.Common.{◌≡◌, ◌≤◌, ◌+◌, ◌*◌, length}
+use Rattle.std.proofs.Common.{◌≡◌, ◌≤◌, ◌+◌, ◌*◌, ◌++◌, length, reverse}
 use Rattle.asl_tree.specs.View.{trees_of}
 use Rattle.acpi_names.specs.Parts.{nodes_size, term_size}
 use Rattle.asl_lower.specs.Nests.{joined, backwards}
 use Rattle.asl_lower.specs.Nodes.{named_args}
+use Rattle.asl_lower.specs.Places.{lowered_places, nested_places}
 use Rattle.asl_lower.proofs.lower.+lower.Given as goal
 
 abbrev pub invariant-lower_each-loop-node : goal.invariant-lower_each-loop-node
 invariant-lower_each-loop-node l = record {
   trees : joined (named_args (trees_of l.left.items)) (backwards l.made.items) ≡ named_args (trees_of l.fn.nodes.items);
   size : nodes_size l.left.items ≤ nodes_size l.fn.nodes.items;
+  places : lowered_places l.left.items ++ nested_places (reverse l.made.items) ≡ lowered_places l.fn.nodes.items;
 }
 
 abbrev pub decreases-lower_each-loop-node : goal.decreases-lower_each-loop-node

@@ -1,5 +1,5 @@
 use Rattle.std.proofs.Common.{◌≡◌, ◌++◌, ◌-◌}
-use Rattle.data_tables.specs.Bytes.{little_bytes}
+use Rattle.byteorder.specs.Endian.{little_bytes}
 use Rattle.data_tables.proofs.field.little_bytes.Given as goal
 
 abbrev pub invariant-loop-place : goal.invariant-loop-place

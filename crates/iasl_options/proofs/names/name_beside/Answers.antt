@@ -1,6 +1,5 @@
 use Rattle.std.proofs.Common.{sym, subst}
 use Rattle.std.specs.Str.{IsUtf8}
-use Rattle.std.proofs.lemmas.Str.{IsUtf8-from_ascii}
 use Rattle.iasl_options.proofs.Directories.{directory_text}
 use Rattle.iasl_options.proofs.names.name_beside.Goals as goal
 
@@ -8,4 +7,4 @@ pub text_of-requires : goal.text_of-requires
 text_of-requires c = subst IsUtf8 (sym c.directory_of.ensures) (directory_text c.args.file.now c.requires.file)
 
 pub text_of-requires-2 : goal.text_of-requires-2
-text_of-requires-2 c = IsUtf8-from_ascii c.args.own.now c.requires.own
+text_of-requires-2 c = c.requires.own

@@ -1,4 +1,4 @@
-use Rattle.std.proofs.Common.{◌≡◌, false, ℕ, List, true, [], length, arith, sym, ap, ◌∙◌, subst}
+use Rattle.std.proofs.Common.{◌≡◌, ℕ, List, true, [], length, arith, sym, ap, ◌∙◌, subst}
 use Rattle.acpi_state.specs.Objects.{lookup}
 use Rattle.asl_meaning.specs.Declarations.{Declarations, declarations, is_named, written_external}
 use Rattle.acpi_values.specs.Paths.{AbsolutePath}
@@ -17,10 +17,13 @@ use Rattle.acpi_names.specs.Tables.{Tabled}
 use Rattle.acpi_names.specs.Terms.{are_terms}
 use Rattle.name_checks.specs.Messages.{told_errors}
 use Rattle.name_checks.specs.Refusals.{Refuses}
+use Rattle.acpi_values.specs.Revisions.{width_of}
+use Rattle.asl_fold.specs.Folds.{folded_where}
 use Rattle.program_shapes.proofs.Cores.{core_lowered}
+use Rattle.asl_fold.proofs.Asked.{where_shaped, where_name_errors, where_type_errors}
 use Rattle.named_sessions.specs.Shaped.{AreNamed}
 use Rattle.named_sessions.proofs.Terms.{formed_terms}
-use Rattle.iasl_tool.specs.Compiled.{its_table, of_table, with_others}
+use Rattle.iasl_tool.specs.Compiled.{its_table, lowered_in, of_table, with_others}
 use Rattle.iasl_tool.proofs.Programs.{none_told, none_behind, no_length, some_length, right_comes, like_another, stage_comes}
 use Rattle.iasl_tool.proofs.compile.compile_block.Goals as goal
 
@@ -39,16 +42,18 @@ returns-in_ok-spell-in-Ok c =
     let formed : are_terms terms ≡ true = formed_terms AreNamed (Unit {0}) terms c.requires.formed in
     let lowered = c.in_ok-core-in-Ok in
     let index = c.in-Ok.names.index in
-    let core = core_lowered false index.paths index.named.items c.as_slice-in-Ok.result.now terms (trees_of c.spell.new.terms.items) formed
+    let width = width_of block.revision in
+    let made : Trees = folded_where c.args.style.fold width (named_all terms) in
+    let core = core_lowered c.args.style.fold width c.args.style.shorten index.paths index.named.items c.as_slice-in-Ok.result.now terms (trees_of c.spell.new.terms.items) formed
     (subst
-    (λ ts. (d : Declarations) (counts : List (AbsolutePath × ℕ)) → Agrees index.paths index.named.items d → Tabled index.paths c.as_slice-in-Ok.result.now (lookup counts) → trees_of c.spell.new.terms.items ≡ spelled_all false (is_named d) (written_external counts) ts [])
-    lowered.ensures.terms c.in_ok-spell-in-Ok.ensures)
+    (λ ts. (d : Declarations) (counts : List (AbsolutePath × ℕ)) → Agrees index.paths index.named.items d → Tabled index.paths c.as_slice-in-Ok.result.now (lookup counts) → trees_of c.spell.new.terms.items ≡ spelled_all c.args.style.shorten (is_named d) (written_external counts) ts [])
+    lowered.ensures.terms c.in_ok-spell-in-Ok.ensures.trees)
     agrees (subst (λ table. Tabled index.paths table (lookup (whole_of terms).calls)) (sym c.as_slice-in-Ok.ensures.value) tabled) in
     let none : c.args.others ≡ [] = no_length c.args.others (let zero : length c.args.others ≡ 0 = grind (arith, c.is_empty.ensures, c.if-not-is_empty.false, c.others.view_is) in zero) in
     let room : HasRoom (fields_of lowered.core) = subst HasRoom (sym lowered.ensures.fields) c.requires.room in
-    right_comes c.write_block.result (with_others (told_errors terms) c.args.others) (of_table block.place block.signature block.file (its_table (named_all terms) block)) (none_behind (told_errors terms) c.args.others (none_told terms names counts) none)
-    (like_another c.write_block.result lowered.core.place block.place lowered.core.file block.file (fields_of lowered.core) (fields_of block) (named_all terms) lowered.ensures.place lowered.ensures.file lowered.ensures.fields
-    (c.write_block.ensures (named_all terms) (record { room = room; shaped = c.requires.shaped none; names = no_name_errors terms formed names; counts = no_type_errors terms formed counts; core = core })))
+    right_comes c.write_block.result (with_others (told_errors terms) c.args.others) (of_table block.place block.signature block.file (its_table c.args.style (lowered_in c.args.style (fields_of block) terms) block)) (none_behind (told_errors terms) c.args.others (none_told terms names counts) none)
+    (like_another c.args.style c.write_block.result lowered.core.place block.place lowered.core.file block.file (fields_of lowered.core) (fields_of block) made lowered.ensures.place lowered.ensures.file lowered.ensures.fields
+    (c.write_block.ensures made (record { room = room; shaped = where_shaped c.args.style.fold width (named_all terms) (c.requires.shaped none); names = where_name_errors c.args.style.fold width (named_all terms) ∙ no_name_errors terms formed names; counts = where_type_errors c.args.style.fold width (named_all terms) ∙ no_type_errors terms formed counts; core = core })))
 
 pub returns-then-not-is_empty : goal.returns-then-not-is_empty
 returns-then-not-is_empty c =
@@ -57,7 +62,7 @@ returns-then-not-is_empty c =
     let same : trees_of c.as_slice.result.now ≡ terms = ap trees_of c.as_slice.ensures.value in
     let names : name_errors terms ≡ [] = sym (ap name_errors same) ∙ c.in-Ok.ensures.right.0 in
     let counts : type_errors terms ≡ [] = sym (ap type_errors same) ∙ c.in-Ok.ensures.right.1 in
-    some_length c.args.others (of_table block.place block.signature block.file (its_table (named_all terms) block)) (told_errors terms) (none_told terms names counts)
+    some_length c.args.others (of_table block.place block.signature block.file (its_table c.args.style (lowered_in c.args.style (fields_of block) terms) block)) (told_errors terms) (none_told terms names counts)
     (λ e. let never : ⊥ = grind (arith, e, c.is_empty.ensures, c.if-not-is_empty.true, c.others.view_is) in never)
 
 pub returns-in_ok-with_others-in-Err : goal.returns-in_ok-with_others-in-Err
@@ -65,5 +70,5 @@ returns-in_ok-with_others-in-Err c =
     let block = c.args.block in
     let terms : Trees = trees_of block.terms.items in
     let same : trees_of c.as_slice.result.now ≡ terms = ap trees_of c.as_slice.ensures.value in
-    stage_comes c.in-Err.stage c.in_ok-refusal-in-Err.field-0 (told_errors terms) c.args.others c.in_ok-with_others-in-Err.field-0 (of_table block.place block.signature block.file (its_table (named_all terms) block))
+    stage_comes c.in-Err.stage c.in_ok-refusal-in-Err.field-0 (told_errors terms) c.args.others c.in_ok-with_others-in-Err.field-0 (of_table block.place block.signature block.file (its_table c.args.style (lowered_in c.args.style (fields_of block) terms) block))
     (subst (λ ts. Refuses c.in-Err.stage (told_errors ts)) same c.in-Err.ensures.refused) c.in_ok-refusal-in-Err.ensures c.in_ok-with_others-in-Err.ensures

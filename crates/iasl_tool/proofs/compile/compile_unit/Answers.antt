@@ -3,6 +3,7 @@ use Rattle.asl_tree.specs.declared.program.Block.{Block}
 use Rattle.asl_tree.specs.declared.program.Program.{Program}
 use Rattle.asl_parser.specs.declared.raw.Raw.{Raw}
 use Rattle.asl_tree.specs.View.{trees_of}
+use Rattle.acpi_values.specs.Revisions.{width_of}
 use Rattle.acpi_names.specs.Terms.{are_terms}
 use Rattle.named_sessions.specs.Shaped.{AreNamed}
 use Rattle.named_sessions.proofs.Terms.{formed_terms}
@@ -24,14 +25,14 @@ pub compile_noted-requires-clause-formed : goal.compile_noted-requires-clause-fo
 compile_noted-requires-clause-formed c = block_formed c.args.unit.now.items c.in_ok-block-in-Ok.block (trees_of c.number_nodes.new.nodes.items) c.in-Ok.ensures.formed.no_errors (is_block c.args.unit.now.items c.in-Ok.program c.in_ok-block-in-Ok.block c.in-Ok.ensures.formed c.in_ok-block-in-Ok.ensures) c.requires c.in-Some.ensures.trees
 
 pub compile_noted-requires-clause-shaped : goal.compile_noted-requires-clause-shaped
-compile_noted-requires-clause-shaped c = block_shaped c.args.unit.now.items c.in_ok-block-in-Ok.block (trees_of c.number_nodes.new.nodes.items) c.in_ok-others-in-Some.others c.in-Ok.ensures.formed.no_errors (is_block c.args.unit.now.items c.in-Ok.program c.in_ok-block-in-Ok.block c.in-Ok.ensures.formed c.in_ok-block-in-Ok.ensures) c.requires c.in-Some.ensures.trees (c.in_ok-others-in-Some.ensures ∙ ap (λ ns. others_of (trees_of ns) (plans_of ns)) c.as_slice.ensures.value ∙ ap (others_of (trees_of c.number_nodes.new.nodes.items)) c.in-Some.ensures.plans)
+compile_noted-requires-clause-shaped c = block_shaped c.args.unit.now.items c.in_ok-block-in-Ok.block (trees_of c.number_nodes.new.nodes.items) c.in_ok-others-in-Some.others c.in-Ok.ensures.formed.no_errors (is_block c.args.unit.now.items c.in-Ok.program c.in_ok-block-in-Ok.block c.in-Ok.ensures.formed c.in_ok-block-in-Ok.ensures) c.requires c.in-Some.ensures.trees (c.in_ok-others-in-Some.ensures ∙ ap (λ w. others_of w (trees_of c.as_slice.result.now) (plans_of c.as_slice.result.now)) c.of_revision-width.ensures ∙ ap (λ ns. others_of (width_of c.in_ok-block-in-Ok.block.revision) (trees_of ns) (plans_of ns)) c.as_slice.ensures.value ∙ ap (others_of (width_of c.in_ok-block-in-Ok.block.revision) (trees_of c.number_nodes.new.nodes.items)) c.in-Some.ensures.plans)
 
 pub returns-in_ok-others-in-Some-clause-value : goal.returns-in_ok-others-in-Some-clause-value
 returns-in_ok-others-in-Some-clause-value c =
-    program_comes c.compile_noted.result c.args.unit.now.items c.in_ok-block-in-Ok.block (trees_of c.number_nodes.new.nodes.items) c.in_ok-others-in-Some.others c.in-Ok.ensures.formed.no_errors (is_block c.args.unit.now.items c.in-Ok.program c.in_ok-block-in-Ok.block c.in-Ok.ensures.formed c.in_ok-block-in-Ok.ensures) c.in-Some.ensures.trees (c.in_ok-others-in-Some.ensures ∙ ap (λ ns. others_of (trees_of ns) (plans_of ns)) c.as_slice.ensures.value ∙ ap (others_of (trees_of c.number_nodes.new.nodes.items)) c.in-Some.ensures.plans) c.compile_noted.ensures
+    program_comes c.args.style c.compile_noted.result c.args.unit.now.items c.in_ok-block-in-Ok.block (trees_of c.number_nodes.new.nodes.items) c.in_ok-others-in-Some.others c.in-Ok.ensures.formed.no_errors (is_block c.args.unit.now.items c.in-Ok.program c.in_ok-block-in-Ok.block c.in-Ok.ensures.formed c.in_ok-block-in-Ok.ensures) c.in-Some.ensures.trees (c.in_ok-others-in-Some.ensures ∙ ap (λ w. others_of w (trees_of c.as_slice.result.now) (plans_of c.as_slice.result.now)) c.of_revision-width.ensures ∙ ap (λ ns. others_of (width_of c.in_ok-block-in-Ok.block.revision) (trees_of ns) (plans_of ns)) c.as_slice.ensures.value ∙ ap (others_of (width_of c.in_ok-block-in-Ok.block.revision) (trees_of c.number_nodes.new.nodes.items)) c.in-Some.ensures.plans) c.compile_noted.ensures
 
 pub returns-in_ok-others-in-Some-clause-own : goal.returns-in_ok-others-in-Some-clause-own
-returns-in_ok-others-in-Some-clause-own c = ascii_comes c.compile_noted.result (of_items c.args.unit.now.items) (named_in_ascii c.args.unit.now.items c.requires) (returns-in_ok-others-in-Some-clause-value c)
+returns-in_ok-others-in-Some-clause-own c = ascii_comes c.compile_noted.result (of_items c.args.style c.args.unit.now.items) (named_in_ascii c.args.style c.args.unit.now.items c.requires) (returns-in_ok-others-in-Some-clause-value c)
 
 pub other_errors-requires : goal.other_errors-requires
 other_errors-requires c =

@@ -1,4 +1,4 @@
-use Rattle.std.proofs.Common.{◌≡◌, true, Some, subst, ap, sym, ◌∙◌}
+use Rattle.std.proofs.Common.{◌≡◌, Some, subst, ap, sym, ◌∙◌}
 use Rattle.std.specs.Prelude.{slice_get}
 use Rattle.aml_writer.specs.Pieces.{joined_pieces}
 use Rattle.aml_writer.specs.Written.{RefusedFor, IsTable, IsTooLong}
@@ -9,12 +9,12 @@ pub returns-in-Err-TooLong : goal.returns-in-Err-TooLong
 returns-in-Err-TooLong c = λ terms is.
     let block = c.args.block in
     let at : slice_get c.in_ok-core.core.program.blocks 0 ≡ Some block = ap (λ blocks. slice_get blocks 0) c.in_ok-core.ensures in
-    let long : IsTooLong block true c.in-Err-TooLong.message = subst (RefusedFor block true) c.in-Err-TooLong.field-0-is (c.in-Err-TooLong.ensures.refused block at) in
-    refused_written terms block c.in-Err-TooLong.message c.in_ok-one_message-in-Err-TooLong.field-0 is c.in_ok-one_message-in-Err-TooLong.ensures long
+    let long : IsTooLong block c.args.style.short c.in-Err-TooLong.message = subst (RefusedFor block c.args.style.short) c.in-Err-TooLong.field-0-is (c.in-Err-TooLong.ensures.refused block at) in
+    refused_written c.args.style terms block c.in-Err-TooLong.message c.in_ok-one_message-in-Err-TooLong.field-0 is c.in_ok-one_message-in-Err-TooLong.ensures long
 
 pub returns-in-Ok : goal.returns-in-Ok
 returns-in-Ok c = λ terms is.
     let block = c.args.block in
     let at : slice_get c.in_ok-core.core.program.blocks 0 ≡ Some block = ap (λ blocks. slice_get blocks 0) c.in_ok-core.ensures in
-    let table : IsTable block true (joined_pieces c.in-Ok.pieces) = c.in-Ok.ensures.table block at in
-    table_written terms block _ _ _ _ is (c.signature.view_is ∙ c.in_ok-signature.ensures ∙ c.as_bytes.ensures) (c.own.view_is ∙ c.in_ok-own.ensures ∙ c.as_bytes-2.ensures) c.new-in-Ok.ensures (subst (IsTable block true) (sym (c.in_ok-join-in-Ok.ensures ∙ ap joined_pieces c.as_slice.ensures)) table)
+    let table : IsTable block c.args.style.short (joined_pieces c.in-Ok.pieces) = c.in-Ok.ensures.table block at in
+    table_written c.args.style terms block _ _ _ _ is (c.signature.view_is ∙ c.in_ok-signature.ensures ∙ c.as_bytes.ensures) (c.own.view_is ∙ c.in_ok-own.ensures ∙ c.as_bytes-2.ensures) c.new-in-Ok.ensures (subst (IsTable block c.args.style.short) (sym (c.in_ok-join-in-Ok.ensures ∙ ap joined_pieces c.as_slice.ensures)) table)

@@ -1,4 +1,4 @@
-use Rattle.std.proofs.Common.{◌≡◌, [], get_or, Vec, Global, None, sym, ap, ◌∙◌, arith, rules}
+use Rattle.std.proofs.Common.{◌≡◌, [], get_or, Vec, Global, None, refl, sym, ap, ◌∙◌, arith, rules}
 use Rattle.std.specs.Prelude.{nat_eq, unwrap_or}
 use Rattle.asl_tree.specs.declared.term.Node.{Node}
 use Rattle.asl_tree.specs.View.{trees_of}
@@ -13,6 +13,9 @@ use Rattle.name_spelling.proofs.Spelling.{spelled_use_same, spelled_item_same, o
 use Rattle.name_spelling.proofs.SpelledNodes.{arity_written, name_spelled, name_kept, element_named, element_kept, call_spelled, form_spelled, another_spelled, element_unnamed, another, call_is, form_is}
 use Rattle.acpi_names.proofs.Trees.{call_smaller, form_smaller}
 use Rattle.name_spelling.proofs.Turns.{turns_next, turns_whole, turn_smaller, said_before, all_before, known_before, grows_none, grows_then, front_only, mapped_all, mapped_but, mapped_elements}
+use Rattle.term_places.specs.Places.{places_of}
+use Rattle.term_places.proofs.Places.{places_set}
+use Rattle.name_spelling.proofs.SpelledPlaces.{name_places, call_places, form_same_places}
 use Rattle.name_spelling.proofs.spell.+spell.Goals as goal
 
 pub spell_all-spell_one-requires : goal.spell_all-spell_one-requires
@@ -29,6 +32,7 @@ spell_all-loop-node-preserved t c =
       grows = grows_then c.args.index.now.paths c.loop-node.index.paths c.spell_one.new.index.paths c.args.index.now.named.items c.loop-node.index.named.items c.spell_one.new.index.named.items c.args.calls.now grows now.grows;
       turns = turns_next c.args.index.now.paths c.args.index.now.named.items c.args.calls.now (λ d counts k t'. spelled c.args.shorten (is_named d) (written_external counts) t' scope) c.deref_mut-node-items.result.now c.loop-node.node-items c.loop-node.node-index c.node-item.result c.spell_one.new.node c.loop-node-test.true c.loop-node.invariant.turns
           (said_before c.args.index.now.paths c.loop-node.index.paths c.args.index.now.named.items c.loop-node.index.named.items c.args.calls.now (λ d counts s. spelled c.args.shorten (is_named d) (written_external counts) (node_tree (get_or c.loop-node.node-items c.loop-node.node-index c.node-item.result)) s) (node_tree c.spell_one.new.node) c.args.scope c.requires.scope_in grows now.spells);
+      places = places_set c.loop-node.node-items c.loop-node.node-index c.node-item.result c.spell_one.new.node (omega (arith, c.loop-node-test.true, c.loop-node.invariant.turns.size)) now.places ∙ c.loop-node.invariant.places;
     }
 
 pub spell_all-returns-clause-spells : goal.spell_all-returns-clause-spells
@@ -77,6 +81,7 @@ spell_elements-loop-node-preserved t c =
       grows = grows_then c.args.index.now.paths c.loop-node.index.paths c.spell_item.new.index.paths c.args.index.now.named.items c.loop-node.index.named.items c.spell_item.new.index.named.items c.args.calls.now grows now.grows;
       turns = turns_next c.args.index.now.paths c.args.index.now.named.items c.args.calls.now (λ d counts k t'. element_spelled c.args.shorten (is_named d) t' (spelled c.args.shorten (is_named d) (written_external counts) t' scope) scope) c.deref_mut-node-items.result.now c.loop-node.node-items c.loop-node.node-index c.node-item.result c.spell_item.new.node c.loop-node-test.true c.loop-node.invariant.turns
           (said_before c.args.index.now.paths c.loop-node.index.paths c.args.index.now.named.items c.loop-node.index.named.items c.args.calls.now (λ d counts s. element_spelled c.args.shorten (is_named d) (node_tree (get_or c.loop-node.node-items c.loop-node.node-index c.node-item.result)) (spelled c.args.shorten (is_named d) (written_external counts) (node_tree (get_or c.loop-node.node-items c.loop-node.node-index c.node-item.result)) s) s) (node_tree c.spell_item.new.node) c.args.scope c.requires.scope_in grows now.spells);
+      places = places_set c.loop-node.node-items c.loop-node.node-index c.node-item.result c.spell_item.new.node (omega (arith, c.loop-node-test.true, c.loop-node.invariant.turns.size)) now.places ∙ c.loop-node.invariant.places;
     }
 
 pub spell_elements-returns-clause-spells : goal.spell_elements-returns-clause-spells
@@ -173,6 +178,7 @@ spell_inner-returns-in_default t c =
     let shape = another c.args.node.now.term c.requires.unnamed c.in_default.not-Call c.in_default.not-Form in record {
       grows = grows_none c.args.index.now.paths c.args.index.now.named.items c.args.calls.now c.requires.all;
       spells = λ d counts agrees tabled. another_spelled c.args.shorten (is_named d) (written_external counts) (at_of c.args.node.now) (get_or c.args.index.now.paths c.args.scope []) c.args.node.now.term shape;
+      places = refl;
     }
 
 pub spell_inner-spell_all-requires : goal.spell_inner-spell_all-requires
@@ -193,6 +199,7 @@ pub spell_item-returns-in_ok-spell_one-in_default : goal.spell_item-returns-in_o
 spell_item-returns-in_ok-spell_one-in_default t c =
     let unnamed : path_of c.args.node.now.term ≡ None = search rules in record {
       grows = c.in_ok-spell_one-in_default.ensures.grows;
+      places = c.in_ok-spell_one-in_default.ensures.places;
       spells = λ d counts agrees tabled. c.in_ok-spell_one-in_default.ensures.spells d counts agrees tabled ∙ sym (element_unnamed c.args.shorten (is_named d) (written_external counts) (at_of c.args.node.now) (get_or c.args.index.now.paths c.args.scope []) c.args.node.now.term (spelled c.args.shorten (is_named d) (written_external counts) (node_tree c.args.node.now) (get_or c.args.index.now.paths c.args.scope [])) unnamed);
     }
 
@@ -233,3 +240,27 @@ pub spell_item-returns-in-Some-clause-spells : goal.spell_item-returns-in-Some-c
 spell_item-returns-in-Some-clause-spells t c d counts agrees tabled =
     element_named c.args.shorten (is_named d) (written_external counts) (at_of c.args.node.now) (get_or c.args.index.now.paths c.args.scope []) c.args.node.now.term c.in-Name.path c.in-Some.other (spelled c.args.shorten (is_named d) (written_external counts) (node_tree c.args.node.now) (get_or c.args.index.now.paths c.args.scope [])) c.in-Name.is
     (sym (ap (λ o. unwrap_or o c.in-Name.path) c.in-Some.is) ∙ c.in_ok-other-in-Name.ensures ∙ spelled_item_same (is_named_in c.args.index.now.paths c.args.index.now.named.items) (is_named d) agrees c.args.shorten c.in-Name.path (get_or c.args.index.now.paths c.args.scope []))
+
+pub spell_all-returns-clause-places : goal.spell_all-returns-clause-places
+spell_all-returns-clause-places t c =
+    ap places_of (front_only c.loop-node.node-items _ c.args.nodes.now.len (omega (arith, c.deref_mut-node-items.ensures.len, c.loop-node.auto.node-items)))
+    ∙ c.loop-node.invariant.places ∙ ap places_of c.deref_mut-node-items.ensures.value
+
+pub spell_elements-returns-clause-places : goal.spell_elements-returns-clause-places
+spell_elements-returns-clause-places t c =
+    ap places_of (front_only c.loop-node.node-items _ c.args.nodes.now.len (omega (arith, c.deref_mut-node-items.ensures.len, c.loop-node.auto.node-items)))
+    ∙ c.loop-node.invariant.places ∙ ap places_of c.deref_mut-node-items.ensures.value
+
+pub spell_item-returns-in-Some-clause-places : goal.spell_item-returns-in-Some-clause-places
+spell_item-returns-in-Some-clause-places t c = name_places c.args.node.now.place c.args.node.now.term c.in-Name.path c.in-Some.other c.in-Name.is
+
+pub spell_one-returns-in-Some-clause-places : goal.spell_one-returns-in-Some-clause-places
+spell_one-returns-in-Some-clause-places t c = name_places c.args.node.now.place c.args.node.now.term c.in-Name.path c.in-Some.other c.in-Name.is
+
+pub spell_inner-returns-in_ok-spell_all-in-Call-clause-places : goal.spell_inner-returns-in_ok-spell_all-in-Call-clause-places
+spell_inner-returns-in_ok-spell_all-in-Call-clause-places t c =
+    call_places c.args.node.now.place c.args.node.now.term _ c.spell_name.new.name _ c.spell_all.new.nodes (call_is c.args.node.now.term c.in-Call.path _ c.in-Call.args _ c.in-Call.path-is c.in-Call.args-is c.in-Call.is)
+
+pub spell_inner-returns-in_ok-spell_form-in-Form-clause-places : goal.spell_inner-returns-in_ok-spell_form-in-Form-clause-places
+spell_inner-returns-in_ok-spell_form-in-Form-clause-places t c =
+    form_same_places c.args.node.now.place c.args.node.now.term _ _ _ c.spell_form.new.args c.spell_form.new.body (form_is c.args.node.now.term c.in-Form.op _ c.in-Form.args _ c.in-Form.body _ c.in-Form.op-is c.in-Form.args-is c.in-Form.body-is c.in-Form.is) c.in_ok-spell_form-in-Form.ensures.places

@@ -1,9 +1,10 @@
-use Rattle.std.proofs.Common.{◌+◌, ◌*◌, [], get_or}
+use Rattle.std.proofs.Common.{◌≡◌, ◌+◌, ◌*◌, [], get_or}
 use Rattle.std.specs.Prelude.{nat_eq}
 use Rattle.asl_meaning.specs.Declarations.{is_named, written_external}
 use Rattle.acpi_names.specs.Parts.{nodes_size, term_size}
 use Rattle.acpi_names.specs.Spelled.{spelled, element_spelled}
 use Rattle.name_spelling.specs.Spelling.{Grows, other_spelled}
+use Rattle.term_places.specs.Places.{places_of}
 use Rattle.name_spelling.proofs.Turns.{Turns}
 use Rattle.name_spelling.proofs.spell.+spell.Given as goal
 
@@ -11,6 +12,7 @@ abbrev pub invariant-spell_all-loop-node : goal.invariant-spell_all-loop-node
 invariant-spell_all-loop-node l = record {
   grows : Grows l.initial.index.paths l.initial.index.named.items l.index.paths l.index.named.items l.calls;
   turns : Turns l.initial.index.paths l.initial.index.named.items l.calls (λ d counts k t. spelled l.shorten (is_named d) (written_external counts) t (get_or l.initial.index.paths l.scope [])) l.initial.node-items l.node-items l.node-index;
+  places : places_of l.node-items ≡ places_of l.initial.node-items;
 }
 
 abbrev pub invariant-spell_but-loop-number : goal.invariant-spell_but-loop-number
@@ -23,6 +25,7 @@ abbrev pub invariant-spell_elements-loop-node : goal.invariant-spell_elements-lo
 invariant-spell_elements-loop-node l = record {
   grows : Grows l.initial.index.paths l.initial.index.named.items l.index.paths l.index.named.items l.calls;
   turns : Turns l.initial.index.paths l.initial.index.named.items l.calls (λ d counts k t. element_spelled l.shorten (is_named d) t (spelled l.shorten (is_named d) (written_external counts) t (get_or l.initial.index.paths l.scope [])) (get_or l.initial.index.paths l.scope [])) l.initial.node-items l.node-items l.node-index;
+  places : places_of l.node-items ≡ places_of l.initial.node-items;
 }
 
 abbrev pub decreases-spell_all : goal.decreases-spell_all

@@ -4,7 +4,7 @@ use Rattle.asl_meaning.specs.Declarations.{is_named, written_external}
 use Rattle.acpi_names.specs.Spelled.{spelled_all}
 use Rattle.name_spelling.proofs.spell.spell.Goals as goal
 
-pub returns : goal.returns
-returns c d counts agrees tabled =
+pub returns-clause-trees : goal.returns-clause-trees
+returns-clause-trees c d counts agrees tabled =
     c.in_ok-spell_all.ensures.spells d counts agrees tabled
     ∙ ap (spelled_all c.args.shorten (is_named d) (written_external counts) (trees_of c.args.terms.now.items)) c.len-count.ensures.root

@@ -31,10 +31,10 @@ all_site_errors-requires c =
 pub returns : goal.returns
 returns c =
     let told = ap (λ i. all_shown i.paths c.deref-2.result.now) c.in_ok-facts.ensures.same ∙ ap (all_shown c.in_ok-found.found.index.paths) c.deref-2.ensures.value ∙ c.in_ok-found.ensures.told in
-    let measured = c.deref-3.ensures.value ∙ c.in_ok-all_measures.ensures ∙ ap (λ xs. xs ++ measures_all (trees_of c.args.terms.now) (plans_of c.args.terms.now)) c.new-measures.ensures.items in
-    block_faults (trees_of c.args.terms.now) (plans_of c.args.terms.now) _ c.deref-3.result.now c.in_ok-out.out told measured c.in_ok-out.ensures
+    let measured = c.deref-3.ensures.value ∙ c.in_ok-all_measures.ensures ∙ ap (λ xs. xs ++ measures_all c.args.width (trees_of c.args.terms.now) (plans_of c.args.terms.now)) c.new-measures.ensures.items in
+    block_faults c.args.width (trees_of c.args.terms.now) (plans_of c.args.terms.now) _ c.deref-3.result.now c.in_ok-out.out told measured c.in_ok-out.ensures
 
 pub returns-then-is_empty : goal.returns-then-is_empty
 returns-then-is_empty c =
     let none : length c.all_measures.new.out.items ≡ 0 = grind (arith, common_steps) in
-    nothing_told (trees_of c.args.terms.now) (plans_of c.args.terms.now) (seen (block_mentions (trees_of c.args.terms.now) [] nothing_declared)) c.all_measures.new.out.items c.new.result (c.in_ok-all_measures.ensures ∙ ap (λ xs. xs ++ measures_all (trees_of c.args.terms.now) (plans_of c.args.terms.now)) c.new-measures.ensures.items) none c.new.ensures
+    nothing_told c.args.width (trees_of c.args.terms.now) (plans_of c.args.terms.now) (seen (block_mentions (trees_of c.args.terms.now) [] nothing_declared)) c.all_measures.new.out.items c.new.result (c.in_ok-all_measures.ensures ∙ ap (λ xs. xs ++ measures_all c.args.width (trees_of c.args.terms.now) (plans_of c.args.terms.now)) c.new-measures.ensures.items) none c.new.ensures

@@ -5,7 +5,7 @@ use Rattle.region_checks.proofs.Walks.{Remains}
 use Rattle.region_checks.proofs.measure.+walk.Given as goal
 
 abbrev pub invariant-all_measures-loop-index : goal.invariant-all_measures-loop-index
-invariant-all_measures-loop-index l = Remains l.nodes l.index l.initial.out.items l.out.items
+invariant-all_measures-loop-index l = Remains l.width l.nodes l.index l.initial.out.items l.out.items
 
 abbrev pub decreases-all_measures : goal.decreases-all_measures
 decreases-all_measures l = 3 * nodes (plans_of l.nodes.now) + 2

@@ -1,0 +1,170 @@
+-- A formed program is formed with its constants folded.
+use Rattle.std.proofs.Common.{◌≡◌, ℕ, Bool, true, false, List, [], ◌∷◌, refl, ◌∙◌}
+use Rattle.acpi_values.specs.declared.width.Width.{Width}
+use Rattle.acpi_values.specs.declared.operator.Plain.{Plain}
+use Rattle.acpi_values.specs.Operators.{Letter, Valued, Kept, Placed, Used, Row, row_of}
+use Rattle.acpi_values.specs.Operators as L
+use Rattle.acpi_state.specs.FieldActs.{region_letters, field_letters}
+use Rattle.asl_meaning.specs.Meaning.{SpotForm, OfResult, OfInside, NoSpot, spot_form}
+use Rattle.asl_tree.specs.FieldItems.{FieldItem}
+use Rattle.asl_tree.specs.Tree.{Tree, Integer, Constant, String, Raw, Use, Call, Apply, Buffer, Package, VarPackage, CondRefOf, Return, Name, Method, Container', Scope, If, ElseIf, Else, While, OperationRegion, BankField, CreateField, UnitName, Operated, Assigned, AssignedBy, Trees, no_trees, tree, count}
+use Rattle.aml_sessions.specs.Ready.{is_expression, RawReady, SpotReady, AreItems}
+use Rattle.named_sessions.specs.Shaped.{UsedShaped, LetterShaped, ElementShaped, IsFormed, IsFormedSpot, IsFormedAlone, AreFormedOperands, AreFormedSpots, AreFormedValues, AreFormedElements, AreFormed, AreShaped}
+use Rattle.asl_fold.specs.Folds.{reduced, sized, folded, folded_args, folded_all}
+use Rattle.asl_fold.proofs.Values.{reduced_other, sized_other, sized_as, reduced_as, Targets, NoTarget, OneTarget, LastTarget}
+use Rattle.asl_fold.proofs.Declared.{count_args}
+
+never : {A : Type 0} → false ≡ true → A
+never e = absurd cc
+
+spot_by : (form : SpotForm) (R I R' I' : Type 0) → (R → R') → (I → I') → SpotReady form R I → SpotReady form R' I'
+spot_by OfResult R I R' I' r i h = r h
+spot_by OfInside R I R' I' r i h = i h
+spot_by NoSpot R I R' I' r i h = h
+
+-- whatever is asked of the lists of fields, and whether symbols may stand there or not
+module _ (width : Width) (Listed : List (FieldItem UnitName) → Type 0) (Symbols : Type 0) where
+  abbrev F : Tree → Tree
+  F = folded width false
+
+  abbrev Fs : Trees → Trees
+  Fs = folded_args width
+
+  abbrev Formed : Tree → Type 0
+  Formed = IsFormed Listed Symbols
+
+  abbrev Spot : Tree → Type 0
+  Spot = IsFormedSpot Listed Symbols
+
+  abbrev Spots : Trees → Type 0
+  Spots = AreFormedSpots Listed Symbols
+
+  abbrev Operands : List Letter → Trees → Type 0
+  Operands = AreFormedOperands Listed Symbols
+
+  abbrev Value : Tree → Type 0
+  Value t = (is_expression t ≡ true) × Formed t
+
+  expression_same : (t : Tree) → is_expression (F t) ≡ is_expression t
+  expression_same (Apply op args targets) = reduced_other (λ t. is_expression t ≡ true) (λ op args targets. refl) (λ n. refl) width false op (Fs args) (Fs targets)
+  expression_same (VarPackage size elements) = sized_other (λ t. is_expression t ≡ true) (λ n es. refl) (λ n es. refl) (F size) (Fs elements)
+  expression_same _ = refl
+
+  value_of : (t : Tree) → (Formed t → Formed (F t)) → Value t → Value (F t)
+  value_of t go h = (expression_same t ∙ h.0, go h.1)
+
+  used_shaped : (t : Tree) → UsedShaped t → UsedShaped (F t)
+  used_shaped (Use at name) h = h
+  used_shaped _ h = absurd h
+
+  raw_shaped : (size : ℕ) (t : Tree) → RawReady size t → RawReady size (F t)
+  raw_shaped size (Raw other number) h = h
+  raw_shaped size _ h = absurd h
+
+  letter_shaped : (letter : Letter) (t : Tree) → (Formed t → Formed (F t)) → (Spot t → Spot (F t)) → LetterShaped letter t (Value t) (Spot t) → LetterShaped letter (F t) (Value (F t)) (Spot (F t))
+  letter_shaped Valued t value spot h = value_of t value h
+  letter_shaped Kept t value spot h = value_of t value h
+  letter_shaped Placed t value spot h = spot h
+  letter_shaped Used t value spot h = used_shaped t h
+  letter_shaped (L.Raw size) t value spot h = raw_shaped size t h
+
+  target_spot : (ts : Trees) (t : Tree) → Targets ts t → Spots ts → Spot t
+  target_spot _ _ NoTarget h = tt
+  target_spot _ _ (OneTarget t) h = h.0
+  target_spot _ _ (LastTarget t) h = h.1.0
+
+  -- what an operator becomes
+  reduced_formed : (statement : Bool) (op : Plain) (args targets : Trees) → Formed (Apply op args targets) → Formed (reduced width statement op args targets)
+  reduced_formed statement op args targets h =
+      reduced_as Formed width statement op args targets h (λ n le all k. tt) (λ n target le all k. (tt, ((refl, tt), (target_spot targets target k h.3, tt)), refl, tt))
+
+  sized_formed : (size : Tree) (elements : Trees) → Formed (VarPackage size elements) → Formed (sized size elements)
+  sized_formed size elements h = sized_as Formed size elements (λ n e lt. (lt, h.2)) h
+
+  ready_spot : (op : Plain) (args targets : Trees) → (Operands (row_of op).operands args → Operands (row_of op).operands (Fs args)) → (Spots targets → Spots (Fs targets))
+      → (IsFormedAlone Listed Symbols args targets → IsFormedAlone Listed Symbols (Fs args) (Fs targets))
+      → SpotReady (spot_form op) (Operands (row_of op).operands args × (count targets ≡ (row_of op).targets) × Spots targets) (IsFormedAlone Listed Symbols args targets)
+      → SpotReady (spot_form op) (Operands (row_of op).operands (Fs args) × (count (Fs targets) ≡ (row_of op).targets) × Spots (Fs targets)) (IsFormedAlone Listed Symbols (Fs args) (Fs targets))
+  ready_spot op args targets operands spots alone h =
+      spot_by (spot_form op) (Operands (row_of op).operands args × (count targets ≡ (row_of op).targets) × Spots targets) (IsFormedAlone Listed Symbols args targets)
+      (Operands (row_of op).operands (Fs args) × (count (Fs targets) ≡ (row_of op).targets) × Spots (Fs targets)) (IsFormedAlone Listed Symbols (Fs args) (Fs targets))
+      (λ r. (operands r.0, count_args width targets ∙ r.1, spots r.2)) alone h
+
+  mutual
+    formed : (statement : Bool) (t : Tree) → Formed t → Formed (folded width statement t)
+    formed statement (Call at name args) h = (h.0, values_formed args h.1)
+    formed statement (Apply op args targets) h =
+        reduced_formed statement op (Fs args) (Fs targets) (h.0, operands_formed (row_of op).operands args h.1, count_args width targets ∙ h.2, spots_formed targets h.3)
+    formed statement (Operated op args) h = (h.0, h.1, operands_formed (row_of op).operands args h.2)
+    formed statement (Assigned target value) h = (h.0, spot_formed target h.1, expression_same value ∙ h.2, formed false value h.3)
+    formed statement (AssignedBy op target value) h = (h.0, spot_formed target h.1, expression_same target ∙ h.2, formed false target h.3, expression_same value ∙ h.4, formed false value h.5)
+    formed statement (Buffer size bytes) h = value_of size (λ k. formed false size k) h
+    formed statement (Package n elements) h = (h.0, elements_formed elements h.1)
+    formed statement (VarPackage size elements) h = sized_formed (F size) (Fs elements) (expression_same size ∙ h.0, formed false size h.1, elements_formed elements h.2)
+    formed statement (CondRefOf place target) h = (spot_formed place h.0, spot_formed target h.1)
+    formed statement (Return value) h = value_of value (λ k. formed false value k) h
+    formed statement (Name at name value) h = (h.0, expression_same value ∙ h.1, formed false value h.2)
+    formed statement (Method at name flags body) h = (h.0, h.1, all_formed body h.2)
+    formed statement (Container' kind at name body) h = (h.0, h.1, all_formed body h.2)
+    formed statement (Scope here at name body) h = (h.0, all_formed body h.1)
+    formed statement (If test body) h = (expression_same test ∙ h.0, formed false test h.1, all_formed body h.2)
+    formed statement (ElseIf test body) h = (h.0, expression_same test ∙ h.1, formed false test h.2, all_formed body h.3)
+    formed statement (Else body) h = all_formed body h
+    formed statement (While test body) h = (expression_same test ∙ h.0, formed false test h.1, all_formed body h.2)
+    formed statement (OperationRegion at name space args) h = (h.0, h.1, operands_formed region_letters args h.2)
+    formed statement (BankField here from region to bank value flags items) h = (h.0, h.1, expression_same value ∙ h.2, formed false value h.3, h.4, h.5)
+    formed statement (CreateField form args at name) h = (operands_formed (field_letters form) args h.0, h.1)
+    formed statement _ h = h
+
+    spot_formed : (t : Tree) → Spot t → Spot (F t)
+    spot_formed (Apply (Plain.Number op) args targets) h = absurd h.1
+    spot_formed (Apply (Plain.Data op) args targets) h = (h.0, ready_spot (Plain.Data op) args targets (λ k. operands_formed (row_of (Plain.Data op)).operands args k) (λ k. spots_formed targets k) (λ k. alone_formed args targets k) h.1)
+    spot_formed (Apply (Plain.Event op) args targets) h = (h.0, ready_spot (Plain.Event op) args targets (λ k. operands_formed (row_of (Plain.Event op)).operands args k) (λ k. spots_formed targets k) (λ k. alone_formed args targets k) h.1)
+    spot_formed (Operated op args) h =
+        (h.0, h.1, spot_by (spot_form op) (Operands (row_of op).operands args) ⊥ (Operands (row_of op).operands (Fs args)) ⊥ (λ k. operands_formed (row_of op).operands args k) (λ i. i) h.2)
+    spot_formed (VarPackage size elements) h = absurd h
+    spot_formed _ h = h
+
+    alone_formed : (args targets : Trees) → IsFormedAlone Listed Symbols args targets → IsFormedAlone Listed Symbols (Fs args) (Fs targets)
+    alone_formed (tree t no_trees) no_trees h = value_of t (λ k. formed false t k) h
+    alone_formed no_trees targets h = absurd h
+    alone_formed (tree t no_trees) (tree u us) h = absurd h
+    alone_formed (tree t (tree u us)) targets h = absurd h
+
+    operands_formed : (letters : List Letter) (ts : Trees) → Operands letters ts → Operands letters (Fs ts)
+    operands_formed [] no_trees h = tt
+    operands_formed [] (tree t ts) h = absurd h
+    operands_formed (letter ∷ letters) no_trees h = absurd h
+    operands_formed (letter ∷ letters) (tree t ts) h = (letter_shaped letter t (λ k. formed false t k) (λ k. spot_formed t k) h.0, operands_formed letters ts h.1)
+
+    spots_formed : (ts : Trees) → Spots ts → Spots (Fs ts)
+    spots_formed no_trees h = tt
+    spots_formed (tree t ts) h = (spot_formed t h.0, spots_formed ts h.1)
+
+    values_formed : (ts : Trees) → AreFormedValues Listed Symbols ts → AreFormedValues Listed Symbols (Fs ts)
+    values_formed no_trees h = tt
+    values_formed (tree t ts) h = (expression_same t ∙ h.0, formed false t h.1, values_formed ts h.2)
+
+    element_formed : (t : Tree) → ElementShaped t (Formed t) → ElementShaped (F t) (Formed (F t))
+    element_formed (Use at name) h = h
+    element_formed (Integer n) h = h
+    element_formed (Constant literal) h = h
+    element_formed (String text) h = h
+    element_formed (Buffer size bytes) h = (refl, value_of size (λ k. formed false size k) h.1)
+    element_formed (Package n elements) h = (refl, (h.1.0, elements_formed elements h.1.1))
+    element_formed (VarPackage size elements) h =
+        let all : (is_expression (F size) ≡ true) × Formed (F size) × AreFormedElements Listed Symbols (Fs elements) = (expression_same size ∙ h.1.0, formed false size h.1.1, elements_formed elements h.1.2) in
+        sized_as (λ t. ElementShaped t (Formed t)) (F size) (Fs elements) (λ n e lt. (refl, (lt, all.2))) (refl, all)
+    element_formed _ h = never h.0
+
+    elements_formed : (ts : Trees) → AreFormedElements Listed Symbols ts → AreFormedElements Listed Symbols (Fs ts)
+    elements_formed no_trees h = tt
+    elements_formed (tree t ts) h = (element_formed t h.0, elements_formed ts h.1)
+
+    pub all_formed : (ts : Trees) → AreFormed Listed Symbols ts → AreFormed Listed Symbols (folded_all width ts)
+    all_formed no_trees h = tt
+    all_formed (tree t ts) h = (formed true t h.0, all_formed ts h.1)
+
+-- what may be written is so with its constants folded: a constant may be a statement
+pub kept_shaped : (width : Width) (terms : Trees) → AreShaped terms → AreShaped (folded_all width terms)
+kept_shaped width terms h = all_formed width (AreItems 0) ⊥ terms h

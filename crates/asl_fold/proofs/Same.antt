@@ -1,0 +1,272 @@
+-- A program does the same with its constants folded.
+use Rattle.std.proofs.Common.{◌≡◌, ℕ, zero, suc, Bool, true, false, List, [], ◌∷◌, Option, Some, None, refl, ap}
+use Rattle.acpi_values.specs.declared.width.Width.{Width}
+use Rattle.acpi_values.specs.declared.operator.Plain.{Plain}
+use Rattle.acpi_values.specs.declared.operator.DataOp.TheVariants as DataOp
+use Rattle.acpi_values.specs.declared.fault.Fault.TheVariants.{WrongType}
+use Rattle.acpi_values.specs.Paths.{AbsolutePath}
+use Rattle.acpi_values.specs.Values as V
+use Rattle.acpi_values.specs.Values.{Value, Data, Reference, Elements, no_elements, element, Place, Named}
+use Rattle.acpi_values.specs.Operators.{Letter, Valued, Kept, Placed, Used, Row, row_of}
+use Rattle.acpi_values.specs.Operators as L
+use Rattle.acpi_values.specs.Integers.{wrapped}
+use Rattle.acpi_state.specs.Objects.{Object, DataObject, MethodObject, ContainerObject, MutexObject, EventObject, AliasObject, Names, UnitObject}
+use Rattle.acpi_state.specs.Finds.{first_there, reached}
+use Rattle.acpi_state.specs.Sessions.{Request, initial}
+use Rattle.acpi_state.specs.Outcomes.{Flow, Normal, Gives, Unfinished, Broken, Result, Done, Stopped, done, stop, fault, next, then_run, act, choose, value_of}
+use Rattle.acpi_state.specs.Outcomes as O
+use Rattle.acpi_state.specs.Loops.{is_true}
+use Rattle.acpi_state.specs.Actions.{computed, write_named}
+use Rattle.acpi_state.specs.Activations.{create}
+use Rattle.acpi_state.specs.Stores.{Spot, Nowhere, DebugObject, At, read, store}
+use Rattle.acpi_state.specs.Acts.{Operand, OfValue, OfKept, OfSpot, OfNumber, number_of, act_of, last_of}
+use Rattle.acpi_state.specs.FieldUnits.{Extent, FieldUnit, InRegion, InBank, BehindIndex}
+use Rattle.acpi_state.specs.Registers.{register_of}
+use Rattle.acpi_state.specs.FieldActs.{region_letters, field_letters}
+use Rattle.acpi_state.specs.Forms.{buffer_of, package_of, slot_here, if_data, spot_in, cond_ref_of}
+use Rattle.asl_tree.specs.FieldItems.{Placed as PlacedUnit, placed_from}
+use Rattle.asl_tree.specs.declared.path.Path.{Path}
+use Rattle.asl_tree.specs.Symbols.{compound_operator}
+use Rattle.asl_tree.specs.Literals.{literal_number}
+use Rattle.asl_tree.specs.Names.{Known, is_known, place_of, denoted, element_path}
+use Rattle.asl_tree.specs.Tree.{Tree, Integer, Constant, String, InSlot, Debug, Omitted, Raw, Use, Call, Apply, Buffer, Package, VarPackage, CondRefOf, Return, Name, Alias, External, Method, Mutex, Event, Container', Scope, Fill, Misshapen, Trees, no_trees, tree, OperationRegion, Field, IndexField, BankField, CreateField, UnitName, If, ElseIf, Else, While, Break, Continue, Item, Operated, Assigned, AssignedBy}
+use Rattle.asl_meaning.specs.FieldTerms.{create_units}
+use Rattle.asl_meaning.specs.Meaning as S
+use Rattle.asl_meaning.specs.Meaning.{SourceRun, SpotForm, OfResult, OfInside, NoSpot, spot_form, store_last, operate, two_values, store_with, assign_with, target_operator}
+use Rattle.asl_meaning.specs.SourceSession.{source_session}
+use Rattle.asl_fold.specs.Folds.{folded, folded_args, folded_all}
+use Rattle.asl_fold.proofs.Alike.{Alike, alike_done, alike_stop, alike_fault, alike_then, alike_to, alike_act, alike_existing, alike_look, alike_if, alike_valued, alike_on_flow, alike_loop, alike_create, alike_keep, alike_body, alike_activation, alike_use, alike_written, alike_region, alike_buffer_field, same_session}
+use Rattle.asl_fold.proofs.Values.{reduced_other, sized_other}
+use Rattle.asl_fold.proofs.Reduced.{reduced_runs, reduced_spot, sized_runs}
+
+module _ (width : Width) (known : Known) where
+  alike_find : (name : Path) (scope : AbsolutePath) → Alike (folded_all width) (S.find known name scope) (S.find known name scope)
+  alike_find name scope = alike_existing (λ names. choose (denoted (is_known known) name scope) None (λ path. first_there names (path ∷ [])))
+
+  alike_found : (name : Path) (scope : AbsolutePath) → Alike (folded_all width) (S.found known name scope) (S.found known name scope)
+  alike_found name scope = alike_then (alike_find name scope) (λ path. alike_existing (λ names. reached names path))
+
+  alike_sought : (name : Path) (scope : AbsolutePath) → Alike (folded_all width) (S.sought known name scope) (S.sought known name scope)
+  alike_sought name scope = alike_look (λ names. choose (choose (denoted (is_known known) name scope) None (λ path. first_there names (path ∷ []))) None (reached names))
+
+  alike_region_at : (name : Path) (scope : AbsolutePath) → Alike (folded_all width) (S.region_at known name scope) (S.region_at known name scope)
+  alike_region_at name scope = alike_then (alike_found name scope) (λ e. alike_done e.0)
+
+  alike_register_at : (name : Path) (scope : AbsolutePath) → Alike (folded_all width) (S.register_at known name scope) (S.register_at known name scope)
+  alike_register_at name scope = alike_then (alike_found name scope) (λ e. alike_act (register_of e))
+
+  alike_units : (unit : Extent → FieldUnit) (flags : ℕ) (scope : AbsolutePath) (units : List (PlacedUnit UnitName)) → Alike (folded_all width) (create_units unit flags scope units) (create_units unit flags scope units)
+  alike_units unit flags scope [] = alike_done (Normal false)
+  alike_units unit flags scope (placed ∷ later) =
+      alike_then (alike_create (placed.name.segment ∷ scope) (UnitObject (unit (record { at = placed.at; bits = placed.bits; flags = flags })))) (λ u. alike_units unit flags scope later)
+
+  alike_size : {m m' : SourceRun Flow} → Alike (folded_all width) m m' → Alike (folded_all width) (S.size_by width known m) (S.size_by width known m')
+  alike_size h = alike_then (alike_valued h) (λ v. alike_act (number_of width v))
+
+  alike_named_place : (name : Path) (scope : AbsolutePath) → Alike (folded_all width) (S.place_of_name width known name scope) (S.place_of_name width known name scope)
+  alike_named_place name scope = alike_then (alike_found name scope) (λ e. alike_done (if_data e.1 (Some (Named e.0)) None))
+
+  -- the place of an expression's data
+  alike_place : (t : Tree) (scope : AbsolutePath) → Alike (folded_all width) (S.place_by width known t scope) (S.place_by width known (folded width false t) scope)
+  alike_place (InSlot slot) scope = alike_then (alike_act (slot_here slot)) (λ place. alike_done (Some place))
+  alike_place (Use at name) scope = alike_named_place name scope
+  alike_place (Call at name args) scope = alike_named_place name scope
+  alike_place (Apply op args targets) scope =
+      alike_to (reduced_other (λ t. S.place_by width known t scope ≡ done None) (λ op args targets. refl) (λ n. refl) width false op (folded_args width args) (folded_args width targets)) (alike_done None)
+  alike_place (VarPackage size elements) scope = alike_to (sized_other (λ t. S.place_by width known t scope ≡ done None) (λ n es. refl) (λ n es. refl) (folded width false size) (folded_args width elements)) (alike_done None)
+  alike_place _ scope = alike_done None
+
+  alike_used : (t : Tree) (scope : AbsolutePath) → Alike (folded_all width) (S.used_by width known t scope) (S.used_by width known (folded width false t) scope)
+  alike_used (Use at name) scope = alike_then (alike_found name scope) (λ e. alike_done (OfSpot (At (Named e.0))))
+  alike_used (Apply op args targets) scope =
+      alike_to (reduced_other (λ t. S.used_by width known t scope ≡ stop Broken) (λ op args targets. refl) (λ n. refl) width false op (folded_args width args) (folded_args width targets)) (alike_stop Broken)
+  alike_used (VarPackage size elements) scope = alike_to (sized_other (λ t. S.used_by width known t scope ≡ stop Broken) (λ n es. refl) (λ n es. refl) (folded width false size) (folded_args width elements)) (alike_stop Broken)
+  alike_used _ scope = alike_stop Broken
+
+  alike_raw : (t : Tree) → Alike (folded_all width) (S.raw_by width known t) (S.raw_by width known (folded width false t))
+  alike_raw (Raw size number) = alike_done (OfNumber number)
+  alike_raw (Apply op args targets) =
+      alike_to (reduced_other (λ t. S.raw_by width known t ≡ stop Broken) (λ op args targets. refl) (λ n. refl) width false op (folded_args width args) (folded_args width targets)) (alike_stop Broken)
+  alike_raw (VarPackage size elements) = alike_to (sized_other (λ t. S.raw_by width known t ≡ stop Broken) (λ n es. refl) (λ n es. refl) (folded width false size) (folded_args width elements)) (alike_stop Broken)
+  alike_raw _ = alike_stop Broken
+
+  -- an operand as its letter asks
+  alike_letter : (letter : Letter) (t : Tree) (scope : AbsolutePath) {m m' : SourceRun Flow} {spot spot' : SourceRun Spot} → Alike (folded_all width) m m' → Alike (folded_all width) spot spot' → Alike (folded_all width) (S.operand_by width known letter t m spot scope) (S.operand_by width known letter (folded width false t) m' spot' scope)
+  alike_letter Valued t scope hm hs = alike_then (alike_valued hm) (λ v. alike_done (OfValue v))
+  alike_letter Kept t scope hm hs = alike_then (alike_place t scope) (λ place. alike_then (alike_valued hm) (λ v. alike_done (OfKept place v)))
+  alike_letter Placed t scope hm hs = alike_then hs (λ p. alike_done (OfSpot p))
+  alike_letter Used t scope hm hs = alike_used t scope
+  alike_letter (L.Raw size) t scope hm hs = alike_raw t
+
+  alike_spot_form : (form : SpotForm) {result result' : SourceRun Flow} {inside inside' : SourceRun Value} → Alike (folded_all width) result result' → Alike (folded_all width) inside inside' → Alike (folded_all width) (S.spot_by width known form result inside) (S.spot_by width known form result' inside')
+  alike_spot_form OfResult hr hi = alike_then (alike_valued hr) (λ v. alike_act (spot_in v))
+  alike_spot_form OfInside hr hi = alike_then hi (λ v. alike_act (spot_in v))
+  alike_spot_form NoSpot hr hi = alike_stop Broken
+
+  -- the place of CondRefOf
+  alike_cond : (t : Tree) (scope : AbsolutePath) {spot spot' : SourceRun Spot} → Alike (folded_all width) spot spot' → Alike (folded_all width) (S.cond_by width known t spot scope) (S.cond_by width known (folded width false t) spot' scope)
+  alike_cond (Use at name) scope h = alike_then (alike_sought name scope) (λ o. alike_done (choose o None (λ e. Some (At (Named e.0)))))
+  alike_cond (Apply op args targets) scope {spot' = spot'} h =
+      alike_to (reduced_other (λ t. S.cond_by width known t spot' scope ≡ then_run spot' (λ p. done (Some p))) (λ op args targets. refl) (λ n. refl) width false op (folded_args width args) (folded_args width targets)) (alike_then h (λ p. alike_done (Some p)))
+  alike_cond (VarPackage size elements) scope {spot' = spot'} h =
+      alike_to (sized_other (λ t. S.cond_by width known t spot' scope ≡ then_run spot' (λ p. done (Some p))) (λ n es. refl) (λ n es. refl) (folded width false size) (folded_args width elements)) (alike_then h (λ p. alike_done (Some p)))
+  alike_cond _ scope h = alike_then h (λ p. alike_done (Some p))
+
+  -- an element of a Package
+  alike_element : (t : Tree) (scope : AbsolutePath) {m m' : SourceRun Flow} → Alike (folded_all width) m m' → Alike (folded_all width) (S.element_by width known t m scope) (S.element_by width known (folded width false t) m' scope)
+  alike_element (Use at name) scope h = alike_done (Reference (Named (element_path (is_known known) name scope)))
+  alike_element (Apply op args targets) scope {m' = m'} h =
+      alike_to (reduced_other (λ t. S.element_by width known t m' scope ≡ then_run m' value_of) (λ op args targets. refl) (λ n. refl) width false op (folded_args width args) (folded_args width targets)) (alike_valued h)
+  alike_element (VarPackage size elements) scope {m' = m'} h =
+      alike_to (sized_other (λ t. S.element_by width known t m' scope ≡ then_run m' value_of) (λ n es. refl) (λ n es. refl) (folded width false size) (folded_args width elements)) (alike_valued h)
+  alike_element _ scope h = alike_valued h
+
+  -- the operator that is given the target of an assignment
+  target_same : (value : Tree) → target_operator (folded width false value) ≡ target_operator value
+  target_same (Apply op args targets) = reduced_other (λ t. target_operator t ≡ None) (λ op args targets. refl) (λ n. refl) width false op (folded_args width args) (folded_args width targets)
+  target_same (VarPackage size elements) = sized_other (λ t. target_operator t ≡ None) (λ n es. refl) (λ n es. refl) (folded width false size) (folded_args width elements)
+  target_same _ = refl
+
+  alike_plain : (op : Plain) {ops ops' : SourceRun (List Operand)} {into into' : List Value → SourceRun (Unit {0})} → Alike (folded_all width) ops ops' → ((rs : List Value) → Alike (folded_all width) (into rs) (into' rs)) → Alike (folded_all width) (S.apply_with width op ops into) (S.apply_with width op ops' into')
+  alike_plain op ho ht = alike_then ho (λ os. alike_then (alike_act (act_of op width os)) (λ rs. alike_then (ht rs) (λ u. alike_done (last_of rs))))
+
+  alike_last : (n : ℕ) {spot spot' : SourceRun Spot} → Alike (folded_all width) spot spot' → (rs : List Value) → Alike (folded_all width) (store_last width n spot rs) (store_last width n spot' rs)
+  alike_last zero h rs = alike_done tt
+  alike_last (suc n) h [] = alike_fault WrongType
+  alike_last (suc zero) h (v ∷ rs) = alike_then h (λ p. alike_act (store width p v))
+  alike_last (suc (suc n)) h (v ∷ rs) = alike_last (suc n) h rs
+
+  alike_operate : (op : Plain) {ops ops' : SourceRun (List Operand)} {spot spot' : SourceRun Spot} → Alike (folded_all width) ops ops' → Alike (folded_all width) spot spot' →
+      Alike (folded_all width) (S.apply_with width op ops (store_last width (row_of op).targets spot)) (S.apply_with width op ops' (store_last width (row_of op).targets spot'))
+  alike_operate op ho hs = alike_plain op ho (λ rs. alike_last (row_of op).targets hs rs)
+
+  alike_assign : (o : Option Plain) {ops ops' : List Letter → SourceRun (List Operand)} {value value' : SourceRun Value} {spot spot' : SourceRun Spot} → ((letters : List Letter) → Alike (folded_all width) (ops letters) (ops' letters)) →
+      Alike (folded_all width) value value' → Alike (folded_all width) spot spot' → Alike (folded_all width) (assign_with width o ops value spot) (assign_with width o ops' value' spot')
+  alike_assign (Some op) ho hv hs = alike_operate op (ho (row_of op).operands) hs
+  alike_assign None ho hv hs = alike_plain (Plain.Data DataOp.Store) (alike_then hv (λ v. alike_then hs (λ p. alike_done (OfValue v ∷ OfSpot p ∷ [])))) (λ rs. alike_done tt)
+
+module _ (width : Width) (known : Known) (turns : ℕ) (call : AbsolutePath → List Value → SourceRun Flow) (calls : (path : AbsolutePath) (args : List Value) → Alike (folded_all width) (call path args) (call path args)) where
+  alike_created : (path : AbsolutePath) (object : Object) → Alike (folded_all width) (then_run (create path object) (λ u. done (Normal false))) (then_run (create path object) (λ u. done (Normal false)))
+  alike_created path object = alike_then (alike_create path object) (λ u. alike_done (Normal false))
+
+  mutual
+    alike : (statement : Bool) (t : Tree) (scope : AbsolutePath) (due : Bool) → Alike (folded_all width) (S.run width known turns call t scope due) (S.run width known turns call (folded width statement t) scope due)
+    alike statement (Integer number) scope due = alike_done (Gives (Data (V.Integer (wrapped width number))))
+    alike statement (Constant literal) scope due = alike_done (Gives (Data (V.Integer (literal_number width literal))))
+    alike statement (String text) scope due = alike_done (Gives (Data (V.String text)))
+    alike statement (InSlot slot) scope due = alike_then (alike_act (slot_here slot)) (λ place. alike_then (alike_act (read width place)) (λ v. alike_done (Gives v)))
+    alike statement Debug scope due = alike_fault WrongType
+    alike statement Omitted scope due = alike_stop Broken
+    alike statement (Raw size number) scope due = alike_stop Broken
+    alike statement (Use at name) scope due = alike_then (alike_found width known name scope) (λ e. alike_use width call calls e.0 e.1 [])
+    alike statement (Call at name args) scope due =
+        alike_then (alike_found width known name scope) (λ e. alike_then (alike_values args scope) (λ vs. alike_written width call calls e.0 e.1 vs))
+    alike statement (Apply op args targets) scope due =
+        alike_to (reduced_runs width known turns call statement op (folded_args width args) (folded_args width targets) scope due) (alike_plain width known op (alike_operands (row_of op).operands args scope) (λ rs. alike_stores targets rs scope))
+    alike statement (Operated op args) scope due = alike_operate width known op (alike_operands (row_of op).operands args scope) (alike_done Nowhere)
+    alike statement (Assigned target value) scope due =
+        alike_to (ap (λ o. assign_with width o (λ letters. S.inner_operands width known turns call letters (folded width false value) scope) (then_run (S.run width known turns call (folded width false value) scope false) value_of) (S.spot width known turns call (folded width false target) scope)) (target_same width known value))
+        (alike_assign width known (target_operator value) (λ letters. alike_inner letters value scope) (alike_valued (alike false value scope false)) (alike_spot target scope))
+    alike statement (AssignedBy op target value) scope due =
+        alike_operate width known (compound_operator op)
+        (alike_then (alike_valued (alike false target scope false)) (λ v. alike_then (alike_valued (alike false value scope false)) (λ w. alike_done (OfValue v ∷ OfValue w ∷ [])))) (alike_spot target scope)
+    alike statement (Buffer size bytes) scope due =
+        alike_then (alike_size width known (alike false size scope false)) (λ n. alike_then (alike_act (computed (buffer_of n bytes))) (λ v. alike_done (Gives v)))
+    alike statement (Package count items) scope due =
+        alike_then (alike_elements items scope) (λ es. alike_then (alike_act (computed (package_of count es))) (λ v. alike_done (Gives v)))
+    alike statement (VarPackage count items) scope due =
+        alike_to (sized_runs width known turns call (folded width false count) (folded_args width items) scope due)
+        (alike_then (alike_size width known (alike false count scope false)) (λ n. alike_then (alike_elements items scope) (λ es. alike_then (alike_act (computed (package_of n es))) (λ v. alike_done (Gives v)))))
+    alike statement (CondRefOf place target) scope due =
+        alike_then (alike_cond width known place scope (alike_spot place scope)) (λ o. alike_then (alike_spot target scope) (λ p. alike_then (alike_act (cond_ref_of width o p)) (λ v. alike_done (Gives v))))
+    alike statement (Return value) scope due = alike_then (alike_valued (alike false value scope false)) (λ v. alike_done (O.Return v))
+    alike statement (Name at name value) scope due =
+        alike_then (alike_valued (alike false value scope false)) (λ v. alike_then (alike_create (place_of name scope) DataObject) (λ u. alike_then (alike_act (write_named (place_of name scope) v)) (λ u. alike_done (Normal false))))
+    alike statement (Alias from source at name) scope due = alike_then (alike_found width known source scope) (λ e. alike_created (place_of name scope) (AliasObject e.0))
+    alike statement (External here at name type parameters) scope due = alike_done (Normal false)
+    alike statement (Method at name flags body) scope due =
+        alike_then (alike_create (place_of name scope) (MethodObject flags)) (λ u. alike_then (alike_keep (place_of name scope) body) (λ u. alike_done (Normal false)))
+    alike statement (Mutex at name level) scope due = alike_created (place_of name scope) (MutexObject level)
+    alike statement (Event at name) scope due = alike_created (place_of name scope) EventObject
+    alike statement (Container' kind at name body) scope due = alike_then (alike_create (place_of name scope) (ContainerObject kind)) (λ u. alike_all body (place_of name scope) false)
+    alike statement (Scope here at name body) scope due = alike_then (alike_find width known name scope) (λ path. alike_all body path false)
+    alike statement (If test body) scope due =
+        alike_then (alike_size width known (alike false test scope false)) (λ n. alike_if (is_true n) (alike_all body scope false) (alike_done (Normal true)))
+    alike statement (ElseIf test body) scope due =
+        alike_if due (alike_then (alike_size width known (alike false test scope false)) (λ n. alike_if (is_true n) (alike_all body scope false) (alike_done (Normal true)))) (alike_done (Normal false))
+    alike statement (Else body) scope due = alike_if due (alike_all body scope false) (alike_done (Normal false))
+    alike statement (While test body) scope due =
+        alike_loop {X = Unit {0}} turns (alike_then (alike_size width known (alike false test scope false)) (λ n. alike_done (is_true n, tt))) (λ u. alike_all body scope false)
+    alike statement Break scope due = alike_done O.Break
+    alike statement Continue scope due = alike_done O.Continue
+    alike statement (OperationRegion at name space args) scope due = alike_then (alike_operands region_letters args scope) (λ os. alike_region width (place_of name scope) space os)
+    alike statement (Field here from region flags items) scope due = alike_then (alike_region_at width known region scope) (λ r. alike_units width known (InRegion r) flags scope (placed_from 0 items))
+    alike statement (IndexField here from index to register flags items) scope due =
+        alike_then (alike_register_at width known index scope) (λ i. alike_then (alike_register_at width known register scope) (λ r. alike_units width known (BehindIndex i r) flags scope (placed_from 0 items)))
+    alike statement (BankField here from region to bank value flags items) scope due =
+        alike_then (alike_region_at width known region scope) (λ r. alike_then (alike_register_at width known bank scope)
+        (λ b. alike_then (alike_size width known (alike false value scope false)) (λ n. alike_units width known (InBank r b n) flags scope (placed_from 0 items))))
+    alike statement (CreateField form args at name) scope due = alike_then (alike_operands (field_letters form) args scope) (λ os. alike_buffer_field width form (place_of name scope) os)
+    alike statement (Item item) scope due = alike_stop Broken
+    alike statement (Fill bytes) scope due = alike_stop Broken
+    alike statement Misshapen scope due = alike_stop Broken
+
+    alike_spot : (t : Tree) (scope : AbsolutePath) → Alike (folded_all width) (S.spot width known turns call t scope) (S.spot width known turns call (folded width false t) scope)
+    alike_spot Omitted scope = alike_done Nowhere
+    alike_spot Debug scope = alike_done DebugObject
+    alike_spot (InSlot slot) scope = alike_then (alike_act (slot_here slot)) (λ place. alike_done (At place))
+    alike_spot (Use at name) scope = alike_then (alike_found width known name scope) (λ e. alike_done (At (Named e.0)))
+    alike_spot (Apply op args targets) scope =
+        alike_to (reduced_spot width known turns call false op (folded_args width args) (folded_args width targets) scope)
+        (alike_spot_form width known (spot_form op) (alike_plain width known op (alike_operands (row_of op).operands args scope) (λ rs. alike_stores targets rs scope)) (alike_first args scope))
+    alike_spot (Operated op args) scope = alike_spot_form width known (spot_form op) (alike_operate width known op (alike_operands (row_of op).operands args scope) (alike_done Nowhere)) (alike_first args scope)
+    alike_spot (VarPackage size elements) scope =
+        alike_to (sized_other (λ t. S.spot width known turns call t scope ≡ stop Broken) (λ n es. refl) (λ n es. refl) (folded width false size) (folded_args width elements)) (alike_stop Broken)
+    alike_spot _ scope = alike_stop Broken
+
+    alike_inner : (letters : List Letter) (value : Tree) (scope : AbsolutePath) → Alike (folded_all width) (S.inner_operands width known turns call letters value scope) (S.inner_operands width known turns call letters (folded width false value) scope)
+    alike_inner letters (Operated op args) scope = alike_operands letters args scope
+    alike_inner letters (Apply op args targets) scope =
+        alike_to (reduced_other (λ t. S.inner_operands width known turns call letters t scope ≡ stop Broken) (λ op args targets. refl) (λ n. refl) width false op (folded_args width args) (folded_args width targets)) (alike_stop Broken)
+    alike_inner letters (VarPackage size elements) scope =
+        alike_to (sized_other (λ t. S.inner_operands width known turns call letters t scope ≡ stop Broken) (λ n es. refl) (λ n es. refl) (folded width false size) (folded_args width elements)) (alike_stop Broken)
+    alike_inner letters _ scope = alike_stop Broken
+
+    alike_operands : (letters : List Letter) (ts : Trees) (scope : AbsolutePath) → Alike (folded_all width) (S.operands width known turns call letters ts scope) (S.operands width known turns call letters (folded_args width ts) scope)
+    alike_operands [] no_trees scope = alike_done []
+    alike_operands [] (tree t ts) scope = alike_stop Broken
+    alike_operands (letter ∷ letters) no_trees scope = alike_stop Broken
+    alike_operands (letter ∷ letters) (tree t ts) scope =
+        alike_then (alike_letter width known letter t scope (alike false t scope false) (alike_spot t scope)) (λ o. alike_then (alike_operands letters ts scope) (λ os. alike_done (o ∷ os)))
+
+    alike_stores : (ts : Trees) (rs : List Value) (scope : AbsolutePath) → Alike (folded_all width) (S.store_all width known turns call ts rs scope) (S.store_all width known turns call (folded_args width ts) rs scope)
+    alike_stores no_trees rs scope = alike_done tt
+    alike_stores (tree t ts) [] scope = alike_fault WrongType
+    alike_stores (tree t ts) (r ∷ rs) scope = alike_then (alike_spot t scope) (λ p. alike_then (alike_act (store width p r)) (λ u. alike_stores ts rs scope))
+
+    alike_first : (ts : Trees) (scope : AbsolutePath) → Alike (folded_all width) (S.first_value width known turns call ts scope) (S.first_value width known turns call (folded_args width ts) scope)
+    alike_first no_trees scope = alike_stop Broken
+    alike_first (tree t ts) scope = alike_valued (alike false t scope false)
+
+    alike_values : (ts : Trees) (scope : AbsolutePath) → Alike (folded_all width) (S.values width known turns call ts scope) (S.values width known turns call (folded_args width ts) scope)
+    alike_values no_trees scope = alike_done []
+    alike_values (tree t ts) scope = alike_then (alike_valued (alike false t scope false)) (λ v. alike_then (alike_values ts scope) (λ vs. alike_done (v ∷ vs)))
+
+    alike_elements : (ts : Trees) (scope : AbsolutePath) → Alike (folded_all width) (S.elements width known turns call ts scope) (S.elements width known turns call (folded_args width ts) scope)
+    alike_elements no_trees scope = alike_done no_elements
+    alike_elements (tree t ts) scope = alike_then (alike_element width known t scope (alike false t scope false)) (λ v. alike_then (alike_elements ts scope) (λ es. alike_done (element v es)))
+
+    pub alike_all : (ts : Trees) (scope : AbsolutePath) (due : Bool) → Alike (folded_all width) (S.run_all width known turns call ts scope due) (S.run_all width known turns call (folded_all width ts) scope due)
+    alike_all no_trees scope due = alike_done (Normal false)
+    alike_all (tree t ts) scope due =
+        alike_then (alike true t scope due) (λ f. alike_on_flow f (λ d. alike_all ts scope d))
+
+module _ (width : Width) (known : Known) (turns : ℕ) where
+  alike_call : (depth : ℕ) (path : AbsolutePath) (args : List Value) → Alike (folded_all width) (S.call_method width known turns depth path args) (S.call_method width known turns depth path args)
+  alike_call zero path args = alike_stop Unfinished
+  alike_call (suc depth) path args = alike_body (λ body. alike_activation args (alike_all width known turns (S.call_method width known turns depth) (alike_call depth) body path false)) path
+
+-- the session of a program is that of the program with its constants folded
+pub same_folded : (width : Width) (known : Known) (terms : Trees) (there : Names) (n : ℕ) (answers : List Value) (requests : List Request) → source_session width known (folded_all width terms) there n answers requests ≡ source_session width known terms there n answers requests
+same_folded width known terms there n answers requests =
+    same_session (S.call_method width known n n) (alike_call width known n n) _ _ (alike_all width known n (S.call_method width known n n) (alike_call width known n n) terms [] false) (initial there answers) refl requests

@@ -1,0 +1,10 @@
+//! Constants folded: an integer operator on constants is its result.
+#![tactic(auto)]
+
+pub mod fate;
+pub mod fold;
+pub mod laws;
+pub mod part;
+pub mod seen;
+#[cfg(test)]
+mod tests;

@@ -1,0 +1,76 @@
+-- Options without value that may stand together with every other.
+use Rattle.std.specs.Prelude.{ℕ, ◌&&◌, ◌||◌, Bool, true, false, not, cond, List, codes, Some, None}
+use Rattle.std.specs.declared.option.Option.{Option}
+use Rattle.std.specs.Str.{bytes_eq}
+use Rattle.iasl_options.specs.declared.switches.Switch.{Switch}
+use Rattle.iasl_options.specs.declared.switches.Switch.TheVariants as switch
+use Rattle.iasl_options.specs.declared.switches.Switches.{Switches}
+
+-- how a switch is written
+abbrev pub switch_word : Switch → List ℕ
+switch_word switch.Brief = codes "-vi"
+switch_word switch.Strict = codes "-we"
+switch_word switch.CText = codes "-tc"
+switch_word switch.LongIntegers = codes "-oi"
+switch_word switch.WrittenNames = codes "-on"
+switch_word switch.Unfolded = codes "-of"
+switch_word switch.Unoptimised = codes "-oa"
+
+-- this switch, where the word is written so, or else another
+abbrev pub or_other : List ℕ → Switch → Option Switch → Option Switch
+or_other word one other = cond (bytes_eq word (switch_word one)) (Some one) other
+
+-- the switch that is written so
+abbrev pub switch_of : List ℕ → Option Switch
+switch_of word =
+    or_other word switch.Brief (
+    or_other word switch.Strict (
+    or_other word switch.CText (
+    or_other word switch.LongIntegers (
+    or_other word switch.WrittenNames (
+    or_other word switch.Unfolded (
+    or_other word switch.Unoptimised None))))))
+
+abbrev pub is_brief : Switch → Bool
+is_brief switch.Brief = true
+is_brief _ = false
+
+abbrev pub is_strict : Switch → Bool
+is_strict switch.Strict = true
+is_strict _ = false
+
+abbrev pub is_c_text : Switch → Bool
+is_c_text switch.CText = true
+is_c_text _ = false
+
+-- operators on constants are kept
+abbrev pub keeps_constants : Switch → Bool
+keeps_constants switch.Unfolded = true
+keeps_constants switch.Unoptimised = true
+keeps_constants _ = false
+
+-- 0, 1 and Ones keep the prefix of a literal
+abbrev pub keeps_integers : Switch → Bool
+keeps_integers switch.LongIntegers = true
+keeps_integers switch.Unoptimised = true
+keeps_integers _ = false
+
+-- names keep their spelling
+abbrev pub keeps_names : Switch → Bool
+keeps_names switch.WrittenNames = true
+keeps_names switch.Unoptimised = true
+keeps_names _ = false
+
+abbrev pub no_switch : Switches
+no_switch = record { brief = false; strict = false; c_text = false; fold = true; short = true; shorten = true }
+
+-- what switches ask for, with one more
+abbrev pub with_switch : Switches → Switch → Switches
+with_switch switches one = record {
+  brief = switches.brief || is_brief one;
+  strict = switches.strict || is_strict one;
+  c_text = switches.c_text || is_c_text one;
+  fold = switches.fold && not (keeps_constants one);
+  short = switches.short && not (keeps_integers one);
+  shorten = switches.shorten && not (keeps_names one);
+}

@@ -1,0 +1,135 @@
+//! Options without value that may stand together with every other.
+ghost use Rattle.std.specs.Prelude.{◌≡◌, ◌||◌, ◌&&◌, not};
+ghost use Rattle.iasl_options.specs.Switches as spec;
+
+/// One such option.
+#[derive(Clone, Copy, Debug, PartialEq, Eq)]
+pub(crate) enum Switch {
+    /// `-vi`: messages are printed in the brief form.
+    Brief,
+    /// `-we`: a source with a warning is refused.
+    Strict,
+    /// `-tc`: the bytes of the table are put as an array of C too.
+    CText,
+    /// `-oi`: no integer is written by an opcode but the words Zero, One and Ones.
+    LongIntegers,
+    /// `-on`: names are not shortened.
+    WrittenNames,
+    /// `-of`: constants are not folded.
+    Unfolded,
+    /// `-oa`: `-of`, `-oi` and `-on` together.
+    Unoptimised,
+}
+
+/// What the switches of a command line ask for.
+#[derive(Clone, Copy, Debug, PartialEq, Eq)]
+pub struct Switches {
+    /// Whether messages are printed in the brief form (`-vi`).
+    pub brief: bool,
+    /// Whether a source with a warning is refused (`-we`).
+    pub strict: bool,
+    /// Whether the bytes of the table are put as an array of C too (`-tc`).
+    pub c_text: bool,
+    /// Whether constants are folded (not with `-of` and `-oa`).
+    pub fold: bool,
+    /// Whether 0, 1 and Ones are written by their opcodes where they are literals too (not with `-oi` and `-oa`).
+    pub short: bool,
+    /// Whether names have their shortest spelling (not with `-on` and `-oa`).
+    pub shorten: bool,
+}
+
+/// The switch that is written so.
+pub(crate) fn switch_of(word: &[u8]) -> Option<Switch>
+    ensures { result ≡ spec.switch_of word.now }
+{
+    match word {
+        b"-vi" => Some(Switch::Brief),
+        b"-we" => Some(Switch::Strict),
+        b"-tc" => Some(Switch::CText),
+        b"-oi" => Some(Switch::LongIntegers),
+        b"-on" => Some(Switch::WrittenNames),
+        b"-of" => Some(Switch::Unfolded),
+        b"-oa" => Some(Switch::Unoptimised),
+        _ => None,
+    }
+}
+
+fn is_brief(switch: Switch) -> bool
+    ensures { result ≡ spec.is_brief switch }
+{
+    matches!(switch, Switch::Brief)
+}
+
+fn is_strict(switch: Switch) -> bool
+    ensures { result ≡ spec.is_strict switch }
+{
+    matches!(switch, Switch::Strict)
+}
+
+fn is_c_text(switch: Switch) -> bool
+    ensures { result ≡ spec.is_c_text switch }
+{
+    matches!(switch, Switch::CText)
+}
+
+fn keeps_constants(switch: Switch) -> bool
+    ensures { result ≡ spec.keeps_constants switch }
+{
+    matches!(switch, Switch::Unfolded | Switch::Unoptimised)
+}
+
+fn keeps_integers(switch: Switch) -> bool
+    ensures { result ≡ spec.keeps_integers switch }
+{
+    matches!(switch, Switch::LongIntegers | Switch::Unoptimised)
+}
+
+fn keeps_names(switch: Switch) -> bool
+    ensures { result ≡ spec.keeps_names switch }
+{
+    matches!(switch, Switch::WrittenNames | Switch::Unoptimised)
+}
+
+// Whether one thing is asked for, or the other.
+fn either(one: bool, other: bool) -> bool
+    ensures { result ≡ (one || other) }
+{
+    one || other
+}
+
+// Whether something is still done.
+fn unless(done: bool, kept: bool) -> bool
+    ensures { result ≡ (done && not kept) }
+{
+    done && !kept
+}
+
+impl Switches {
+    // No switch is given.
+    pub(crate) fn new() -> Switches
+        ensures { result ≡ spec.no_switch }
+    {
+        Switches {
+            brief: false,
+            strict: false,
+            c_text: false,
+            fold: true,
+            short: true,
+            shorten: true,
+        }
+    }
+
+    // With one more switch.
+    pub(crate) fn with(self, switch: Switch) -> Switches
+        ensures { result ≡ spec.with_switch self switch }
+    {
+        Switches {
+            brief: either(self.brief, is_brief(switch)),
+            strict: either(self.strict, is_strict(switch)),
+            c_text: either(self.c_text, is_c_text(switch)),
+            fold: unless(self.fold, keeps_constants(switch)),
+            short: unless(self.short, keeps_integers(switch)),
+            shorten: unless(self.shorten, keeps_names(switch)),
+        }
+    }
+}

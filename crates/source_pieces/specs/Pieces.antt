@@ -1,0 +1,27 @@
+-- The pieces of a table: the header at the block, and then each term of the term lists of the core, in preorder, with its encoding up to that
+-- of the first term inside it, at the place of the term of the source for which it stands.
+use Rattle.std.specs.Prelude.{ℕ, Bool, List, ◌∷◌}
+use Rattle.iasl_messages.specs.declared.place.Place.{Place}
+use Rattle.iasl_messages.specs.declared.place.Line.{Line}
+use Rattle.iasl_messages.specs.declared.place.Piece.{Piece}
+use Rattle.named_sessions.specs.Core.{core_of}
+use Rattle.asl_lower.specs.Nodes.{named_all}
+use Rattle.asl_fold.specs.Folds.{folded_where}
+use Rattle.asl_parser.specs.declared.raw.Raw.{Raw}
+use Rattle.asl_parser.specs.Written.{writtens}
+use Rattle.asl_shape.specs.Forms.{block_place, terms_of}
+use Rattle.program_shapes.specs.Sources.{fields_in, terms_in, width_in}
+use Rattle.aml_writer.specs.Cuts.{table_parts, pieces_with}
+use Rattle.source_pieces.specs.Places.{core_places}
+
+-- where they stand
+abbrev pub places_in : List Raw → List Place
+places_in items = block_place (writtens items) ∷ core_places (terms_of (writtens items))
+
+-- their bytes; whether constants are folded, whether 0, 1 and all ones have a byte of their own, and whether names are shortened, is the caller's choice
+abbrev pub parts_in : Bool → Bool → Bool → List Raw → List (List ℕ)
+parts_in fold short shorten items = table_parts (fields_in items) short (core_of shorten (folded_where fold (width_in items) (named_all (terms_in items))))
+
+-- the pieces of a source's table, with the texts of these lines
+abbrev pub pieces_in : List Line → Bool → Bool → Bool → List Raw → List Piece
+pieces_in lines fold short shorten items = pieces_with lines (places_in items) (parts_in fold short shorten items)

@@ -1,0 +1,147 @@
+-- What a call decides, and what becomes of the boxes.
+use Rattle.std.proofs.Common.{◌≡◌, ◌⊎◌, ℕ, ◌≤◌, Bool, true, false, List, [], ◌∷◌, map, cond, Option, Some, None, Result, Ok, Err, refl, sym, ap, ◌∙◌, subst, inl, inr, append-nil, arith, string_bytes}
+use Rattle.std.specs.Prelude.{is_some, IfOk, IsErrOf}
+use Rattle.std.specs.List.{All}
+use Rattle.iasl_ports.specs.Counts.{Rose}
+use Rattle.iasl_ports.specs.Gained.{Named}
+use Rattle.iasl_ports.specs.Delivery.{Answer, answer_of, due_of, status_of, IsSettled}
+use Rattle.iasl_ports.specs.declared.delivery.Due.{Due}
+use Rattle.iasl_ports.specs.declared.delivery.Stop.{Stop}
+use Rattle.iasl_ports.specs.declared.delivery.Stop.TheVariants.{Fault, Memory}
+use Rattle.iasl_messages.specs.declared.place.Piece.{Piece}
+use Rattle.iasl_backends.specs.declared.backend.Kind.{Kind}
+use Rattle.iasl_backends.specs.declared.backend.Kind.TheVariants.{RawAml, CHex}
+use Rattle.iasl_backends.specs.declared.asked.Asked.{Asked as Kinds}
+use Rattle.iasl_backends.specs.CText.{c_text}
+use Rattle.iasl_backends.specs.Rendering.{rendering}
+use Rattle.iasl_options.specs.Asking.{Asked, asked_by}
+use Rattle.iasl_runs.specs.Ends.{FilesSeen, OutputsSeen, ConsoleSeen, Decides, Finishes, stop_status}
+use Rattle.table_outputs.specs.declared.decision.OutputNames.{OutputNames}
+use Rattle.table_outputs.specs.declared.decision.Making.{Making}
+use Rattle.table_outputs.specs.declared.decision.Decision.{Decision}
+use Rattle.table_outputs.specs.declared.decision.Decision.TheVariants.{Ends, Makes}
+use Rattle.table_outputs.specs.Decision.{c_file, files_under, kinds_of, kinds_in, end_of, whole_piece, IsDecidedBy, IsDecidedFor, Settles, Renders, only_by}
+use Rattle.table_outputs.specs.Boxes.{kinds_by, HoldsAsked, order_of, AreRendered, ChangesBy}
+use Rattle.table_outputs.proofs.OutputLaws.{whole_table, whole_array}
+
+-- an end is settled
+end_settled : (r : Result Asked ℕ) (due : Due) → IsDecidedFor r (Ends due) → IsSettled due
+end_settled (Ok asked) due h = h.0
+end_settled (Err word) due h = h.0
+
+as_decided : (stop later : Stop) → later ≡ stop → IsErrOf {T = Due} (Err later) Fault → IsErrOf {T = Decision} (Err stop) Fault
+as_decided stop later m h = let is : later ≡ Fault = cc in ap (λ s. Err s) (sym m ∙ is)
+
+-- what a call decides, once its outputs are made
+pub decides : (answer : List Named → Option Answer) (r : Result Asked ℕ) (decided : Result Decision Stop) (made : Result Due Stop) (old new : FilesSeen)
+    → Settles answer (IsDecidedFor r) decided old new → Renders decided made → Decides answer made old new
+decides answer r (Ok (Makes making)) (Ok due) old new s m = record {
+  due = λ told is. s.due told is ∙ ap Some (sym m.0);
+  settled = m.1;
+  fault = λ h. absurd cc;
+  calm = s.calm;
+  contents = s.contents;
+  later = s.later;
+}
+decides answer r (Ok (Ends decided)) (Ok due) old new s m = record {
+  due = λ told is. s.due told is ∙ ap (λ d. Some (answer_of d)) (sym m);
+  settled = subst IsSettled (sym m) (end_settled r decided s.settled);
+  fault = λ h. absurd cc;
+  calm = s.calm;
+  contents = s.contents;
+  later = s.later;
+}
+decides answer r (Ok (Ends decided)) (Err stop) old new s m = absurd m
+decides answer r (Ok (Makes making)) (Err stop) old new s m = record {
+  due = tt;
+  settled = tt;
+  fault = λ h. absurd cc;
+  calm = tt;
+  contents = s.contents;
+  later = s.later;
+}
+decides answer r (Err stop) (Ok due) old new s m = absurd m
+decides answer r (Err stop) (Err later) old new s m = record {
+  due = tt;
+  settled = tt;
+  fault = λ h. s.fault (as_decided stop later m h);
+  calm = tt;
+  contents = s.contents;
+  later = s.later;
+}
+
+-- ---- what becomes of the boxes
+
+kinds_are : (r : Result Asked ℕ) (making : Making) → IsDecidedFor r (Makes making) → kinds_of making.names ≡ kinds_by r
+kinds_are (Ok asked) making h = h.1
+kinds_are (Err word) making h = absurd h
+
+compiles : (r : Result Asked ℕ) (making : Making) → IsDecidedFor r (Makes making) → only_by r ≡ false
+compiles (Ok asked) making h = h.0
+compiles (Err word) making h = absurd h
+
+-- an end of status 0 is one of preprocessed text alone
+text_alone : (r : Result Asked ℕ) (due : Due) → IsDecidedFor r (Ends due) → due.status ≡ 0 → only_by r ≡ true
+text_alone (Ok asked) due h zero = h.1 zero
+text_alone (Err word) due h zero = absurd (h.1 zero)
+
+texts_with : {S : Type 0} (name_of : S → List ℕ) (c : Option S) (bytes : List ℕ) → bytes ∷ map (λ (file : Named). file.1) (c_file name_of c bytes) ≡ map (λ kind. rendering kind (whole_piece bytes ∷ [])) (RawAml ∷ cond (is_some c) (CHex ∷ []) [])
+texts_with name_of None bytes = ap (λ b. b ∷ []) (sym (whole_table bytes))
+texts_with name_of (Some name) bytes = λ i. sym (whole_table bytes) i ∷ sym (whole_array bytes) i ∷ []
+
+-- which status comes of a table
+of_making : (due : Due) (status : ℕ) {A : Type 0} → due.status ≡ 0 → (status ≡ due.status) ⊎ (((status ≡ 3) × A) ⊎ (status ≡ 4)) → 1 ≤ status → status ≤ 2 → ⊥
+of_making due status zero (inl e) some few = omega (arith, zero, e)
+of_making due status zero (inr (inl h)) some few = let three : status ≡ 3 = h.0 in omega (arith, three)
+of_making due status zero (inr (inr e)) some few = omega (arith, e)
+
+of_zero : (due : Due) (status : ℕ) {A : Type 0} → status ≡ 0 → (status ≡ due.status) ⊎ (((status ≡ 3) × A) ⊎ (status ≡ 4)) → due.status ≡ 0
+of_zero due status zero (inl e) = sym e ∙ zero
+of_zero due status zero (inr (inl h)) = let three : status ≡ 3 = h.0 in absurd (omega (arith, three, zero))
+of_zero due status zero (inr (inr e)) = absurd (omega (arith, e, zero))
+
+stops : (stop : Stop) (status : ℕ) → status ≡ stop_status stop → 3 ≤ status
+stops Fault status e = omega (arith, e)
+stops Memory status e = omega (arith, e)
+
+module _ {X : Type 0} (kind_of : X → Kind) (pieces_of : X → List Piece) (is_finished : X → Bool) (r : Result Asked ℕ) (old new : List X) where
+  pub boxes_kept : (decided : Result Decision Stop) (made : Result Due Stop) → IfOk decided (IsDecidedFor r) → ChangesBy kind_of pieces_of is_finished decided made old new → (new ≡ old) ⊎ HoldsAsked kind_of (kinds_by r) old new
+  boxes_kept (Ok (Makes making)) made h change = inr (subst (λ kinds. HoldsAsked kind_of kinds old new) (kinds_are r making h) change.0)
+  boxes_kept (Ok (Ends due)) made h change = inl change
+  boxes_kept (Err stop) made h change = inl change
+
+  pub boxes_of_text : (decided : Result Decision Stop) (made : Result Due Stop) → IfOk decided (IsDecidedFor r) → ChangesBy kind_of pieces_of is_finished decided made old new → only_by r ≡ true → new ≡ old
+  boxes_of_text (Ok (Makes making)) made h change alone = let no : only_by r ≡ false = compiles r making h in absurd cc
+  boxes_of_text (Ok (Ends due)) made h change alone = change
+  boxes_of_text (Err stop) made h change alone = change
+
+  module _ (fault memory : List ℕ) (status : ℕ) (put now_put : OutputsSeen) (told now_told : ConsoleSeen) where
+    pub boxes_as_before : (decided : Result Decision Stop) (made : Result Due Stop) → Renders decided made → ChangesBy kind_of pieces_of is_finished decided made old new → Finishes fault memory made status put now_put told now_told
+        → 1 ≤ status → status ≤ 2 → new ≡ old
+    boxes_as_before (Ok (Makes making)) (Ok due) m change f some few = absurd (of_making due status (ap (λ a. a.status) m.0) f.is some few)
+    boxes_as_before (Ok (Makes making)) (Err stop) m change f some few = let high = stops stop status f.1.is in absurd (omega arith)
+    boxes_as_before (Ok (Ends due)) made m change f some few = change
+    boxes_as_before (Err stop) made m change f some few = change
+
+    pub boxes_rendered : (answer : List Named → Option Answer) (files now_files : FilesSeen) (decided : Result Decision Stop) (made : Result Due Stop) → Settles answer (IsDecidedFor r) decided files now_files → Renders decided made
+        → ChangesBy kind_of pieces_of is_finished decided made old new → Finishes fault memory made status put now_put told now_told
+        → status ≡ 0 → only_by r ≡ false → HoldsAsked kind_of (kinds_by r) old new × AreRendered pieces_of is_finished (kinds_by r) new answer files.contents
+    boxes_rendered answer files now_files (Ok (Makes making)) (Ok due) s m change f zero asks =
+        let kinds = kinds_are r making s.settled in (
+          subst (λ kinds. HoldsAsked kind_of kinds old new) kinds change.0,
+          record {
+            pieces = whole_piece making.bytes ∷ [];
+            over = change.1.0;
+            finished = change.1.1;
+            texts = λ all is.
+                ap (λ o. map (λ (file : Named). file.1) (due_of o)) (s.due all is)
+                ∙ texts_with string_bytes making.names.c_text making.bytes
+                ∙ ap (λ kinds. map (λ kind. rendering kind (whole_piece making.bytes ∷ [])) (order_of kinds)) kinds;
+          },
+        )
+    boxes_rendered answer files now_files (Ok (Makes making)) (Err stop) s m change f zero asks = let high = stops stop status f.1.is in absurd (omega (arith, high, zero))
+    boxes_rendered answer files now_files (Ok (Ends decided)) (Ok due) s m change f zero asks =
+        let yes : only_by r ≡ true = text_alone r decided s.settled (ap (λ d. d.status) (sym m) ∙ of_zero due status zero f.is) in absurd cc
+    boxes_rendered answer files now_files (Ok (Ends decided)) (Err stop) s m change f zero asks = absurd m
+    boxes_rendered answer files now_files (Err stop) (Ok due) s m change f zero asks = absurd m
+    boxes_rendered answer files now_files (Err stop) (Err later) s m change f zero asks = let high = stops later status f.1.is in absurd (omega (arith, high, zero))

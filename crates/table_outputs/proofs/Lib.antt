@@ -1,0 +1,2 @@
+mod OutputLaws
+pub mod BoxLaws

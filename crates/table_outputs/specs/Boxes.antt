@@ -1,0 +1,49 @@
+-- What a list of boxed outputs holds after a call.
+use Rattle.std.specs.Prelude.{◌≡◌, ℕ, Bool, true, false, List, [], ◌∷◌, map, cond, OnOk, Result, Ok, Err}
+use Rattle.std.specs.List.{filter, All}
+use Rattle.std.specs.declared.option.Option.{Option}
+use Rattle.std.specs.Option.{ForSome}
+use Rattle.iasl_ports.specs.Gained.{Named}
+use Rattle.iasl_ports.specs.Delivery.{Answer, due_of}
+use Rattle.iasl_ports.specs.declared.delivery.Due.{Due}
+use Rattle.iasl_ports.specs.declared.delivery.Stop.{Stop}
+use Rattle.iasl_messages.specs.declared.place.Piece.{Piece}
+use Rattle.iasl_backends.specs.declared.asked.Asked.{Asked as Kinds}
+use Rattle.iasl_backends.specs.declared.backend.Kind.{Kind}
+use Rattle.iasl_backends.specs.declared.backend.Kind.TheVariants.{RawAml, CHex}
+use Rattle.iasl_backends.specs.Asked.{is_asked}
+use Rattle.iasl_backends.specs.Each.{Each}
+use Rattle.iasl_backends.specs.Rendering.{rendering}
+use Rattle.iasl_options.specs.Asking.{Asked, asked_by}
+use Rattle.table_outputs.specs.declared.decision.Decision.{Decision}
+use Rattle.table_outputs.specs.declared.decision.Decision.TheVariants.{Ends, Makes}
+use Rattle.table_outputs.specs.Decision.{kinds_in, kinds_of, whole_piece}
+
+-- the kinds that words ask for; the table alone where they are not good
+abbrev pub kinds_by : Result Asked ℕ → Kinds
+kinds_by (Ok asked) = kinds_in asked
+kinds_by (Err word) = record { c_text = false; listing = false }
+
+-- the list holds exactly the boxes of the kinds that are asked for, in their old order
+abbrev pub HoldsAsked : {X : Type 0} → (X → Kind) → Kinds → List X → List X → Type 0
+HoldsAsked kind_of kinds old new = Each (λ b c. kind_of c ≡ kind_of b) (filter (λ b. is_asked kinds (kind_of b)) old) new
+
+-- the outputs that are asked for, in the order of their files
+abbrev pub order_of : Kinds → List Kind
+order_of kinds = RawAml ∷ cond kinds.c_text (CHex ∷ []) []
+
+-- The boxes are finished over one list of pieces, and the texts of their kinds are the bytes of the files that were due.
+pub record AreRendered {X : Type 0} (pieces_of : X → List Piece) (is_finished : X → Bool) (kinds : Kinds) (boxes : List X) (answer : List Named → Option Answer) (contents : Option (List Named)) : Type 0 where
+  pub pieces : List Piece
+  pub over : All (λ b. pieces_of b ≡ pieces) boxes
+  pub finished : All (λ b. is_finished b ≡ true) boxes
+  pub texts : ForSome contents (λ told. map (λ file. file.1) (due_of (answer told)) ≡ map (λ kind. rendering kind pieces) (order_of kinds))
+
+-- What making the outputs of a decision does to the boxes: nothing where there are none to make; else those of other kinds are let go,
+-- and the others are finished over the table, unless memory is wanted.
+abbrev pub ChangesBy : {X : Type 0} → (X → Kind) → (X → List Piece) → (X → Bool) → Result Decision Stop → Result Due Stop → List X → List X → Type 0
+ChangesBy kind_of pieces_of is_finished (Ok (Makes making)) result old new =
+    HoldsAsked kind_of (kinds_of making.names) old new
+    × OnOk result (All (λ b. pieces_of b ≡ whole_piece making.bytes ∷ []) new × All (λ b. is_finished b ≡ true) new)
+ChangesBy kind_of pieces_of is_finished (Ok (Ends due)) result old new = new ≡ old
+ChangesBy kind_of pieces_of is_finished (Err stop) result old new = new ≡ old

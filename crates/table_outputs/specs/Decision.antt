@@ -1,0 +1,86 @@
+-- What a call has decided before it makes its outputs.
+use Rattle.std.specs.Prelude.{◌≡◌, ◌⊎◌, ℕ, ◌≤◌, Bool, true, false, is_some, List, [], ◌∷◌, ◌++◌, cond, string_bytes, Some, None, IfOk, OnOk, IsErrOf, Result, Ok, Err}
+use Rattle.std.specs.declared.option.Option.{Option}
+use Rattle.std.specs.Option.{ForSome}
+use Rattle.iasl_ports.specs.Counts.{Rose}
+use Rattle.iasl_ports.specs.Gained.{Named}
+use Rattle.iasl_ports.specs.Delivery.{Answer, answer_of, IsSettled}
+use Rattle.iasl_ports.specs.declared.delivery.Due.{Due}
+use Rattle.iasl_ports.specs.declared.delivery.Stop.{Stop}
+use Rattle.iasl_ports.specs.declared.delivery.Stop.TheVariants.{Fault, Memory}
+use Rattle.iasl_runs.specs.Ends.{FilesSeen}
+use Rattle.iasl_messages.specs.declared.place.Piece.{Piece}
+use Rattle.iasl_backends.specs.declared.asked.Asked.{Asked as Kinds}
+use Rattle.iasl_backends.specs.CText.{c_text}
+use Rattle.iasl_options.specs.Asking.{Asked, asked_by}
+use Rattle.table_outputs.specs.declared.decision.OutputNames.{OutputNames}
+use Rattle.table_outputs.specs.declared.decision.Decision.{Decision}
+use Rattle.table_outputs.specs.declared.decision.Decision.TheVariants.{Ends, Makes}
+
+-- the array of C, where it has a name, of which these are the bytes
+abbrev pub c_file : {S : Type 0} → (S → List ℕ) → Option S → List ℕ → List Named
+c_file name_of None bytes = []
+c_file name_of (Some name) bytes = (name_of name, c_text bytes) ∷ []
+
+-- the files of a table with these bytes, in the order of their putting
+abbrev pub files_under : OutputNames → List ℕ → List Named
+files_under names bytes = (string_bytes names.table, bytes) ∷ c_file string_bytes names.c_text bytes
+
+-- a table as one piece, which is of no line
+abbrev pub whole_piece : List ℕ → Piece
+whole_piece bytes = record { place = record { file = 0; line = 1; column = 1 }; source = []; bytes = bytes }
+
+-- what a decision is to end with
+abbrev pub end_of : Decision → Answer
+end_of (Ends due) = answer_of due
+end_of (Makes making) = record { status = 0; text = making.text; due = files_under making.names making.bytes }
+
+-- the kinds of outputs that have names
+abbrev pub kinds_of : OutputNames → Kinds
+kinds_of names = record { c_text = is_some names.c_text; listing = false }
+
+-- the kinds of outputs that are asked for
+abbrev pub kinds_in : Asked → Kinds
+kinds_in asked = record { c_text = asked.switches.c_text; listing = false }
+
+-- An end is settled, and has status 0 only where preprocessed text alone is asked for; else the outputs of the kinds that are asked for
+-- are made.
+abbrev pub IsDecidedBy : Asked → Decision → Type 0
+IsDecidedBy asked (Ends due) = IsSettled due × (due.status ≡ 0 → asked.only ≡ true)
+IsDecidedBy asked (Makes making) = (asked.only ≡ false) × (kinds_of making.names ≡ kinds_in asked)
+
+-- the same of words, where they are good
+abbrev pub IsDecidedFor : Result Asked ℕ → Decision → Type 0
+IsDecidedFor (Ok asked) decision = IsDecidedBy asked decision
+IsDecidedFor (Err word) (Ends due) = IsSettled due × (due.status ≡ 0 → ⊥)
+IsDecidedFor (Err word) (Makes making) = ⊥
+
+-- What a run decides by its files alone, where `answer` says what it is to end with. It decides nothing only where a file was absent or a
+-- fetch failed, or where memory is wanted.
+pub record Settles (answer : List Named → Option Answer) (is_decided : Decision → Type 0) (decided : Result Decision Stop) (old new : FilesSeen) : Type 0 where
+  pub due : IfOk decided (λ decision. ForSome old.contents (λ told. answer told ≡ Option.Some (end_of decision)))
+  pub settled : IfOk decided is_decided
+  -- a fault has a cause: a count that rose, or a file that is absent, of which there is no answer
+  pub fault : IsErrOf decided Fault → Rose old.faults new.faults ⊎ (Rose old.absents new.absents × ForSome old.contents (λ told. answer told ≡ None))
+  -- a decision comes only where no fetch failed
+  pub calm : OnOk decided (new.faults ≡ old.faults)
+  -- the files stay what they are, and their count does not fall
+  pub contents : new.contents ≡ old.contents
+  pub later : old.faults ≤ new.faults
+
+-- The outputs of a decision are made, unless memory is wanted.
+abbrev pub Renders : Result Decision Stop → Result Due Stop → Type 0
+Renders (Ok (Makes making)) (Ok due) = (answer_of due ≡ end_of (Makes making)) × IsSettled due
+Renders (Ok (Ends decided)) (Ok due) = due ≡ decided
+Renders (Ok (Ends decided)) (Err stop) = ⊥
+Renders (Ok (Makes making)) (Err stop) = stop ≡ Memory
+Renders (Err stop) (Ok due) = ⊥
+Renders (Err stop) (Err later) = later ≡ stop
+
+-- whether words ask for preprocessed text alone
+abbrev pub only_by : Result Asked ℕ → Bool
+only_by (Ok asked) = asked.only
+only_by (Err word) = false
+
+abbrev pub asks_for_text : List (List ℕ) → Bool
+asks_for_text words = only_by (asked_by words)
