@@ -2,7 +2,8 @@
 use Rattle.std.proofs.Common.{◌≡◌, ℕ, ◌+◌, true, false, cond, List, [], ◌∷◌, ◌++◌, length, Some, None, Result, Ok, Err, ◌↔◌, refl, sym, ap, subst, ◌∙◌, arith, add-zero, ◌==◌}
 use Rattle.std.proofs.lemmas.Grind.{common_steps}
 use Rattle.iasl_messages.specs.Cut.{lines_of}
-use Rattle.acpi_extract.specs.Lines.{is_blank_line, signature_of}
+use Rattle.hex_text.specs.Blanks.{has_blanks_alone}
+use Rattle.acpi_extract.specs.Lines.{signature_of}
 use Rattle.acpi_extract.specs.Rows.{row_of}
 use Rattle.acpi_extract.specs.Dump.{Dumped, Fault, Numbered, Headed, Cut, strays, all_blocks, cut_of, blocks_of, numbered_from, bytes_of, bytes_with, tells_length, table_of, all_of, dump_of}
 use Rattle.acpi_extract.specs.Grammar.{IsInner, Spells, ended, row, EndsTable, at_end, at_blank, at_header, IsDump, nothing, blank, table}
@@ -100,7 +101,7 @@ whole_dump (line ∷ inner) rest lines cut n tables whole e dump h =
     let k : ◌≡◌ {A = Result (List Dumped) Fault} (Err (6100, n)) (Ok tables) = subst P e h in
     absurd cc
 
-header_dump : (line signature : List ℕ) (inner rest lines : List (List ℕ)) (cut : Cut) (n : ℕ) (tables : List Dumped) → is_blank_line line ≡ false → signature_of line ≡ Some signature → lines ≡ inner ++ rest → AllInner inner → EndsTable rest → cut.0 ≡ numbered_from (n + 1) inner → ((others : List Dumped) → all_of cut.1 ≡ Ok others → IsDump rest others) → all_of (Headed n signature cut.0 ∷ cut.1) ≡ Ok tables → IsDump (line ∷ lines) tables
+header_dump : (line signature : List ℕ) (inner rest lines : List (List ℕ)) (cut : Cut) (n : ℕ) (tables : List Dumped) → has_blanks_alone line ≡ false → signature_of line ≡ Some signature → lines ≡ inner ++ rest → AllInner inner → EndsTable rest → cut.0 ≡ numbered_from (n + 1) inner → ((others : List Dumped) → all_of cut.1 ≡ Ok others → IsDump rest others) → all_of (Headed n signature cut.0 ∷ cut.1) ≡ Ok tables → IsDump (line ∷ lines) tables
 header_dump line signature inner rest lines cut n tables e f whole inside ends front dump h =
     let parts = first_and_rest (table_of n signature (bytes_of [] cut.0)) (all_of cut.1) tables h in
     let found = table_parts n signature (bytes_of [] cut.0) parts.0 parts.2 in
@@ -115,7 +116,7 @@ front : (lines : List (List ℕ)) → Front lines
 front [] = record { inner = []; rest = []; whole = refl; inside = tt; ends = at_end; cut = λ n. refl; dump = λ n tables e. let same : [] ≡ tables = cc in subst (IsDump []) same nothing }
 front (line ∷ lines) =
     let f = front lines in
-    elim (is_blank_line line) as (λ b. is_blank_line line ≡ b → Front (line ∷ lines)) [
+    elim (has_blanks_alone line) as (λ b. has_blanks_alone line ≡ b → Front (line ∷ lines)) [
       | true ↦ λ e. record {
         inner = [];
         rest = line ∷ lines;

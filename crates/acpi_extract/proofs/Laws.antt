@@ -9,7 +9,8 @@ use Rattle.iasl_ports.specs.Gained.{Named, Gains, GainsSome, IsPartOfFirst}
 use Rattle.iasl_ports.specs.Fetched.{find_file, most_bytes}
 use Rattle.iasl_ports.specs.Delivery.{Answer, due_of, OutsGained}
 use Rattle.iasl_messages.specs.Cut.{lines_of}
-use Rattle.acpi_extract.specs.Lines.{is_blank_line, is_signature, is_header_with, is_address, signature_of}
+use Rattle.hex_text.specs.Blanks.{has_blanks_alone}
+use Rattle.acpi_extract.specs.Lines.{is_signature, is_header_with, is_address, signature_of}
 use Rattle.acpi_extract.specs.Dump.{Dumped, Fault, Numbered, Block, Headed, Stray, Cut, strays, cut_at_line, cut_at_header, all_blocks, cut_of, numbered_from, bytes_of, tells_length, table_of, answer_of, then_all, all_of, dump_of}
 use Rattle.acpi_extract.specs.Table.{message_of}
 use Rattle.acpi_extract.specs.Words.{Asked, Listing, Request, request_of}
@@ -91,7 +92,7 @@ header_named line signature h =
 
 named_at : (line : Numbered) (cut : Cut) → AreNamed cut.1 → AreNamed (cut_at_line line cut).1
 named_at line cut h =
-    elim (is_blank_line line.1) as (λ b. AreNamed (cond b ([], all_blocks cut) (cut_at_header line (signature_of line.1) cut)).1) [
+    elim (has_blanks_alone line.1) as (λ b. AreNamed (cond b ([], all_blocks cut) (cut_at_header line (signature_of line.1) cut)).1) [
       | true ↦ with_strays cut.0 cut.1 h
       | false ↦
           elim (signature_of line.1) as (λ s. signature_of line.1 ≡ s → AreNamed (cut_at_header line s cut).1) [

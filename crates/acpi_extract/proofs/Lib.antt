@@ -1,4 +1,3 @@
-pub mod Digits
 pub mod Pairs
 pub mod Taking
 pub mod Ascii

@@ -3,8 +3,9 @@ use Rattle.std.proofs.Common.{◌≡◌, ℕ, zero, suc, ◌-◌, ◌<◌, ◌�
 use Rattle.std.specs.Option.{option_map}
 use Rattle.std.proofs.lemmas.Grind.{common_steps}
 use Rattle.std.proofs.lemmas.List.{take_all}
-use Rattle.acpi_extract.specs.Lines.{is_blank}
-use Rattle.acpi_extract.specs.Rows.{byte_of, pairs_of, with_first}
+use Rattle.hex_text.specs.Blanks.{is_blank}
+use Rattle.hex_text.specs.Digits.{byte_of}
+use Rattle.acpi_extract.specs.Rows.{pairs_of, with_first}
 
 pub pairs_one : (room : ℕ) (text : List ℕ) → 1 ≤ length text → length text < 2 → pairs_of room text ≡ None
 pairs_one room [] h k = absurd (omega arith)

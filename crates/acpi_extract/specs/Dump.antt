@@ -5,7 +5,8 @@ use Rattle.std.specs.declared.result.Result.{Result}
 use Rattle.std.specs.Char.{to_ascii_lowercase}
 use Rattle.std.specs.Str.{bytes_eq}
 use Rattle.iasl_messages.specs.Cut.{lines_of}
-use Rattle.acpi_extract.specs.Lines.{is_blank_line, signature_of}
+use Rattle.hex_text.specs.Blanks.{has_blanks_alone}
+use Rattle.acpi_extract.specs.Lines.{signature_of}
 use Rattle.acpi_extract.specs.Rows.{Row, row_of}
 
 -- a table of a dump: its signature as the header has it, and its bytes
@@ -47,7 +48,7 @@ abbrev pub all_blocks : Cut → List Block
 all_blocks cut = strays cut.0 ++ cut.1
 
 abbrev pub cut_at_line : Numbered → Cut → Cut
-cut_at_line line cut = cond (is_blank_line line.1) ([], all_blocks cut) (cut_at_header line (signature_of line.1) cut)
+cut_at_line line cut = cond (has_blanks_alone line.1) ([], all_blocks cut) (cut_at_header line (signature_of line.1) cut)
 
 -- the lines under a header go up to a blank line, a further header or the end
 abbrev pub cut_of : List Numbered → Cut

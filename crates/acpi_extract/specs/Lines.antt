@@ -6,14 +6,6 @@ use Rattle.std.specs.Char.{is_ascii_graphic}
 use Rattle.std.specs.Str.{bytes_eq}
 use Rattle.hex.specs.Hex.{is_hex_digit}
 
--- a blank is a space or a tab
-abbrev pub is_blank : ℕ → Bool
-is_blank c = c == 32 || c == 9
-
--- a blank line has nothing but blanks
-abbrev pub is_blank_line : List ℕ → Bool
-is_blank_line line = list_all is_blank line
-
 -- a character of a signature: printable, neither a blank nor `/`
 abbrev pub is_signature_byte : ℕ → Bool
 is_signature_byte c = is_ascii_graphic c && not (c == 47)

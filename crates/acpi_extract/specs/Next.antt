@@ -11,8 +11,8 @@ IsNext room text End = pairs_of room text ≡ Some []
 IsNext room text (Pair byte rest) = (0 < room) × (length rest.now < length text) × (pairs_of room text ≡ with_first (Some byte) (pairs_of (room - 1) rest.now))
 IsNext room text Wrong = pairs_of room text ≡ None
 
--- a line begins with this offset and a colon, before this text; a number over the largest u64 is shown as that
+-- a line begins with this offset and a colon, before this text; a number over the largest u128 is shown as that
 pub record IsRowStart (line : List ℕ) (shown : ℕ) (text : List ℕ) : Type 0 where
   pub offset : ℕ
-  pub shown_as : shown ≡ min offset (2 ^ 64 - 1)
+  pub shown_as : shown ≡ min offset (2 ^ 128 - 1)
   pub row : row_of line ≡ option_map (λ bytes. (offset, bytes)) (pairs_of 16 text)

@@ -1,18 +1,9 @@
 -- A line of bytes in a table: blanks, a hexadecimal offset, a colon, and pairs of hexadecimal digits.
-use Rattle.std.specs.Prelude.{ℕ, zero, suc, ◌+◌, ◌*◌, ◌==◌, ◌&&◌, Bool, cond, List, [], ◌∷◌, drop, Some, None}
+use Rattle.std.specs.Prelude.{ℕ, zero, suc, ◌==◌, ◌&&◌, cond, List, [], ◌∷◌, Some, None}
 use Rattle.std.specs.declared.option.Option.{Option}
-use Rattle.std.specs.Option.{option_map, unwrap_or}
-use Rattle.std.specs.List.{fold, prefix_len, take_while}
-use Rattle.hex.specs.Hex.{is_hex_digit, hex_digit_value}
-use Rattle.acpi_extract.specs.Lines.{is_blank}
-
--- a byte, where both are hexadecimal digits, of either case
-abbrev pub byte_of_digits : Option ℕ → Option ℕ → Option ℕ
-byte_of_digits None low = None
-byte_of_digits (Some h) low = option_map (λ l. h * 16 + l) low
-
-abbrev pub byte_of : ℕ → ℕ → Option ℕ
-byte_of high low = byte_of_digits (hex_digit_value high) (hex_digit_value low)
+use Rattle.std.specs.Option.{option_map}
+use Rattle.hex_text.specs.Blanks.{is_blank, drop_blanks}
+use Rattle.hex_text.specs.Digits.{behind_digits, byte_of, digits_of, number_of}
 
 -- the byte before the others, where both are there
 abbrev pub with_first : Option ℕ → Option (List ℕ) → Option (List ℕ)
@@ -28,14 +19,6 @@ pairs_of room (a ∷ b ∷ []) = cond (is_blank a && is_blank b) (Some []) None
 pairs_of zero (a ∷ b ∷ c ∷ rest) = cond (is_blank a && is_blank b) (Some []) None
 pairs_of (suc room) (a ∷ b ∷ c ∷ rest) = cond (is_blank a && is_blank b) (Some []) (cond (is_blank a) (with_first (byte_of b c) (pairs_of room rest)) None)
 
--- the number that hexadecimal digits write
-abbrev pub number_of : List ℕ → ℕ
-number_of digits = fold (λ n digit. n * 16 + unwrap_or (hex_digit_value digit) 0) 0 digits
-
--- the text without what passes at its front
-abbrev pub drop_while : (ℕ → Bool) → List ℕ → List ℕ
-drop_while test text = drop (prefix_len test text) text
-
 -- an offset and the bytes of its line
 abbrev pub Row : Type 0
 Row = ℕ × List ℕ
@@ -50,4 +33,4 @@ row_at_offset (digit ∷ digits) rest = row_after_offset (number_of (digit ∷ d
 
 -- the offset and the bytes of a line, where it has the form
 abbrev pub row_of : List ℕ → Option Row
-row_of line = let text = drop_while is_blank line in row_at_offset (take_while is_hex_digit text) (drop_while is_hex_digit text)
+row_of line = let text = drop_blanks line in row_at_offset (digits_of text) (behind_digits text)

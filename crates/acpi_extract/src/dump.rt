@@ -7,10 +7,11 @@ ghost use Rattle.acpi_extract.specs.Dump.{Dumped, Fault, dump_of, bytes_of, tell
 ghost use Rattle.acpi_extract.specs.Table.{dumped, message_of, Refuses};
 ghost use Rattle.acpi_extract.specs.Reading.{Halts};
 
-use crate::line::{is_blank_line, signature_in};
+use crate::line::signature_in;
 use crate::row::{add_pairs, row_start};
 use crate::signature::is_pointer;
 use crate::table::{Table, Tables, Unfinished, begin_table};
+use hex_text::blanks::has_blanks_alone;
 use iasl_messages::cut::cut_line;
 use iasl_messages::message::{Message, Messages, Stage};
 use iasl_messages::place::Place;
@@ -46,7 +47,7 @@ fn add_row(bytes: &mut Vec<u8>, number: u32, line: &[u8]) -> Result<(), Halt>
     if !add_pairs(bytes, pairs)? {
         return Err(Halt::At(6101, number));
     }
-    if offset != before as u64 {
+    if offset != before as u128 {
         return Err(Halt::At(6102, number));
     }
     Ok(())
@@ -146,7 +147,7 @@ impl Reader {
         ensures refused { IfErr result (λ halt. (lines : List (List ℕ)) → Halts halt (answer_with self.old (line.now ∷ lines))) }
     {
         self.number += 1;
-        if is_blank_line(line) {
+        if has_blanks_alone(line) {
             return self.close();
         }
         match signature_in(line) {

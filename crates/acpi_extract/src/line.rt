@@ -3,21 +3,9 @@ ghost use Rattle.std.specs.Prelude.{◌≡◌, ◌∷◌, [], MatchOption, posit
 ghost use Rattle.std.specs.Option.{option_copied};
 ghost use Rattle.std.specs.List.{list_all};
 ghost use Rattle.hex.specs.Hex.{is_hex_digit};
-ghost use Rattle.acpi_extract.specs.Lines.{is_blank, is_blank_line, is_signature_byte, is_signature, is_digits, is_address, is_header_with, signature_of};
+ghost use Rattle.acpi_extract.specs.Lines.{is_signature_byte, is_signature, is_digits, is_address, is_header_with, signature_of};
 
-use crate::row::is_digit;
-
-pub(crate) fn is_blank(byte: u8) -> bool
-    ensures { result ≡ is_blank byte }
-{
-    byte == b' ' || byte == b'\t'
-}
-
-pub(crate) fn is_blank_line(line: &[u8]) -> bool
-    ensures { result ≡ is_blank_line line.now }
-{
-    line.iter().all(|byte| is_blank(*byte))
-}
+use hex_text::digits::is_digit;
 
 fn is_signature_byte(byte: u8) -> bool
     ensures { result ≡ is_signature_byte byte }

@@ -13,4 +13,5 @@ pub mod Sights
 pub mod Forms
 pub mod Stored
 pub mod Nodes
+pub mod Places
 mod Rows

@@ -1,11 +1,12 @@
 //! A program with its constants folded: an integer operator on constants is its result (ACPI Specification 6.4, 19.6).
-ghost use Rattle.std.specs.Prelude.{◌≡◌, IfOk};
+ghost use Rattle.std.specs.Prelude.{◌≡◌, [], if◌then◌else◌, IfOk};
 ghost use Rattle.acpi_values.specs.declared.operator.DataOp.TheVariants as DataOp;
 ghost use Rattle.acpi_values.specs.declared.operator.Plain.TheVariants as P;
 ghost use Rattle.acpi_names.specs.Walked.{node_tree};
 ghost use Rattle.asl_tree.specs.declared.term.Op.TheVariants as O;
 ghost use Rattle.asl_tree.specs.Tree.{At, Apply, Integer, no_trees, tree};
 ghost use Rattle.asl_tree.specs.View.{form, tree_of, trees_of};
+ghost use Rattle.term_places.specs.Places.{holds_terms, inner_places, places_of, term_places};
 ghost use Rattle.asl_fold.specs.Folds.{folded, folded_all, folded_where, last_of};
 ghost use Rattle.asl_fold.specs.Nodes.{part_in, folded_as, folded_by, reduced_form};
 
@@ -19,7 +20,8 @@ use std::alloc::{AllocError, Global};
 
 // Store of some arguments.
 fn store(alloc: Global, args: Vec<Node>) -> Term
-    ensures { (at : At) → tree_of at result ≡ form at (O.Plain (P.Data DataOp.Store)) (trees_of args.items) no_trees }
+    ensures tree { (at : At) → tree_of at result ≡ form at (O.Plain (P.Data DataOp.Store)) (trees_of args.items) no_trees }
+    ensures places { inner_places result ≡ [] }
 {
     Term::Form {
         op: Op::Plain(Plain::Data(DataOp::Store)),
@@ -36,7 +38,8 @@ fn stored(
     number: u64,
     args: Vec<Node>,
 ) -> Result<Term, AllocError>
-    ensures { IfOk result (λ made. (at : At) → tree_of at made ≡ Apply (P.Data DataOp.Store) (tree (Integer number) (last_of (trees_of args.items))) no_trees) }
+    ensures tree { IfOk result (λ made. (at : At) → tree_of at made ≡ Apply (P.Data DataOp.Store) (tree (Integer number) (last_of (trees_of args.items))) no_trees) }
+    ensures places { IfOk result (λ made. inner_places made ≡ []) }
 {
     let mut left = args;
     let mut all = Vec::with_capacity(alloc, 2)?;
@@ -65,7 +68,8 @@ fn reduce(
     args: Vec<Node>,
     body: Vec<Node>,
 ) -> Result<Term, AllocError>
-    ensures { IfOk result (λ made. (at : At) → tree_of at made ≡ reduced_form width statement op (trees_of args.items) (trees_of body.items)) }
+    ensures tree { IfOk result (λ made. (at : At) → tree_of at made ≡ reduced_form width statement op (trees_of args.items) (trees_of body.items)) }
+    ensures places { IfOk result (λ made. inner_places made ≡ []) }
 {
     match fate_in(width, statement, op, &args, &body) {
         Fate::Stays => Ok(Term::Form {
@@ -82,9 +86,10 @@ fn reduce(
 }
 
 /// The terms of a list with their constants folded at the width of a table. A node that is made has the id and the place of the one
-/// that it stands for.
+/// that it stands for, and each statement stays one, at its place.
 pub fn fold(alloc: Global, width: Width, terms: Vec<Node>) -> Result<Vec<Node>, AllocError>
-    ensures { IfOk result (λ made. trees_of made.items ≡ folded_all width (trees_of terms.items)) }
+    ensures trees { IfOk result (λ made. trees_of made.items ≡ folded_all width (trees_of terms.items)) }
+    ensures places { IfOk result (λ made. places_of made.items ≡ places_of terms.items) }
 {
     let made = fold_nodes(alloc, width, Listing::Terms, terms)?;
     Ok(made)
@@ -97,7 +102,8 @@ pub fn fold_where(
     width: Width,
     terms: Vec<Node>,
 ) -> Result<Vec<Node>, AllocError>
-    ensures { IfOk result (λ made. trees_of made.items ≡ folded_where asked width (trees_of terms.items)) }
+    ensures trees { IfOk result (λ made. trees_of made.items ≡ folded_where asked width (trees_of terms.items)) }
+    ensures places { IfOk result (λ made. places_of made.items ≡ places_of terms.items) }
 {
     if asked {
         let made = fold(alloc, width, terms)?;
@@ -115,7 +121,8 @@ fn fold_nodes(
     listing: Listing,
     nodes: Vec<Node>,
 ) -> Result<Vec<Node>, AllocError>
-    ensures { IfOk result (λ made. trees_of made.items ≡ folded_by width (part_in listing) (trees_of nodes.items)) }
+    ensures trees { IfOk result (λ made. trees_of made.items ≡ folded_by width (part_in listing) (trees_of nodes.items)) }
+    ensures places { IfOk result (λ made. places_of made.items ≡ places_of nodes.items) }
 {
     let mut left = nodes;
     let mut made = Vec::new(alloc);
@@ -129,7 +136,8 @@ fn fold_nodes(
 
 #[cycle(fold)]
 fn fold_part(alloc: Global, width: Width, part: Part, node: Node) -> Result<Node, AllocError>
-    ensures { IfOk result (λ made. node_tree made ≡ folded_as width part (node_tree node)) }
+    ensures tree { IfOk result (λ made. node_tree made ≡ folded_as width part (node_tree node)) }
+    ensures places { IfOk result (λ made. term_places made ≡ term_places node) }
 {
     match part {
         Part::Kept => Ok(node),
@@ -146,7 +154,8 @@ fn fold_part(alloc: Global, width: Width, part: Part, node: Node) -> Result<Node
 
 #[cycle(fold)]
 fn fold_node(alloc: Global, width: Width, statement: bool, node: Node) -> Result<Node, AllocError>
-    ensures { IfOk result (λ made. node_tree made ≡ folded width statement (node_tree node)) }
+    ensures tree { IfOk result (λ made. node_tree made ≡ folded width statement (node_tree node)) }
+    ensures places { IfOk result (λ made. term_places made ≡ term_places node) }
 {
     let Node { id, place, term } = node;
     let term = fold_term(alloc, width, statement, id, place, term)?;
@@ -163,7 +172,8 @@ fn fold_term(
     place: Place,
     term: Term,
 ) -> Result<Term, AllocError>
-    ensures { IfOk result (λ made. (at : At) → tree_of at made ≡ folded width statement (tree_of at term)) }
+    ensures tree { IfOk result (λ made. (at : At) → tree_of at made ≡ folded width statement (tree_of at term)) }
+    ensures places { IfOk result (λ made. inner_places made ≡ inner_places term) }
 {
     match term {
         Term::Call { path, args } => {
@@ -189,7 +199,8 @@ fn fold_form(
     args: Vec<Node>,
     body: Vec<Node>,
 ) -> Result<Term, AllocError>
-    ensures { IfOk result (λ made. (at : At) → tree_of at made ≡ folded width statement (form at op (trees_of args.items) (trees_of body.items))) }
+    ensures tree { IfOk result (λ made. (at : At) → tree_of at made ≡ folded width statement (form at op (trees_of args.items) (trees_of body.items))) }
+    ensures places { IfOk result (λ made. inner_places made ≡ (if holds_terms op then places_of body.items else [])) }
 {
     let args = fold_nodes(alloc, width, Listing::Arguments(op), args)?;
     let body = fold_nodes(alloc, width, listing_of(op), body)?;

@@ -60,7 +60,7 @@ symbol_kind op args = by_fit (fits (row_of op).operands args)
     by_fit true = operated_kind op (operands_as (row_of op).operands args)
     by_fit false = refl
 
-form_kind : (at : At) (op : Op) (args body : Trees) → tree_kind (form at op args body) ≡ shape_kind (OfForm op args body)
+pub form_kind : (at : At) (op : Op) (args body : Trees) → tree_kind (form at op args body) ≡ shape_kind (OfForm op args body)
 form_kind here (Op.Declaration Declaration.Name) (tree (Use at name) (tree value no_trees)) no_trees = refl
 form_kind here (Op.Declaration Declaration.Alias) (tree (Use from source) (tree (Use at name) no_trees)) no_trees = refl
 form_kind here (Op.Declaration Declaration.External) (tree (Use at name) (tree (Integer type) no_trees)) no_trees = refl

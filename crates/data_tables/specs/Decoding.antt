@@ -8,7 +8,7 @@ use Rattle.data_layout.specs.declared.row.Row.{Row}
 use Rattle.data_layout.specs.declared.row.Flag.{Flag}
 use Rattle.data_layout.specs.Layout.{flags_of, flag_value}
 use Rattle.data_text.specs.declared.field_line.FieldLine.{FieldLine}
-use Rattle.data_text.specs.Blanks.{label_key}
+use Rattle.data_text.specs.Labels.{label_key}
 use Rattle.data_text.specs.Values.{number_in}
 use Rattle.data_tables.specs.declared.decoding.Decoded.{Decoded}
 use Rattle.data_tables.specs.declared.decoding.Told.{Told}

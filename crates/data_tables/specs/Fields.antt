@@ -11,7 +11,7 @@ use Rattle.data_layout.specs.declared.row.Kind.TheVariants as k
 use Rattle.data_layout.specs.declared.table.Table.{Table}
 use Rattle.data_layout.specs.declared.table.Table.TheVariants as t
 use Rattle.data_layout.specs.Layout.{fadt_bytes, structure_rows}
-use Rattle.data_text.specs.Blanks.{label_key}
+use Rattle.data_text.specs.Labels.{label_key}
 use Rattle.data_text.specs.Values.{number_in, text_in, bytes_in}
 use Rattle.data_tables.specs.declared.field.Form.{Form}
 use Rattle.data_tables.specs.declared.field.Form.TheVariants as form

@@ -1,7 +1,7 @@
 -- A key and a label, letter by letter.
 use Rattle.std.specs.Prelude.{ℕ, ◌==◌, cond, List, [], ◌∷◌, Some, None}
 use Rattle.std.specs.declared.option.Option.{Option}
-use Rattle.data_text.specs.Blanks.{label_key}
+use Rattle.data_text.specs.Labels.{label_key}
 
 -- what stands behind these letters in a text, where it begins with them
 abbrev pub behind_key : List ℕ → List ℕ → Option (List ℕ)

@@ -2,12 +2,12 @@
 ghost use Rattle.std.specs.Prelude.{◌≡◌, decimal, [], ◌∷◌, ◌++◌, List, ℕ, MatchOption, None};
 ghost use Rattle.std.specs.Option.{option_copied};
 ghost use Rattle.std.specs.Str.{bytes_eq};
-ghost use Rattle.data_text.specs.Blanks.{label_key};
+ghost use Rattle.data_text.specs.Labels.{label_key};
 ghost use Rattle.data_tables.specs.Fields.{row_key};
 ghost use Rattle.data_tables.specs.Labels.{behind_label, behind_key};
 
 use data_layout::row::{Kind, Row};
-use data_text::blanks::is_blank;
+use hex_text::blanks::is_blank;
 use itoa::Buffer;
 
 // What stands behind a letter, where a text begins with it.

@@ -2,7 +2,8 @@
 use Rattle.std.proofs.Common.{◌≡◌, ◌&&◌, ◌==◌, ◌+◌, ◌-◌, ◌≤◌, ℕ, true, false, cond, List, [], ◌∷◌, ◌++◌, take, length, get_or, Option, Some, None, refl, sym, ap, ◌∙◌, arith}
 use Rattle.std.proofs.lemmas.Grind.{common_steps}
 use Rattle.std.proofs.lemmas.List.{take_more, take_all}
-use Rattle.data_text.specs.Blanks.{is_blank, has_blanks_alone, before_backslash}
+use Rattle.hex_text.specs.Blanks.{is_blank, has_blanks_alone}
+use Rattle.data_text.specs.Labels.{before_backslash}
 
 alone_push : (xs : List ℕ) (c : ℕ) → has_blanks_alone (xs ++ c ∷ []) ≡ cond (is_blank c) (has_blanks_alone xs) false
 alone_push [] c = grind (arith, common_steps)

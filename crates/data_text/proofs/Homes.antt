@@ -8,7 +8,7 @@ use Rattle.data_text.specs.declared.comments.Mode.{Mode}
 use Rattle.data_text.specs.declared.comments.Mode.TheVariants as m
 use Rattle.data_text.specs.declared.field_line.FieldLine.{FieldLine}
 use Rattle.data_text.specs.declared.field_line.DataText.{DataText}
-use Rattle.data_text.specs.Blanks.{has_blanks_alone, drop_blanks}
+use Rattle.hex_text.specs.Blanks.{has_blanks_alone, drop_blanks}
 use Rattle.data_text.specs.Comments.{uncommented_from, mode_after, at_line_end}
 use Rattle.data_text.specs.Parts.{Begun, before_remark, after_bracket, halves, begun, begun_with, begun_behind, extended, kept, place_of}
 use Rattle.data_text.specs.Source.{ends_source, done_of, open_of, done_by, open_by, finished, with_lines, text_from, first_place, text_of}

@@ -13,11 +13,13 @@ use Rattle.data_text.specs.declared.values.Pair.{Pair}
 use Rattle.data_text.specs.declared.values.Pair.TheVariants as p
 use Rattle.data_text.specs.declared.field_line.FieldLine.{FieldLine}
 use Rattle.data_text.specs.declared.field_line.DataText.{DataText}
-use Rattle.data_text.specs.Blanks.{is_blank, has_blanks_alone, drop_blanks, before_backslash, ending_of, ending}
+use Rattle.hex_text.specs.Blanks.{is_blank, has_blanks_alone, drop_blanks}
+use Rattle.data_text.specs.Labels.{before_backslash, ending_of, ending}
 use Rattle.data_text.specs.Comments.{next_mode, first_or_zero, uncommented_from, mode_after, at_line_end}
 use Rattle.data_text.specs.Parts.{Begun, before_remark, behind_closing, after_bracket, halves_at, begun, begun_with, begun_behind, extended, kept, place_of}
 use Rattle.data_text.specs.Source.{ends_source, done_of, open_of, done_by, open_by, finished, with_lines, text_from, first_place, text_of}
-use Rattle.data_text.specs.Values.{with_first, byte_of, bytes_at, bytes_in}
+use Rattle.hex_text.specs.Digits.{byte_of}
+use Rattle.data_text.specs.Values.{with_first, bytes_at, bytes_in}
 
 -- how many bytes a line has with its end, and a value with one byte more
 abbrev pub line_size : Line → ℕ

@@ -1,7 +1,7 @@
 -- Values and lines worked out by computation.
 use Rattle.std.proofs.Common.{◌≡◌, true, false, [], ◌∷◌, codes, Some, None, refl}
 use Rattle.data_text.specs.declared.comments.Mode.TheVariants.{Plain}
-use Rattle.data_text.specs.Blanks.{label_key, ending}
+use Rattle.data_text.specs.Labels.{label_key, ending}
 use Rattle.data_text.specs.Comments.{uncommented_from}
 use Rattle.data_text.specs.Parts.{after_bracket, before_remark, halves}
 use Rattle.data_text.specs.Values.{number_in, text_in, bytes_in}

@@ -6,7 +6,7 @@ use Rattle.std.specs.Str.{bytes_eq}
 use Rattle.iasl_messages.specs.declared.place.Line.{Line}
 use Rattle.data_text.specs.declared.comments.Mode.{Mode}
 use Rattle.data_text.specs.declared.comments.Mode.TheVariants as m
-use Rattle.data_text.specs.Blanks.{has_blanks_alone, drop_blanks}
+use Rattle.hex_text.specs.Blanks.{has_blanks_alone, drop_blanks}
 use Rattle.data_text.specs.Comments.{uncommented_from, mode_after, at_line_end}
 
 -- the word `Signature` in letters of either case, blanks, and a colon

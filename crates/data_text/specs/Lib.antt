@@ -1,4 +1,4 @@
-pub mod Blanks
+pub mod Labels
 pub mod Comments
 pub mod Parts
 pub mod Source

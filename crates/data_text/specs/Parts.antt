@@ -4,7 +4,8 @@ use Rattle.std.specs.declared.option.Option.{Option}
 use Rattle.iasl_messages.specs.declared.place.Place.{Place}
 use Rattle.iasl_messages.specs.declared.place.Line.{Line}
 use Rattle.data_text.specs.declared.field_line.FieldLine.{FieldLine}
-use Rattle.data_text.specs.Blanks.{has_blanks_alone, drop_blanks, label_key, ending}
+use Rattle.hex_text.specs.Blanks.{has_blanks_alone, drop_blanks}
+use Rattle.data_text.specs.Labels.{label_key, ending}
 
 -- a text up to the first `[` (91) outside quotes (34), at which a remark begins
 abbrev pub before_remark : Bool → List ℕ → List ℕ

@@ -2,34 +2,19 @@
 use Rattle.std.specs.Prelude.{◌≡◌, ◌≤◌, ◌<◌, ◌^◌, ℕ, ◌+◌, ◌*◌, not, ◌==◌, ◌&&◌, nat_lt, Bool, cond, List, [], ◌∷◌, drop, Some, None}
 use Rattle.std.specs.declared.option.Option.{Option}
 use Rattle.std.specs.Option.{option_map}
-use Rattle.std.specs.List.{fold, take_while, prefix_len}
-use Rattle.std.specs.Char.{digit_value}
+use Rattle.std.specs.List.{take_while, prefix_len}
+use Rattle.hex_text.specs.Digits.{behind_digits, byte_of, digits_of, number_of}
 use Rattle.data_text.specs.declared.values.Number.{Number}
 use Rattle.data_text.specs.declared.values.Number.TheVariants as n
 use Rattle.data_text.specs.declared.values.Pair.{Pair}
 use Rattle.data_text.specs.declared.values.Pair.TheVariants as p
-use Rattle.data_text.specs.Blanks.{is_blank, has_blanks_alone, drop_blanks}
-
--- a hexadecimal digit of either case
-abbrev pub is_hex : ℕ → Bool
-is_hex c = nat_lt (digit_value c) 16
+use Rattle.hex_text.specs.Blanks.{is_blank, has_blanks_alone, drop_blanks}
 
 -- `0x` (48, 120) may stand before the digits
 abbrev pub behind_prefix : List ℕ → List ℕ
 behind_prefix [] = []
 behind_prefix (a ∷ []) = a ∷ []
 behind_prefix (a ∷ b ∷ rest) = cond (a == 48 && b == 120) rest (a ∷ b ∷ rest)
-
--- the number that hexadecimal digits write
-abbrev pub number_of : List ℕ → ℕ
-number_of digits = fold (λ n digit. n * 16 + digit_value digit) 0 digits
-
--- digits at the front, and what stands behind them
-abbrev pub digits_of : List ℕ → List ℕ
-digits_of text = take_while is_hex text
-
-abbrev pub behind_digits : List ℕ → List ℕ
-behind_digits text = drop (prefix_len is_hex text) text
 
 abbrev pub number_from : List ℕ → List ℕ → Option ℕ
 number_from [] rest = None
@@ -65,10 +50,6 @@ text_in value = text_from_quote (drop_blanks value)
 abbrev pub with_first : Option ℕ → Option (List ℕ) → Option (List ℕ)
 with_first None bytes = None
 with_first (Some byte) bytes = option_map (λ more. byte ∷ more) bytes
-
--- the byte of two digits
-abbrev pub byte_of : ℕ → ℕ → Option ℕ
-byte_of high low = cond (is_hex high && is_hex low) (Some (digit_value high * 16 + digit_value low)) None
 
 -- pairs of digits with blanks between, where so much of a pair has been read
 abbrev pub bytes_at : Pair → List ℕ → Option (List ℕ)

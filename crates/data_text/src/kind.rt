@@ -2,8 +2,8 @@
 ghost use Rattle.std.specs.Prelude.{◌≡◌, IfOk};
 ghost use Rattle.data_text.specs.Kinds as spec;
 
-use crate::blanks::{has_blanks_alone, skip_blanks};
 use crate::comments::{Mode, at_line_end, uncommented};
+use hex_text::blanks::{has_blanks_alone, skip_blanks};
 use iasl_messages::place::Line;
 use std::alloc::{AllocError, Global};
 

@@ -4,8 +4,9 @@ ghost use Rattle.std.specs.Option.{option_copied};
 ghost use Rattle.data_text.specs.Parts.{before_remark, after_bracket, begun, extended, kept, place_of};
 ghost use Rattle.data_text.specs.Parts as spec;
 
-use crate::blanks::{before_backslash, has_blanks_alone, label_key, skip_blanks};
 use crate::field_line::{FieldLine, FieldLines};
+use crate::labels::{before_backslash, label_key};
+use hex_text::blanks::{has_blanks_alone, skip_blanks};
 use iasl_messages::place::{Line, Place};
 use iasl_ports::list::List;
 use std::alloc::{AllocError, Global};

@@ -3,10 +3,10 @@ ghost use Rattle.std.specs.Prelude.{◌≡◌, ◌++◌, ◌∷◌, [], IfOk, On
 ghost use Rattle.iasl_messages.specs.declared.place.Line.{Line};
 ghost use Rattle.data_text.specs.Source.{text_of, ends_source, finished};
 
-use crate::blanks::{has_blanks_alone, skip_blanks};
 use crate::comments::{Mode, at_line_end, uncommented};
 use crate::field_line::{DataText, FieldLine, FieldLines};
 use crate::parts::{begun, column_one, extended, keep};
+use hex_text::blanks::{has_blanks_alone, skip_blanks};
 use iasl_messages::place::{Line, Place};
 use iasl_ports::list::List;
 use std::alloc::{AllocError, Global};

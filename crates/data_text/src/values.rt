@@ -1,31 +1,14 @@
 //! What the value of a field is.
 ghost use Rattle.std.specs.Prelude.{◌≡◌, ◌≤◌, ◌<◌, ◌^◌, ◌-◌, ◌++◌, ◌∷◌, [], min, MatchOption, IfOk, OnOk, Some, None, length, true, false, List, ℕ};
 ghost use Rattle.std.specs.Option.{option_copied, option_map};
-ghost use Rattle.std.specs.Char.{digit_value};
+ghost use Rattle.hex_text.specs.Digits.{number_of};
 ghost use Rattle.std.specs.List.{prefix_len};
-ghost use Rattle.data_text.specs.Values.{behind_prefix, number_of, digits_of, behind_digits, number_in, text_in, before_quote, from_quote, bytes_in, bytes_at};
+ghost use Rattle.data_text.specs.Values.{behind_prefix, number_in, text_in, before_quote, from_quote, bytes_in, bytes_at};
 ghost use Rattle.data_text.specs.Values as spec;
 
-use crate::blanks::{has_blanks_alone, is_blank, skip_blanks};
+use hex_text::blanks::{has_blanks_alone, is_blank, skip_blanks};
+use hex_text::digits::{byte_of, capped_number, split_digits};
 use std::alloc::{AllocError, Global};
-
-fn digit_value(byte: u8) -> u8
-    ensures value { result ≡ digit_value byte }
-    ensures within { result ≤ 36 }
-{
-    match byte {
-        b'0'..=b'9' => byte - b'0',
-        b'A'..=b'Z' => byte - b'A' + 10,
-        b'a'..=b'z' => byte - b'a' + 10,
-        _ => 36,
-    }
-}
-
-fn is_hex(byte: u8) -> bool
-    ensures { result ≡ spec.is_hex byte }
-{
-    digit_value(byte) < 16
-}
 
 fn behind_prefix(text: &[u8]) -> &[u8]
     ensures { result.now ≡ behind_prefix text.now }
@@ -34,34 +17,6 @@ fn behind_prefix(text: &[u8]) -> &[u8]
         [b'0', b'x', rest @ ..] => rest,
         _ => text,
     }
-}
-
-fn count_digits(text: &[u8]) -> usize
-    ensures count { result ≡ prefix_len spec.is_hex text.now }
-    ensures within { result ≤ length text.now }
-{
-    text.iter().take_while(|byte| is_hex(**byte)).count()
-}
-
-// The digits at the front, and what stands behind them.
-fn split_digits(text: &[u8]) -> (&[u8], &[u8])
-    ensures digits { result.0.now ≡ digits_of text.now }
-    ensures rest { result.1.now ≡ behind_digits text.now }
-{
-    text.split_at(count_digits(text))
-}
-
-// The number that hexadecimal digits write, or the largest u128 where it is larger.
-fn capped_number(digits: &[u8]) -> u128
-    ensures { result ≡ min (number_of digits.now) (2 ^ 128 - 1) }
-{
-    let mut number: u128 = 0;
-    for digit in digits {
-        number = number
-            .saturating_mul(16)
-            .saturating_add(u128::from(digit_value(*digit)));
-    }
-    number
 }
 
 /// A number, where it is below 2^64.
@@ -145,16 +100,6 @@ pub(crate) enum Pair {
     Half(u8),
     /// The pair, behind which a blank or the end must stand.
     Done,
-}
-
-fn byte_of(high: u8, low: u8) -> Option<u8>
-    ensures { result ≡ spec.byte_of high low }
-{
-    if is_hex(high) && is_hex(low) {
-        Some(digit_value(high) * 16 + digit_value(low))
-    } else {
-        None
-    }
 }
 
 // Takes the next byte of pairs: how much of a pair has then been read, or none where the pairs have not their form.

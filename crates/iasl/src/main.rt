@@ -23,10 +23,12 @@ const HELP: &[u8] = b"usage: iasl [options] FILE
   -vi             print messages in the brief form
   -we             refuse a source with a warning
   -tc             write the bytes of the table as an array of C too
+  -l              write a listing of the source with the bytes of the table too
   -of             do not fold constants
   -oi             do not write literals by the opcodes of 0, 1 and Ones
   -on             do not shorten names
   -oa             -of, -oi and -on together
+  --generate N    alone: compile a source of N devices, from 1 to 4096
   --help          this text
   --version       the version of this program
 ";

@@ -6,6 +6,8 @@ mod Settings
 mod WordForms
 pub mod CommandLines
 mod Offending
-mod OneOffending
+pub mod OneOffending
+pub mod Counts
+pub mod Tasks
 mod Worked
 pub mod Directories

@@ -129,27 +129,27 @@ stops n behind (word ∷ words) number h e = by_next (one_more behind behind.wai
 
 -- ---- the whole
 
-hope_of : (words : List (List ℕ)) → Hope 0 begin words → HasHope words
+hope_of : (words : List (List ℕ)) → Hope 0 begin words → HasHope IsCommandLine words
 unfolding Hope
 hope_of words h = (h.0, h.1, line_from (words ++ h.0) h.1 h.2)
 
 never_both : (r : Result Asked ℕ) (asked : Asked) (number : ℕ) → r ≡ Ok asked → r ≡ Err number → ⊥
 never_both r asked number e k = cc
 
-offending_at : (words : List (List ℕ)) (number : ℕ) → asked_by words ≡ Err number → Stop 0 begin words number → IsOffending words number
+offending_at : (words : List (List ℕ)) (number : ℕ) → asked_by words ≡ Err number → Stop 0 begin words number → IsOffending IsCommandLine words number
 offending_at words number e h =
     let is : h.count ≡ number = (let k = h.is in omega arith) in
-    subst (IsOffending words) is (by_after h.after)
+    subst (IsOffending IsCommandLine words) is (by_after h.after)
   where
-    by_after : ((h.count < length words) × ((more : List (List ℕ)) → asked_from 0 begin (take (suc h.count) words ++ more) ≡ Err number)) ⊎ (h.count ≡ length words) → IsOffending words h.count
+    by_after : ((h.count < length words) × ((more : List (List ℕ)) → asked_from 0 begin (take (suc h.count) words ++ more) ≡ Err number)) ⊎ (h.count ≡ length words) → IsOffending IsCommandLine words h.count
     by_after (inl k) =
         let s : suc h.count ≡ h.count + 1 = omega arith in
-        hopeless k.0 (hope_of (take h.count words) h.hope) (subst (λ m. IsHopeless (take m words)) s (λ more asked line. never_both (asked_by (take (suc h.count) words ++ more)) asked number (line_to (take (suc h.count) words ++ more) asked line) (k.1 more)))
+        hopeless k.0 (hope_of (take h.count words) h.hope) (subst (λ m. IsHopeless IsCommandLine (take m words)) s (λ more asked line. never_both (asked_by (take (suc h.count) words ++ more)) asked number (line_to (take (suc h.count) words ++ more) asked line) (k.1 more)))
     by_after (inr k) =
         let whole : take h.count words ≡ words = take_all h.count words (omega arith) in
-        ended k (subst HasHope whole (hope_of (take h.count words) h.hope)) (λ asked line. never_both (asked_by words) asked number (line_to words asked line) e)
+        ended k (subst (HasHope IsCommandLine) whole (hope_of (take h.count words) h.hope)) (λ asked line. never_both (asked_by words) asked number (line_to words asked line) e)
 
-pub offending : (words : List (List ℕ)) (number : ℕ) → asked_by words ≡ Err number → IsOffending words number
+pub offending : (words : List (List ℕ)) (number : ℕ) → asked_by words ≡ Err number → IsOffending IsCommandLine words number
 offending words number e = offending_at words number e (stops 0 begin words number tt e)
 
 -- ---- what a call answers
@@ -161,7 +161,7 @@ answer_good words (Err reason) h = tt
 pub answer_every : (words : List (List ℕ)) (answer : Result Options WordsStop) → Answers answer (asked_by words) → (asked : Asked) → IsCommandLine words asked → Answers answer (Ok asked)
 answer_every words answer h asked line = subst (Answers answer) (line_to words asked line) h
 
-pub answer_bad : (words : List (List ℕ)) (answer : Result Options WordsStop) → Answers answer (asked_by words) → IfBad answer (IsOffending words)
+pub answer_bad : (words : List (List ℕ)) (answer : Result Options WordsStop) → Answers answer (asked_by words) → IfBad answer (IsOffending IsCommandLine words)
 answer_bad words (Ok options) h = tt
 answer_bad words (Err (stop.Bad number)) h = offending words number h
 answer_bad words (Err stop.Memory) h = tt

@@ -54,10 +54,11 @@ switch_is word =
     or_is word switch.Brief _ (
     or_is word switch.Strict _ (
     or_is word switch.CText _ (
+    or_is word switch.Listing _ (
     or_is word switch.LongIntegers _ (
     or_is word switch.WrittenNames _ (
     or_is word switch.Unfolded _ (
-    or_is word switch.Unoptimised _ tt))))))
+    or_is word switch.Unoptimised _ tt)))))))
 
 turned_form : (word : List ℕ) (found : Option Switch) (rest : Word) → IsSwitch word found → Form word rest → Form word (or_turned found rest)
 turned_form word None rest is h = h
@@ -85,6 +86,7 @@ pub word_switch : (one : Switch) → word_of (switch_word one) ≡ Asks (Turned 
 word_switch switch.Brief = refl
 word_switch switch.Strict = refl
 word_switch switch.CText = refl
+word_switch switch.Listing = refl
 word_switch switch.LongIntegers = refl
 word_switch switch.WrittenNames = refl
 word_switch switch.Unfolded = refl

@@ -7,7 +7,7 @@ use Rattle.iasl_options.specs.declared.words.Key.{Key}
 use Rattle.iasl_options.specs.declared.words.Key.TheVariants as key
 use Rattle.iasl_options.specs.declared.switches.Switch.{Switch}
 use Rattle.iasl_options.specs.declared.switches.Switches.{Switches}
-use Rattle.iasl_options.specs.Switches.{switch_word, is_brief, is_strict, is_c_text, keeps_constants, keeps_integers, keeps_names}
+use Rattle.iasl_options.specs.Switches.{switch_word, is_brief, is_strict, is_c_text, is_listing, keeps_constants, keeps_integers, keeps_names}
 use Rattle.iasl_options.specs.Words.{Setting, PreprocessOnly, NoPreprocessor, Turned, Prefix, Directory, Definition, File, begins_with_hyphen}
 use Rattle.iasl_options.specs.Asking.{Asked, define_of}
 
@@ -94,6 +94,7 @@ switches_in settings = record {
   brief = list_any (turns is_brief) settings;
   strict = list_any (turns is_strict) settings;
   c_text = list_any (turns is_c_text) settings;
+  listing = list_any (turns is_listing) settings;
   fold = not (list_any (turns keeps_constants) settings);
   short = not (list_any (turns keeps_integers) settings);
   shorten = not (list_any (turns keeps_names) settings);
@@ -117,17 +118,19 @@ gathered settings = record {
 abbrev pub IsCommandLine : List (List ℕ) → Asked → Type 0
 IsCommandLine words asked = (settings : List Setting) × AskFor words settings × IsGood settings × (asked ≡ gathered settings)
 
--- some further words, which may be none, make them a command line
-abbrev pub HasHope : List (List ℕ) → Type 0
-HasHope words = (more : List (List ℕ)) × (asked : Asked) × IsCommandLine (words ++ more) asked
+-- ---- words that are spoilt, where this says which words are good and what they ask for
 
--- no further words make them a command line
-abbrev pub IsHopeless : List (List ℕ) → Type 0
-IsHopeless words = (more : List (List ℕ)) (asked : Asked) → IsCommandLine (words ++ more) asked → ⊥
+-- some further words, which may be none, make them good
+abbrev pub HasHope : {R : Type 0} → (List (List ℕ) → R → Type 0) → List (List ℕ) → Type 0
+HasHope {R = R} IsLine words = (more : List (List ℕ)) × (asked : R) × IsLine (words ++ more) asked
+
+-- no further words make them good
+abbrev pub IsHopeless : {R : Type 0} → (List (List ℕ) → R → Type 0) → List (List ℕ) → Type 0
+IsHopeless {R = R} IsLine words = (more : List (List ℕ)) (asked : R) → IsLine (words ++ more) asked → ⊥
 
 -- The word with this number, from 0, spoils the words.
-pub data IsOffending (words : List (List ℕ)) (number : ℕ) : Type 0 where
+pub data IsOffending {R : Type 0} (IsLine : List (List ℕ) → R → Type 0) (words : List (List ℕ)) (number : ℕ) : Type 0 where
   -- it is the first after which there is no hope
-  hopeless : number < length words → HasHope (take number words) → IsHopeless (take (number + 1) words) → IsOffending words number
-  -- there is hope after the last word, but the words are no command line: the number is how many there are
-  ended : number ≡ length words → HasHope words → ((asked : Asked) → IsCommandLine words asked → ⊥) → IsOffending words number
+  hopeless : number < length words → HasHope IsLine (take number words) → IsHopeless IsLine (take (number + 1) words) → IsOffending IsLine words number
+  -- there is hope after the last word, but the words are not good: the number is how many there are
+  ended : number ≡ length words → HasHope IsLine words → ((asked : R) → IsLine words asked → ⊥) → IsOffending IsLine words number

@@ -5,3 +5,5 @@ pub mod Shown
 pub mod Names
 pub mod Found
 pub mod CommandLine
+pub mod Task
+pub mod TaskShown

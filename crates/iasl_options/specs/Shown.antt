@@ -59,7 +59,7 @@ pub record AreTexts (options : Options) : Type 0 where
   pub prefix : IsText options.prefix
 
 -- P of the word that a call tells to spoil the words, where it tells one
-abbrev pub IfBad : Result Options WordsStop → (ℕ → Type 0) → Type 0
+abbrev pub IfBad : {T : Type 0} → Result T WordsStop → (ℕ → Type 0) → Type 0
 IfBad (Err (stop.Bad word)) P = P word
 IfBad (Err stop.Memory) P = ⊤
-IfBad (Ok options) P = ⊤
+IfBad (Ok answer) P = ⊤

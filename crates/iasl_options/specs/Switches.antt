@@ -11,6 +11,7 @@ abbrev pub switch_word : Switch → List ℕ
 switch_word switch.Brief = codes "-vi"
 switch_word switch.Strict = codes "-we"
 switch_word switch.CText = codes "-tc"
+switch_word switch.Listing = codes "-l"
 switch_word switch.LongIntegers = codes "-oi"
 switch_word switch.WrittenNames = codes "-on"
 switch_word switch.Unfolded = codes "-of"
@@ -26,10 +27,11 @@ switch_of word =
     or_other word switch.Brief (
     or_other word switch.Strict (
     or_other word switch.CText (
+    or_other word switch.Listing (
     or_other word switch.LongIntegers (
     or_other word switch.WrittenNames (
     or_other word switch.Unfolded (
-    or_other word switch.Unoptimised None))))))
+    or_other word switch.Unoptimised None)))))))
 
 abbrev pub is_brief : Switch → Bool
 is_brief switch.Brief = true
@@ -42,6 +44,10 @@ is_strict _ = false
 abbrev pub is_c_text : Switch → Bool
 is_c_text switch.CText = true
 is_c_text _ = false
+
+abbrev pub is_listing : Switch → Bool
+is_listing switch.Listing = true
+is_listing _ = false
 
 -- operators on constants are kept
 abbrev pub keeps_constants : Switch → Bool
@@ -62,7 +68,7 @@ keeps_names switch.Unoptimised = true
 keeps_names _ = false
 
 abbrev pub no_switch : Switches
-no_switch = record { brief = false; strict = false; c_text = false; fold = true; short = true; shorten = true }
+no_switch = record { brief = false; strict = false; c_text = false; listing = false; fold = true; short = true; shorten = true }
 
 -- what switches ask for, with one more
 abbrev pub with_switch : Switches → Switch → Switches
@@ -70,6 +76,7 @@ with_switch switches one = record {
   brief = switches.brief || is_brief one;
   strict = switches.strict || is_strict one;
   c_text = switches.c_text || is_c_text one;
+  listing = switches.listing || is_listing one;
   fold = switches.fold && not (keeps_constants one);
   short = switches.short && not (keeps_integers one);
   shorten = switches.shorten && not (keeps_names one);

@@ -32,9 +32,9 @@ pub fn options(alloc: Global, words: &[String]) -> Result<Options, WordsStop>
     // A command line is answered, unless memory runs out.
     ensures every { (asked : Asked) → IsCommandLine (map string_bytes words.now) asked → Answers result (Ok asked) }
     // The word that is told is the one that spoils the words.
-    ensures bad { IfBad result (IsOffending (map string_bytes words.now)) }
+    ensures bad { IfBad result (IsOffending IsCommandLine (map string_bytes words.now)) }
     // The word that spoils words is told, unless memory runs out.
-    ensures told { (word : ℕ) → IsOffending (map string_bytes words.now) word → Answers result (Err word) }
+    ensures told { (word : ℕ) → IsOffending IsCommandLine (map string_bytes words.now) word → Answers result (Err word) }
     // The same as a function of the words.
     ensures answer { Answers result (asked_by (map string_bytes words.now)) }
     // The file and the prefix are text.

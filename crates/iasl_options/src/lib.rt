@@ -6,6 +6,7 @@ mod draft;
 pub mod names;
 pub mod request;
 pub mod switches;
+pub mod task;
 #[cfg(test)]
 mod tests;
 mod words;

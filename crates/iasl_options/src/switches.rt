@@ -11,6 +11,8 @@ pub(crate) enum Switch {
     Strict,
     /// `-tc`: the bytes of the table are put as an array of C too.
     CText,
+    /// `-l`: a listing of the source with the bytes of its table is put too.
+    Listing,
     /// `-oi`: no integer is written by an opcode but the words Zero, One and Ones.
     LongIntegers,
     /// `-on`: names are not shortened.
@@ -30,6 +32,8 @@ pub struct Switches {
     pub strict: bool,
     /// Whether the bytes of the table are put as an array of C too (`-tc`).
     pub c_text: bool,
+    /// Whether a listing of the source with the bytes of its table is put too (`-l`).
+    pub listing: bool,
     /// Whether constants are folded (not with `-of` and `-oa`).
     pub fold: bool,
     /// Whether 0, 1 and Ones are written by their opcodes where they are literals too (not with `-oi` and `-oa`).
@@ -46,6 +50,7 @@ pub(crate) fn switch_of(word: &[u8]) -> Option<Switch>
         b"-vi" => Some(Switch::Brief),
         b"-we" => Some(Switch::Strict),
         b"-tc" => Some(Switch::CText),
+        b"-l" => Some(Switch::Listing),
         b"-oi" => Some(Switch::LongIntegers),
         b"-on" => Some(Switch::WrittenNames),
         b"-of" => Some(Switch::Unfolded),
@@ -70,6 +75,12 @@ fn is_c_text(switch: Switch) -> bool
     ensures { result ≡ spec.is_c_text switch }
 {
     matches!(switch, Switch::CText)
+}
+
+fn is_listing(switch: Switch) -> bool
+    ensures { result ≡ spec.is_listing switch }
+{
+    matches!(switch, Switch::Listing)
 }
 
 fn keeps_constants(switch: Switch) -> bool
@@ -113,6 +124,7 @@ impl Switches {
             brief: false,
             strict: false,
             c_text: false,
+            listing: false,
             fold: true,
             short: true,
             shorten: true,
@@ -127,6 +139,7 @@ impl Switches {
             brief: either(self.brief, is_brief(switch)),
             strict: either(self.strict, is_strict(switch)),
             c_text: either(self.c_text, is_c_text(switch)),
+            listing: either(self.listing, is_listing(switch)),
             fold: unless(self.fold, keeps_constants(switch)),
             short: unless(self.short, keeps_integers(switch)),
             shorten: unless(self.shorten, keeps_names(switch)),

@@ -73,6 +73,7 @@ const NONE: Switches = Switches {
     brief: false,
     strict: false,
     c_text: false,
+    listing: false,
     fold: true,
     short: true,
     shorten: true,
@@ -207,6 +208,15 @@ fn good_words(rt: HostRuntime) -> Result<(), AllocError> {
             ..PLAIN
         },
         Good {
+            words: &["-l", "t.asl", "-tc"],
+            switches: Switches {
+                c_text: true,
+                listing: true,
+                ..NONE
+            },
+            ..PLAIN
+        },
+        Good {
             words: &["-p", "-we", "-I-vi", "t.asl"],
             prefix: Some(b"-we"),
             dirs: &[b"-vi"],
@@ -244,7 +254,7 @@ fn bad_words(rt: HostRuntime) -> Result<(), AllocError> {
         (&["-Pfoo", "t.asl"], 0),
         (&["t.asl", "--generate", "2"], 1),
         (&["--generate", "2"], 0),
-        (&["-l", "t.asl"], 0),
+        (&["-L", "t.asl"], 0),
         (&["-vi", "-we", "-oa", "-of", "-oi", "-on"], 6),
         (&["-v", "t.asl"], 0),
         (&["t.asl", "-vi", "-wea"], 2),

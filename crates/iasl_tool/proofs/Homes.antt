@@ -7,6 +7,8 @@ use Rattle.std.specs.Option.{option_map_or}
 use Rattle.std.proofs.lemmas.List.Elements.{All-push, All-map, All-append}
 use Rattle.std.proofs.lemmas.Option.{get_or_from_slice_get, slice_get_within}
 use Rattle.iasl_messages.specs.declared.place.Place.{Place}
+use Rattle.iasl_messages.specs.declared.place.Line.{Line}
+use Rattle.iasl_messages.specs.declared.place.Piece.{Piece}
 use Rattle.iasl_messages.specs.declared.message.Message.{Message}
 use Rattle.asl_lexer.specs.declared.token.Token.{Token}
 use Rattle.asl_parser.specs.declared.raw.Raw.{Raw}
@@ -21,18 +23,20 @@ use Rattle.asl_parser.specs.Within.{AreWithin as PartsWithin}
 use Rattle.asl_shape.specs.Forms.{errors_at, block_place, terms_of}
 use Rattle.asl_shape.proofs.Places.{errors_within}
 use Rattle.literal_checks.proofs.Places.{literals_within}
-use Rattle.program_shapes.specs.Sources.{terms_in, statements_in, layouts_in, regions_in, fields_in, width_in, table_in}
+use Rattle.program_shapes.specs.Sources.{terms_in, statements_in, layouts_in, regions_in, types_in, sizes_in, fields_in, width_in}
 use Rattle.program_shapes.proofs.Places.{terms_within}
 use Rattle.program_shapes.proofs.StatementPlaces.{statement_errors_within}
 use Rattle.program_shapes.proofs.ListPlaces.{list_errors_within}
 use Rattle.program_shapes.proofs.RegionPlaces.{access_errors_within}
+use Rattle.program_shapes.proofs.TypePlaces.{types_within, sizes_within}
 use Rattle.program_shapes.proofs.TreePlaces.{source_within}
 use Rattle.aml_writer.specs.Written.{most_table_bytes}
+use Rattle.source_pieces.specs.Places.{core_places}
 use Rattle.iasl_tool.specs.declared.compile.Compiled.{Compiled}
 use Rattle.iasl_tool.specs.declared.compile.Compiled.TheVariants.{Table, Refused}
 use Rattle.iasl_tool.specs.Syntax.{at_token}
 use Rattle.iasl_tool.specs.declared.compile.Style.{Style}
-use Rattle.iasl_tool.specs.Compiled.{own_in, literals_in, is_of_names, with_notes, others_in, AreWithin, too_long, of_table, unless_wrong, is_of_kinds, with_others, of_terms, of_items, written_in, TellsWithin}
+use Rattle.iasl_tool.specs.Compiled.{own_in, literals_in, is_of_names, with_notes, others_in, AreWithin, too_long, of_table, unless_wrong, is_of_kinds, with_others, of_terms, of_items, written_in, cut_in, TellsWithin}
 
 module _ (files : ℕ) where
   abbrev TokenHome : Token → Type 0
@@ -43,10 +47,10 @@ module _ (files : ℕ) where
   one_home : (message : Message) → message.place.file < files → AreWithin files (message ∷ [])
   one_home message h = All-push (λ (m : Message). m.place.file < files) [] message (λ i d lt. absurd (omega arith)) h
 
-  of_table_home : (place : Place) (signature own bytes : List ℕ) → place.file < files → TellsWithin files (of_table place signature own bytes)
-  of_table_home place signature own bytes h = by_length (nat_le (length bytes) most_table_bytes)
+  of_table_home : (place : Place) (signature own bytes : List ℕ) (pieces : List Piece) → place.file < files → TellsWithin files (of_table place signature own bytes pieces)
+  of_table_home place signature own bytes pieces h = by_length (nat_le (length bytes) most_table_bytes)
     where
-      by_length : (c : Bool) → TellsWithin files (if c then Table signature own bytes [] else Refused (too_long place ∷ []))
+      by_length : (c : Bool) → TellsWithin files (if c then Table signature own pieces [] else Refused (too_long place ∷ []))
       by_length true = λ i d lt. absurd (omega arith)
       by_length false = one_home (too_long place) h
 
@@ -55,7 +59,7 @@ module _ (files : ℕ) where
   wrong_home (m ∷ ms) it h k = h
 
   notes_home : (notes : List Message) (it : Compiled) → AreWithin files notes → TellsWithin files it → TellsWithin files (with_notes notes it)
-  notes_home notes (Table signature own bytes others) h k = All-append (λ (m : Message). m.place.file < files) others notes k h
+  notes_home notes (Table signature own pieces others) h k = All-append (λ (m : Message). m.place.file < files) others notes k h
   notes_home notes (Refused []) h k = k
   notes_home notes (Refused (m ∷ ms)) h k = by (is_of_names m.number)
     where
@@ -103,18 +107,20 @@ module _ (files : ℕ) where
   block_home _ h main = main
 
   -- a tree whose parts stand in the files tells nothing outside them
-  pub items_home : (style : Style) (items : List Raw) → PartsWithin files (writtens items) → 0 < files → TellsWithin files (of_items style items)
-  items_home style items parts main =
+  pub items_home : (style : Style) (lines : List Line) (items : List Raw) → PartsWithin files (writtens items) → 0 < files → TellsWithin files (of_items style lines items)
+  items_home style lines items parts main =
       let names = told_home (terms_in items) (source_within files 0 (writtens items) parts) in
       let plans = terms_within files (writtens items) parts in
       let lists = All-append (λ (m : Message). m.place.file < files) (statements_in items) (layouts_in items) (statement_errors_within files (terms_of (writtens items)) plans) (list_errors_within files (terms_of (writtens items)) plans) in
-      let statements = All-append (λ (m : Message). m.place.file < files) (statements_in items ++ layouts_in items) (regions_in items) lists
+      let accesses = All-append (λ (m : Message). m.place.file < files) (statements_in items ++ layouts_in items) (regions_in items) lists
       (access_errors_within files (width_in items) (terms_in items) (terms_of (writtens items)) (source_within files 0 (writtens items) parts)) in
-      let told = of_terms style (block_place (writtens items)) (own_in items) (fields_in items) (others_in items) (terms_in items) in
+      let types = All-append (λ (m : Message). m.place.file < files) (statements_in items ++ layouts_in items ++ regions_in items) (types_in items) accesses (types_within files (terms_in items) (terms_of (writtens items)) plans) in
+      let others = All-append (λ (m : Message). m.place.file < files) (statements_in items ++ layouts_in items ++ regions_in items ++ types_in items) (sizes_in items) types (sizes_within files (width_in items) (terms_of (writtens items)) plans) in
+      let told = of_terms style lines (block_place (writtens items)) (core_places (terms_of (writtens items))) (own_in items) (fields_in items) (others_in items) (terms_in items) in
       wrong_home (errors_at items) (with_notes (literals_in items) told) (errors_within files main items parts)
       (notes_home (literals_in items) told (literals_within files (width_in items) items parts)
-      (wrong_home (with_others (told_errors (terms_in items)) (others_in items)) (of_table (block_place (writtens items)) (fields_in items).signature (own_in items) (written_in style items)) (statements_home (told_errors (terms_in items)) (others_in items) names statements)
-      (of_table_home (block_place (writtens items)) (fields_in items).signature (own_in items) (written_in style items) (block_home (writtens items) parts main))))
+      (wrong_home (with_others (told_errors (terms_in items)) (others_in items)) (of_table (block_place (writtens items)) (fields_in items).signature (own_in items) (written_in style items) (cut_in style lines items)) (statements_home (told_errors (terms_in items)) (others_in items) names others)
+      (of_table_home (block_place (writtens items)) (fields_in items).signature (own_in items) (written_in style items) (cut_in style lines items) (block_home (writtens items) parts main))))
 
   -- ---- tokens that are no source
 

@@ -1,3 +1,4 @@
+pub mod Bytes
 pub mod Programs
 pub mod Written
 pub mod Outcomes
@@ -7,5 +8,6 @@ pub mod Texts
 pub mod Sizes
 pub mod Readings
 mod Strict
+mod Devices
 pub mod Headline
 pub mod Results

@@ -23,26 +23,26 @@ length-marks n (t ∷ ts) = ap suc (length-marks (suc n) ts)
 left : (k : ℕ) (tokens : List Token) → length (drop k (marks 0 tokens)) ≡ length tokens - k
 left k tokens = length-drop k (marks 0 tokens) ∙ ap (λ n. n - k) (length-marks 0 tokens)
 
-pub read_is : (style : Style) (tokens : List Token) (items : List Raw) → outcome tokens ≡ read items → of_items style items ≡ of_outcome style tokens (outcome tokens)
-read_is style tokens items e = sym (ap (of_outcome style tokens) e)
+pub read_is : (style : Style) (lines : List Line) (tokens : List Token) (items : List Raw) → outcome tokens ≡ read items → of_items style lines items ≡ of_outcome style lines tokens (outcome tokens)
+read_is style lines tokens items e = sym (ap (of_outcome style lines tokens) e)
 
-pub stop_is : (style : Style) (tokens : List Token) (k : ℕ) → (k ≤ length tokens) × (outcome tokens ≡ stopped (drop k (marks 0 tokens))) → Refused (not_source tokens k ∷ []) ≡ of_outcome style tokens (outcome tokens)
-stop_is style tokens k h =
+pub stop_is : (style : Style) (lines : List Line) (tokens : List Token) (k : ℕ) → (k ≤ length tokens) × (outcome tokens ≡ stopped (drop k (marks 0 tokens))) → Refused (not_source tokens k ∷ []) ≡ of_outcome style lines tokens (outcome tokens)
+stop_is style lines tokens k h =
     let l = left k tokens in
     let e : k ≡ length tokens - length (drop k (marks 0 tokens)) = omega (arith, h.0, l) in
-    ap (λ n. Refused (not_source tokens n ∷ [])) e ∙ sym (ap (of_outcome style tokens) h.1)
+    ap (λ n. Refused (not_source tokens n ∷ [])) e ∙ sym (ap (of_outcome style lines tokens) h.1)
 
-pub deep_is : (style : Style) (tokens : List Token) (k : ℕ) → ((k < length tokens) × (outcome tokens ≡ sunk (drop (suc k) (marks 0 tokens)))) ⊎ (outcome tokens ≡ tall k) → Refused (too_deep tokens k ∷ []) ≡ of_outcome style tokens (outcome tokens)
-deep_is style tokens k (inl h) =
+pub deep_is : (style : Style) (lines : List Line) (tokens : List Token) (k : ℕ) → ((k < length tokens) × (outcome tokens ≡ sunk (drop (suc k) (marks 0 tokens)))) ⊎ (outcome tokens ≡ tall k) → Refused (too_deep tokens k ∷ []) ≡ of_outcome style lines tokens (outcome tokens)
+deep_is style lines tokens k (inl h) =
     let l = left (suc k) tokens in
     let e : k ≡ length tokens - suc (length (drop (suc k) (marks 0 tokens))) = omega (arith, h.0, l) in
-    ap (λ n. Refused (too_deep tokens n ∷ [])) e ∙ sym (ap (of_outcome style tokens) h.1)
-deep_is style tokens k (inr e) = sym (ap (of_outcome style tokens) e)
+    ap (λ n. Refused (too_deep tokens n ∷ [])) e ∙ sym (ap (of_outcome style lines tokens) h.1)
+deep_is style lines tokens k (inr e) = sym (ap (of_outcome style lines tokens) e)
 
-by_fault : (style : Style) (messages : List Message) (r : Result (List Token) Fault) → Answers (Err (Refused' messages)) r → Refused messages ≡ of_tokens style r
-by_fault style messages (Ok tokens) m = absurd m
-by_fault style messages (Err fault) m = ap Refused m
+by_fault : (style : Style) (lines : List Line) (messages : List Message) (r : Result (List Token) Fault) → Answers (Err (Refused' messages)) r → Refused messages ≡ of_tokens style lines r
+by_fault style lines messages (Ok tokens) m = absurd m
+by_fault style lines messages (Err fault) m = ap Refused m
 
 -- the first fault of the tokens
 pub fault_is : (style : Style) (lines : List Line) (stage : Stage) (messages : List Message) → Answers (Err stage) (tokens_of lines) → stage ≡ Refused' messages → Refused messages ≡ of_lines style lines
-fault_is style lines stage messages m e = by_fault style messages (tokens_of lines) (subst (λ (s : Stage). Answers (Err s) (tokens_of lines)) e m)
+fault_is style lines stage messages m e = by_fault style lines messages (tokens_of lines) (subst (λ (s : Stage). Answers (Err s) (tokens_of lines)) e m)

@@ -11,21 +11,25 @@ use Rattle.std.proofs.lemmas.Nat.{mod_below}
 use Rattle.iasl_messages.specs.declared.message.Message.{Message}
 use Rattle.asl_tree.specs.declared.program.Block.{Block}
 use Rattle.asl_tree.specs.Tree.{Trees}
-use Rattle.aml_code.specs.Header.{HeaderFields, fields_of, table_bytes}
+use Rattle.aml_code.specs.Header.{HeaderFields, fields_of}
 use Rattle.acpi_names.specs.Errors.{NameError, name_errors, type_errors}
 use Rattle.named_sessions.specs.Shaped.{AreFormed, AreNamed, AreShaped}
 use Rattle.asl_lower.specs.Nodes.{named_all}
 use Rattle.asl_parser.specs.declared.raw.Raw.{Raw}
 use Rattle.asl_parser.specs.Written.{writtens}
 use Rattle.asl_shape.specs.Plans.{Plans, plans_of, plan_at, number_of}
-use Rattle.asl_shape.specs.Forms.{IsBlockOf, errors_at, args_of, block_place}
+use Rattle.asl_shape.specs.Forms.{IsBlockOf, errors_at, args_of, block_place, terms_of}
 use Rattle.asl_numbers.specs.Numbers.{numbered_all}
 use Rattle.name_checks.specs.Messages.{message_of, first_errors, told_errors}
 use Rattle.program_shapes.specs.Kept.{IsKeptSource}
-use Rattle.program_shapes.specs.Sources.{terms_in, statements_in, layouts_in, regions_in, fields_in, width_in}
+use Rattle.program_shapes.specs.Sources.{terms_in, statements_in, layouts_in, regions_in, types_in, sizes_in, fields_in, width_in, IsRight}
+use Rattle.type_checks.specs.Types.{wrong_types}
+use Rattle.type_checks.specs.Sizes.{long_lists}
 use Rattle.std.specs.Str.{IsAscii}
 use Rattle.iasl_messages.specs.declared.place.Place.{Place}
+use Rattle.iasl_messages.specs.declared.place.Line.{Line}
 use Rattle.aml_writer.specs.Written.{most_table_bytes}
+use Rattle.source_pieces.specs.Places.{core_places}
 use Rattle.program_shapes.proofs.OwnNames.{own_is_ascii}
 use Rattle.program_shapes.proofs.Blocks.{room_in}
 use Rattle.program_shapes.proofs.Headers.{HaveRoom}
@@ -38,7 +42,7 @@ use Rattle.literal_checks.specs.Literals.{cut_literals_at}
 use Rattle.iasl_tool.specs.declared.compile.Compiled.{Compiled}
 use Rattle.iasl_tool.specs.declared.compile.Compiled.TheVariants.{Table, Refused}
 use Rattle.iasl_tool.specs.declared.compile.Style.{Style}
-use Rattle.iasl_tool.specs.Compiled.{table_with, with_notes, literals_in, unless_wrong, is_of_kinds, others_in, with_others, own_in, of_table, of_terms, of_items, written_in, too_long, HasAsciiName}
+use Rattle.iasl_tool.specs.Compiled.{table_with, its_pieces, with_notes, literals_in, unless_wrong, is_of_kinds, others_in, with_others, own_in, of_table, of_terms, of_items, written_in, cut_in, too_long, HasAsciiName}
 use Rattle.iasl_tool.specs.Ready.{HasRoom}
 
 abbrev pub ok_block : Block → Result Block AllocError
@@ -99,9 +103,10 @@ same_terms : (items : List Raw) (block : Block) (terms : Trees) → IsBlockOf it
 unfolding IsBlockOf
 same_terms items block terms h e = e ∙ ap (numbered_all 0) h.terms
 
--- what is wrong with the statements of some plans, then with their lists of fields, and then with the accesses of these, at a width
+-- what is wrong with the statements of some plans, then with their lists of fields and the accesses of these, and then with the kinds of
+-- arguments and the lengths of lists, at a width
 abbrev pub others_of : Width → Trees → Plans → List Message
-others_of width terms ps = errors_of_statements ps ++ all_errors ps ++ region_errors width terms ps
+others_of width terms ps = errors_of_statements ps ++ all_errors ps ++ region_errors width terms ps ++ wrong_types terms ps ++ long_lists width ps
 
 same_others : (items : List Raw) (block : Block) (terms : Trees) → IsBlockOf items block → terms ≡ numbered_all 0 (plans_of block.terms.items) → others_of (width_of block.revision) terms (plans_of block.terms.items) ≡ others_in items
 unfolding IsBlockOf
@@ -117,21 +122,35 @@ both_nil : (xs ys : List Message) → xs ++ ys ≡ [] → (xs ≡ []) × (ys ≡
 both_nil [] ys e = (refl, e)
 both_nil (x ∷ xs) ys e = absurd cc
 
--- nothing is wrong with statements, lists and accesses
-pub none_of_others : (items : List Raw) → others_in items ≡ [] → (statements_in items ≡ []) × (layouts_in items ≡ []) × (regions_in items ≡ [])
-none_of_others items e =
-    let last = both_nil (statements_in items ++ layouts_in items) (regions_in items) e in
-    let first = both_nil (statements_in items) (layouts_in items) last.0 in
-    (first.0, first.1, last.1)
+-- nothing is wrong with statements, lists of fields and accesses, with kinds and with the lengths of lists
+pub record NoOthers (items : List Raw) : Type 0 where
+  pub statements : statements_in items ≡ []
+  pub layouts : layouts_in items ≡ []
+  pub regions : regions_in items ≡ []
+  pub types : types_in items ≡ []
+  pub sizes : sizes_in items ≡ []
 
-pub both_right : (items : List Raw) → statements_in items ≡ [] → layouts_in items ≡ [] → regions_in items ≡ [] → others_in items ≡ []
-both_right items s l r = ap (λ ms. ms ++ layouts_in items ++ regions_in items) s ∙ ap (λ ms. ms ++ regions_in items) l ∙ r
+pub none_of_others : (items : List Raw) → others_in items ≡ [] → NoOthers items
+none_of_others items e =
+    let sizes = both_nil (statements_in items ++ layouts_in items ++ regions_in items ++ types_in items) (sizes_in items) e in
+    let types = both_nil (statements_in items ++ layouts_in items ++ regions_in items) (types_in items) sizes.0 in
+    let regions = both_nil (statements_in items ++ layouts_in items) (regions_in items) types.0 in
+    let first = both_nil (statements_in items) (layouts_in items) regions.0 in
+    record { statements = first.0; layouts = first.1; regions = regions.1; types = types.1; sizes = sizes.1 }
+
+pub both_right : (items : List Raw) → IsRight items → others_in items ≡ []
+both_right items right =
+    ap (λ ms. ms ++ layouts_in items ++ regions_in items ++ types_in items ++ sizes_in items) right.statements
+    ∙ ap (λ ms. ms ++ regions_in items ++ types_in items ++ sizes_in items) right.layouts
+    ∙ ap (λ ms. ms ++ types_in items ++ sizes_in items) right.regions
+    ∙ ap (λ ms. ms ++ sizes_in items) right.types
+    ∙ right.sizes
 
 -- and shaped, where nothing else is wrong
 pub block_shaped : (items : List Raw) (block : Block) (terms : Trees) (others : List Message) → errors_at items ≡ [] → IsBlockOf items block → IsKeptSource (writtens items) → terms ≡ numbered_all 0 (plans_of block.terms.items) → others ≡ others_of (width_of block.revision) terms (plans_of block.terms.items) → others ≡ [] → AreShaped (named_all terms)
 block_shaped items block terms others e h k is are none =
     let nothing : others_in items ≡ [] = sym (same_others items block terms h is) ∙ sym are ∙ none in
-    subst (λ ts. AreShaped (named_all ts)) (sym (same_terms items block terms h is)) (core_is_shaped items e (none_of_others items nothing).1 k)
+    subst (λ ts. AreShaped (named_all ts)) (sym (same_terms items block terms h is)) (core_is_shaped items e (none_of_others items nothing).layouts k)
 
 same_fields : (items : List Raw) (block : Block) → IsBlockOf items block → fields_of block ≡ fields_in items
 unfolding IsBlockOf
@@ -145,21 +164,31 @@ same_place : (items : List Raw) (block : Block) → IsBlockOf items block → bl
 unfolding IsBlockOf
 same_place items block h = h.place
 
+-- the places of its core's terms
+same_places : (items : List Raw) (block : Block) → IsBlockOf items block → core_places (plans_of block.terms.items) ≡ core_places (terms_of (writtens items))
+unfolding IsBlockOf
+same_places items block h = ap core_places h.terms
+
 -- the notes on its literals are those of its source
 same_literals : (items : List Raw) (block : Block) → IsBlockOf items block → cut_literals_at (width_of block.revision) items ≡ literals_in items
 unfolding IsBlockOf
 same_literals items block h = ap (λ n. cut_literals_at (width_of n) items) h.revision
 
 -- and it comes to what its source comes to
-pub block_comes : (style : Style) (items : List Raw) (block : Block) (terms : Trees) (statements : List Message) (it : Compiled) → errors_at items ≡ [] → IsBlockOf items block → terms ≡ numbered_all 0 (plans_of block.terms.items) → statements ≡ others_of (width_of block.revision) terms (plans_of block.terms.items)
-    → it ≡ with_notes (cut_literals_at (width_of block.revision) items) (of_terms style block.place block.file (fields_of block) statements terms) → it ≡ of_items style items
-block_comes style items block terms statements it e h is are comes =
-    let told = of_terms style (block_place (writtens items)) (own_in items) (fields_in items) (others_in items) (terms_in items) in
-    let same : of_terms style block.place block.file (fields_of block) statements terms ≡ told =
-    ap (λ p. of_terms style p block.file (fields_of block) statements terms) (same_place items block h) ∙ ap (λ own. of_terms style (block_place (writtens items)) own (fields_of block) statements terms) (same_own items block h)
-    ∙ ap (λ f. of_terms style (block_place (writtens items)) (own_in items) f statements terms) (same_fields items block h)
-    ∙ ap (λ ss. of_terms style (block_place (writtens items)) (own_in items) (fields_in items) ss terms) (are ∙ same_others items block terms h is)
-    ∙ ap (of_terms style (block_place (writtens items)) (own_in items) (fields_in items) (others_in items)) (same_terms items block terms h is) in
+pub block_comes : (style : Style) (lines : List Line) (items : List Raw) (block : Block) (terms : Trees) (inner : List Place) (statements : List Message) (it : Compiled) → errors_at items ≡ [] → IsBlockOf items block → terms ≡ numbered_all 0 (plans_of block.terms.items)
+    → inner ≡ core_places (plans_of block.terms.items) → statements ≡ others_of (width_of block.revision) terms (plans_of block.terms.items)
+    → it ≡ with_notes (cut_literals_at (width_of block.revision) items) (of_terms style lines block.place inner block.file (fields_of block) statements terms) → it ≡ of_items style lines items
+block_comes style lines items block terms inner statements it e h is places are comes =
+    let at = block_place (writtens items) in
+    let core = core_places (terms_of (writtens items)) in
+    let told = of_terms style lines at core (own_in items) (fields_in items) (others_in items) (terms_in items) in
+    let same : of_terms style lines block.place inner block.file (fields_of block) statements terms ≡ told =
+    ap (λ p. of_terms style lines p inner block.file (fields_of block) statements terms) (same_place items block h)
+    ∙ ap (λ ps. of_terms style lines at ps block.file (fields_of block) statements terms) (places ∙ same_places items block h)
+    ∙ ap (λ own. of_terms style lines at core own (fields_of block) statements terms) (same_own items block h)
+    ∙ ap (λ f. of_terms style lines at core (own_in items) f statements terms) (same_fields items block h)
+    ∙ ap (λ ss. of_terms style lines at core (own_in items) (fields_in items) ss terms) (are ∙ same_others items block terms h is)
+    ∙ ap (of_terms style lines at core (own_in items) (fields_in items) (others_in items)) (same_terms items block terms h is) in
     right_is (errors_at items) it (with_notes (literals_in items) told) e
     (comes ∙ ap (λ it. with_notes (cut_literals_at (width_of block.revision) items) it) same ∙ ap (λ ns. with_notes ns told) (same_literals items block h))
 
@@ -168,13 +197,19 @@ pub right_comes : (r : Result Compiled AllocError) (errors : List Message) (it :
 right_comes (Ok made) errors it e h = right_is errors made it e h
 right_comes (Err error) errors it e h = tt
 
--- a block with the place, the file and the header of another
-pub like_another : (style : Style) (r : Result Compiled AllocError) (place other : Place) (file own : List ℕ) (fields header : HeaderFields) (terms : Trees) → place ≡ other → file ≡ own → fields ≡ header
-    → IfOk r (λ it. it ≡ of_table place fields.signature file (table_with style fields terms)) → IfOk r (λ it. it ≡ of_table other header.signature own (table_with style header terms))
-like_another style r place other file own fields header terms p f h e =
-    subst (λ p. IfOk r (λ it. it ≡ of_table p header.signature own (table_with style header terms))) p
-    (subst (λ f. IfOk r (λ it. it ≡ of_table place header.signature f (table_with style header terms))) f
-    (subst (λ (h : HeaderFields). IfOk r (λ it. it ≡ of_table place h.signature file (table_with style h terms))) h e))
+-- what these parts of a block come to
+abbrev part_table : Style → List Line → Place → List Place → List ℕ → HeaderFields → Trees → Compiled
+part_table style lines place inner file fields terms = of_table place fields.signature file (table_with style fields terms) (its_pieces style lines (place ∷ inner) fields terms)
+
+-- a block with the place, the places, the file and the header of another
+pub like_another : (style : Style) (lines : List Line) (r : Result Compiled AllocError) (place other : Place) (inner places : List Place) (file own : List ℕ) (fields header : HeaderFields) (terms : Trees) → place ≡ other → inner ≡ places → file ≡ own → fields ≡ header
+    → IfOk r (λ it. it ≡ of_table place fields.signature file (table_with style fields terms) (its_pieces style lines (place ∷ inner) fields terms))
+    → IfOk r (λ it. it ≡ of_table other header.signature own (table_with style header terms) (its_pieces style lines (other ∷ places) header terms))
+like_another style lines r place other inner places file own fields header terms p i f h e =
+    subst (λ p. IfOk r (λ it. it ≡ part_table style lines p places own header terms)) p
+    (subst (λ i. IfOk r (λ it. it ≡ part_table style lines place i own header terms)) i
+    (subst (λ f. IfOk r (λ it. it ≡ part_table style lines place inner f header terms)) f
+    (subst (λ (h : HeaderFields). IfOk r (λ it. it ≡ part_table style lines place inner file h terms)) h e)))
 
 -- a stage that refuses, with errors of statements behind its own
 pub stage_comes : (stage : Stage) (messages errors statements all : List Message) (it : Compiled) → Refuses stage errors → stage ≡ Refused' messages → all ≡ with_others messages statements → Refused all ≡ unless_wrong (with_others errors statements) it
@@ -186,10 +221,11 @@ pub shape_comes : (stage : Stage) (messages errors : List Message) (it : Compile
 shape_comes stage messages errors it h e = refused_is messages errors it (subst (λ (s : Stage). ShapeRefuses s errors) e h)
 
 -- what a block that is compiled comes to is what its source comes to
-pub program_comes : (style : Style) (r : Result Compiled AllocError) (items : List Raw) (block : Block) (terms : Trees) (statements : List Message) → errors_at items ≡ [] → IsBlockOf items block → terms ≡ numbered_all 0 (plans_of block.terms.items) → statements ≡ others_of (width_of block.revision) terms (plans_of block.terms.items)
-    → IfOk r (λ it. it ≡ with_notes (cut_literals_at (width_of block.revision) items) (of_terms style block.place block.file (fields_of block) statements terms)) → IfOk r (λ it. it ≡ of_items style items)
-program_comes style (Ok it) items block terms statements e h is are comes = block_comes style items block terms statements it e h is are comes
-program_comes style (Err error) items block terms statements e h is are comes = tt
+pub program_comes : (style : Style) (lines : List Line) (r : Result Compiled AllocError) (items : List Raw) (block : Block) (terms : Trees) (inner : List Place) (statements : List Message) → errors_at items ≡ [] → IsBlockOf items block → terms ≡ numbered_all 0 (plans_of block.terms.items)
+    → inner ≡ core_places (plans_of block.terms.items) → statements ≡ others_of (width_of block.revision) terms (plans_of block.terms.items)
+    → IfOk r (λ it. it ≡ with_notes (cut_literals_at (width_of block.revision) items) (of_terms style lines block.place inner block.file (fields_of block) statements terms)) → IfOk r (λ it. it ≡ of_items style lines items)
+program_comes style lines (Ok it) items block terms inner statements e h is places are comes = block_comes style lines items block terms inner statements it e h is places are comes
+program_comes style lines (Err error) items block terms inner statements e h is places are comes = tt
 
 -- lists that are empty, and others
 pub no_length : (messages : List Message) → length messages ≡ 0 → messages ≡ []
@@ -201,26 +237,26 @@ some_length [] it errors e h = absurd (h refl)
 some_length (m ∷ ms) it errors e h = sym (ap (λ es. unless_wrong (with_others es (m ∷ ms)) it) e)
 
 -- the name that a source states for its file
-pub named_in_ascii : (style : Style) (items : List Raw) → IsKeptSource (writtens items) → HasAsciiName (of_items style items)
-named_in_ascii style items kept = by (errors_at items) refl
+pub named_in_ascii : (style : Style) (lines : List Line) (items : List Raw) → IsKeptSource (writtens items) → HasAsciiName (of_items style lines items)
+named_in_ascii style lines items kept = by (errors_at items) refl
   where
     place : Place
     place = block_place (writtens items)
 
-    by_length : (c : Bool) → IsAscii (own_in items) → HasAsciiName (if c then Table (fields_in items).signature (own_in items) (written_in style items) [] else Refused (too_long place ∷ []))
+    by_length : (c : Bool) → IsAscii (own_in items) → HasAsciiName (if c then Table (fields_in items).signature (own_in items) (cut_in style lines items) [] else Refused (too_long place ∷ []))
     by_length true h = h
     by_length false h = tt
 
-    by_names : (ms : List Message) → IsAscii (own_in items) → HasAsciiName (unless_wrong ms (of_table place (fields_in items).signature (own_in items) (written_in style items)))
+    by_names : (ms : List Message) → IsAscii (own_in items) → HasAsciiName (unless_wrong ms (of_table place (fields_in items).signature (own_in items) (written_in style items) (cut_in style lines items)))
     by_names [] h = by_length (nat_le (length (written_in style items)) most_table_bytes) h
     by_names (m ∷ ms) h = tt
 
     noted : (it : Compiled) → HasAsciiName it → HasAsciiName (with_notes (literals_in items) it)
-    noted (Table signature own bytes notes) h = h
+    noted (Table signature own pieces notes) h = h
     noted (Refused messages) h = tt
 
-    by : (ms : List Message) → errors_at items ≡ ms → HasAsciiName (unless_wrong ms (with_notes (literals_in items) (of_terms style place (own_in items) (fields_in items) (others_in items) (terms_in items))))
-    by [] e = noted (of_terms style place (own_in items) (fields_in items) (others_in items) (terms_in items)) (by_names (with_others (told_errors (terms_in items)) (others_in items)) (own_is_ascii items e kept))
+    by : (ms : List Message) → errors_at items ≡ ms → HasAsciiName (unless_wrong ms (with_notes (literals_in items) (of_terms style lines place (core_places (terms_of (writtens items))) (own_in items) (fields_in items) (others_in items) (terms_in items))))
+    by [] e = noted (of_terms style lines place (core_places (terms_of (writtens items))) (own_in items) (fields_in items) (others_in items) (terms_in items)) (by_names (with_others (told_errors (terms_in items)) (others_in items)) (own_is_ascii items e kept))
     by (m ∷ ms) e = tt
 
 pub ascii_comes : (r : Result Compiled AllocError) (it : Compiled) → HasAsciiName it → IfOk r (λ made. made ≡ it) → IfOk r HasAsciiName

@@ -1,5 +1,5 @@
 -- The lines that a main file comes to are short: with an LF behind each they have at most 16 MiB and one byte in all.
-use Rattle.std.proofs.Common.{◌≡◌, ℕ, zero, suc, ◌+◌, ◌<◌, ◌≤◌, ◌^◌, ◌&&◌, Bool, true, false, cond, List, [], ◌∷◌, ◌++◌, length, Option, Some, None, Ok, Err, refl, subst, arith}
+use Rattle.std.proofs.Common.{◌≡◌, ℕ, zero, suc, ◌+◌, ◌<◌, ◌≤◌, ◌^◌, ◌&&◌, Bool, true, false, cond, List, [], ◌∷◌, ◌++◌, length, Option, Some, None, Ok, Err, refl, sym, subst, arith}
 use Rattle.std.specs.Prelude.{nat_le, nat_lt}
 use Rattle.std.specs.List.{All, sum_by}
 use Rattle.std.proofs.lemmas.Bool.{leb-true}
@@ -25,6 +25,8 @@ use Rattle.asl_preprocess.specs.State.{State, Pass, Outcome, then, stopped, at, 
 use Rattle.asl_preprocess.specs.Lines.{Deed, Goes, Asks, goes, with_line, text_left, asked_by_line, word_place, asks_for, of_asked, of_line}
 use Rattle.asl_preprocess.specs.Directives as d
 use Rattle.asl_preprocess.specs.Preprocess.{Setting, Reading, Preprocessed, Given, Stopped, of_row, read_found, included, in_pass, done, of_rows, closed, at_end, of_text, reading_at, of_file, most_levels, first_state, given, of_found, of_main, setting_of, too_large_main, preprocessed}
+use Rattle.generated_lines.proofs.Sizes.{few_bytes}
+use Rattle.iasl_tool.specs.Headline.{Request, ComeFrom, a_file, devices}
 
 abbrev AreFew : List Line → Type 0
 AreFew lines = total_size lines ≤ 2 ^ 25
@@ -246,4 +248,12 @@ pub given_sizes : (told : List Named) (file : List ℕ) (directories : List (Lis
     → preprocessed told file directories definitions enabled ≡ Given files lines notes → (sum_by (λ line. length line.text + 1) lines ≤ 2 ^ 25) × All (λ line. length line.text < 2 ^ 32) lines
 given_sizes told file directories definitions enabled files lines notes e =
     let few : AreFew lines = subst SmallAll e (small_found_main (setting_of told directories enabled) file definitions (find_file told file)) in
+    (few, each_short lines few)
+
+-- the same of lines that words name
+pub come_sizes : (words : List (List ℕ)) (told : List Named) (request : Request) (files : List (List ℕ)) (lines : List Line) (notes : List Message) → ComeFrom words told request files lines notes
+    → (sum_by (λ line. length line.text + 1) lines ≤ 2 ^ 25) × All (λ line. length line.text < 2 ^ 32) lines
+come_sizes words told request files lines notes (a_file line file_is compiles lines_are) = given_sizes told request.file request.asked.directories request.asked.definitions request.asked.enabled files lines notes lines_are
+come_sizes words told request files lines notes (devices count task request_is files_are lines_are notes_are) =
+    let few : AreFew lines = subst AreFew (sym lines_are) (few_bytes count task.1) in
     (few, each_short lines few)

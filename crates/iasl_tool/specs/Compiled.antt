@@ -1,7 +1,8 @@
 -- What a source comes to: its table, or its errors.
-use Rattle.std.specs.Prelude.{ℕ, suc, ◌-◌, nat_le, nat_eq, Bool, ◌||◌, ◌&&◌, true, false, if◌then◌else◌, List, [], ◌∷◌, ◌++◌, length, All, ◌<◌, ⊤, Result, Ok, Err, cond}
+use Rattle.std.specs.Prelude.{ℕ, suc, ◌-◌, nat_le, nat_eq, Bool, ◌||◌, ◌&&◌, if◌then◌else◌, List, [], ◌∷◌, ◌++◌, length, All, ◌<◌, ⊤, Result, Ok, Err, cond}
 use Rattle.iasl_messages.specs.declared.place.Place.{Place}
 use Rattle.iasl_messages.specs.declared.place.Line.{Line}
+use Rattle.iasl_messages.specs.declared.place.Piece.{Piece}
 use Rattle.iasl_messages.specs.declared.message.Message.{Message}
 use Rattle.asl_lexer.specs.declared.token.Token.{Token}
 use Rattle.asl_lexer.specs.declared.mode.Fault.{Fault}
@@ -12,6 +13,7 @@ use Rattle.asl_tree.specs.declared.program.Block.{Block}
 use Rattle.aml_code.specs.Header.{HeaderFields, table_bytes, fields_of}
 use Rattle.aml_meaning.specs.Encoded.{encoded_all}
 use Rattle.aml_writer.specs.Written.{most_table_bytes}
+use Rattle.aml_writer.specs.Cuts.{table_parts, pieces_with}
 use Rattle.named_sessions.specs.Core.{core_of}
 use Rattle.asl_lower.specs.Nodes.{named_all}
 use Rattle.asl_fold.specs.Folds.{folded_where}
@@ -21,23 +23,25 @@ use Rattle.asl_parser.specs.Parse.{Outcome, outcome, read, stopped, sunk, tall}
 use Rattle.asl_parser.specs.Written.{writtens}
 use Rattle.std.specs.Str.{IsAscii}
 use Rattle.asl_shape.specs.Plans.{plan_at, text_of}
-use Rattle.asl_shape.specs.Forms.{errors_at, block_place, args_of}
-use Rattle.program_shapes.specs.Sources.{terms_in, statements_in, layouts_in, regions_in, fields_in, width_in, table_in}
+use Rattle.asl_shape.specs.Forms.{errors_at, block_place, args_of, terms_of}
+use Rattle.program_shapes.specs.Sources.{terms_in, statements_in, layouts_in, regions_in, types_in, sizes_in, fields_in, width_in, table_in}
+use Rattle.source_pieces.specs.Places.{core_places}
+use Rattle.source_pieces.specs.Pieces.{pieces_in}
 use Rattle.literal_checks.specs.Literals.{cut_literals_at}
 use Rattle.iasl_tool.specs.declared.compile.Style.{Style}
 use Rattle.iasl_tool.specs.declared.compile.Compiled.{Compiled}
 use Rattle.iasl_tool.specs.declared.compile.Compiled.TheVariants.{Table, Refused}
 use Rattle.data_text.specs.Kinds.{is_data_table}
-use Rattle.data_tables.specs.Compiling.{Answer, joined, compiled}
+use Rattle.data_tables.specs.Compiling.{Answer, compiled}
 use Rattle.iasl_tool.specs.Syntax.{not_source, too_deep}
 
 -- a table of more than 16 MiB: 6080 at the block
 abbrev pub too_long : Place → Message
 too_long place = record { number = 6080; place = place; name = [] }
 
--- a table, if it is not too long, with its signature and the name that its block states for its file
-abbrev pub of_table : Place → List ℕ → List ℕ → List ℕ → Compiled
-of_table place signature own bytes = if nat_le (length bytes) most_table_bytes then Table signature own bytes [] else Refused (too_long place ∷ [])
+-- a table of these bytes in pieces, if it is not too long, with its signature and the name that its block states for its file
+abbrev pub of_table : Place → List ℕ → List ℕ → List ℕ → List Piece → Compiled
+of_table place signature own bytes pieces = if nat_le (length bytes) most_table_bytes then Table signature own pieces [] else Refused (too_long place ∷ [])
 
 -- the table with this header of these terms, at the width that its revision gives
 abbrev pub table_with : Style → HeaderFields → Trees → List ℕ
@@ -46,6 +50,10 @@ table_with style fields terms = table_bytes fields (encoded_all (width_of fields
 -- the table of a block of these terms
 abbrev pub its_table : Style → Trees → Block → List ℕ
 its_table style terms block = table_with style (fields_of block) terms
+
+-- its pieces, at these places, with the texts of these lines
+abbrev pub its_pieces : Style → List Line → List Place → HeaderFields → Trees → List Piece
+its_pieces style lines places fields terms = pieces_with lines places (table_parts fields style.short (core_of style.shorten terms))
 
 -- terms with their symbols named, and their constants folded where that is asked for
 abbrev pub lowered_in : Style → HeaderFields → Trees → Trees
@@ -66,10 +74,12 @@ abbrev pub with_others : List Message → List Message → List Message
 with_others [] others = others
 with_others (m ∷ ms) others = if is_of_kinds m.number then (m ∷ ms) ++ others else m ∷ ms
 
--- a block of this form, that is refused with what is wrong with its names, its statements or the lists of its fields
-abbrev pub of_terms : Style → Place → List ℕ → HeaderFields → List Message → Trees → Compiled
-of_terms style place own fields others terms =
-    unless_wrong (with_others (told_errors terms) others) (of_table place fields.signature own (table_with style fields (lowered_in style fields terms)))
+-- a block of this form, whose core's terms stand at these places, that is refused with what is wrong with its names, its statements or the lists
+-- of its fields
+abbrev pub of_terms : Style → List Line → Place → List Place → List ℕ → HeaderFields → List Message → Trees → Compiled
+of_terms style lines place inner own fields others terms =
+    let lowered = lowered_in style fields terms in
+    unless_wrong (with_others (told_errors terms) others) (of_table place fields.signature own (table_with style fields lowered) (its_pieces style lines (place ∷ inner) fields lowered))
 
 -- the numbers of the errors of the class of names
 abbrev pub is_of_names : ℕ → Bool
@@ -82,12 +92,16 @@ with_notes_behind notes (m ∷ ms) = if is_of_names m.number then m ∷ ms else 
 
 -- what terms come to, with the notes on them
 abbrev pub with_notes : List Message → Compiled → Compiled
-with_notes notes (Table signature own bytes others) = Table signature own bytes (others ++ notes)
+with_notes notes (Table signature own pieces others) = Table signature own pieces (others ++ notes)
 with_notes notes (Refused messages) = Refused (with_notes_behind notes messages)
 
 -- the table of a source in which nothing is wrong
 abbrev pub written_in : Style → List Raw → List ℕ
 written_in style items = table_in style.fold style.short style.shorten items
+
+-- its pieces, with the texts of these lines
+abbrev pub cut_in : Style → List Line → List Raw → List Piece
+cut_in style lines items = pieces_in lines style.fold style.short style.shorten items
 
 -- the literals of a source that are cut to 32 bits
 abbrev pub literals_in : List Raw → List Message
@@ -97,33 +111,36 @@ literals_in items = cut_literals_at (width_in items) items
 abbrev pub own_in : List Raw → List ℕ
 own_in items = text_of (plan_at (args_of (writtens items)) 0)
 
--- what is wrong with its statements, then with the lists of its fields, and then with their accesses
+-- what is wrong with its statements, then with the lists of its fields and with their accesses, and then with the kinds of its arguments and
+-- the lengths of its lists
 abbrev pub others_in : List Raw → List Message
-others_in items = statements_in items ++ layouts_in items ++ regions_in items
+others_in items = statements_in items ++ layouts_in items ++ regions_in items ++ types_in items ++ sizes_in items
 
 -- the tree of a source's syntax, that is refused with what is wrong with its form
-abbrev pub of_items : Style → List Raw → Compiled
-of_items style items = unless_wrong (errors_at items) (with_notes (literals_in items) (of_terms style (block_place (writtens items)) (own_in items) (fields_in items) (others_in items) (terms_in items)))
+abbrev pub of_items : Style → List Line → List Raw → Compiled
+of_items style lines items =
+    let ws = writtens items in
+    unless_wrong (errors_at items) (with_notes (literals_in items) (of_terms style lines (block_place ws) (core_places (terms_of ws)) (own_in items) (fields_in items) (others_in items) (terms_in items)))
 
 -- tokens that are a source, or the place where they stop being one or nest too deep
-abbrev pub of_outcome : Style → List Token → Outcome → Compiled
-of_outcome style tokens (read items) = of_items style items
-of_outcome style tokens (stopped rest) = Refused (not_source tokens (length tokens - length rest) ∷ [])
-of_outcome style tokens (sunk rest) = Refused (too_deep tokens (length tokens - suc (length rest)) ∷ [])
-of_outcome style tokens (tall number) = Refused (too_deep tokens number ∷ [])
+abbrev pub of_outcome : Style → List Line → List Token → Outcome → Compiled
+of_outcome style lines tokens (read items) = of_items style lines items
+of_outcome style lines tokens (stopped rest) = Refused (not_source tokens (length tokens - length rest) ∷ [])
+of_outcome style lines tokens (sunk rest) = Refused (too_deep tokens (length tokens - suc (length rest)) ∷ [])
+of_outcome style lines tokens (tall number) = Refused (too_deep tokens number ∷ [])
 
 -- the first fault of the tokens, or what they come to
-abbrev pub of_tokens : Style → Result (List Token) Fault → Compiled
-of_tokens style (Err fault) = Refused (message_of fault ∷ [])
-of_tokens style (Ok tokens) = of_outcome style tokens (outcome tokens)
+abbrev pub of_tokens : Style → List Line → Result (List Token) Fault → Compiled
+of_tokens style lines (Err fault) = Refused (message_of fault ∷ [])
+of_tokens style lines (Ok tokens) = of_outcome style lines tokens (outcome tokens)
 
 -- what lines of ASL come to
 abbrev pub of_lines : Style → List Line → Compiled
-of_lines style lines = of_tokens style (tokens_of lines)
+of_lines style lines = of_tokens style lines (tokens_of lines)
 
 -- a data table with its notes, or the faults of its text; it states no name for its file
 abbrev pub of_data : Answer → Compiled
-of_data (Ok table) = Table table.signature [] (joined table.pieces) table.notes
+of_data (Ok table) = Table table.signature [] table.pieces table.notes
 of_data (Err faults) = Refused faults
 
 -- what lines come to: those of a data table, or those of ASL
@@ -136,10 +153,10 @@ AreWithin files messages = All (λ m. m.place.file < files) messages
 
 -- each note, or each message of a refusal, is told in one of so many files
 abbrev pub TellsWithin : ℕ → Compiled → Type 0
-TellsWithin files (Table signature own bytes notes) = AreWithin files notes
+TellsWithin files (Table signature own pieces notes) = AreWithin files notes
 TellsWithin files (Refused messages) = AreWithin files messages
 
 -- the name that the block states for its file is ASCII
 abbrev pub HasAsciiName : Compiled → Type 0
-HasAsciiName (Table signature own bytes notes) = IsAscii own
+HasAsciiName (Table signature own pieces notes) = IsAscii own
 HasAsciiName (Refused messages) = ⊤

@@ -9,10 +9,13 @@ use Rattle.iasl_messages.specs.declared.message.Message.{Message}
 use Rattle.iasl_messages.specs.declared.severity.Severity.TheVariants.{Warning}
 use Rattle.iasl_messages.specs.Severity.{severity_of, is_same}
 use Rattle.iasl_messages.specs.Order.{sorted_messages}
-use Rattle.iasl_messages.specs.Console.{messages_text, summary_line, table_line, preprocessed_line}
+use Rattle.iasl_messages.specs.Console.{messages_text, summary_line, table_line, preprocessed_line, devices_line}
 use Rattle.asl_preprocess.specs.Preprocess.{Preprocessed, Given, Stopped, Absent, preprocessed}
-use Rattle.iasl_options.specs.Asking.{Asked, asked_by}
+use Rattle.iasl_options.specs.Asking.{Asked}
+use Rattle.iasl_options.specs.Task.{Task, Compiles, Generates, generated_settings, task_by}
+use Rattle.generated_lines.specs.Generated.{generated_lines}
 use Rattle.iasl_options.specs.Names.{output_name}
+use Rattle.iasl_backends.specs.Table.{table_bytes}
 use Rattle.table_outputs.specs.Files.{name_in_use, table_name, table_files}
 use Rattle.iasl_tool.specs.declared.compile.Style.{Style}
 use Rattle.iasl_tool.specs.declared.compile.Compiled.{Compiled}
@@ -68,10 +71,11 @@ text_of_lines (line ∷ lines) = line.text ++ 10 ∷ text_of_lines lines
 abbrev pub answer_to_text : Asked → List ℕ → List (List ℕ) → List Line → List Message → Answer
 answer_to_text asked file files lines notes = made_or_refused asked files notes (preprocessed_line (text_name asked file)) ((text_name asked file, text_of_lines lines) ∷ [])
 
-abbrev pub answer_to_compiled : Asked → List ℕ → List (List ℕ) → List Message → Compiled → Answer
-answer_to_compiled asked file files notes (Table signature own bytes told) =
-    made_or_refused asked files (notes ++ told) (table_line (table_name asked file own) signature (length bytes)) (table_files asked file own bytes)
-answer_to_compiled asked file files notes (Refused messages) = refusal asked.switches.brief files (notes ++ messages)
+-- of what lines come to, with a further line of the console behind that of the table
+abbrev pub answer_to_compiled : Asked → List ℕ → List (List ℕ) → List Message → List ℕ → Compiled → Answer
+answer_to_compiled asked file files notes more (Table signature own pieces told) =
+    made_or_refused asked files (notes ++ told) (table_line (table_name asked file own) signature (length (table_bytes pieces)) ++ more) (table_files asked file own pieces)
+answer_to_compiled asked file files notes more (Refused messages) = refusal asked.switches.brief files (notes ++ messages)
 
 -- how a table is to be written
 abbrev pub style_of : Asked → Style
@@ -79,7 +83,7 @@ style_of asked = record { fold = asked.switches.fold; short = asked.switches.sho
 
 -- of lines, with the files that they are of and the notes of the preprocessor
 abbrev pub answer_to_lines : Asked → List ℕ → List (List ℕ) → List Line → List Message → Answer
-answer_to_lines asked file files lines notes = cond asked.only (answer_to_text asked file files lines notes) (answer_to_compiled asked file files notes (of_source (style_of asked) lines))
+answer_to_lines asked file files lines notes = cond asked.only (answer_to_text asked file files lines notes) (answer_to_compiled asked file files notes [] (of_source (style_of asked) lines))
 
 -- none where the main file is not there
 abbrev pub answer_to_preprocessed : Asked → List ℕ → Preprocessed → Option Answer
@@ -95,13 +99,19 @@ abbrev pub answer_to_file : Asked → List Named → Option (List ℕ) → Optio
 answer_to_file asked told None = Some usage
 answer_to_file asked told (Some file) = answer_to_preprocessed asked file (preprocessed told file asked.directories asked.definitions asked.enabled)
 
-abbrev pub answer_to_asked : List Named → Result Asked ℕ → Option Answer
-answer_to_asked told (Ok asked) = answer_to_file asked told asked.file
-answer_to_asked told (Err word) = Some usage
+-- Of the source of so many devices. No file is fetched for it, and its outputs have the name `generated`; the console tells how many
+-- devices there are.
+abbrev pub answer_to_generated : ℕ → Answer
+answer_to_generated count = answer_to_compiled generated_settings (codes "generated") [] [] (devices_line count) (of_source (style_of generated_settings) (generated_lines count))
+
+abbrev pub answer_to_task : List Named → Result Task ℕ → Option Answer
+answer_to_task told (Ok (Compiles asked)) = answer_to_file asked told asked.file
+answer_to_task told (Ok (Generates count)) = Some (answer_to_generated count)
+answer_to_task told (Err word) = Some usage
 
 -- what a call with these words is to end with, where these are the files
 abbrev pub answer_for : List (List ℕ) → List Named → Option Answer
-answer_for words told = answer_to_asked told (asked_by words)
+answer_for words told = answer_to_task told (task_by words)
 
 -- the text of status 3
 abbrev pub fault_text : List ℕ

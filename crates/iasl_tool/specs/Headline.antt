@@ -1,5 +1,5 @@
 -- What a call does with a source that is read.
-use Rattle.std.specs.Prelude.{◌≡◌, ◌⊎◌, ℕ, ◌≤◌, Bool, true, false, List, [], ◌∷◌, ◌++◌, length, All, Option, None, Some, Result, Ok}
+use Rattle.std.specs.Prelude.{◌≡◌, ◌⊎◌, ℕ, ◌≤◌, true, false, List, [], ◌∷◌, ◌++◌, length, codes, All, Option, None, Some, Ok}
 use Rattle.iasl_ports.specs.Gained.{Named, Gains}
 use Rattle.iasl_ports.specs.Delivery.{due_of, status_of}
 use Rattle.iasl_messages.specs.declared.place.Line.{Line}
@@ -22,9 +22,12 @@ use Rattle.data_tables.specs.Entries.{Entry, written_values}
 use Rattle.data_tables.specs.Reading.{ReadsAs}
 use Rattle.iasl_options.specs.Asking.{Asked}
 use Rattle.iasl_options.specs.CommandLine.{IsCommandLine}
+use Rattle.iasl_options.specs.Task.{Generates, IsTask, generated_settings}
+use Rattle.generated_lines.specs.Generated.{generated_lines}
+use Rattle.iasl_messages.specs.Console.{devices_line}
 use Rattle.program_shapes.specs.Sources.{IsRight, IsTableOf}
-use Rattle.iasl_tool.specs.Compiled.{own_in, literals_in, written_in}
-use Rattle.table_outputs.specs.Files.{table_name, further_files, table_files, name_in_use}
+use Rattle.iasl_tool.specs.Compiled.{own_in, literals_in, written_in, cut_in}
+use Rattle.table_outputs.specs.Files.{table_name, further_files, name_in_use}
 use Rattle.iasl_tool.specs.Due.{style_of, answer_for}
 
 -- what good words ask for, and the file that they name
@@ -44,29 +47,50 @@ data_file_of request = table_name request.asked request.file []
 abbrev pub table_for : Request → List Raw → List ℕ
 table_for request items = written_in (style_of request.asked) items
 
--- the files of the table of a source, in the order of their putting
-abbrev pub files_of : Request → List Raw → List Named
-files_of request items = table_files request.asked request.file (own_in items) (table_for request items)
+-- its further outputs, which are of its pieces with the texts of these lines
+abbrev pub further_of : Request → List Line → List Raw → List Named
+further_of request lines items = further_files request.asked request.file (own_in items) (cut_in (style_of request.asked) lines items)
+
+-- those of a data table
+abbrev pub further_data : Request → DataTable → List Named
+further_data request table = further_files request.asked request.file [] table.pieces
+
+-- the files of the table of a source of these lines, in the order of their putting
+abbrev pub files_of : Request → List Line → List Raw → List Named
+files_of request lines items = (table_of request items, table_for request items) ∷ further_of request lines items
 
 -- those of a data table
 abbrev pub data_files_of : Request → DataTable → List Named
-data_files_of request table = table_files request.asked request.file [] (joined table.pieces)
+data_files_of request table = (data_file_of request, joined table.pieces) ∷ further_data request table
 
--- what the words name, whatever its kind: a file whose lines, with those of its includes, these are
+-- what the generation of devices asks for
+abbrev pub generated_request : Request
+generated_request = record { asked = generated_settings; file = codes "generated" }
+
+-- Where lines come from. The words are a command line that asks for a compilation of this file, and they are its lines, with those of its
+-- includes; or the words ask for so many devices, and they are the source of these, for which no file is fetched.
+pub data ComeFrom (words : List (List ℕ)) (told : List Named) (request : Request) (files : List (List ℕ)) (lines : List Line) (notes : List Message) : Type 0 where
+  a_file : IsCommandLine words request.asked → request.asked.file ≡ Some request.file → request.asked.only ≡ false
+      → preprocessed told request.file request.asked.directories request.asked.definitions request.asked.enabled ≡ Given files lines notes → ComeFrom words told request files lines notes
+  devices : (count : ℕ) → IsTask words (Generates count) → request ≡ generated_request → files ≡ [] → lines ≡ generated_lines count → notes ≡ [] → ComeFrom words told request files lines notes
+
+-- the line of the console that tells of generated devices
+abbrev pub more_of : {words : List (List ℕ)} {told : List Named} {request : Request} {files : List (List ℕ)} {lines : List Line} {notes : List Message} → ComeFrom words told request files lines notes → List ℕ
+more_of (a_file line is only given) = []
+more_of (devices count task request_is files_are lines_are notes_are) = devices_line count
+
+-- what the words name, whatever its kind: lines, with their files and the notes of the preprocessor
 pub record NamesLines (words : List (List ℕ)) (told : List Named) (request : Request) : Type 0 where
   pub files : List (List ℕ)
   pub lines : List Line
   pub notes : List Message
-  pub words_are : IsCommandLine words request.asked
-  pub file_is : request.asked.file ≡ Some request.file
-  pub compiles : request.asked.only ≡ false
-  pub lines_are : preprocessed told request.file request.asked.directories request.asked.definitions request.asked.enabled ≡ Given files lines notes
+  pub come : ComeFrom words told request files lines notes
 
 -- what words ask for lets these notes pass: where it asks that warnings refuse a source, none of them is a warning
 abbrev pub LetsPass : Asked → List Message → Type 0
 LetsPass asked notes = asked.switches.strict ≡ true → All (λ note. severity_of note.number ≡ Warning → ⊥) notes
 
--- The words are a command line that asks for a compilation of this file; its lines, with those of its includes, are no data table and are
+-- The words name lines (`ComeFrom`), which are no data table and are
 -- cut into tokens that spell this source, nowhere too deep; nothing is wrong with it, and its table is not too long; none of its notes, those on its
 -- literals among them, is a warning, where warnings refuse a source; and no name of the table's files is that of a file that was fetched,
 -- or of another of them.
@@ -81,9 +105,9 @@ pub record NamesSource (words : List (List ℕ)) (told : List Named) (request : 
   pub right : IsRight items
   pub table_within : length (table_for request items) ≤ most_table_bytes
   pub notes_pass : LetsPass request.asked (named.notes ++ literals_in items)
-  pub names_are_free : name_in_use named.files (files_of request items) ≡ None
+  pub names_are_free : name_in_use named.files (files_of request named.lines items) ≡ None
 
--- The words are a command line that asks for a compilation of this file; its lines are a data table in whose text there is no fault, with
+-- The words name lines (`ComeFrom`), which are a data table in whose text there is no fault, with
 -- this table; none of its notes and the table's is a warning, where warnings refuse a source; and no name of the table's files is that of
 -- a file that was fetched, or of another of them.
 pub record NamesData (words : List (List ℕ)) (told : List Named) (request : Request) (table : DataTable) : Type 0 where
@@ -93,10 +117,10 @@ pub record NamesData (words : List (List ℕ)) (told : List Named) (request : Re
   pub notes_pass : LetsPass request.asked (named.notes ++ table.notes)
   pub names_are_free : name_in_use named.files (data_files_of request table) ≡ None
 
--- the call puts the files of the source's table, and nothing else; the table has the source's header and does what the source says
-pub record PutsFaithfulTable (words : List (List ℕ)) (told : List Named) (request : Request) (items : List Raw) : Type 0 where
+-- the call puts the files of the table of a source of these lines, and nothing else; the table has the source's header and does what the source says
+pub record PutsFaithfulTable (words : List (List ℕ)) (told : List Named) (request : Request) (lines : List Line) (items : List Raw) : Type 0 where
   pub status : status_of (answer_for words told) ≡ 0
-  pub due : due_of (answer_for words told) ≡ files_of request items
+  pub due : due_of (answer_for words told) ≡ files_of request lines items
   pub does : IsTableOf items (table_for request items)
 
 -- bytes that read by offset as the values that some lines write, and as no others
@@ -111,7 +135,7 @@ pub record PutsDataTable (words : List (List ℕ)) (told : List Named) (request 
   pub reads : ReadsBack lines (joined table.pieces)
 
 -- A file is the table of an ASL source that the words name: it has the source's header and does what the source says. The files that
--- follow it are its further outputs: its bytes as an array of C, where that is asked for.
+-- follow it are its further outputs: its bytes as an array of C, and the source's lines with their bytes, where these are asked for.
 pub record IsItsTable (words : List (List ℕ)) (told : List Named) (file : Named) (further : List Named) : Type 0 where
   pub request : Request
   pub items : List Raw
@@ -119,7 +143,7 @@ pub record IsItsTable (words : List (List ℕ)) (told : List Named) (file : Name
   pub name : file.0 ≡ table_of request items
   pub bytes : file.1 ≡ table_for request items
   pub does : IsTableOf items file.1
-  pub others : further ≡ further_files request.asked request.file (own_in items) file.1
+  pub others : further ≡ further_of request names.named.lines items
 
 -- A file is the data table whose text the words name: its bytes read as the values that the text writes. The files that follow it are its
 -- further outputs.
@@ -130,7 +154,7 @@ pub record IsItsDataTable (words : List (List ℕ)) (told : List Named) (file : 
   pub name : file.0 ≡ data_file_of request
   pub bytes : file.1 ≡ joined table.pieces
   pub reads : ReadsBack names.named.lines file.1
-  pub others : further ≡ further_files request.asked request.file [] file.1
+  pub others : further ≡ further_data request table
 
 -- the first file is the table, and the others are its further outputs
 abbrev pub AreItsFiles : List (List ℕ) → List Named → List Named → Type 0
@@ -143,7 +167,7 @@ pub record WritesItsTable (words : List (List ℕ)) (told : List Named) (old new
   pub request : Request
   pub items : List Raw
   pub names : NamesSource words told request items
-  pub table : Gains old new ((table_of request items, table_for request items) ∷ further_files request.asked request.file (own_in items) (table_for request items))
+  pub table : Gains old new ((table_of request items, table_for request items) ∷ further_of request names.named.lines items)
   pub does : IsTableOf items (table_for request items)
 
 -- The words name the text of a data table, and the outputs gained its files and nothing else. The bytes of the first, the table, read as
@@ -152,5 +176,5 @@ pub record WritesItsDataTable (words : List (List ℕ)) (told : List Named) (old
   pub request : Request
   pub table : DataTable
   pub names : NamesData words told request table
-  pub gained : Gains old new ((data_file_of request, joined table.pieces) ∷ further_files request.asked request.file [] (joined table.pieces))
+  pub gained : Gains old new ((data_file_of request, joined table.pieces) ∷ further_data request table)
   pub reads : ReadsBack names.named.lines (joined table.pieces)

@@ -6,16 +6,19 @@ ghost use Rattle.asl_tree.specs.Tree.{Trees};
 ghost use Rattle.asl_tree.specs.View.{trees_of};
 ghost use Rattle.asl_tree.specs.declared.program.Block.{Block as SpecBlock};
 ghost use Rattle.aml_code.specs.Header.{fields_of};
-ghost use Rattle.aml_writer.specs.Pieces.{joined_pieces};
 ghost use Rattle.asl_parser.specs.declared.raw.Raw.{Raw};
 ghost use Rattle.asl_parser.specs.Parse.{outcome};
 ghost use Rattle.asl_shape.specs.Forms.{Forms};
 ghost use Rattle.asl_parser.specs.Written.{writtens};
 ghost use Rattle.field_checks.specs.Lists.{all_errors};
 ghost use Rattle.region_checks.specs.Regions.{region_errors};
+ghost use Rattle.type_checks.specs.Types.{wrong_types};
+ghost use Rattle.type_checks.specs.Sizes.{long_lists};
 ghost use Rattle.acpi_names.specs.Terms.{are_terms};
 ghost use Rattle.statement_checks.specs.Statements.{errors_of_statements};
 ghost use Rattle.asl_shape.specs.Plans.{plans_of};
+ghost use Rattle.term_places.specs.Places.{places_of};
+ghost use Rattle.source_pieces.specs.Places.{core_places};
 ghost use Rattle.named_sessions.specs.Shaped.{AreFormed, AreNamed, AreShaped};
 ghost use Rattle.asl_lower.specs.Nodes.{named_all};
 ghost use Rattle.program_shapes.specs.Kept.{IsKeptSource};
@@ -25,7 +28,7 @@ ghost use Rattle.iasl_messages.specs.declared.message.Stage.TheVariants as stage
 ghost use Rattle.iasl_tool.specs.Syntax.{at_token};
 ghost use Rattle.iasl_tool.specs.Ready.{HasRoom, IsCoreOf};
 ghost use Rattle.iasl_tool.specs.declared.compile.Compiled.TheVariants.{Refused};
-ghost use Rattle.iasl_tool.specs.Compiled.{its_table, of_table, of_terms, is_of_kinds as of_kinds, is_of_names as of_names, with_notes, with_notes_behind, with_others, of_items, of_lines, of_outcome, HasAsciiName, TellsWithin};
+ghost use Rattle.iasl_tool.specs.Compiled.{its_table, its_pieces, of_table, of_terms, is_of_kinds as of_kinds, is_of_names as of_names, with_notes, with_notes_behind, with_others, of_items, of_lines, of_outcome, HasAsciiName, TellsWithin};
 
 use acpi_values::width::Width;
 use aml_writer::stop::WriteStop;
@@ -45,14 +48,16 @@ use iasl_messages::number::{
     NAME_DECLARED_TWICE, NESTING_TOO_DEEP, PATH_IS_TOO_LONG, SYNTAX, UNKNOWN_OPERATOR,
     WRONG_CALL_ARGUMENT_COUNT, WRONG_OBJECT_KIND,
 };
-use iasl_messages::place::{LineList, Lines, Piece};
-use iasl_ports::list::{List, Text, Texts};
+use iasl_messages::place::{Lines, Pieces};
+use iasl_ports::list::{List, Text};
 use literal_checks::check::cut_literals;
 use name_checks::check::check;
 use name_spelling::spell::spell;
 use region_checks::check::region_faults;
 use statement_checks::check::statement_errors;
 use std::alloc::{AllocError, Global};
+use type_checks::check::wrong_types;
+use type_checks::size::long_lists;
 
 /// The most tokens that are numbered.
 const MOST_TOKENS: usize = 4_294_967_295;
@@ -71,12 +76,12 @@ pub(crate) struct Style {
 /// What a source comes to.
 #[derive(Drop)]
 pub(crate) enum Compiled {
-    /// Its table, with the signature, the name that the block states for its file, which is empty where it states none, and
+    /// Its table in pieces, with the signature, the name that the block states for its file, which is empty where it states none, and
     /// the notes on its text.
     Table {
         signature: Text,
         own: Text,
-        bytes: Text,
+        pieces: Pieces,
         notes: Messages,
     },
     /// Its errors, of which there is at least one.
@@ -89,18 +94,6 @@ pub(crate) fn one_message(alloc: Global, message: Message) -> Result<Messages, A
     let mut messages = Messages::new(alloc);
     messages.push(message)?;
     Ok(messages)
-}
-
-/// The bytes of pieces, one after another.
-#[tactic(auto, using(aml_writer::proofs::Sums::joined_more))]
-pub(crate) fn join(alloc: Global, pieces: &[Piece]) -> Result<Text, AllocError>
-    ensures { IfOk result (λ bytes. bytes ≡ joined_pieces pieces.now) }
-{
-    let mut bytes = Vec::new(alloc);
-    for piece in pieces {
-        bytes.extend_from_slice(piece.bytes.as_bytes())?;
-    }
-    Text::from_vec(alloc, bytes)
 }
 
 /// The messages of a stage's refusal.
@@ -124,22 +117,23 @@ fn core_of(alloc: Global, block: Block) -> Result<Core, AllocError>
     })
 }
 
-// The table of a core's block, or its refusal where that is too long. No listing shows the lines, so its pieces have no text.
-fn write_block(alloc: Global, style: Style, block: Block) -> Result<Compiled, AllocError>
-    ensures { (terms : Trees) → IsCoreOf style.shorten terms block → IfOk result (λ it. it ≡ of_table block.place block.signature block.file (its_table style terms block)) }
+// The table of a core's block in pieces, with the texts of the lines, or its refusal where that is too long.
+fn write_block(
+    alloc: Global,
+    style: Style,
+    lines: &Lines,
+    block: Block,
+) -> Result<Compiled, AllocError>
+    ensures { (terms : Trees) → IsCoreOf style.shorten terms block → IfOk result (λ it. it ≡ of_table block.place block.signature block.file (its_table style terms block) (its_pieces style lines.now.list (block.place ∷ places_of block.terms.items) (fields_of block) terms)) }
 {
     let signature = Text::from_bytes(alloc, block.signature.as_bytes())?;
     let own = Text::from_bytes(alloc, block.file.as_bytes())?;
     let core = core_of(alloc, block)?;
-    let lines = Lines {
-        files: Texts::new(alloc),
-        list: LineList::new(alloc),
-    };
-    match write(alloc, &core, &lines, 0, style.short) {
+    match write(alloc, &core, lines, 0, style.short) {
         Ok(pieces) => Ok(Compiled::Table {
             signature,
             own,
-            bytes: join(alloc, pieces.as_slice())?,
+            pieces,
             notes: Messages::new(alloc),
         }),
         Err(WriteStop::TooLong(message)) => Ok(Compiled::Refused(one_message(alloc, message)?)),
@@ -179,8 +173,10 @@ fn with_others(errors: Messages, others: Messages) -> Result<Messages, AllocErro
 }
 
 // The block with its symbolic operators named and its ElseIfs nested, and its constants folded where that is asked for.
+#[tactic(auto, using(source_pieces::proofs::Planned::places_planned))]
 fn lowered(alloc: Global, style: Style, block: Block) -> Result<Block, AllocError>
     ensures terms { IfOk result (λ core. trees_of core.terms.items ≡ folded_where style.fold (width_of block.revision) (named_all (trees_of block.terms.items))) }
+    ensures places { IfOk result (λ core. places_of core.terms.items ≡ core_places (plans_of block.terms.items)) }
     ensures place { IfOk result (λ core. core.place ≡ block.place) }
     ensures file { IfOk result (λ core. core.file ≡ block.file) }
     ensures fields { IfOk result (λ core. fields_of core ≡ fields_of block) }
@@ -214,13 +210,14 @@ fn lowered(alloc: Global, style: Style, block: Block) -> Result<Block, AllocErro
 fn compile_block(
     alloc: Global,
     style: Style,
+    lines: &Lines,
     block: Block,
     others: Messages,
 ) -> Result<Compiled, AllocError>
     requires room { HasRoom (fields_of block) }
     requires formed { AreFormed AreNamed (Unit {0}) (trees_of block.terms.items) }
     requires shaped { others ≡ [] → AreShaped (named_all (trees_of block.terms.items)) }
-    ensures { IfOk result (λ it. it ≡ of_terms style block.place block.file (fields_of block) others (trees_of block.terms.items)) }
+    ensures { IfOk result (λ it. it ≡ of_terms style lines.now.list block.place (core_places (plans_of block.terms.items)) block.file (fields_of block) others (trees_of block.terms.items)) }
 {
     match check(alloc, block.terms.as_slice()) {
         Ok(mut names) => {
@@ -235,7 +232,7 @@ fn compile_block(
                 style.shorten,
                 &mut core.terms,
             )?;
-            write_block(alloc, style, core)
+            write_block(alloc, style, lines, core)
         }
         Err(stage) => Ok(Compiled::Refused(with_others(refusal(stage)?, others)?)),
     }
@@ -271,12 +268,12 @@ fn with_notes(notes: Messages, it: Compiled) -> Result<Compiled, AllocError>
         Compiled::Table {
             signature,
             own,
-            bytes,
+            pieces,
             notes: others,
         } => Ok(Compiled::Table {
             signature,
             own,
-            bytes,
+            pieces,
             notes: both(others, notes)?,
         }),
         Compiled::Refused(errors) => Ok(Compiled::Refused(with_notes_behind(notes, errors)?)),
@@ -287,6 +284,7 @@ fn with_notes(notes: Messages, it: Compiled) -> Result<Compiled, AllocError>
 fn compile_noted(
     alloc: Global,
     style: Style,
+    lines: &Lines,
     unit: &RawUnit,
     block: Block,
     others: Messages,
@@ -294,10 +292,10 @@ fn compile_noted(
     requires room { HasRoom (fields_of block) }
     requires formed { AreFormed AreNamed (Unit {0}) (trees_of block.terms.items) }
     requires shaped { others ≡ [] → AreShaped (named_all (trees_of block.terms.items)) }
-    ensures { IfOk result (λ it. it ≡ with_notes (cut_literals_at (width_of block.revision) unit.now.items) (of_terms style block.place block.file (fields_of block) others (trees_of block.terms.items))) }
+    ensures { IfOk result (λ it. it ≡ with_notes (cut_literals_at (width_of block.revision) unit.now.items) (of_terms style lines.now.list block.place (core_places (plans_of block.terms.items)) block.file (fields_of block) others (trees_of block.terms.items))) }
 {
     let notes = cut_literals(alloc, Width::of_revision(block.revision), unit)?;
-    with_notes(notes, compile_block(alloc, style, block, others)?)
+    with_notes(notes, compile_block(alloc, style, lines, block, others)?)
 }
 
 // The one block of a program.
@@ -310,19 +308,27 @@ fn block_of(program: Program) -> Result<Block, AllocError>
     }
 }
 
-// What is wrong with statements, then with the lists of fields, and then with their accesses.
+// What is wrong with statements, then with the lists of fields and their accesses, and then with the kinds of arguments and the lengths of
+// lists.
 fn other_errors(alloc: Global, width: Width, terms: &[Node]) -> Result<Messages, AllocError>
     requires { are_terms (trees_of terms.now) ≡ true }
-    ensures { IfOk result (λ ms. ms ≡ errors_of_statements (plans_of terms.now) ++ all_errors (plans_of terms.now) ++ region_errors width (trees_of terms.now) (plans_of terms.now)) }
+    ensures { IfOk result (λ ms. ms ≡ errors_of_statements (plans_of terms.now) ++ all_errors (plans_of terms.now) ++ region_errors width (trees_of terms.now) (plans_of terms.now) ++ wrong_types (trees_of terms.now) (plans_of terms.now) ++ long_lists width (plans_of terms.now)) }
 {
     let errors = both(statement_errors(alloc, terms)?, list_faults(alloc, terms)?)?;
-    both(errors, region_faults(alloc, width, terms)?)
+    let errors = both(errors, region_faults(alloc, width, terms)?)?;
+    let errors = both(errors, wrong_types(alloc, terms)?)?;
+    both(errors, long_lists(alloc, width, terms)?)
 }
 
 // The tree of a source's syntax.
-fn compile_unit(alloc: Global, style: Style, unit: &RawUnit) -> Result<Compiled, AllocError>
+fn compile_unit(
+    alloc: Global,
+    style: Style,
+    lines: &Lines,
+    unit: &RawUnit,
+) -> Result<Compiled, AllocError>
     requires { IsKeptSource (writtens unit.now.items) }
-    ensures value { IfOk result (λ compiled. compiled ≡ of_items style unit.now.items) }
+    ensures value { IfOk result (λ compiled. compiled ≡ of_items style lines.now.list unit.now.items) }
     ensures own { IfOk result HasAsciiName }
 {
     match shape(alloc, unit) {
@@ -332,7 +338,7 @@ fn compile_unit(alloc: Global, style: Style, unit: &RawUnit) -> Result<Compiled,
                 Some(_) => {
                     let width = Width::of_revision(block.revision);
                     let others = other_errors(alloc, width, block.terms.as_slice())?;
-                    compile_noted(alloc, style, unit, block, others)
+                    compile_noted(alloc, style, lines, unit, block, others)
                 }
                 None => Err(AllocError),
             }
@@ -363,15 +369,20 @@ fn refuse_at(
 }
 
 #[tactic(auto, using(crate::proofs::Outcomes::read_is, crate::proofs::Outcomes::stop_is, crate::proofs::Outcomes::deep_is))]
-fn compile_tokens(alloc: Global, style: Style, tokens: &Tokens) -> Result<Compiled, AllocError>
+fn compile_tokens(
+    alloc: Global,
+    style: Style,
+    lines: &Lines,
+    tokens: &Tokens,
+) -> Result<Compiled, AllocError>
     requires few { length tokens.now < 2 ^ 32 }
     requires short { HaveShortTexts tokens.now }
-    ensures value { IfOk result (λ compiled. compiled ≡ of_outcome style tokens.now (outcome tokens.now)) }
+    ensures value { IfOk result (λ compiled. compiled ≡ of_outcome style lines.now.list tokens.now (outcome tokens.now)) }
     ensures own { IfOk result HasAsciiName }
     ensures within { (files : ℕ) → 0 < files → All (λ token. token.place.file < files) tokens.now → IfOk result (TellsWithin files) }
 {
     match parse(alloc, tokens) {
-        Ok(unit) => compile_unit(alloc, style, &unit),
+        Ok(unit) => compile_unit(alloc, style, lines, &unit),
         Err(Syntax::Stop { token }) => refuse_at(alloc, tokens, SYNTAX, token),
         Err(Syntax::TooDeep { token }) => refuse_at(alloc, tokens, NESTING_TOO_DEEP, token),
         Err(Syntax::Memory) => Err(AllocError),
@@ -391,7 +402,7 @@ pub(crate) fn compile(alloc: Global, style: Style, lines: &Lines) -> Result<Comp
     match tokens(alloc, lines) {
         // (no more tokens have room)
         Ok(tokens) if tokens.len() > MOST_TOKENS => Err(AllocError),
-        Ok(tokens) => compile_tokens(alloc, style, &tokens),
+        Ok(tokens) => compile_tokens(alloc, style, lines, &tokens),
         Err(stage) => Ok(Compiled::Refused(refusal(stage)?)),
     }
 }

@@ -2,10 +2,11 @@
 ghost use Rattle.std.specs.Prelude.{◌≡◌, ◌≤◌, ◌++◌, ◌&&◌, [], ◌∷◌, ℕ, List, length, map, All, IfOk, OnOk, IsErrOf, ◌⊎◌, Some, None, string_bytes, false};
 ghost use Rattle.iasl_ports.specs.Delivery.{name_and_bytes, answer_of, IsSettled};
 ghost use Rattle.iasl_runs.specs.Ends.{files_seen};
-ghost use Rattle.iasl_options.specs.Asking.{asked_by};
+ghost use Rattle.iasl_options.specs.Task.{settings_by};
 ghost use Rattle.asl_preprocess.specs.Sound.{IsGoodLine, IsGoodNote};
 ghost use Rattle.iasl_options.specs.Shown.{AreTexts, asked_of};
 ghost use Rattle.iasl_tool.specs.Compiled.{AreWithin, of_source};
+ghost use Rattle.iasl_backends.specs.Table.{table_bytes};
 ghost use Rattle.table_outputs.specs.Files.{table_name, table_files};
 ghost use Rattle.table_outputs.specs.Decision.{end_of, IsDecidedBy, IsDecidedFor, Settles};
 ghost use Rattle.iasl_tool.specs.Due.{console_text, refusal, made_files, in_use, has_warning, made_or_refused, text_of_lines, answer_to_text, answer_to_compiled, answer_to_lines, answer_to_file, usage, answer_for, style_of as style_by};
@@ -15,16 +16,17 @@ ghost use Rattle.iasl_messages.specs.Console.{table_line};
 ghost use Rattle.std.specs.Str.{IsAscii};
 
 use crate::compile::{Compiled, Style, both, one_message};
+use crate::generated::answer_to_generated;
 use crate::source::compile_source;
 use asl_preprocess::{PreStop, Preprocessed, preprocess};
 use iasl_messages::console::{preprocessed_line, render, summary, table_line};
 use iasl_messages::message::Messages;
 use iasl_messages::order::sort;
-use iasl_messages::place::{Line, Lines};
+use iasl_messages::place::{Line, Lines, Piece, Pieces};
 use iasl_messages::severity::{Severity, severity_of};
-use iasl_options::command_line::options;
 use iasl_options::names::{file_name, output_name};
 use iasl_options::request::{Options, WordsStop};
+use iasl_options::task::{Task, task_of};
 use iasl_ports::delivery::{Due, OutFile, Stop};
 use iasl_ports::files::Files;
 use iasl_ports::list::{List, Text, Texts};
@@ -202,7 +204,36 @@ fn make_text(
     make_or_refuse(alloc, options, &lines.files, notes, &line, name, text)
 }
 
-// What is due of a table.
+// How many bytes pieces have together. No memory has more than 64 bits can count.
+#[tactic(auto, using(crate::proofs::Bytes::length_more))]
+fn size_of(pieces: &[Piece]) -> Result<u64, AllocError>
+    ensures { IfOk result (λ size. size ≡ length (table_bytes pieces.now)) }
+{
+    let mut size: u64 = 0;
+    for piece in pieces {
+        let more = piece.bytes.as_bytes().len() as u64;
+        size = size.checked_add(more).ok_or(AllocError)?;
+    }
+    Ok(size)
+}
+
+// The line of a table, and a further line behind it.
+fn table_lines(
+    alloc: Global,
+    name: &[u8],
+    signature: &[u8],
+    size: u64,
+    more: &Text,
+) -> Result<Text, AllocError>
+    ensures { IfOk result (λ text. text ≡ table_line name.now signature.now size ++ more.now) }
+{
+    let mut lines = Vec::new(alloc);
+    push_text(&mut lines, &table_line(alloc, name, signature, size)?)?;
+    push_text(&mut lines, more)?;
+    Text::from_vec(alloc, lines)
+}
+
+// What is due of a table in pieces, with a further line of the console behind that of the table.
 fn make_table(
     alloc: Global,
     options: &Options,
@@ -210,13 +241,14 @@ fn make_table(
     notes: Messages,
     signature: &Text,
     own: &Text,
-    bytes: Text,
+    pieces: Pieces,
+    more: &Text,
 ) -> Result<Decision, AllocError>
     requires texts { AreTexts options.now }
     requires own { IsAscii own.now }
     requires compiles { options.now.only ≡ false }
     requires notes { AreWithin (length files.now) notes }
-    ensures due { IfOk result (λ decision. end_of decision ≡ made_or_refused (asked_of options.now) files.now notes (table_line (table_name (asked_of options.now) options.now.file own.now) signature.now (length bytes)) (table_files (asked_of options.now) options.now.file own.now bytes)) }
+    ensures due { IfOk result (λ decision. end_of decision ≡ made_or_refused (asked_of options.now) files.now notes (table_line (table_name (asked_of options.now) options.now.file own.now) signature.now (length (table_bytes pieces)) ++ more.now) (table_files (asked_of options.now) options.now.file own.now pieces)) }
     ensures decided { IfOk result (IsDecidedBy (asked_of options.now)) }
 {
     let names = names_of_table(alloc, options, own)?;
@@ -226,10 +258,20 @@ fn make_table(
     if let Some(name) = name_in_use(files.as_slice(), &names) {
         return Ok(Decision::Ends(refuse_name(alloc, name)?));
     }
-    let size = bytes.as_bytes().len() as u64;
-    let line = table_line(alloc, names.table.as_bytes(), signature.as_bytes(), size)?;
+    let size = size_of(pieces.as_slice())?;
+    let line = table_lines(
+        alloc,
+        names.table.as_bytes(),
+        signature.as_bytes(),
+        size,
+        more,
+    )?;
     let text = console_text(alloc, options.switches.brief, files, notes, &line)?;
-    Ok(Decision::Makes(Making { text, names, bytes }))
+    Ok(Decision::Makes(Making {
+        text,
+        names,
+        pieces,
+    }))
 }
 
 // How a table is to be written.
@@ -243,27 +285,28 @@ fn style_of(options: &Options) -> Style
     }
 }
 
-// What is due of lines that are compiled.
+// What is due of lines that are compiled, with a further line of the console behind that of the table.
 #[tactic(auto, using(crate::proofs::Sorting::both_within))]
-fn make_compiled(
+pub(crate) fn make_compiled(
     alloc: Global,
     options: &Options,
     lines: &Lines,
     notes: Messages,
+    more: &Text,
 ) -> Result<Decision, AllocError>
     requires texts { AreTexts options.now }
     requires compiles { options.now.only ≡ false }
     requires main { 1 ≤ length lines.now.files }
     requires lines { All (IsGoodLine (length lines.now.files)) lines.now.list }
     requires notes { AreWithin (length lines.now.files) notes }
-    ensures due { IfOk result (λ decision. end_of decision ≡ answer_to_compiled (asked_of options.now) options.now.file lines.now.files notes (of_source (style_by (asked_of options.now)) lines.now.list)) }
+    ensures due { IfOk result (λ decision. end_of decision ≡ answer_to_compiled (asked_of options.now) options.now.file lines.now.files notes more.now (of_source (style_by (asked_of options.now)) lines.now.list)) }
     ensures decided { IfOk result (IsDecidedBy (asked_of options.now)) }
 {
     match compile_source(alloc, style_of(options), lines)? {
         Compiled::Table {
             signature,
             own,
-            bytes,
+            pieces,
             notes: told,
         } => make_table(
             alloc,
@@ -272,7 +315,8 @@ fn make_compiled(
             both(notes, told)?,
             &signature,
             &own,
-            bytes,
+            pieces,
+            more,
         ),
         Compiled::Refused(messages) => Ok(Decision::Ends(refuse(
             alloc,
@@ -300,7 +344,7 @@ fn answer_to_lines(
     if options.only {
         Ok(Decision::Ends(make_text(alloc, options, &lines, notes)?))
     } else {
-        make_compiled(alloc, options, &lines, notes)
+        make_compiled(alloc, options, &lines, notes, &Text::new(alloc))
     }
 }
 
@@ -341,17 +385,18 @@ fn answer<F: Files>(alloc: Global, options: &Options, files: &mut F) -> Result<D
     }
 }
 
-/// What is due for these words, where the file that they name and its includes are fetched. It ends without an answer only
-/// where the file is absent, a fetch failed, or memory is wanted.
+/// What is due for these words, where the file that they name and its includes are fetched, or devices are generated. It ends
+/// without an answer only where the file is absent, a fetch failed, or memory is wanted.
 pub(crate) fn decide<F: Files>(
     alloc: Global,
     words: &[String],
     files: &mut F,
 ) -> Result<Decision, Stop>
-    ensures { Settles (answer_for (map string_bytes words.now)) (IsDecidedFor (asked_by (map string_bytes words.now))) result (files_seen (F.contents files.old) (F.faults files.old) (F.absents files.old)) (files_seen (F.contents files.new) (F.faults files.new) (F.absents files.new)) }
+    ensures { Settles (answer_for (map string_bytes words.now)) (IsDecidedFor (settings_by (map string_bytes words.now))) result (files_seen (F.contents files.old) (F.faults files.old) (F.absents files.old)) (files_seen (F.contents files.new) (F.faults files.new) (F.absents files.new)) }
 {
-    match options(alloc, words) {
-        Ok(options) => answer(alloc, &options, files),
+    match task_of(alloc, words) {
+        Ok(Task::Compile(options)) => answer(alloc, &options, files),
+        Ok(Task::Generate(count)) => Ok(answer_to_generated(alloc, count)?),
         Err(WordsStop::Bad { .. }) => Ok(Decision::Ends(usage(alloc)?)),
         Err(WordsStop::Memory) => Err(Stop::Memory),
     }

@@ -3,6 +3,7 @@
 
 mod compile;
 mod due;
+mod generated;
 pub mod run;
 mod source;
 #[cfg(test)]

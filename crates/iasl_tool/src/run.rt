@@ -5,7 +5,7 @@ ghost use Rattle.iasl_ports.specs.Delivery.{due_of};
 ghost use Rattle.iasl_runs.specs.Ends.{files_seen, outputs_seen, console_seen, world, IsQuiet, Ends};
 ghost use Rattle.asl_parser.specs.declared.raw.Raw.{Raw};
 ghost use Rattle.iasl_backends.specs.Asked.{IsOneOfEach};
-ghost use Rattle.iasl_options.specs.Asking.{asked_by};
+ghost use Rattle.iasl_options.specs.Task.{settings_by};
 ghost use Rattle.table_outputs.specs.Boxes.{HoldsAsked, AreRendered, kinds_by};
 ghost use Rattle.iasl_tool.specs.Due.{answer_for, fault_text, memory_text};
 ghost use Rattle.data_tables.specs.declared.compiled.Compiled.{Compiled as DataTable};
@@ -27,8 +27,8 @@ const STOP_TEXTS: StopTexts<'static> = StopTexts {
     memory: b"iasl: out of memory\n",
 };
 
-/// Compiles the source that the words name, of ASL or of a data table, and puts its table, with its bytes as an array of C where that is
-/// asked for, or with `-P` its preprocessed text (docs/OPTIONS.md). The boxes make the outputs of a table; those of kinds that are not asked for are let go. It
+/// Compiles the source that the words name, of ASL or of a data table, and puts its table, with its bytes as an array of C and its listing where
+/// these are asked for, or with `-P` its preprocessed text (docs/OPTIONS.md). The boxes make the outputs of a table; those of kinds that are not asked for are let go. It
 /// answers 0 where that was done; 1 where the source has errors, or with `-we` a warning; 2 where the words are not good, or an output has the name of a file
 /// that was fetched or of another output; 3 where the file is absent, or a file could not be read, put or written; 4 where there was no memory.
 /// With 1 and 2 no file is put.
@@ -71,7 +71,7 @@ pub fn iasl<F: Files, O: Outputs, C: Sink>(
         → (result ≡ 0) ⊎ (result ≡ 4)) }
 
     // The boxes are as before, or those of the kinds that are asked for are left, in their old order.
-    ensures boxes { (backends.new.items ≡ backends.old.items) ⊎ HoldsAsked (λ b. kind_of b) (kinds_by (asked_by (map string_bytes words.now))) backends.old.items backends.new.items }
+    ensures boxes { (backends.new.items ≡ backends.old.items) ⊎ HoldsAsked (λ b. kind_of b) (kinds_by (settings_by (map string_bytes words.now))) backends.old.items backends.new.items }
 
     // After 1 and 2, and where preprocessed text alone is asked for, they are as before.
     ensures as_before { 1 ≤ result → result ≤ 2 → backends.new.items ≡ backends.old.items }
@@ -80,8 +80,8 @@ pub fn iasl<F: Files, O: Outputs, C: Sink>(
     // After 0, where it is not, exactly those of the kinds that are asked for are left, in their old order. They are finished over one list
     // of pieces, and their texts are the bytes of the files.
     ensures rendered { result ≡ 0 → asks_for_text (map string_bytes words.now) ≡ false
-        → HoldsAsked (λ b. kind_of b) (kinds_by (asked_by (map string_bytes words.now))) backends.old.items backends.new.items
-        × AreRendered (λ b. pieces b) (λ b. finished b) (kinds_by (asked_by (map string_bytes words.now))) backends.new.items (answer_for (map string_bytes words.now)) (F.contents files.old) }
+        → HoldsAsked (λ b. kind_of b) (kinds_by (settings_by (map string_bytes words.now))) backends.old.items backends.new.items
+        × AreRendered (λ b. pieces b) (λ b. finished b) (kinds_by (settings_by (map string_bytes words.now))) backends.new.items (answer_for (map string_bytes words.now)) (F.contents files.old) }
 {
     let decided = decide(alloc, words, files);
     let made = render(alloc, backends, decided);

@@ -3,7 +3,7 @@ ghost use Rattle.std.specs.Prelude.{◌≡◌, ◌<◌, ◌^◌, length, All, If
 ghost use Rattle.data_tables.specs.Compiling.{compiled};
 ghost use Rattle.iasl_tool.specs.Compiled.{of_data, of_source, HasAsciiName, TellsWithin};
 
-use crate::compile::{Compiled, Style, compile, join, refusal};
+use crate::compile::{Compiled, Style, compile, refusal};
 use data_tables::compile::compile_data;
 use data_text::kind::is_data_table;
 use iasl_messages::place::Lines;
@@ -22,7 +22,7 @@ fn compile_table(alloc: Global, lines: &Lines) -> Result<Compiled, AllocError>
         Ok(table) => Ok(Compiled::Table {
             signature: table.signature,
             own: Text::new(alloc),
-            bytes: join(alloc, table.pieces.as_slice())?,
+            pieces: table.pieces,
             notes: table.notes,
         }),
         Err(stage) => Ok(Compiled::Refused(refusal(stage)?)),

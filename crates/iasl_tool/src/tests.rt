@@ -1,8 +1,11 @@
 mod data;
 mod data_rows;
+mod devices;
 mod folding;
+mod kinds;
 mod lending;
 mod limits;
+mod listing;
 mod options;
 mod rows;
 mod spelling;

@@ -26,3 +26,5 @@ pub mod Cores
 pub mod Tables
 pub mod ListPlaces
 pub mod RegionPlaces
+pub mod TypePlaces
+pub mod NameLengths

@@ -20,6 +20,8 @@ use Rattle.iasl_messages.specs.declared.message.Message.{Message}
 use Rattle.statement_checks.specs.Statements.{errors_of_statements}
 use Rattle.field_checks.specs.Lists.{all_errors}
 use Rattle.region_checks.specs.Regions.{region_errors}
+use Rattle.type_checks.specs.Types.{wrong_types}
+use Rattle.type_checks.specs.Sizes.{long_lists}
 
 -- its terms, each node with its number
 abbrev pub terms_in : List Raw → Trees
@@ -54,13 +56,21 @@ width_in items = width_of (fields_in items).revision
 abbrev pub regions_in : List Raw → List Message
 regions_in items = region_errors (width_in items) (terms_in items) (terms_of (writtens items))
 
+-- what is wrong with the kinds of its arguments
+abbrev pub types_in : List Raw → List Message
+types_in items = wrong_types (terms_in items) (terms_of (writtens items))
+
+-- its lists that are longer than their sizes
+abbrev pub sizes_in : List Raw → List Message
+sizes_in items = long_lists (width_in items) (terms_of (writtens items))
+
 -- its table: the header, and the bytes of its terms with their symbols named, their constants folded and their names spelled; whether constants are
 -- folded, whether 0, 1 and all ones have a byte of their own, and whether names are shortened, is the caller's choice
 abbrev pub table_in : Bool → Bool → Bool → List Raw → List ℕ
 table_in fold short shorten items = table_bytes (fields_in items) (encoded_all (width_in items) short (core_of shorten (folded_where fold (width_in items) (named_all (terms_in items)))))
 
--- nothing is wrong with its form, its names, how many arguments its calls have, its statements, the lists of its fields,
--- and their accesses
+-- nothing is wrong with its form, its names, how many arguments its calls have, its statements, the lists of its fields and their accesses,
+-- the kinds of its arguments, and the lengths of its lists
 pub record IsRight (items : List Raw) : Type 0 where
   pub form : errors_at items ≡ []
   pub names : name_errors (terms_in items) ≡ []
@@ -68,6 +78,8 @@ pub record IsRight (items : List Raw) : Type 0 where
   pub statements : statements_in items ≡ []
   pub layouts : layouts_in items ≡ []
   pub regions : regions_in items ≡ []
+  pub types : types_in items ≡ []
+  pub sizes : sizes_in items ≡ []
 
 -- for every bound, answers and calls that may be asked, whatever other tables are there, every session over the bytes is the program's at
 -- this width

@@ -1,2 +1,4 @@
 pub mod Planned
 pub mod Written
+mod Counts
+pub mod Joined

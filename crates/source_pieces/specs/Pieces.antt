@@ -1,6 +1,6 @@
 -- The pieces of a table: the header at the block, and then each term of the term lists of the core, in preorder, with its encoding up to that
 -- of the first term inside it, at the place of the term of the source for which it stands.
-use Rattle.std.specs.Prelude.{ℕ, Bool, List, ◌∷◌}
+use Rattle.std.specs.Prelude.{◌≡◌, ℕ, Bool, List, ◌∷◌}
 use Rattle.iasl_messages.specs.declared.place.Place.{Place}
 use Rattle.iasl_messages.specs.declared.place.Line.{Line}
 use Rattle.iasl_messages.specs.declared.place.Piece.{Piece}
@@ -10,7 +10,8 @@ use Rattle.asl_fold.specs.Folds.{folded_where}
 use Rattle.asl_parser.specs.declared.raw.Raw.{Raw}
 use Rattle.asl_parser.specs.Written.{writtens}
 use Rattle.asl_shape.specs.Forms.{block_place, terms_of}
-use Rattle.program_shapes.specs.Sources.{fields_in, terms_in, width_in}
+use Rattle.program_shapes.specs.Sources.{fields_in, terms_in, width_in, table_in}
+use Rattle.aml_writer.specs.Pieces.{joined_pieces}
 use Rattle.aml_writer.specs.Cuts.{table_parts, pieces_with}
 use Rattle.source_pieces.specs.Places.{core_places}
 
@@ -25,3 +26,8 @@ parts_in fold short shorten items = table_parts (fields_in items) short (core_of
 -- the pieces of a source's table, with the texts of these lines
 abbrev pub pieces_in : List Line → Bool → Bool → Bool → List Raw → List Piece
 pieces_in lines fold short shorten items = pieces_with lines (places_in items) (parts_in fold short shorten items)
+
+-- a source's pieces, whose bytes, one after another, are its table
+pub record ArePiecesOf (lines : List Line) (fold short shorten : Bool) (items : List Raw) (pieces : List Piece) : Type 0 where
+  pub are : pieces ≡ pieces_in lines fold short shorten items
+  pub joined : joined_pieces pieces ≡ table_in fold short shorten items

@@ -1,5 +1,5 @@
 -- What a call decides, and what becomes of the boxes.
-use Rattle.std.proofs.Common.{◌≡◌, ◌⊎◌, ℕ, ◌≤◌, Bool, true, false, List, [], ◌∷◌, map, cond, Option, Some, None, Result, Ok, Err, refl, sym, ap, ◌∙◌, subst, inl, inr, append-nil, arith, string_bytes}
+use Rattle.std.proofs.Common.{◌≡◌, ◌⊎◌, ℕ, ◌≤◌, Bool, true, false, List, [], ◌∷◌, ◌++◌, map, cond, Option, Some, None, Result, Ok, Err, refl, sym, ap, ◌∙◌, subst, inl, inr, append-nil, arith, string_bytes}
 use Rattle.std.specs.Prelude.{is_some, IfOk, IsErrOf}
 use Rattle.std.specs.List.{All}
 use Rattle.iasl_ports.specs.Counts.{Rose}
@@ -10,9 +10,8 @@ use Rattle.iasl_ports.specs.declared.delivery.Stop.{Stop}
 use Rattle.iasl_ports.specs.declared.delivery.Stop.TheVariants.{Fault, Memory}
 use Rattle.iasl_messages.specs.declared.place.Piece.{Piece}
 use Rattle.iasl_backends.specs.declared.backend.Kind.{Kind}
-use Rattle.iasl_backends.specs.declared.backend.Kind.TheVariants.{RawAml, CHex}
+use Rattle.iasl_backends.specs.declared.backend.Kind.TheVariants.{RawAml, CHex, Listing}
 use Rattle.iasl_backends.specs.declared.asked.Asked.{Asked as Kinds}
-use Rattle.iasl_backends.specs.CText.{c_text}
 use Rattle.iasl_backends.specs.Rendering.{rendering}
 use Rattle.iasl_options.specs.Asking.{Asked, asked_by}
 use Rattle.iasl_runs.specs.Ends.{FilesSeen, OutputsSeen, ConsoleSeen, Decides, Finishes, stop_status}
@@ -20,9 +19,8 @@ use Rattle.table_outputs.specs.declared.decision.OutputNames.{OutputNames}
 use Rattle.table_outputs.specs.declared.decision.Making.{Making}
 use Rattle.table_outputs.specs.declared.decision.Decision.{Decision}
 use Rattle.table_outputs.specs.declared.decision.Decision.TheVariants.{Ends, Makes}
-use Rattle.table_outputs.specs.Decision.{c_file, files_under, kinds_of, kinds_in, end_of, whole_piece, IsDecidedBy, IsDecidedFor, Settles, Renders, only_by}
+use Rattle.table_outputs.specs.Decision.{file_under, files_under, kinds_of, kinds_in, end_of, IsDecidedBy, IsDecidedFor, Settles, Renders, only_by}
 use Rattle.table_outputs.specs.Boxes.{kinds_by, HoldsAsked, order_of, AreRendered, ChangesBy}
-use Rattle.table_outputs.proofs.OutputLaws.{whole_table, whole_array}
 
 -- an end is settled
 end_settled : (r : Result Asked ℕ) (due : Due) → IsDecidedFor r (Ends due) → IsSettled due
@@ -85,9 +83,13 @@ text_alone : (r : Result Asked ℕ) (due : Due) → IsDecidedFor r (Ends due) �
 text_alone (Ok asked) due h zero = h.1 zero
 text_alone (Err word) due h zero = absurd (h.1 zero)
 
-texts_with : {S : Type 0} (name_of : S → List ℕ) (c : Option S) (bytes : List ℕ) → bytes ∷ map (λ (file : Named). file.1) (c_file name_of c bytes) ≡ map (λ kind. rendering kind (whole_piece bytes ∷ [])) (RawAml ∷ cond (is_some c) (CHex ∷ []) [])
-texts_with name_of None bytes = ap (λ b. b ∷ []) (sym (whole_table bytes))
-texts_with name_of (Some name) bytes = λ i. sym (whole_table bytes) i ∷ sym (whole_array bytes) i ∷ []
+-- the texts behind the table
+texts_with : {S : Type 0} (name_of : S → List ℕ) (c l : Option S) (pieces : List Piece)
+    → map (λ (file : Named). file.1) (file_under name_of c (rendering CHex pieces) ++ file_under name_of l (rendering Listing pieces)) ≡ map (λ kind. rendering kind pieces) (cond (is_some c) (CHex ∷ []) [] ++ cond (is_some l) (Listing ∷ []) [])
+texts_with name_of None None pieces = refl
+texts_with name_of None (Some name) pieces = refl
+texts_with name_of (Some name) None pieces = refl
+texts_with name_of (Some name) (Some other) pieces = refl
 
 -- which status comes of a table
 of_making : (due : Due) (status : ℕ) {A : Type 0} → due.status ≡ 0 → (status ≡ due.status) ⊎ (((status ≡ 3) × A) ⊎ (status ≡ 4)) → 1 ≤ status → status ≤ 2 → ⊥
@@ -130,13 +132,13 @@ module _ {X : Type 0} (kind_of : X → Kind) (pieces_of : X → List Piece) (is_
         let kinds = kinds_are r making s.settled in (
           subst (λ kinds. HoldsAsked kind_of kinds old new) kinds change.0,
           record {
-            pieces = whole_piece making.bytes ∷ [];
+            pieces = making.pieces;
             over = change.1.0;
             finished = change.1.1;
             texts = λ all is.
                 ap (λ o. map (λ (file : Named). file.1) (due_of o)) (s.due all is)
-                ∙ texts_with string_bytes making.names.c_text making.bytes
-                ∙ ap (λ kinds. map (λ kind. rendering kind (whole_piece making.bytes ∷ [])) (order_of kinds)) kinds;
+                ∙ ap (λ texts. rendering RawAml making.pieces ∷ texts) (texts_with string_bytes making.names.c_text making.names.listing making.pieces)
+                ∙ ap (λ kinds. map (λ kind. rendering kind making.pieces) (order_of kinds)) kinds;
           },
         )
     boxes_rendered answer files now_files (Ok (Makes making)) (Err stop) s m change f zero asks = let high = stops stop status f.1.is in absurd (omega (arith, high, zero))

@@ -1,2 +1,3 @@
+mod NameLaws
 mod OutputLaws
 pub mod BoxLaws

@@ -1,12 +1,8 @@
--- The texts of the outputs of a table that is one piece.
-use Rattle.std.proofs.Common.{◌≡◌, ℕ, List, [], ◌∷◌, ap, append-nil}
-use Rattle.iasl_backends.specs.declared.backend.Kind.TheVariants.{RawAml, CHex}
-use Rattle.iasl_backends.specs.CText.{c_text}
-use Rattle.iasl_backends.specs.Rendering.{rendering}
-use Rattle.table_outputs.specs.Decision.{whole_piece}
+-- The files of the outputs of a table.
+use Rattle.std.proofs.Common.{◌≡◌, List, [], ◌∷◌, ◌++◌, map, ap, ◌∙◌}
+use Rattle.iasl_ports.specs.Gained.{Named}
 
-pub whole_table : (bytes : List ℕ) → rendering RawAml (whole_piece bytes ∷ []) ≡ bytes
-whole_table bytes = append-nil bytes
-
-pub whole_array : (bytes : List ℕ) → rendering CHex (whole_piece bytes ∷ []) ≡ c_text bytes
-whole_array bytes = ap c_text (append-nil bytes)
+-- a first file, and what each of two steps adds behind it
+pub behind_table : {F : Type 0} (shown : F → Named) (first : F) (one two three : List F) (table : Named) (c l : List Named) → one ≡ [] ++ first ∷ [] → shown first ≡ table → map shown two ≡ map shown one ++ c → map shown three ≡ map shown two ++ l
+    → map shown three ≡ table ∷ c ++ l
+behind_table shown first one two three table c l is named more last = last ∙ ap (λ xs. xs ++ l) (more ∙ ap (λ xs. map shown xs ++ c) is ∙ ap (λ t. t ∷ c) named)

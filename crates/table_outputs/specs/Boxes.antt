@@ -1,5 +1,5 @@
 -- What a list of boxed outputs holds after a call.
-use Rattle.std.specs.Prelude.{◌≡◌, ℕ, Bool, true, false, List, [], ◌∷◌, map, cond, OnOk, Result, Ok, Err}
+use Rattle.std.specs.Prelude.{◌≡◌, ℕ, Bool, true, false, List, [], ◌∷◌, ◌++◌, map, cond, OnOk, Result, Ok, Err}
 use Rattle.std.specs.List.{filter, All}
 use Rattle.std.specs.declared.option.Option.{Option}
 use Rattle.std.specs.Option.{ForSome}
@@ -10,14 +10,14 @@ use Rattle.iasl_ports.specs.declared.delivery.Stop.{Stop}
 use Rattle.iasl_messages.specs.declared.place.Piece.{Piece}
 use Rattle.iasl_backends.specs.declared.asked.Asked.{Asked as Kinds}
 use Rattle.iasl_backends.specs.declared.backend.Kind.{Kind}
-use Rattle.iasl_backends.specs.declared.backend.Kind.TheVariants.{RawAml, CHex}
+use Rattle.iasl_backends.specs.declared.backend.Kind.TheVariants.{RawAml, CHex, Listing}
 use Rattle.iasl_backends.specs.Asked.{is_asked}
 use Rattle.iasl_backends.specs.Each.{Each}
 use Rattle.iasl_backends.specs.Rendering.{rendering}
 use Rattle.iasl_options.specs.Asking.{Asked, asked_by}
 use Rattle.table_outputs.specs.declared.decision.Decision.{Decision}
 use Rattle.table_outputs.specs.declared.decision.Decision.TheVariants.{Ends, Makes}
-use Rattle.table_outputs.specs.Decision.{kinds_in, kinds_of, whole_piece}
+use Rattle.table_outputs.specs.Decision.{kinds_in, kinds_of}
 
 -- the kinds that words ask for; the table alone where they are not good
 abbrev pub kinds_by : Result Asked ℕ → Kinds
@@ -30,7 +30,7 @@ HoldsAsked kind_of kinds old new = Each (λ b c. kind_of c ≡ kind_of b) (filte
 
 -- the outputs that are asked for, in the order of their files
 abbrev pub order_of : Kinds → List Kind
-order_of kinds = RawAml ∷ cond kinds.c_text (CHex ∷ []) []
+order_of kinds = RawAml ∷ cond kinds.c_text (CHex ∷ []) [] ++ cond kinds.listing (Listing ∷ []) []
 
 -- The boxes are finished over one list of pieces, and the texts of their kinds are the bytes of the files that were due.
 pub record AreRendered {X : Type 0} (pieces_of : X → List Piece) (is_finished : X → Bool) (kinds : Kinds) (boxes : List X) (answer : List Named → Option Answer) (contents : Option (List Named)) : Type 0 where
@@ -44,6 +44,6 @@ pub record AreRendered {X : Type 0} (pieces_of : X → List Piece) (is_finished 
 abbrev pub ChangesBy : {X : Type 0} → (X → Kind) → (X → List Piece) → (X → Bool) → Result Decision Stop → Result Due Stop → List X → List X → Type 0
 ChangesBy kind_of pieces_of is_finished (Ok (Makes making)) result old new =
     HoldsAsked kind_of (kinds_of making.names) old new
-    × OnOk result (All (λ b. pieces_of b ≡ whole_piece making.bytes ∷ []) new × All (λ b. is_finished b ≡ true) new)
+    × OnOk result (All (λ b. pieces_of b ≡ making.pieces) new × All (λ b. is_finished b ≡ true) new)
 ChangesBy kind_of pieces_of is_finished (Ok (Ends due)) result old new = new ≡ old
 ChangesBy kind_of pieces_of is_finished (Err stop) result old new = new ≡ old

@@ -11,37 +11,37 @@ use Rattle.iasl_ports.specs.declared.delivery.Stop.TheVariants.{Fault, Memory}
 use Rattle.iasl_runs.specs.Ends.{FilesSeen}
 use Rattle.iasl_messages.specs.declared.place.Piece.{Piece}
 use Rattle.iasl_backends.specs.declared.asked.Asked.{Asked as Kinds}
-use Rattle.iasl_backends.specs.CText.{c_text}
-use Rattle.iasl_options.specs.Asking.{Asked, asked_by}
+use Rattle.iasl_backends.specs.declared.backend.Kind.TheVariants.{RawAml, CHex, Listing}
+use Rattle.iasl_backends.specs.Rendering.{rendering}
+use Rattle.iasl_options.specs.Asking.{Asked}
+use Rattle.iasl_options.specs.Task.{settings_by}
 use Rattle.table_outputs.specs.declared.decision.OutputNames.{OutputNames}
 use Rattle.table_outputs.specs.declared.decision.Decision.{Decision}
 use Rattle.table_outputs.specs.declared.decision.Decision.TheVariants.{Ends, Makes}
 
--- the array of C, where it has a name, of which these are the bytes
-abbrev pub c_file : {S : Type 0} → (S → List ℕ) → Option S → List ℕ → List Named
-c_file name_of None bytes = []
-c_file name_of (Some name) bytes = (name_of name, c_text bytes) ∷ []
+-- a file of this text, where it has a name
+abbrev pub file_under : {S : Type 0} → (S → List ℕ) → Option S → List ℕ → List Named
+file_under name_of None text = []
+file_under name_of (Some name) text = (name_of name, text) ∷ []
 
--- the files of a table with these bytes, in the order of their putting
-abbrev pub files_under : OutputNames → List ℕ → List Named
-files_under names bytes = (string_bytes names.table, bytes) ∷ c_file string_bytes names.c_text bytes
-
--- a table as one piece, which is of no line
-abbrev pub whole_piece : List ℕ → Piece
-whole_piece bytes = record { place = record { file = 0; line = 1; column = 1 }; source = []; bytes = bytes }
+-- the files of a table in pieces, in the order of their putting
+abbrev pub files_under : OutputNames → List Piece → List Named
+files_under names pieces =
+    (string_bytes names.table, rendering RawAml pieces)
+    ∷ file_under string_bytes names.c_text (rendering CHex pieces) ++ file_under string_bytes names.listing (rendering Listing pieces)
 
 -- what a decision is to end with
 abbrev pub end_of : Decision → Answer
 end_of (Ends due) = answer_of due
-end_of (Makes making) = record { status = 0; text = making.text; due = files_under making.names making.bytes }
+end_of (Makes making) = record { status = 0; text = making.text; due = files_under making.names making.pieces }
 
 -- the kinds of outputs that have names
 abbrev pub kinds_of : OutputNames → Kinds
-kinds_of names = record { c_text = is_some names.c_text; listing = false }
+kinds_of names = record { c_text = is_some names.c_text; listing = is_some names.listing }
 
 -- the kinds of outputs that are asked for
 abbrev pub kinds_in : Asked → Kinds
-kinds_in asked = record { c_text = asked.switches.c_text; listing = false }
+kinds_in asked = record { c_text = asked.switches.c_text; listing = asked.switches.listing }
 
 -- An end is settled, and has status 0 only where preprocessed text alone is asked for; else the outputs of the kinds that are asked for
 -- are made.
@@ -83,4 +83,4 @@ only_by (Ok asked) = asked.only
 only_by (Err word) = false
 
 abbrev pub asks_for_text : List (List ℕ) → Bool
-asks_for_text words = only_by (asked_by words)
+asks_for_text words = only_by (settings_by words)

@@ -1,21 +1,24 @@
 //! What a call has decided before it makes its outputs.
 
+use iasl_messages::place::Pieces;
 use iasl_ports::delivery::Due;
 use iasl_ports::list::Text;
 
-/// The names of what is put of a table: of the table's file, and of its bytes as an array of C, where that is asked for.
+/// The names of what is put of a table: of the table's file, and, where these are asked for, of its bytes as an array of C and
+/// of its listing.
 #[derive(Drop)]
 pub struct OutputNames {
     pub table: String,
     pub c_text: Option<String>,
+    pub listing: Option<String>,
 }
 
-/// A table whose outputs are to be made and put, and the text of the console then.
+/// A table in pieces whose outputs are to be made and put, and the text of the console then.
 #[derive(Drop)]
 pub struct Making {
     pub text: Text,
     pub names: OutputNames,
-    pub bytes: Text,
+    pub pieces: Pieces,
 }
 
 /// What a call is to end with.

@@ -1,17 +1,41 @@
 //! The names of what is put of a table, and whether one is in use.
-ghost use Rattle.std.specs.Prelude.{◌≡◌, ◌∷◌, [], ℕ, List, IfOk, string_bytes};
+ghost use Rattle.std.specs.Prelude.{◌≡◌, ◌||◌, ◌∷◌, [], MatchOption, ℕ, List, IfOk, cond, is_some, map, string_bytes};
+ghost use Rattle.std.specs.List.{list_any};
 ghost use Rattle.std.specs.Option.{option_map};
 ghost use Rattle.std.specs.Str.{IsAscii};
 ghost use Rattle.iasl_ports.specs.Fetched.{same_name};
+ghost use Rattle.iasl_messages.specs.declared.place.Piece.{Piece};
+ghost use Rattle.iasl_options.specs.Names.{further_name as name_beside};
 ghost use Rattle.iasl_options.specs.Shown.{AreTexts, asked_of};
-ghost use Rattle.table_outputs.specs.Files.{is_fetched, name_in_use, table_files};
-ghost use Rattle.table_outputs.specs.Decision.{files_under, kinds_of, kinds_in};
+ghost use Rattle.table_outputs.specs.Files.{is_fetched, first_in_use, name_in_use, table_files};
+ghost use Rattle.table_outputs.specs.Decision.{file_under, files_under, kinds_of, kinds_in};
 
 use crate::decision::OutputNames;
 use iasl_options::names::{further_name, table_name};
 use iasl_options::request::Options;
+use iasl_options::switches::Switches;
 use iasl_ports::list::Text;
 use std::alloc::{AllocError, Global};
+
+// The name of a further output, where that is asked for.
+fn name_where(
+    alloc: Global,
+    asked: bool,
+    options: &Options,
+    own: &Text,
+    extension: &str,
+) -> Result<Option<String>, AllocError>
+    requires texts { AreTexts options.now }
+    requires own { IsAscii own.now }
+    ensures file { (text : List ℕ) → IfOk result (λ name. file_under (λ name. string_bytes name) name text ≡ cond asked ((name_beside options.now.prefix options.now.file own.now extension.now, text) ∷ []) []) }
+    ensures kind { IfOk result (λ name. is_some name ≡ asked) }
+{
+    if asked {
+        Ok(Some(further_name(alloc, options, own, extension)?))
+    } else {
+        Ok(None)
+    }
+}
 
 /// The names of what is put of a table (docs/OPTIONS.md).
 pub fn names_of_table(
@@ -21,16 +45,18 @@ pub fn names_of_table(
 ) -> Result<OutputNames, AllocError>
     requires texts { AreTexts options.now }
     requires own { IsAscii own.now }
-    ensures files { (bytes : List ℕ) → IfOk result (λ names. files_under names bytes ≡ table_files (asked_of options.now) options.now.file own.now bytes) }
+    ensures files { (pieces : List Piece) → IfOk result (λ names. files_under names pieces ≡ table_files (asked_of options.now) options.now.file own.now pieces) }
     ensures kinds { IfOk result (λ names. kinds_of names ≡ kinds_in (asked_of options.now)) }
 {
+    let Switches {
+        c_text,
+        listing,
+        ..
+    } = options.switches;
     Ok(OutputNames {
         table: table_name(alloc, options, own)?,
-        c_text: if options.switches.c_text {
-            Some(further_name(alloc, options, own, ".hex")?)
-        } else {
-            None
-        },
+        c_text: name_where(alloc, c_text, options, own, ".hex")?,
+        listing: name_where(alloc, listing, options, own, ".lst")?,
     })
 }
 
@@ -41,16 +67,50 @@ fn are_same(one: &String, other: &String) -> bool
     one.as_bytes() == other.as_bytes()
 }
 
+// Whether one of some names is the same as this one.
+fn is_among(name: &String, others: &[&String]) -> bool
+    ensures { result ≡ list_any (λ other. same_name (string_bytes other.now) (string_bytes name.now)) others.now }
+{
+    others.iter().any(|other| are_same(other, name))
+}
+
+// Whether a fetched file has this name, or one of the names behind it.
+fn is_in_use(files: &[Text], name: &String, later: &[&String]) -> bool
+    ensures { result ≡ (is_fetched files.now (string_bytes name.now) || list_any (λ other. same_name (string_bytes other.now) (string_bytes name.now)) later.now) }
+{
+    is_fetched(files, name.as_bytes()) || is_among(name, later)
+}
+
+// The first of some names, and the others.
+fn parts<'n, 'a>(names: &'n [&'a String]) -> Option<(&'n &'a String, &'n [&'a String])>
+    ensures { MatchOption result (names.now ≡ []) (λ p. names.now ≡ p.0.now ∷ p.1.now) }
+{
+    names.split_first()
+}
+
+// The first of some names that is in use.
+#[tactic(auto, using(crate::proofs::NameLaws::none_in_use))]
+fn first_in_use<'a>(files: &[Text], names: &[&'a String]) -> Option<&'a String>
+    ensures { option_map (λ name. string_bytes name.now) result ≡ first_in_use files.now (map (λ name. string_bytes name.now) names.now) }
+{
+    let (name, later) = parts(names)?;
+    if is_in_use(files, name, later) {
+        Some(name)
+    } else {
+        first_in_use(files, later)
+    }
+}
+
 /// The first name in the order of the files that a fetched file has, or another of them.
 pub fn name_in_use<'a>(files: &[Text], names: &'a OutputNames) -> Option<&'a String>
-    ensures { (bytes : List ℕ) → option_map (λ name. string_bytes name.now) result ≡ name_in_use files.now (files_under names.now bytes) }
+    ensures { (pieces : List Piece) → option_map (λ name. string_bytes name.now) result ≡ name_in_use files.now (files_under names.now pieces) }
 {
     let table = &names.table;
-    match &names.c_text {
-        Some(c_text) if are_same(c_text, table) => Some(table),
-        _ if is_fetched(files, table.as_bytes()) => Some(table),
-        Some(c_text) if is_fetched(files, c_text.as_bytes()) => Some(c_text),
-        _ => None,
+    match (&names.c_text, &names.listing) {
+        (None, None) => first_in_use(files, &[table]),
+        (Some(c_text), None) => first_in_use(files, &[table, c_text]),
+        (None, Some(listing)) => first_in_use(files, &[table, listing]),
+        (Some(c_text), Some(listing)) => first_in_use(files, &[table, c_text, listing]),
     }
 }
 

@@ -1,5 +1,5 @@
 //! The outputs of a table, which a list of boxes makes.
-ghost use Rattle.std.specs.Prelude.{◌≡◌, ◌∷◌, [], ℕ, List, map, string_bytes, is_some, true, false, IfOk, OnOk};
+ghost use Rattle.std.specs.Prelude.{◌≡◌, ◌++◌, List, map, string_bytes, is_some, true, IfOk, OnOk};
 ghost use Rattle.std.specs.List.{All};
 ghost use Rattle.iasl_ports.specs.Delivery.{answer_of, name_and_bytes, IsSettled};
 ghost use Rattle.iasl_messages.specs.declared.place.Piece.{Piece as SpecPiece};
@@ -7,32 +7,15 @@ ghost use Rattle.iasl_backends.specs.declared.backend.Kind.TheVariants as kinds;
 ghost use Rattle.iasl_backends.specs.Asked.{has_kind, IsOneOfEach};
 ghost use Rattle.iasl_backends.specs.Rendering.{rendering};
 ghost use Rattle.table_outputs.specs.declared.decision.Decision.TheVariants.{Makes};
-ghost use Rattle.table_outputs.specs.Decision.{files_under, kinds_of, end_of, whole_piece, Renders};
+ghost use Rattle.table_outputs.specs.Decision.{file_under, files_under, kinds_of, end_of, Renders};
 ghost use Rattle.table_outputs.specs.Boxes.{HoldsAsked, ChangesBy};
 
 use crate::decision::{Decision, Making, OutputNames};
 use iasl_backends::asked::Asked;
 use iasl_backends::backend::{Backend, Kind};
 use iasl_backends::lent::{render_asked, rendered_text};
-use iasl_messages::place::{Piece, Place};
 use iasl_ports::delivery::{Due, OutFile, Stop};
-use iasl_ports::list::Text;
 use std::alloc::{AllocError, Global};
-
-// A table as one piece.
-fn whole_piece(alloc: Global, bytes: Text) -> Piece
-    ensures { result ≡ whole_piece bytes }
-{
-    Piece {
-        place: Place {
-            file: 0,
-            line: 1,
-            column: 1,
-        },
-        source: Text::new(alloc),
-        bytes,
-    }
-}
 
 // The file with the text of an output.
 fn file_of(
@@ -51,8 +34,25 @@ fn file_of(
     })
 }
 
+// Adds the file with the text of an output, where that has a name.
+fn push_named(
+    alloc: Global,
+    backends: &Vec<Box<dyn Backend>>,
+    kind: Kind,
+    name: Option<String>,
+    files: &mut Vec<OutFile>,
+) -> Result<(), AllocError>
+    requires done { All (λ b. finished b ≡ true) backends.now.items }
+    requires there { is_some name ≡ true → has_kind (λ b. kind_of b) kind backends.now.items ≡ true }
+    ensures { (all : List SpecPiece) → All (λ b. pieces b ≡ all) backends.now.items → OnOk result (map name_and_bytes files.new.items ≡ map name_and_bytes files.old.items ++ file_under (λ name. string_bytes name) name (rendering kind all)) }
+{
+    if let Some(name) = name {
+        files.push(file_of(alloc, backends, kind, name)?)?;
+    }
+    Ok(())
+}
+
 // The files with the texts of the outputs.
-#[tactic(auto, using(crate::proofs::OutputLaws::whole_table, crate::proofs::OutputLaws::whole_array))]
 fn files_of(
     alloc: Global,
     backends: &Vec<Box<dyn Backend>>,
@@ -61,17 +61,19 @@ fn files_of(
     requires done { All (λ b. finished b ≡ true) backends.now.items }
     requires table { has_kind (λ b. kind_of b) kinds.RawAml backends.now.items ≡ true }
     requires c_text { is_some names.c_text ≡ true → has_kind (λ b. kind_of b) kinds.CHex backends.now.items ≡ true }
-    ensures { (bytes : List ℕ) → All (λ b. pieces b ≡ whole_piece bytes ∷ []) backends.now.items → IfOk result (λ files. map name_and_bytes files.items ≡ files_under names bytes) }
+    requires listing { is_some names.listing ≡ true → has_kind (λ b. kind_of b) kinds.Listing backends.now.items ≡ true }
+    ensures { (all : List SpecPiece) → All (λ b. pieces b ≡ all) backends.now.items → IfOk result (λ files. map name_and_bytes files.items ≡ files_under names all) }
 {
+    let OutputNames {
+        table,
+        c_text,
+        listing,
+    } = names;
     let mut files = Vec::new(alloc);
-    files.push(file_of(alloc, backends, Kind::RawAml, names.table)?)?;
-    match names.c_text {
-        None => Ok(files),
-        Some(name) => {
-            files.push(file_of(alloc, backends, Kind::CHex, name)?)?;
-            Ok(files)
-        }
-    }
+    files.push(file_of(alloc, backends, Kind::RawAml, table)?)?;
+    push_named(alloc, backends, Kind::CHex, c_text, &mut files)?;
+    push_named(alloc, backends, Kind::Listing, listing, &mut files)?;
+    Ok(files)
 }
 
 // Makes the outputs of a table that are asked for.
@@ -84,15 +86,19 @@ fn make(
     ensures due { IfOk result (λ due. answer_of due ≡ end_of (Makes making)) }
     ensures settled { IfOk result IsSettled }
     ensures held { HoldsAsked (λ b. kind_of b) (kinds_of making.names) backends.old.items backends.new.items }
-    ensures over { OnOk result (All (λ b. pieces b ≡ whole_piece making.bytes ∷ []) backends.new.items) }
+    ensures over { OnOk result (All (λ b. pieces b ≡ making.pieces) backends.new.items) }
     ensures done { OnOk result (All (λ b. finished b ≡ true) backends.new.items) }
 {
-    let Making { text, names, bytes } = making;
+    let Making {
+        text,
+        names,
+        pieces,
+    } = making;
     let asked = Asked {
         c_text: names.c_text.is_some(),
-        listing: false,
+        listing: names.listing.is_some(),
     };
-    render_asked(backends, asked, &[whole_piece(alloc, bytes)])?;
+    render_asked(backends, asked, pieces.as_slice())?;
     Ok(Due {
         status: 0,
         text,

@@ -70,6 +70,63 @@ fn refusing_boxes(alloc: Global) -> Result<Vec<Box<dyn Backend>>, AllocError>
     )
 }
 
+// A listing that takes so many pieces, and refuses the next.
+#[derive(Drop)]
+struct TakingFew {
+    listing: Listing,
+    left: u8,
+}
+
+impl Backend for TakingFew {
+    ghost use Rattle.iasl_backends.specs.declared.backend.Kind.TheVariants as kinds;
+
+    ghost kind_of = { λ output. kinds.Listing };
+
+    ghost pieces = { λ output. ⟦<Listing as Backend>⟧.pieces output.listing };
+
+    ghost finished = { λ output. ⟦<Listing as Backend>⟧.finished output.listing };
+
+    fn kind(&self) -> Kind {
+        Kind::Listing
+    }
+
+    fn clear(&mut self) {
+        self.listing.clear();
+    }
+
+    fn piece(&mut self, piece: &Piece) -> Result<(), AllocError> {
+        if self.left == 0 {
+            return Err(AllocError);
+        }
+        self.left -= 1;
+        self.listing.piece(piece)
+    }
+
+    fn finish(&mut self) -> Result<(), AllocError> {
+        self.listing.finish()
+    }
+
+    fn text(&self) -> &[u8] {
+        self.listing.text()
+    }
+}
+
+// One box of each kind, of which that of the listing refuses its third piece.
+fn boxes_of_two_pieces(alloc: Global) -> Result<Vec<Box<dyn Backend>>, AllocError>
+    ensures { IfOk result (λ backends. IsOneOfEach (λ b. kind_of b) backends.items) }
+{
+    let listing = TakingFew {
+        listing: Listing::new(alloc),
+        left: 2,
+    };
+    one_of_each(
+        alloc,
+        Box::new(alloc, RawAml::new(alloc))?,
+        Box::new(alloc, CHex::new(alloc))?,
+        Box::new(alloc, listing)?,
+    )
+}
+
 // A run over boxes: its words, the name and text of its file, its status, and the boxes that are left.
 #[derive(Drop)]
 struct Lending {
@@ -93,6 +150,18 @@ const LENDINGS: &[Lending] = &[
         file: ("t.asl", ONE_NAME),
         status: 0,
         left: &[Kind::RawAml, Kind::CHex],
+    },
+    Lending {
+        words: &["-l", "t.asl"],
+        file: ("t.asl", ONE_NAME),
+        status: 0,
+        left: &[Kind::RawAml, Kind::Listing],
+    },
+    Lending {
+        words: &["-tc", "-l", "t.asl"],
+        file: ("t.asl", ONE_NAME),
+        status: 0,
+        left: ALL,
     },
     Lending {
         words: &["-tc", "-P", "t.asl"],
@@ -179,5 +248,45 @@ fn a_box_that_refuses(rt: HostRuntime) -> Result<(), AllocError> {
     assert!(rt; are(outs.names(), &[]));
     assert!(rt; console.as_bytes() == b"iasl: out of memory\n".as_slice());
     assert!(rt; are_left(&backends, &[Kind::RawAml, Kind::CHex]));
+    Ok(())
+}
+
+// The header, and a piece for each name.
+const TWO_NAMES: &[u8] = b"DefinitionBlock (\"\", \"SSDT\", 2, \"OEMX00\", \"TABLE001\", 1)
+{
+    Name (X, 5)
+    Name (Y, 6)
+}
+";
+
+#[test]
+fn a_box_that_refuses_its_third_piece(rt: HostRuntime) -> Result<(), AllocError> {
+    let alloc = rt.alloc();
+    for (source, status, console_text) in [
+        (
+            ONE_NAME,
+            0,
+            b"t.aml: SSDT, 43 bytes\n0 errors, 0 warnings, 0 remarks\n".as_slice(),
+        ),
+        (TWO_NAMES, 4, b"iasl: out of memory\n".as_slice()),
+    ] {
+        let mut files = MemoryFiles::new(alloc);
+        files.add("t.asl", source)?;
+        let mut outs = MemoryOutputs::new(alloc);
+        let mut console = MemorySink::new(alloc, 1000)?;
+        let mut backends = boxes_of_two_pieces(alloc)?;
+        let words = given_words(alloc, &["-l", "t.asl"])?;
+        let ended = iasl(
+            alloc,
+            &words,
+            &mut files,
+            &mut outs,
+            &mut console,
+            &mut backends,
+        );
+        assert_eq!(rt; ended, status);
+        assert!(rt; console.as_bytes() == console_text);
+        assert!(rt; are_left(&backends, &[Kind::RawAml, Kind::Listing]));
+    }
     Ok(())
 }

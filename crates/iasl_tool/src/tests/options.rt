@@ -9,7 +9,7 @@ const REMARK_ALONE: &[u8] = b"#pragma message (\"hi\")
 DefinitionBlock (\"\", \"SSDT\", 2, \"OEMX00\", \"TABLE001\", 1) {}
 ";
 
-const ONE_NAME_ARRAY: &[u8] = b"unsigned char AmlCode[] =
+pub(super) const ONE_NAME_ARRAY: &[u8] = b"unsigned char AmlCode[] =
 {
     0x53, 0x53, 0x44, 0x54, 0x2B, 0x00, 0x00, 0x00,
     0x02, 0xF8, 0x4F, 0x45, 0x4D, 0x58, 0x30, 0x30,

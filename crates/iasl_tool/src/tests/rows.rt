@@ -126,6 +126,10 @@ const TOLD: &[Told] = &[
         told: b"t.asl:3:25: error 6026: bad EISA identifier\n1 errors, 0 warnings, 0 remarks\n",
     },
     Told {
+        terms: "Method (M) { Add (Package () { 1 }, 1) Name (B, Buffer (1) { 1, 2 }) }",
+        told: b"t.asl:3:23: error 6050: wrong type\nt.asl:3:53: error 6057: list is longer than its size\n2 errors, 0 warnings, 0 remarks\n",
+    },
+    Told {
         terms: "Method (M) { ElseIf (1) { } Else { } }",
         told: b"t.asl:3:18: error 6025: not allowed here\n1 errors, 0 warnings, 0 remarks\n",
     },

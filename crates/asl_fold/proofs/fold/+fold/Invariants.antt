@@ -1,6 +1,7 @@
-use Rattle.std.proofs.Common.{◌≡◌, ◌≤◌, ◌+◌, ◌*◌, length}
+use Rattle.std.proofs.Common.{◌≡◌, ◌≤◌, ◌+◌, ◌*◌, ◌++◌, length, reverse}
 use Rattle.asl_tree.specs.View.{trees_of}
 use Rattle.acpi_names.specs.Parts.{nodes_size, term_size}
+use Rattle.term_places.specs.Places.{places_of}
 use Rattle.asl_lower.specs.Nests.{joined, backwards}
 use Rattle.asl_fold.specs.Nodes.{part_in, folded_by}
 use Rattle.asl_fold.proofs.fold.+fold.Given as goal
@@ -9,6 +10,7 @@ abbrev pub invariant-fold_nodes-loop-node : goal.invariant-fold_nodes-loop-node
 invariant-fold_nodes-loop-node l = record {
   trees : joined (folded_by l.width (part_in l.listing) (trees_of l.left.items)) (backwards l.made.items) ≡ folded_by l.width (part_in l.listing) (trees_of l.fn.nodes.items);
   size : nodes_size l.left.items ≤ nodes_size l.fn.nodes.items;
+  places : places_of l.left.items ++ places_of (reverse l.made.items) ≡ places_of l.fn.nodes.items;
 }
 
 abbrev pub decreases-fold_nodes-loop-node : goal.decreases-fold_nodes-loop-node

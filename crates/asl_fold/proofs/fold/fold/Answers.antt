@@ -3,5 +3,5 @@ use Rattle.asl_tree.specs.View.{trees_of}
 use Rattle.asl_fold.proofs.Forms.{statements_are}
 use Rattle.asl_fold.proofs.fold.fold.Goals as goal
 
-pub returns : goal.returns
-returns c = c.in_ok-made.ensures ∙ statements_are c.args.width (trees_of c.args.terms.items)
+pub returns-clause-trees : goal.returns-clause-trees
+returns-clause-trees c = c.in_ok-made.ensures.trees ∙ statements_are c.args.width (trees_of c.args.terms.items)

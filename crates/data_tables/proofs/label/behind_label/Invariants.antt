@@ -1,5 +1,5 @@
 use Rattle.std.proofs.Common.{◌≡◌, drop}
-use Rattle.data_text.specs.Blanks.{label_key}
+use Rattle.data_text.specs.Labels.{label_key}
 use Rattle.data_tables.specs.Labels.{behind_key}
 use Rattle.data_tables.proofs.label.behind_label.Given as goal
 

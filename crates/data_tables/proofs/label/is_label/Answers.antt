@@ -1,5 +1,5 @@
 use Rattle.std.proofs.Common.{sym, ap, ◌∙◌, option_copied}
-use Rattle.data_text.specs.Blanks.{label_key}
+use Rattle.data_text.specs.Labels.{label_key}
 use Rattle.data_tables.proofs.Keys.{whole_behind, whole_not}
 use Rattle.data_tables.proofs.label.is_label.Goals as goal
 

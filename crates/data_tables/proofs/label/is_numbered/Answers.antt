@@ -1,5 +1,5 @@
 use Rattle.std.proofs.Common.{sym, ap, ◌∙◌, decimal, option_copied}
-use Rattle.data_text.specs.Blanks.{label_key}
+use Rattle.data_text.specs.Labels.{label_key}
 use Rattle.data_tables.proofs.Keys.{same_behind, not_behind}
 use Rattle.data_tables.proofs.label.is_numbered.Goals as goal
 

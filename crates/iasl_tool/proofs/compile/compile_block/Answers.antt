@@ -1,4 +1,8 @@
-use Rattle.std.proofs.Common.{◌≡◌, ℕ, List, true, [], length, arith, sym, ap, ◌∙◌, subst}
+use Rattle.std.proofs.Common.{◌≡◌, ℕ, List, true, [], ◌∷◌, length, arith, sym, ap, ◌∙◌, subst}
+use Rattle.iasl_messages.specs.declared.place.Line.{Line}
+use Rattle.asl_tree.specs.declared.program.Block.{Block}
+use Rattle.iasl_tool.specs.declared.compile.Style.{Style}
+use Rattle.iasl_tool.specs.declared.compile.Compiled.{Compiled}
 use Rattle.acpi_state.specs.Objects.{lookup}
 use Rattle.asl_meaning.specs.Declarations.{Declarations, declarations, is_named, written_external}
 use Rattle.acpi_values.specs.Paths.{AbsolutePath}
@@ -6,8 +10,6 @@ use Rattle.acpi_names.specs.Spelled.{spelled_all}
 use Rattle.asl_lower.specs.Nodes.{named_all}
 use Rattle.asl_lower.proofs.Errors.{no_name_errors, no_type_errors}
 use Rattle.aml_code.specs.Header.{fields_of}
-use Rattle.aml_meaning.specs.Encoded.{encoded_all}
-use Rattle.named_sessions.specs.Core.{core_of}
 use Rattle.iasl_tool.specs.Ready.{HasRoom}
 use Rattle.asl_tree.specs.Tree.{Trees}
 use Rattle.asl_tree.specs.View.{trees_of}
@@ -19,13 +21,23 @@ use Rattle.name_checks.specs.Messages.{told_errors}
 use Rattle.name_checks.specs.Refusals.{Refuses}
 use Rattle.acpi_values.specs.Revisions.{width_of}
 use Rattle.asl_fold.specs.Folds.{folded_where}
+use Rattle.asl_shape.specs.Plans.{plans_of}
+use Rattle.term_places.specs.Places.{places_of}
+use Rattle.source_pieces.specs.Places.{core_places}
 use Rattle.program_shapes.proofs.Cores.{core_lowered}
 use Rattle.asl_fold.proofs.Asked.{where_shaped, where_name_errors, where_type_errors}
 use Rattle.named_sessions.specs.Shaped.{AreNamed}
 use Rattle.named_sessions.proofs.Terms.{formed_terms}
-use Rattle.iasl_tool.specs.Compiled.{its_table, lowered_in, of_table, with_others}
+use Rattle.iasl_tool.specs.Compiled.{its_table, its_pieces, lowered_in, of_table, with_others}
 use Rattle.iasl_tool.proofs.Programs.{none_told, none_behind, no_length, some_length, right_comes, like_another, stage_comes}
 use Rattle.iasl_tool.proofs.compile.compile_block.Goals as goal
+
+-- the table of a block in which nothing is wrong
+abbrev whole : Style → List Line → Block → Compiled
+whole style lines block =
+    let fields = fields_of block in
+    let lowered = lowered_in style fields (trees_of block.terms.items) in
+    of_table block.place block.signature block.file (its_table style lowered block) (its_pieces style lines (block.place ∷ core_places (plans_of block.terms.items)) fields lowered)
 
 pub check-requires : goal.check-requires
 check-requires c = record { terms = subst (λ ns. are_terms (trees_of ns) ≡ true) (sym c.as_slice.ensures.value) (formed_terms AreNamed (Unit {0}) (trees_of c.args.block.terms.items) c.requires.formed) }
@@ -51,8 +63,9 @@ returns-in_ok-spell-in-Ok c =
     agrees (subst (λ table. Tabled index.paths table (lookup (whole_of terms).calls)) (sym c.as_slice-in-Ok.ensures.value) tabled) in
     let none : c.args.others ≡ [] = no_length c.args.others (let zero : length c.args.others ≡ 0 = grind (arith, c.is_empty.ensures, c.if-not-is_empty.false, c.others.view_is) in zero) in
     let room : HasRoom (fields_of lowered.core) = subst HasRoom (sym lowered.ensures.fields) c.requires.room in
-    right_comes c.write_block.result (with_others (told_errors terms) c.args.others) (of_table block.place block.signature block.file (its_table c.args.style (lowered_in c.args.style (fields_of block) terms) block)) (none_behind (told_errors terms) c.args.others (none_told terms names counts) none)
-    (like_another c.args.style c.write_block.result lowered.core.place block.place lowered.core.file block.file (fields_of lowered.core) (fields_of block) made lowered.ensures.place lowered.ensures.file lowered.ensures.fields
+    right_comes c.write_block.result (with_others (told_errors terms) c.args.others) (whole c.args.style c.args.lines.now.list block) (none_behind (told_errors terms) c.args.others (none_told terms names counts) none)
+    (like_another c.args.style c.args.lines.now.list c.write_block.result lowered.core.place block.place (places_of c.spell.new.terms.items) (core_places (plans_of block.terms.items)) lowered.core.file block.file (fields_of lowered.core) (fields_of block) made
+    lowered.ensures.place (c.in_ok-spell-in-Ok.ensures.places ∙ lowered.ensures.places) lowered.ensures.file lowered.ensures.fields
     (c.write_block.ensures made (record { room = room; shaped = where_shaped c.args.style.fold width (named_all terms) (c.requires.shaped none); names = where_name_errors c.args.style.fold width (named_all terms) ∙ no_name_errors terms formed names; counts = where_type_errors c.args.style.fold width (named_all terms) ∙ no_type_errors terms formed counts; core = core })))
 
 pub returns-then-not-is_empty : goal.returns-then-not-is_empty
@@ -62,7 +75,7 @@ returns-then-not-is_empty c =
     let same : trees_of c.as_slice.result.now ≡ terms = ap trees_of c.as_slice.ensures.value in
     let names : name_errors terms ≡ [] = sym (ap name_errors same) ∙ c.in-Ok.ensures.right.0 in
     let counts : type_errors terms ≡ [] = sym (ap type_errors same) ∙ c.in-Ok.ensures.right.1 in
-    some_length c.args.others (of_table block.place block.signature block.file (its_table c.args.style (lowered_in c.args.style (fields_of block) terms) block)) (told_errors terms) (none_told terms names counts)
+    some_length c.args.others (whole c.args.style c.args.lines.now.list block) (told_errors terms) (none_told terms names counts)
     (λ e. let never : ⊥ = grind (arith, e, c.is_empty.ensures, c.if-not-is_empty.true, c.others.view_is) in never)
 
 pub returns-in_ok-with_others-in-Err : goal.returns-in_ok-with_others-in-Err
@@ -70,5 +83,5 @@ returns-in_ok-with_others-in-Err c =
     let block = c.args.block in
     let terms : Trees = trees_of block.terms.items in
     let same : trees_of c.as_slice.result.now ≡ terms = ap trees_of c.as_slice.ensures.value in
-    stage_comes c.in-Err.stage c.in_ok-refusal-in-Err.field-0 (told_errors terms) c.args.others c.in_ok-with_others-in-Err.field-0 (of_table block.place block.signature block.file (its_table c.args.style (lowered_in c.args.style (fields_of block) terms) block))
+    stage_comes c.in-Err.stage c.in_ok-refusal-in-Err.field-0 (told_errors terms) c.args.others c.in_ok-with_others-in-Err.field-0 (whole c.args.style c.args.lines.now.list block)
     (subst (λ ts. Refuses c.in-Err.stage (told_errors ts)) same c.in-Err.ensures.refused) c.in_ok-refusal-in-Err.ensures c.in_ok-with_others-in-Err.ensures

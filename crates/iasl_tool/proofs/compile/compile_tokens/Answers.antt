@@ -9,4 +9,4 @@ compile_unit-requires c = is_kept c.in-Ok.unit.items c.args.tokens.now c.in-Ok.e
 pub returns-in-Ok-clause-within : goal.returns-in-Ok-clause-within
 returns-in-Ok-clause-within c = λ files main h.
     let items = c.in-Ok.unit.items in
-    same_home files c.compile_unit.result (of_items c.args.style items) c.compile_unit.ensures.value (items_home files c.args.style items (c.in-Ok.ensures.within files h) main)
+    same_home files c.compile_unit.result (of_items c.args.style c.args.lines.now.list items) c.compile_unit.ensures.value (items_home files c.args.style c.args.lines.now.list items (c.in-Ok.ensures.within files h) main)

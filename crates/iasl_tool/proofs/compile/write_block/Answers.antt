@@ -1,7 +1,6 @@
-use Rattle.std.proofs.Common.{◌≡◌, Some, subst, ap, sym, ◌∙◌}
+use Rattle.std.proofs.Common.{◌≡◌, Some, subst, ap, ◌∙◌}
 use Rattle.std.specs.Prelude.{slice_get}
-use Rattle.aml_writer.specs.Pieces.{joined_pieces}
-use Rattle.aml_writer.specs.Written.{RefusedFor, IsTable, IsTooLong}
+use Rattle.aml_writer.specs.Written.{RefusedFor, IsTooLong}
 use Rattle.iasl_tool.proofs.Written.{table_written, refused_written}
 use Rattle.iasl_tool.proofs.compile.write_block.Goals as goal
 
@@ -10,11 +9,10 @@ returns-in-Err-TooLong c = λ terms is.
     let block = c.args.block in
     let at : slice_get c.in_ok-core.core.program.blocks 0 ≡ Some block = ap (λ blocks. slice_get blocks 0) c.in_ok-core.ensures in
     let long : IsTooLong block c.args.style.short c.in-Err-TooLong.message = subst (RefusedFor block c.args.style.short) c.in-Err-TooLong.field-0-is (c.in-Err-TooLong.ensures.refused block at) in
-    refused_written c.args.style terms block c.in-Err-TooLong.message c.in_ok-one_message-in-Err-TooLong.field-0 is c.in_ok-one_message-in-Err-TooLong.ensures long
+    refused_written c.args.style c.args.lines.now.list terms block c.in-Err-TooLong.message c.in_ok-one_message-in-Err-TooLong.field-0 is c.in_ok-one_message-in-Err-TooLong.ensures long
 
 pub returns-in-Ok : goal.returns-in-Ok
 returns-in-Ok c = λ terms is.
     let block = c.args.block in
     let at : slice_get c.in_ok-core.core.program.blocks 0 ≡ Some block = ap (λ blocks. slice_get blocks 0) c.in_ok-core.ensures in
-    let table : IsTable block c.args.style.short (joined_pieces c.in-Ok.pieces) = c.in-Ok.ensures.table block at in
-    table_written c.args.style terms block _ _ _ _ is (c.signature.view_is ∙ c.in_ok-signature.ensures ∙ c.as_bytes.ensures) (c.own.view_is ∙ c.in_ok-own.ensures ∙ c.as_bytes-2.ensures) c.new-in-Ok.ensures (subst (IsTable block c.args.style.short) (sym (c.in_ok-join-in-Ok.ensures ∙ ap joined_pieces c.as_slice.ensures)) table)
+    table_written c.args.style c.args.lines.now.list terms block _ _ _ _ is (c.in_ok-signature.ensures ∙ c.as_bytes.ensures) (c.in_ok-own.ensures ∙ c.as_bytes-2.ensures) c.new.ensures (c.in-Ok.ensures.table block at) (c.in-Ok.ensures.cut block at)

@@ -1,16 +1,13 @@
-use Rattle.std.proofs.Common.{rules, ap, sym, ◌∙◌, [], ◌∷◌, ◌++◌, map}
+use Rattle.std.proofs.Common.{[], ◌∷◌, ◌++◌, string_bytes, ap, ◌∙◌}
 use Rattle.iasl_ports.specs.Delivery.{name_and_bytes}
-use Rattle.table_outputs.specs.Decision.{whole_piece}
-use Rattle.table_outputs.proofs.OutputLaws.{whole_table, whole_array}
+use Rattle.iasl_backends.specs.declared.backend.Kind.TheVariants as kinds
+use Rattle.iasl_backends.specs.Rendering.{rendering}
+use Rattle.table_outputs.specs.Decision.{file_under}
+use Rattle.table_outputs.proofs.OutputLaws.{behind_table}
 use Rattle.table_outputs.proofs.outputs.files_of.Goals as goal
 
-pub returns-in-None : goal.returns-in-None
-returns-in-None g c = λ bytes all.
-    let table = c.in_ok-file_of.ensures (whole_piece bytes ∷ []) all in
-    search (rules, table, whole_table bytes, c.in_ok-push.ensures.items, c.new-files.ensures.items, c.in-None.is)
-
-pub returns-in_ok-push-in-Some : goal.returns-in_ok-push-in-Some
-returns-in_ok-push-in-Some g c = λ bytes all.
-    let table = c.in_ok-file_of.ensures (whole_piece bytes ∷ []) all in
-    let array = c.in_ok-file_of-in-Some.ensures (whole_piece bytes ∷ []) all in
-    search (rules, table, array, whole_table bytes, whole_array bytes, c.in_ok-push.ensures.items, c.new-files.ensures.items, c.in_ok-push-in-Some.ensures.items, c.in-Some.is)
+pub returns : goal.returns
+returns g c = λ all fed.
+    behind_table name_and_bytes c.in_ok-file_of.field-0 c.push.new.self.items c.push_named.new.files.items c.push_named-2.new.files.items (string_bytes c.args.names.table, rendering kinds.RawAml all)
+    (file_under string_bytes c.args.names.c_text (rendering kinds.CHex all)) (file_under string_bytes c.args.names.listing (rendering kinds.Listing all))
+    (c.in_ok-push.ensures.items ∙ ap (λ xs. xs ++ c.in_ok-file_of.field-0 ∷ []) c.new-files.ensures.items) (c.in_ok-file_of.ensures all fed) (c.in_ok-push_named.ensures all fed) (c.in_ok-push_named-2.ensures all fed)

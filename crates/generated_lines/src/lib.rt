@@ -1,0 +1,6 @@
+//! The source of devices that are generated.
+#![tactic(auto)]
+
+pub mod lines;
+#[cfg(test)]
+mod tests;

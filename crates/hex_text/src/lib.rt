@@ -1,0 +1,7 @@
+//! Texts of dumps and data tables: blanks and hexadecimal digits.
+#![tactic(auto)]
+
+pub mod blanks;
+pub mod digits;
+#[cfg(test)]
+mod tests;

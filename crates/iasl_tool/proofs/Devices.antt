@@ -1,0 +1,68 @@
+-- What is due of generated devices: their lines are good, and it is the same of one file without a name as of none.
+use Rattle.std.proofs.Common.{◌≡◌, ℕ, zero, suc, ◌≤◌, Bool, true, false, List, [], ◌∷◌, ◌++◌, length, Some, refl, sym, ap, ◌∙◌, arith}
+use Rattle.std.specs.Prelude.{All, codes}
+use Rattle.std.proofs.lemmas.List.Elements.{All-weaker}
+use Rattle.iasl_ports.specs.Gained.{Named}
+use Rattle.iasl_ports.specs.Delivery.{Answer}
+use Rattle.iasl_messages.specs.declared.place.Line.{Line}
+use Rattle.iasl_messages.specs.declared.place.Piece.{Piece}
+use Rattle.iasl_messages.specs.declared.message.Message.{Message}
+use Rattle.iasl_messages.specs.Order.{sorted_messages}
+use Rattle.iasl_messages.specs.Console.{file_name, brief_line, full_line, message_line, messages_text, summary_line, table_line, devices_line}
+use Rattle.iasl_backends.specs.Table.{table_bytes}
+use Rattle.asl_preprocess.specs.Sound.{IsGoodLine}
+use Rattle.iasl_options.specs.Asking.{Asked}
+use Rattle.iasl_options.specs.Task.{generated_settings}
+use Rattle.generated_lines.specs.Generated.{generated_lines}
+use Rattle.table_outputs.specs.Files.{table_name, table_files}
+use Rattle.iasl_tool.specs.declared.compile.Compiled.{Compiled}
+use Rattle.iasl_tool.specs.declared.compile.Compiled.TheVariants.{Table, Refused}
+use Rattle.iasl_tool.specs.Compiled.{of_source}
+use Rattle.iasl_tool.specs.Due.{console_text, made_or_in_use, style_of, answer_to_compiled, answer_to_generated}
+
+-- small lines of the first file are good ones of one file
+pub good_lines : (files : List (List ℕ)) (lines : List Line) → files ≡ [] ∷ [] → All (λ line. (length line.text ≤ 100) × (line.file ≡ 0)) lines → All (IsGoodLine (length files)) lines
+good_lines files lines one h =
+    let size : length files ≡ 1 = ap length one in
+    All-weaker (λ (line : Line). (length line.text ≤ 100) × (line.file ≡ 0)) (IsGoodLine (length files)) (λ line k. let few = k.0 in let first = k.1 in (omega (arith, few), omega (arith, first, size))) lines h
+
+-- ---- a file without a name is told as none
+
+no_name : (number : ℕ) → file_name ([] ∷ []) number ≡ file_name [] number
+no_name zero = refl
+no_name (suc number) = refl
+
+line_same : (brief : Bool) (message : Message) → message_line ([] ∷ []) brief message ≡ message_line [] brief message
+line_same true message = ap (λ name. brief_line name message) (no_name message.place.file)
+line_same false message = ap (λ name. full_line name message) (no_name message.place.file)
+
+text_same : (brief : Bool) (messages : List Message) → messages_text ([] ∷ []) brief messages ≡ messages_text [] brief messages
+text_same brief [] = refl
+text_same brief (message ∷ messages) = λ i. line_same brief message i ++ text_same brief messages i
+
+console_same : (brief : Bool) (messages : List Message) (made : List ℕ) → console_text brief ([] ∷ []) messages made ≡ console_text brief [] messages made
+console_same brief messages made = ap (λ text. text ++ made ++ summary_line (sorted_messages messages)) (text_same brief (sorted_messages messages))
+
+abbrev ends_with : ℕ → List Named → List ℕ → Answer
+ends_with status due text = record { status = status; text = text; due = due }
+
+-- a table of this name is made alike
+table_same : (own : List ℕ) (notes : List Message) (line : List ℕ) (pieces : List Piece)
+    → made_or_in_use false ([] ∷ []) notes line (table_files generated_settings (codes "generated") own pieces) ≡ made_or_in_use false [] notes line (table_files generated_settings (codes "generated") own pieces)
+table_same [] notes line pieces = ap (ends_with 0 (table_files generated_settings (codes "generated") [] pieces)) (console_same false notes line)
+table_same (c ∷ own) notes line pieces = ap (ends_with 0 (table_files generated_settings (codes "generated") (c ∷ own) pieces)) (console_same false notes line)
+
+no_file : (more : List ℕ) (it : Compiled) → answer_to_compiled generated_settings (codes "generated") ([] ∷ []) [] more it ≡ answer_to_compiled generated_settings (codes "generated") [] [] more it
+no_file more (Table signature own pieces told) = table_same own told (table_line (table_name generated_settings (codes "generated") own) signature (length (table_bytes pieces)) ++ more) pieces
+no_file more (Refused messages) = ap (ends_with 1 []) (console_same false messages [])
+
+some_file : (file name : List ℕ) → Some file ≡ Some name → file ≡ name
+some_file file name e = cc
+
+pub is_due : (asked : Asked) (file : List ℕ) (files : List (List ℕ)) (notes : List Message) (more : List ℕ) (lines : List Line) (count : ℕ) (answer : Answer)
+    → asked ≡ generated_settings → asked.file ≡ Some file → files ≡ [] ∷ [] → notes ≡ [] → more ≡ devices_line count → lines ≡ generated_lines count
+    → answer ≡ answer_to_compiled asked file files notes more (of_source (style_of asked) lines) → answer ≡ answer_to_generated count
+is_due asked file files notes more lines count answer asked_is file_is one none line lines_are e =
+    let named : file ≡ codes "generated" = some_file file (codes "generated") (sym file_is ∙ ap (λ (a : Asked). a.file) asked_is) in
+    e ∙ (λ i. answer_to_compiled (asked_is i) (named i) (one i) (none i) (line i) (of_source (style_of (asked_is i)) (lines_are i)))
+    ∙ no_file (devices_line count) (of_source (style_of generated_settings) (generated_lines count))

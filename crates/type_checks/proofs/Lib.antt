@@ -1,0 +1,6 @@
+pub mod Lettering
+pub mod Naming
+pub mod Terms
+pub mod Walks
+pub mod Fitting
+pub mod Listing

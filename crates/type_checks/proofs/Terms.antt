@@ -1,0 +1,111 @@
+-- Terms as plans.
+use Rattle.std.proofs.Common.{◌≡◌, ℕ, zero, suc, ◌+◌, ◌<◌, ◌≤◌, length, get_or, drop, arith, List, [], ◌∷◌, Vec, Global, subst, refl, sym, ap, ◌∙◌}
+use Rattle.acpi_values.specs.Paths.{NameSeg}
+use Rattle.asl_tree.specs.declared.path.Path.{Path}
+use Rattle.asl_tree.specs.declared.term.Op.{Op}
+use Rattle.asl_tree.specs.declared.term.Word.{Word}
+use Rattle.asl_tree.specs.declared.term.Node.{Node}
+use Rattle.asl_tree.specs.declared.term.Term.{Term}
+use Rattle.asl_tree.specs.declared.term.Term as D
+use Rattle.asl_tree.specs.declared.term.Term.TheVariants as V
+use Rattle.asl_shape.specs.Plans.{Plan, an_integer, a_text, a_fill, a_word, a_local, an_arg, debug, omitted, a_name, a_unit, a_skip, an_offset, a_call, a_form, Plans, no_plans, plan, plan_of, plans_of}
+use Rattle.asl_shape.proofs.Plans.{plan_form, plan_call}
+use Rattle.asl_numbers.specs.Numbers.{inside, nodes}
+
+-- the plan of a call and of a form, by the nodes in it
+pub call_is : (t : Term) (path : Path) (args : Vec Node Global) (xs : List Node) → t ≡ D.Call path args → xs ≡ args.items → plan_of t ≡ a_call path (plans_of xs)
+call_is t path args xs e same = ap plan_of e ∙ plan_call path args ∙ ap (λ ns. a_call path (plans_of ns)) (sym same)
+
+pub form_is : (t : Term) (op : Op) (args body : Vec Node Global) (xs ys : List Node) → t ≡ D.Form op args body → xs ≡ args.items → ys ≡ body.items → plan_of t ≡ a_form op (plans_of xs) (plans_of ys)
+form_is t op args body xs ys e a b =
+    ap plan_of e ∙ plan_form op args body ∙ ap (λ ns. a_form op (plans_of ns) (plans_of body.items)) (sym a) ∙ ap (λ ns. a_form op (plans_of xs) (plans_of ns)) (sym b)
+
+pub inside_call : (t : Term) (path : Path) (args : Vec Node Global) (xs : List Node) → t ≡ D.Call path args → xs ≡ args.items → inside (plan_of t) ≡ nodes (plans_of xs)
+inside_call t path args xs e same = ap inside (call_is t path args xs e same)
+
+pub inside_form : (t : Term) (op : Op) (args body : Vec Node Global) (xs ys : List Node) → t ≡ D.Form op args body → xs ≡ args.items → ys ≡ body.items → inside (plan_of t) ≡ nodes (plans_of xs) + nodes (plans_of ys)
+inside_form t op args body xs ys e a b = ap inside (form_is t op args body xs ys e a b)
+
+-- what holds of each term that this one may be
+pub by_term : (P : Term → Type 0) (t : Term)
+    → ((n : ℕ) → t ≡ D.Integer n → P (D.Integer n)) → ((s : List ℕ) → t ≡ D.Text s → P (D.Text s)) → ((s : List ℕ) → t ≡ D.Fill s → P (D.Fill s)) → ((w : Word) → t ≡ D.Word w → P (D.Word w))
+    → ((n : ℕ) → t ≡ D.Local n → P (D.Local n)) → ((n : ℕ) → t ≡ D.Arg n → P (D.Arg n)) → (t ≡ D.Debug → P D.Debug) → (t ≡ D.Omitted → P D.Omitted) → ((p : Path) → t ≡ D.Name p → P (D.Name p))
+    → ((s : NameSeg) (n : ℕ) → t ≡ D.Unit s n → P (D.Unit s n)) → ((n : ℕ) → t ≡ D.Skip n → P (D.Skip n)) → ((n : ℕ) → t ≡ D.Offset n → P (D.Offset n))
+    → ((p : Path) (v : Vec Node Global) → t ≡ D.Call p v → P (D.Call p v)) → ((o : Op) (v w : Vec Node Global) → t ≡ D.Form o v w → P (D.Form o v w)) → P t
+by_term P t integer text fill word local arg debug' omitted' name unit skip offset call form = by_layer (D.out-Term t) (sym (D.roll-out-Term t))
+  where
+    at : (u : Term) → t ≡ u → P u → P t
+    at u e p = subst P (sym e) p
+
+    by_layer : (f : D.Term-F Term Node) → t ≡ D.roll-Term f → P t
+    by_layer (D.Term-F.Integer n) e = let q = e ∙ V.rolls-Integer n in at (D.Integer n) q (integer n q)
+    by_layer (D.Term-F.Text s) e = let q = e ∙ V.rolls-Text s in at (D.Text s) q (text s q)
+    by_layer (D.Term-F.Fill s) e = let q = e ∙ V.rolls-Fill s in at (D.Fill s) q (fill s q)
+    by_layer (D.Term-F.Word w) e = let q = e ∙ V.rolls-Word w in at (D.Word w) q (word w q)
+    by_layer (D.Term-F.Local n) e = let q = e ∙ V.rolls-Local n in at (D.Local n) q (local n q)
+    by_layer (D.Term-F.Arg n) e = let q = e ∙ V.rolls-Arg n in at (D.Arg n) q (arg n q)
+    by_layer (D.Term-F.Debug) e = let q = e ∙ V.rolls-Debug in at D.Debug q (debug' q)
+    by_layer (D.Term-F.Omitted) e = let q = e ∙ V.rolls-Omitted in at D.Omitted q (omitted' q)
+    by_layer (D.Term-F.Name p) e = let q = e ∙ V.rolls-Name p in at (D.Name p) q (name p q)
+    by_layer (D.Term-F.Unit s n) e = let q = e ∙ V.rolls-Unit s n in at (D.Unit s n) q (unit s n q)
+    by_layer (D.Term-F.Skip n) e = let q = e ∙ V.rolls-Skip n in at (D.Skip n) q (skip n q)
+    by_layer (D.Term-F.Offset n) e = let q = e ∙ V.rolls-Offset n in at (D.Offset n) q (offset n q)
+    by_layer (D.Term-F.Call p v) e = let q = e ∙ V.rolls-Call p v in at (D.Call p v) q (call p v q)
+    by_layer (D.Term-F.Form o v w) e = let q = e ∙ V.rolls-Form o v w in at (D.Form o v w) q (form o v w q)
+
+-- what holds of the plans of all terms but calls and forms
+pub of_leaves : (P : Plan → Type 0)
+    → ((n : ℕ) → P (an_integer n)) → ((s : List ℕ) → P (a_text s)) → ((s : List ℕ) → P (a_fill s)) → ((w : Word) → P (a_word w)) → ((n : ℕ) → P (a_local n)) → ((n : ℕ) → P (an_arg n)) → P debug → P omitted
+    → ((p : Path) → P (a_name p)) → ((s : NameSeg) (n : ℕ) → P (a_unit s n)) → ((n : ℕ) → P (a_skip n)) → ((n : ℕ) → P (an_offset n))
+    → (t : Term) → ((p : Path) (v : Vec Node Global) → t ≡ D.Call p v → ⊥) → ((o : Op) (v w : Vec Node Global) → t ≡ D.Form o v w → ⊥) → P (plan_of t)
+unfolding plan_of
+of_leaves P integer text fill word local arg debug' omitted' name unit skip offset t not_call not_form =
+    by_term (λ u. P (plan_of u)) t (λ n e. integer n) (λ s e. text s) (λ s e. fill s) (λ w e. word w) (λ n e. local n) (λ n e. arg n) (λ e. debug') (λ e. omitted') (λ p e. name p)
+    (λ s n e. unit s n) (λ n e. skip n) (λ n e. offset n) (λ p v e. absurd (not_call p v e)) (λ o v w e. absurd (not_form o v w e))
+
+-- no node stands inside a leaf
+pub none_inside : (t : Term) → ((p : Path) (v : Vec Node Global) → t ≡ D.Call p v → ⊥) → ((o : Op) (v w : Vec Node Global) → t ≡ D.Form o v w → ⊥) → inside (plan_of t) ≡ 0
+none_inside =
+    of_leaves (λ p. inside p ≡ 0) (λ n. refl) (λ s. refl) (λ s. refl) (λ w. refl) (λ n. refl) (λ n. refl) refl refl (λ p. refl) (λ s n. refl) (λ n. refl) (λ n. refl)
+
+-- ---- nodes one after another
+
+-- the first of the plans behind some
+pub plans_at : (ns : List Node) (i : ℕ) (node : Node) → i < length ns → node ≡ get_or ns i node → plans_of (drop i ns) ≡ plan node.place (plan_of node.term) (plans_of (drop (suc i) ns))
+unfolding plans_of
+plans_at [] i node lt e = absurd (omega (arith, lt))
+plans_at (n ∷ ns) zero node lt e = ap (λ (m : Node). plan m.place (plan_of m.term) (plans_of ns)) (sym e)
+plans_at (n ∷ ns) (suc i) node lt e = plans_at ns i node (omega (arith, lt)) e
+
+-- no plans are left behind the last
+pub no_more : (ns : List Node) (i : ℕ) → length ns ≤ i → plans_of (drop i ns) ≡ no_plans
+unfolding plans_of
+no_more [] zero le = refl
+no_more [] (suc i) le = refl
+no_more (n ∷ ns) zero le = absurd (omega (arith, le))
+no_more (n ∷ ns) (suc i) le = no_more ns i (omega (arith, le))
+
+pub all_left : (ns : List Node) → plans_of (drop 0 ns) ≡ plans_of ns
+all_left [] = refl
+all_left (n ∷ ns) = refl
+
+pub count_at : (ns : List Node) (i : ℕ) (node : Node) → i < length ns → node ≡ get_or ns i node → nodes (plans_of (drop i ns)) ≡ suc (inside (plan_of node.term) + nodes (plans_of (drop (suc i) ns)))
+count_at ns i node lt e = ap nodes (plans_at ns i node lt e)
+
+pub none_left : (ns : List Node) (i : ℕ) → length ns ≤ i → nodes (plans_of (drop i ns)) ≡ 0
+none_left ns i le = ap nodes (no_more ns i le)
+
+-- so many nodes are counted, and those behind them are not yet
+pub count_next : (ns : List Node) (i next behind : ℕ) (node : Node) → i < length ns → node ≡ get_or ns i node → next + nodes (plans_of (drop i ns)) ≡ nodes (plans_of ns) → behind ≡ suc next + inside (plan_of node.term)
+    → behind + nodes (plans_of (drop (i + 1) ns)) ≡ nodes (plans_of ns)
+count_next ns i next behind node lt e before count =
+    let more : i + 1 ≡ suc i = omega arith in
+    let left = count_at ns i node lt e in
+    let later : nodes (plans_of (drop (i + 1) ns)) ≡ nodes (plans_of (drop (suc i) ns)) = ap (λ k. nodes (plans_of (drop k ns))) more in
+    omega (arith, left, later, before, count)
+
+pub count_done : (ns : List Node) (i next : ℕ) → length ns ≤ i → next + nodes (plans_of (drop i ns)) ≡ nodes (plans_of ns) → next ≡ nodes (plans_of ns)
+count_done ns i next le before = omega (arith, none_left ns i le, before)
+
+pub count_none : (ns : List Node) → 0 + nodes (plans_of (drop 0 ns)) ≡ nodes (plans_of ns)
+count_none ns = let left = ap nodes (all_left ns) in omega (arith, left)

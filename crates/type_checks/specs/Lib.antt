@@ -1,0 +1,4 @@
+pub mod Kinds
+pub mod Names
+pub mod Types
+pub mod Sizes

@@ -1,0 +1,247 @@
+//! Arguments of a wrong kind.
+ghost use Rattle.std.specs.Prelude.{◌≡◌, ◌+◌, ◌<◌, ◌++◌, ℕ, suc, length, get_or, IfOk, OnOk, true};
+ghost use Rattle.asl_tree.specs.View.{trees_of};
+ghost use Rattle.acpi_names.specs.Terms.{are_terms};
+ghost use Rattle.asl_shape.specs.Plans.{plan_of, plans_of};
+ghost use Rattle.asl_numbers.specs.Numbers.{inside, nodes as node_count};
+ghost use Rattle.type_checks.specs.Kinds.{any_data as any_kinds, given, kinds_all, kinds_of, leaf_kinds as kinds_of_leaf};
+ghost use Rattle.type_checks.specs.Names.{listed};
+ghost use Rattle.type_checks.specs.Types as spec;
+
+use crate::kind::{
+    Kind, Wanted, any_data, form_kinds, given_on, is_place, name_kinds, takes_one, wanted_of,
+};
+use crate::names::all_named;
+use asl_tree::term::{Node, Op, Term};
+use iasl_messages::message::{Message, Messages};
+use iasl_messages::number::WRONG_TYPE;
+use iasl_messages::place::Place;
+use iasl_ports::list::Text;
+use name_entries::entries::entries;
+use name_entries::kind::Kind as Named;
+use std::alloc::{AllocError, Global};
+
+// The sum of two numbers of nodes; there is no memory for more nodes than 32 bits count.
+fn sum(first: u32, second: u32) -> Result<u32, AllocError>
+    ensures { IfOk result (λ n. n ≡ first + second) }
+{
+    match first.checked_add(second) {
+        Some(sum) => Ok(sum),
+        None => Err(AllocError),
+    }
+}
+
+// The number behind another one.
+fn after(number: u32) -> Result<u32, AllocError>
+    ensures { IfOk result (λ n. n ≡ suc number) }
+{
+    match number.checked_add(1) {
+        Some(next) => Ok(next),
+        None => Err(AllocError),
+    }
+}
+
+// How many nodes stand inside a term.
+#[cycle(count)]
+#[tactic(auto, using(crate::proofs::Terms::none_inside))]
+fn count_inside(term: &Term) -> Result<u32, AllocError>
+    ensures { IfOk result (λ n. n ≡ inside (plan_of term.now)) }
+{
+    match term {
+        Term::Call { args, .. } => Ok(count(args)?),
+        Term::Form { args, body, .. } => Ok(sum(count(args)?, count(body)?)?),
+        _ => Ok(0),
+    }
+}
+
+// How many nodes some nodes are, with those inside them.
+#[cycle(count)]
+fn count(nodes: &[Node]) -> Result<u32, AllocError>
+    ensures { IfOk result (λ n. n ≡ node_count (plans_of nodes.now)) }
+{
+    let mut next = 0;
+    for node in nodes {
+        next = sum(after(next)?, count_inside(&node.term)?)?;
+    }
+    Ok(next)
+}
+
+// What stands where the name at a node leads.
+fn named(names: &[Named], node: u32) -> Named
+    ensures { result ≡ listed names.now node }
+{
+    match names.get(node as usize) {
+        Some(object) => *object,
+        None => Named::Data,
+    }
+}
+
+// The kinds of what has no arguments; a name leads to this.
+#[tactic(auto, using(asl_shape::proofs::Terms::integer_term, asl_shape::proofs::Terms::word_term, asl_shape::proofs::Terms::text_term, asl_shape::proofs::Terms::debug_term, asl_shape::proofs::Terms::name_term, crate::proofs::Fitting::any_leaf))]
+fn leaf_kinds(in_place: bool, object: Named, term: &Term) -> &'static [Kind]
+    ensures { result.now ≡ kinds_of_leaf in_place object (plan_of term.now) }
+{
+    match term {
+        Term::Integer(_) => &[Kind::Integer],
+        Term::Word(_) => &[Kind::Integer],
+        Term::Text(_) => &[Kind::String],
+        Term::Debug => &[Kind::Debug],
+        Term::Name(_) => name_kinds(in_place, object),
+        _ => any_data(),
+    }
+}
+
+// Whether the expression at a node has a kind that is wanted.
+#[cycle(fitting)]
+fn fits(
+    names: &[Named],
+    wants: Wanted,
+    in_place: bool,
+    node: u32,
+    term: &Term,
+) -> Result<bool, AllocError>
+    ensures { IfOk result (λ b. b ≡ spec.fits wants (kinds_of (listed names.now) in_place node (plan_of term.now))) }
+{
+    match term {
+        Term::Form { op, args, .. } => Ok(form_fits(names, wants, after(node)?, *op, args)?),
+        _ => {
+            let kinds = leaf_kinds(in_place, named(names, node), term);
+            Ok(takes_one(wants, kinds))
+        }
+    }
+}
+
+// Whether a form gives a kind that is wanted; its first argument stands at a node.
+#[cycle(fitting)]
+fn form_fits(
+    names: &[Named],
+    wants: Wanted,
+    first: u32,
+    op: Op,
+    args: &[Node],
+) -> Result<bool, AllocError>
+    ensures { IfOk result (λ b. b ≡ spec.fits wants (given op (kinds_all (listed names.now) first (plans_of args.now)))) }
+{
+    match given_on(op) {
+        None => Ok(takes_one(wants, form_kinds(op))),
+        Some(place) => Ok(argument_fits(names, wants, first, args, place)?),
+    }
+}
+
+// Whether one of some values has a kind that is wanted; the first of them stands at a node.
+#[cycle(fitting)]
+#[tactic(auto, using(crate::proofs::Fitting::kinds_past))]
+fn argument_fits(
+    names: &[Named],
+    wants: Wanted,
+    first: u32,
+    args: &[Node],
+    place: usize,
+) -> Result<bool, AllocError>
+    ensures { IfOk result (λ b. b ≡ spec.fits wants (get_or (kinds_all (listed names.now) first (plans_of args.now)) place any_kinds)) }
+{
+    if place >= args.len() {
+        return Ok(takes_one(wants, any_data()));
+    }
+    let node = sum(first, count(&args[..place])?)?;
+    Ok(fits(names, wants, false, node, &args[place].term)?)
+}
+
+// A message at an argument, unless it fits.
+fn tell_unless(
+    alloc: Global,
+    out: &mut Messages,
+    fits: bool,
+    place: Place,
+) -> Result<(), AllocError>
+    ensures { OnOk result (out.new ≡ out.old ++ spec.unless fits place) }
+{
+    if fits {
+        return Ok(());
+    }
+    out.push(Message {
+        number: WRONG_TYPE,
+        place,
+        name: Text::new(alloc),
+    })?;
+    Ok(())
+}
+
+// The error of one argument, whose node has this number.
+fn argument_errors(
+    alloc: Global,
+    out: &mut Messages,
+    names: &[Named],
+    wants: Wanted,
+    number: u32,
+    node: &Node,
+) -> Result<(), AllocError>
+    ensures { OnOk result (out.new ≡ out.old ++ spec.argument_errors (listed names.now) wants number node.now.place (plan_of node.now.term)) }
+{
+    let fit = fits(names, wants, is_place(wants), number, &node.term)?;
+    tell_unless(alloc, out, fit, node.place)?;
+    Ok(())
+}
+
+// The errors inside a term, whose first node inside has this number; and the number behind the last.
+#[cycle(walk)]
+fn errors_inside(
+    alloc: Global,
+    out: &mut Messages,
+    names: &[Named],
+    first: u32,
+    term: &Term,
+) -> Result<u32, AllocError>
+    ensures next { IfOk result (λ n. n ≡ first + inside (plan_of term.now)) }
+    ensures told { OnOk result (out.new ≡ out.old ++ spec.errors_inside (listed names.now) first (plan_of term.now)) }
+{
+    match term {
+        Term::Call { args, .. } => {
+            let next = errors_of(alloc, out, names, None, first, args)?;
+            Ok(next)
+        }
+        Term::Form { op, args, body } => {
+            let next = errors_of(alloc, out, names, Some(*op), first, args)?;
+            let next = errors_of(alloc, out, names, None, next, body)?;
+            Ok(next)
+        }
+        _ => Ok(first),
+    }
+}
+
+// The errors of the arguments of a form, the first of which has this number; and the number behind the last node.
+#[cycle(walk)]
+fn errors_of(
+    alloc: Global,
+    out: &mut Messages,
+    names: &[Named],
+    asker: Option<Op>,
+    first: u32,
+    nodes: &[Node],
+) -> Result<u32, AllocError>
+    ensures next { IfOk result (λ n. n ≡ first + node_count (plans_of nodes.now)) }
+    ensures told { OnOk result (out.new ≡ out.old ++ spec.errors_of (listed names.now) asker 0 first (plans_of nodes.now)) }
+{
+    let mut next = first;
+    for at in 0..nodes.len() {
+        let node = &nodes[at];
+        argument_errors(alloc, out, names, wanted_of(asker, at), next, node)?;
+        next = errors_inside(alloc, out, names, after(next)?, &node.term)?;
+    }
+    Ok(next)
+}
+
+/// The arguments of a block that are of a wrong kind (ACPI Specification 6.4, 19.2 and 19.6), in the order of the source:
+/// 6050 at each argument that can have none of the kinds that its form takes. A name has the kinds of what it leads to,
+/// by the number of its node in preorder. The only error is want of memory, as which a block of 2^32 nodes or more, or
+/// of more than 2^32 paths, is answered.
+pub fn wrong_types(alloc: Global, terms: &[Node]) -> Result<Messages, AllocError>
+    requires { are_terms (trees_of terms.now) ≡ true }
+    ensures { IfOk result (λ ms. ms ≡ spec.wrong_types (trees_of terms.now) (plans_of terms.now)) }
+{
+    let names = entries(alloc, terms)?;
+    let all = all_named(alloc, &names)?;
+    let mut out = Messages::new(alloc);
+    errors_of(alloc, &mut out, &all, None, 0, terms)?;
+    Ok(out)
+}

@@ -1,0 +1,312 @@
+//! Kinds: which ones arguments take, and which ones expressions have.
+ghost use Rattle.std.specs.Prelude.{◌≡◌, slice_get};
+ghost use Rattle.std.specs.List.{list_any};
+ghost use Rattle.acpi_values.specs.declared.operator.Plain.TheVariants as P;
+ghost use Rattle.asl_tree.specs.Symbols.{compound_operator as operator_of};
+ghost use Rattle.type_checks.specs.Kinds as spec;
+
+use acpi_values::operator::{DataOp, EventOp, IntOp, Plain};
+use asl_operators::letter::Letter;
+use asl_operators::rows::letters;
+use asl_tree::term::{Compound, Control, Declaration, Op, Special, Symbolic};
+use name_entries::kind::Kind as Named;
+
+/// A kind of a value, or of what stands where a name leads.
+#[derive(Clone, Copy, PartialEq, Eq, Debug)]
+pub enum Kind {
+    Integer,
+    String,
+    Buffer,
+    Package,
+    Reference,
+    Debug,
+    Container,
+    Method,
+    Device,
+    Event,
+    Mutex,
+    Region,
+    PowerResource,
+    Processor,
+    ThermalZone,
+}
+
+/// What an argument takes.
+#[derive(Clone, Copy, PartialEq, Eq, Debug)]
+pub enum Wanted {
+    Anything,
+    /// An Integer, a String or a Buffer.
+    Data,
+    Buffer,
+    /// A String or a Buffer.
+    Text,
+    /// A String, a Buffer or a Package.
+    Elements,
+    Package,
+    /// The place of a Device, a Processor or a ThermalZone.
+    Notified,
+}
+
+/// Whether an argument takes a kind.
+pub fn takes(wanted: Wanted, kind: Kind) -> bool
+    ensures { result ≡ spec.takes wanted kind }
+{
+    match wanted {
+        Wanted::Anything => true,
+        Wanted::Data => matches!(
+            kind,
+            Kind::Reference | Kind::Integer | Kind::String | Kind::Buffer
+        ),
+        Wanted::Buffer => matches!(kind, Kind::Reference | Kind::Buffer),
+        Wanted::Text => matches!(kind, Kind::Reference | Kind::String | Kind::Buffer),
+        Wanted::Elements => matches!(
+            kind,
+            Kind::Reference | Kind::String | Kind::Buffer | Kind::Package
+        ),
+        Wanted::Package => matches!(kind, Kind::Reference | Kind::Package),
+        Wanted::Notified => matches!(
+            kind,
+            Kind::Reference | Kind::Device | Kind::Processor | Kind::ThermalZone
+        ),
+    }
+}
+
+/// Whether an argument takes one of some kinds.
+pub fn takes_one(wanted: Wanted, kinds: &[Kind]) -> bool
+    ensures { result ≡ list_any (spec.takes wanted) kinds.now }
+{
+    kinds.iter().any(|kind| takes(wanted, *kind))
+}
+
+/// Whether an argument is a place, in which a method is not called.
+pub fn is_place(wanted: Wanted) -> bool
+    ensures { result ≡ spec.is_place wanted }
+{
+    matches!(wanted, Wanted::Notified)
+}
+
+// An operand by its letter.
+fn by_letter(letter: Option<Letter>) -> Wanted
+    ensures { result ≡ spec.by_code letter }
+{
+    match letter {
+        Some(Letter::Valued) => Wanted::Data,
+        _ => Wanted::Anything,
+    }
+}
+
+// The first operands of an operator, where they take other kinds than their letters say.
+fn own_operands(op: Plain) -> &'static [Wanted]
+    ensures { result.now ≡ spec.own_operands op }
+{
+    match op {
+        Plain::Data(DataOp::Store | DataOp::CopyObject | DataOp::DerefOf) => &[Wanted::Anything],
+        Plain::Data(DataOp::ConcatenateResTemplate) => &[Wanted::Buffer, Wanted::Buffer],
+        Plain::Data(DataOp::ToString) => &[Wanted::Buffer],
+        Plain::Data(DataOp::Mid) => &[Wanted::Text],
+        Plain::Data(DataOp::Index) => &[Wanted::Elements],
+        Plain::Data(DataOp::Match) => &[Wanted::Package],
+        Plain::Event(EventOp::Notify) => &[Wanted::Notified],
+        _ => &[],
+    }
+}
+
+fn letter_in(letters: &[Letter], place: usize) -> Option<Letter>
+    ensures { result ≡ slice_get letters.now place }
+{
+    letters.get(place).copied()
+}
+
+// What an operand takes by its letter.
+fn letter_wanted(op: Plain, place: usize) -> Wanted
+    ensures { result ≡ spec.letter_wanted op place }
+{
+    by_letter(letter_in(letters(op), place))
+}
+
+// What an operand of an operator takes; behind the operands stand targets.
+fn operand(op: Plain, place: usize) -> Wanted
+    ensures { result ≡ spec.operand op place }
+{
+    match own_operands(op).get(place) {
+        Some(wanted) => *wanted,
+        None => letter_wanted(op, place),
+    }
+}
+
+// What the first arguments of the other forms take.
+fn form_arguments(op: Op) -> &'static [Wanted]
+    ensures { result.now ≡ spec.form_arguments op }
+{
+    match op {
+        Op::Control(Control::If | Control::ElseIf | Control::While) => &[Wanted::Data],
+        Op::Special(Special::Buffer | Special::Package) => &[Wanted::Data],
+        Op::Declaration(Declaration::OperationRegion) => &[
+            Wanted::Anything,
+            Wanted::Anything,
+            Wanted::Data,
+            Wanted::Data,
+        ],
+        Op::Declaration(Declaration::BankField) => {
+            &[Wanted::Anything, Wanted::Anything, Wanted::Data]
+        }
+        Op::Declaration(Declaration::CreateField) => {
+            &[Wanted::Anything, Wanted::Data, Wanted::Data]
+        }
+        Op::Declaration(
+            Declaration::CreateBitField
+            | Declaration::CreateByteField
+            | Declaration::CreateWordField
+            | Declaration::CreateDWordField
+            | Declaration::CreateQWordField,
+        ) => &[Wanted::Anything, Wanted::Data],
+        _ => &[],
+    }
+}
+
+fn form_argument(op: Op, place: usize) -> Wanted
+    ensures { result ≡ spec.form_argument op place }
+{
+    match form_arguments(op).get(place) {
+        Some(wanted) => *wanted,
+        None => Wanted::Anything,
+    }
+}
+
+// The operator of `X op= Y`.
+fn compound_operator(op: Compound) -> Plain
+    ensures { result ≡ operator_of op }
+{
+    Plain::Number(match op {
+        Compound::Add => IntOp::Add,
+        Compound::Subtract => IntOp::Subtract,
+        Compound::Multiply => IntOp::Multiply,
+        Compound::Divide => IntOp::Divide,
+        Compound::Mod => IntOp::Mod,
+        Compound::ShiftLeft => IntOp::ShiftLeft,
+        Compound::ShiftRight => IntOp::ShiftRight,
+        Compound::And => IntOp::And,
+        Compound::Or => IntOp::Or,
+        Compound::Xor => IntOp::Xor,
+    })
+}
+
+/// What an argument of a form takes. What is no argument of a form, as those of calls and the terms of a body, is asked for nothing.
+pub fn wanted_of(asker: Option<Op>, place: usize) -> Wanted
+    ensures { result ≡ spec.wanted_of asker place }
+{
+    match asker {
+        None => Wanted::Anything,
+        Some(Op::Plain(op)) => operand(op, place),
+        Some(Op::Symbolic(Symbolic::Operator(op))) => operand(op, place),
+        Some(Op::Symbolic(Symbolic::AssignBy(op))) => operand(compound_operator(op), place),
+        Some(op) => form_argument(op, place),
+    }
+}
+
+/// The kinds of data.
+pub fn any_data() -> &'static [Kind]
+    ensures { result.now ≡ spec.any_data }
+{
+    &[
+        Kind::Integer,
+        Kind::String,
+        Kind::Buffer,
+        Kind::Package,
+        Kind::Reference,
+    ]
+}
+
+// The kinds of what stands where a name leads.
+fn object_kinds(object: Named) -> &'static [Kind]
+    ensures { result.now ≡ spec.object_kinds object }
+{
+    match object {
+        Named::Data | Named::Unknown => any_data(),
+        Named::Integer => &[Kind::Integer],
+        Named::String => &[Kind::String],
+        Named::Buffer => &[Kind::Buffer],
+        Named::Package => &[Kind::Package],
+        Named::FieldUnit | Named::BufferField => &[Kind::Integer, Kind::Buffer],
+        Named::Device => &[Kind::Device],
+        Named::Event => &[Kind::Event],
+        Named::Method => &[Kind::Method],
+        Named::Mutex => &[Kind::Mutex],
+        Named::Region => &[Kind::Region],
+        Named::PowerResource => &[Kind::PowerResource],
+        Named::Processor => &[Kind::Processor],
+        Named::ThermalZone => &[Kind::ThermalZone],
+        Named::Container => &[Kind::Container],
+    }
+}
+
+/// The kinds of a name, by what stands where it leads. A method is called, except in a place.
+pub fn name_kinds(in_place: bool, object: Named) -> &'static [Kind]
+    ensures { result.now ≡ spec.name_kinds in_place object }
+{
+    match object {
+        Named::Method if !in_place => any_data(),
+        _ => object_kinds(object),
+    }
+}
+
+fn data_kinds(op: DataOp) -> &'static [Kind]
+    ensures { result.now ≡ spec.plain_kinds (P.Data op) }
+{
+    match op {
+        DataOp::Increment
+        | DataOp::Decrement
+        | DataOp::ToInteger
+        | DataOp::SizeOf
+        | DataOp::ObjectType
+        | DataOp::Match => &[Kind::Integer],
+        DataOp::Concatenate => &[Kind::Buffer, Kind::String],
+        DataOp::ConcatenateResTemplate | DataOp::ToBuffer => &[Kind::Buffer],
+        DataOp::ToDecimalString | DataOp::ToHexString | DataOp::ToString => &[Kind::String],
+        DataOp::Index | DataOp::RefOf => &[Kind::Reference],
+        DataOp::DerefOf | DataOp::Store | DataOp::CopyObject | DataOp::Mid => any_data(),
+    }
+}
+
+// The kinds of what an operator gives.
+fn plain_kinds(op: Plain) -> &'static [Kind]
+    ensures { result.now ≡ spec.plain_kinds op }
+{
+    match op {
+        Plain::Number(_) => &[Kind::Integer],
+        Plain::Data(op) => data_kinds(op),
+        Plain::Event(EventOp::Acquire | EventOp::Wait | EventOp::Timer | EventOp::Revision) => {
+            &[Kind::Integer]
+        }
+        Plain::Event(_) => any_data(),
+    }
+}
+
+/// The kinds of what a form gives that gives no argument on.
+pub fn form_kinds(op: Op) -> &'static [Kind]
+    ensures { result.now ≡ spec.form_kinds op }
+{
+    match op {
+        Op::Plain(op) => plain_kinds(op),
+        Op::Symbolic(Symbolic::Operator(op)) => plain_kinds(op),
+        Op::Symbolic(Symbolic::AssignBy(op)) => plain_kinds(compound_operator(op)),
+        Op::Literal(_) => &[Kind::Integer],
+        Op::Special(Special::CondRefOf) => &[Kind::Integer],
+        Op::Special(Special::Buffer) => &[Kind::Buffer],
+        Op::Special(Special::Package) => &[Kind::Package],
+        Op::Symbolic(Symbolic::Assign) => any_data(),
+        Op::Control(_) => any_data(),
+        Op::Declaration(_) => any_data(),
+    }
+}
+
+/// Which of its arguments a form gives on: the source of a store, and what Mid takes a part of.
+pub fn given_on(op: Op) -> Option<usize>
+    ensures { result ≡ spec.given_on op }
+{
+    match op {
+        Op::Plain(Plain::Data(DataOp::Store | DataOp::CopyObject | DataOp::Mid)) => Some(0),
+        Op::Symbolic(Symbolic::Assign) => Some(1),
+        _ => None,
+    }
+}
