@@ -108,15 +108,18 @@ class World:
 class Method:
     """A method: its text, and what a call of it does."""
 
+    # How many Locals begin with a value; of these, how many hold values; each further one counts the turns of loops of one depth.
+    begun, kept = 8, 6
+
     def __init__(self, written, world, names):
         self.world, self.names = world, names
         self.arity = random.choice([0, 1, 2])
         self.text = f"    Method ({written}, {self.arity}, NotSerialized)\n    {{\n"
-        start = [random.choice(EDGES) for _ in range(8)]
+        start = [random.choice(EDGES) for _ in range(self.begun)]
         self.start = start
         for slot, value in enumerate(start):
             self.text += f"        Local{slot} = 0x{value:x}\n"
-        body, self.run = self.statements(3, 2, False)
+        body, self.run = self.statements(3, 2, [])
         text, result = self.expression(2)
         self.text += self.laid(body, 2) + f"        Return ({text})\n    }}\n"
         self.result = result
@@ -136,7 +139,7 @@ class Method:
     def leaf(self):
         kind = random.random()
         if kind < 0.3:
-            slot = random.randrange(6)
+            slot = random.randrange(self.kept)
             return f"Local{slot}", lambda f: f.locals[slot]
         if kind < 0.45 and self.arity:
             slot = random.randrange(self.arity)
@@ -188,7 +191,7 @@ class Method:
     def place(self):
         kind = random.random()
         if kind < 0.5:
-            slot = random.randrange(6)
+            slot = random.randrange(self.kept)
 
             def put(f, value):
                 f.locals[slot] = value
@@ -236,7 +239,7 @@ class Method:
 
             return f"STOR (RefOf ({written}), {text})", through
         if kind < 0.6:
-            slot = random.randrange(6)
+            slot = random.randrange(self.kept)
 
             def chain(f):
                 f.locals[slot] = value(f)
@@ -268,8 +271,8 @@ class Method:
         return lines, run
 
     def loop(self, depth, loops):
-        slot, turns = 5 + loops, random.choice([0, 1, 3])
-        body, inner = self.statements(depth - 1, loops - 1, True)
+        slot, turns = self.kept - 1 + loops, random.choice([0, 1, 3])
+        body, inner = self.statements(depth - 1, loops - 1, ["Break", "Continue"])
         lines = [f"Local{slot} = 0", (f"While (Local{slot} < {turns})", [f"Local{slot}++"] + body)]
 
         def run(f):
@@ -287,6 +290,7 @@ class Method:
         return lines, run
 
     def statements(self, depth, loops, inside):
+        """Statements that nest no deeper, with loops no deeper, and with these words that leave what is around them."""
         lines, runs = [], []
         for _ in range(random.choice([1, 1, 2, 3])):
             kind = random.random()
@@ -297,7 +301,7 @@ class Method:
                 more, run = self.loop(depth, loops)
                 lines += more
             elif kind < 0.4 and inside:
-                word = random.choice(["Break", "Continue"])
+                word = random.choice(inside)
                 lines.append(word)
                 run = self.leaving(word, None)
             elif kind < 0.43 and depth < 3:
@@ -391,4 +395,5 @@ def main():
     print(f"{count} sources: the same bytes but for {crashed} on which ACPICA's compiler crashed, and the interpreter gives what the statements say")
 
 
-main()
+if __name__ == "__main__":
+    main()

@@ -7,7 +7,7 @@ use Rattle.acpi_state.specs.Objects.{MethodObject, ContainerObject, DataObject, 
 use Rattle.acpi_state.specs.FieldActs.{region_letters, field_letters}
 use Rattle.asl_tree.specs.FieldItems.{FieldItem, UnitItem, SkipItem, OffsetItem}
 use Rattle.asl_tree.specs.Names.{place_of, denoted}
-use Rattle.asl_tree.specs.Tree.{Tree, Use, Call, Apply, Buffer, Package, VarPackage, CondRefOf, Return, Name, Alias, External, Method, Mutex, Event, Container', Scope, Trees, no_trees, tree, count, OperationRegion, Field, IndexField, BankField, CreateField, UnitName, If, ElseIf, Else, While, Operated, Assigned, AssignedBy}
+use Rattle.asl_tree.specs.Tree.{Tree, Use, Call, Apply, Buffer, Package, VarPackage, CondRefOf, Return, Name, Alias, External, Method, Mutex, Event, Container', Scope, Trees, no_trees, tree, count, OperationRegion, Field, IndexField, BankField, CreateField, UnitName, If, ElseIf, Else, While, Operated, Assigned, AssignedBy, Switch, Case, Default}
 use Rattle.asl_meaning.specs.Declarations.{as_unit, as_buffer_field, As, Declarations, with_declared, scope_path, declare, calls, calls_all}
 use Rattle.asl_meaning.specs.Meaning.{spot_form}
 use Rattle.acpi_names.specs.Errors.{NameError, Asked, Anything, Whole, names, names_all, items_errors, cond_errors, use_errors, call_errors, declared_errors, scope_errors, unit_path}
@@ -29,6 +29,9 @@ undeclared (If test body) e scope d = absurd (grind arith)
 undeclared (ElseIf test body) e scope d = absurd (grind arith)
 undeclared (Else body) e scope d = absurd (grind arith)
 undeclared (While test body) e scope d = absurd (grind arith)
+undeclared (Switch value cases) e scope d = absurd (grind arith)
+undeclared (Case value body) e scope d = absurd (grind arith)
+undeclared (Default body) e scope d = absurd (grind arith)
 undeclared (OperationRegion at name space args) e scope d = absurd (grind arith)
 undeclared (Field here from region flags items) e scope d = absurd (grind arith)
 undeclared (IndexField here from index to register flags items) e scope d = absurd (grind arith)
@@ -98,6 +101,9 @@ module _ (whole : Whole) where
     value_errors asked (ElseIf test body) e scope d c = absurd (grind arith)
     value_errors asked (Else body) e scope d c = absurd (grind arith)
     value_errors asked (While test body) e scope d c = absurd (grind arith)
+    value_errors asked (Switch value cases) e scope d c = absurd (grind arith)
+    value_errors asked (Case value body) e scope d c = absurd (grind arith)
+    value_errors asked (Default body) e scope d c = absurd (grind arith)
     value_errors asked (OperationRegion at name space args) e scope d c = absurd (grind arith)
     value_errors asked (Field here from region flags items) e scope d c = absurd (grind arith)
     value_errors asked (IndexField here from index to register flags items) e scope d c = absurd (grind arith)
@@ -176,6 +182,11 @@ module _ (whole : Whole) where
     term_errors (Else body) e scope d = block_errors body e scope d
     term_errors (While test body) e scope d =
         errors_both (mentions true test scope) (block_mentions body scope d) d (names whole test scope d) (names_all whole body scope d) (quiet true test scope d) (value_errors true test (first_true (is_value test) (are_terms body) e) scope d d) (block_errors body (second_true (is_value test) (are_terms body) e) scope d)
+    term_errors (Switch value cases) e scope d =
+        errors_both (mentions true value scope) (block_mentions cases scope d) d (names whole value scope d) (names_all whole cases scope d) (quiet true value scope d) (value_errors true value (first_true (is_value value) (are_terms cases) e) scope d d) (block_errors cases (second_true (is_value value) (are_terms cases) e) scope d)
+    term_errors (Case value body) e scope d =
+        errors_both (mentions true value scope) (block_mentions body scope d) d (names whole value scope d) (names_all whole body scope d) (quiet true value scope d) (value_errors true value (first_true (is_value value) (are_terms body) e) scope d d) (block_errors body (second_true (is_value value) (are_terms body) e) scope d)
+    term_errors (Default body) e scope d = block_errors body e scope d
     term_errors (OperationRegion at name space args) e scope d =
         ap (λ es. declared_errors whole at name scope d ++ es) (operands_errors true Anything region_letters args e scope d (with_declared (place_of name scope) (As (RegionObject space 0 0)) d))
     term_errors (Field here from region flags items) e scope d = ap (λ es. use_errors whole from region scope ++ es) (items_same items scope d)
@@ -258,6 +269,9 @@ module _ (has : AbsolutePath → Bool) where
     value_calls asked (ElseIf test body) e scope d = absurd (grind arith)
     value_calls asked (Else body) e scope d = absurd (grind arith)
     value_calls asked (While test body) e scope d = absurd (grind arith)
+    value_calls asked (Switch value cases) e scope d = absurd (grind arith)
+    value_calls asked (Case value body) e scope d = absurd (grind arith)
+    value_calls asked (Default body) e scope d = absurd (grind arith)
     value_calls asked (OperationRegion at name space args) e scope d = absurd (grind arith)
     value_calls asked (Field here from region flags items) e scope d = absurd (grind arith)
     value_calls asked (IndexField here from index to register flags items) e scope d = absurd (grind arith)
@@ -320,6 +334,11 @@ module _ (has : AbsolutePath → Bool) where
     term_calls (Else body) e scope d = block_calls body e scope d
     term_calls (While test body) e scope d =
         calls_both (mentions true test scope) (block_mentions body scope d) (calls has test scope d) (calls_all has body scope d) (value_calls true test (first_true (is_value test) (are_terms body) e) scope d) (block_calls body (second_true (is_value test) (are_terms body) e) scope d)
+    term_calls (Switch value cases) e scope d =
+        calls_both (mentions true value scope) (block_mentions cases scope d) (calls has value scope d) (calls_all has cases scope d) (value_calls true value (first_true (is_value value) (are_terms cases) e) scope d) (block_calls cases (second_true (is_value value) (are_terms cases) e) scope d)
+    term_calls (Case value body) e scope d =
+        calls_both (mentions true value scope) (block_mentions body scope d) (calls has value scope d) (calls_all has body scope d) (value_calls true value (first_true (is_value value) (are_terms body) e) scope d) (block_calls body (second_true (is_value value) (are_terms body) e) scope d)
+    term_calls (Default body) e scope d = block_calls body e scope d
     term_calls (OperationRegion at name space args) e scope d = operands_calls true Anything region_letters args e scope d
     term_calls (Field here from region flags items) e scope d = no_items items scope
     term_calls (IndexField here from index to register flags items) e scope d = no_items items scope

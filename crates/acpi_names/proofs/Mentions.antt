@@ -6,7 +6,7 @@ use Rattle.acpi_values.specs.Operators.{Letter, Used, row_of}
 use Rattle.acpi_state.specs.FieldActs.{region_letters, field_letters}
 use Rattle.asl_tree.specs.FieldItems.{FieldItem, UnitItem, SkipItem, OffsetItem}
 use Rattle.asl_tree.specs.Names.{place_of}
-use Rattle.asl_tree.specs.Tree.{Tree, Use, Call, Apply, Buffer, Package, VarPackage, CondRefOf, Return, Name, Alias, External, Method, Mutex, Event, Container', Scope, Trees, no_trees, tree, OperationRegion, Field, IndexField, BankField, CreateField, UnitName, If, ElseIf, Else, While, Operated, Assigned, AssignedBy}
+use Rattle.asl_tree.specs.Tree.{Tree, Use, Call, Apply, Buffer, Package, VarPackage, CondRefOf, Return, Name, Alias, External, Method, Mutex, Event, Container', Scope, Trees, no_trees, tree, OperationRegion, Field, IndexField, BankField, CreateField, UnitName, If, ElseIf, Else, While, Operated, Assigned, AssignedBy, Switch, Case, Default}
 use Rattle.asl_meaning.specs.Declarations.{Declarations, scope_path, declare, declare_all, declare_items}
 use Rattle.acpi_names.specs.Errors.{Asked, Anything}
 use Rattle.acpi_names.specs.Mentions.{Mention, Declares, is_spot, is_use, asks, asked_use, letter_mention, cond_place, mentions, mentions_all, operand_mentions, target_mentions, element_mentions, item_mentions, term_mentions, block_mentions, after, after_all}
@@ -104,6 +104,11 @@ mutual
   after_term (Else body) scope d = after_block body scope d
   after_term (While test body) scope d =
       after_append (mentions true test scope) (block_mentions body scope d) d ∙ ap (after_all (block_mentions body scope d)) (quiet true test scope d) ∙ after_block body scope d
+  after_term (Switch value cases) scope d =
+      after_append (mentions true value scope) (block_mentions cases scope d) d ∙ ap (after_all (block_mentions cases scope d)) (quiet true value scope d) ∙ after_block cases scope d
+  after_term (Case value body) scope d =
+      after_append (mentions true value scope) (block_mentions body scope d) d ∙ ap (after_all (block_mentions body scope d)) (quiet true value scope d) ∙ after_block body scope d
+  after_term (Default body) scope d = after_block body scope d
   after_term (OperationRegion at name space args) scope d = quiet_operands true Anything region_letters args scope _
   after_term (Field here from region flags items) scope d = after_items items scope d
   after_term (IndexField here from index to register flags items) scope d = after_items items scope d

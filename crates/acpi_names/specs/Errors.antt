@@ -13,7 +13,7 @@ use Rattle.asl_meaning.specs.Declarations.{As, ExternalType, Declarations, nothi
 use Rattle.asl_meaning.specs.Meaning.{SpotForm, OfResult, OfInside, NoSpot, spot_form}
 use Rattle.acpi_state.specs.FieldActs.{region_letters, field_letters}
 use Rattle.asl_tree.specs.FieldItems.{FieldItem, UnitItem, SkipItem, OffsetItem}
-use Rattle.asl_tree.specs.Tree.{At, Tree, Use, Call, Apply, Buffer, Package, VarPackage, CondRefOf, Return, Name, Alias, External, Method, Mutex, Event, Container', Scope, Trees, no_trees, tree, count, OperationRegion, Field, IndexField, BankField, CreateField, UnitName, If, ElseIf, Else, While, Operated, Assigned, AssignedBy}
+use Rattle.asl_tree.specs.Tree.{At, Tree, Use, Call, Apply, Buffer, Package, VarPackage, CondRefOf, Return, Name, Alias, External, Method, Mutex, Event, Container', Scope, Trees, no_trees, tree, count, OperationRegion, Field, IndexField, BankField, CreateField, UnitName, If, ElseIf, Else, While, Operated, Assigned, AssignedBy, Switch, Case, Default}
 
 -- an error at a node, with the path that is declared or the name as it is written; a field over a space that is not
 -- built has no name
@@ -203,6 +203,9 @@ module _ (whole : Whole) where
     names (ElseIf test body) scope d = names test scope d ++ names_all body scope d
     names (Else body) scope d = names_all body scope d
     names (While test body) scope d = names test scope d ++ names_all body scope d
+    names (Switch value cases) scope d = names value scope d ++ names_all cases scope d
+    names (Case value body) scope d = names value scope d ++ names_all body scope d
+    names (Default body) scope d = names_all body scope d
     names (OperationRegion at name space args) scope d = declared_errors at name scope d ++ names_all args scope d
     names (Field here from region flags items) scope d = use_errors from region scope ++ items_errors items scope d
     names (IndexField here from index to register flags items) scope d =
@@ -273,6 +276,9 @@ module _ (whole : Whole) where
     types (ElseIf test body) scope = types test scope ++ types_all body scope
     types (Else body) scope = types_all body scope
     types (While test body) scope = types test scope ++ types_all body scope
+    types (Switch value cases) scope = types value scope ++ types_all cases scope
+    types (Case value body) scope = types value scope ++ types_all body scope
+    types (Default body) scope = types_all body scope
     types (OperationRegion at name space args) scope = operand_types Anything region_letters args scope
     types (Field here from region flags items) scope = asked_types (ARegion here) from region scope
     types (IndexField here from index to register flags items) scope = asked_types AUnit from index scope ++ asked_types AUnit to register scope

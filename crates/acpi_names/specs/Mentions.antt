@@ -10,7 +10,7 @@ use Rattle.acpi_state.specs.Outcomes.{choose}
 use Rattle.asl_tree.specs.declared.path.Path.{Path}
 use Rattle.asl_tree.specs.FieldItems.{FieldItem, UnitItem, SkipItem, OffsetItem}
 use Rattle.asl_tree.specs.Names.{place_of, denoted}
-use Rattle.asl_tree.specs.Tree.{At, Tree, Use, Call, Apply, Buffer, Package, VarPackage, CondRefOf, Return, Name, Alias, External, Method, Mutex, Event, Container', Scope, Trees, no_trees, tree, count, OperationRegion, Field, IndexField, BankField, CreateField, UnitName, If, ElseIf, Else, While, Operated, Assigned, AssignedBy}
+use Rattle.asl_tree.specs.Tree.{At, Tree, Use, Call, Apply, Buffer, Package, VarPackage, CondRefOf, Return, Name, Alias, External, Method, Mutex, Event, Container', Scope, Trees, no_trees, tree, count, OperationRegion, Field, IndexField, BankField, CreateField, UnitName, If, ElseIf, Else, While, Operated, Assigned, AssignedBy, Switch, Case, Default}
 use Rattle.asl_meaning.specs.Declarations.{Declared, As, AliasOf, ExternalType, Declarations, in_root, is_named, with_declared, with_external, scope_path, declare, as_unit, as_buffer_field}
 use Rattle.asl_meaning.specs.Meaning.{SpotForm, OfResult, OfInside, NoSpot, spot_form}
 use Rattle.acpi_state.specs.FieldActs.{region_letters, field_letters}
@@ -132,6 +132,9 @@ abbrev mutual
   term_mentions (ElseIf test body) scope d = mentions true test scope ++ block_mentions body scope d
   term_mentions (Else body) scope d = block_mentions body scope d
   term_mentions (While test body) scope d = mentions true test scope ++ block_mentions body scope d
+  term_mentions (Switch value cases) scope d = mentions true value scope ++ block_mentions cases scope d
+  term_mentions (Case value body) scope d = mentions true value scope ++ block_mentions body scope d
+  term_mentions (Default body) scope d = block_mentions body scope d
   term_mentions (OperationRegion at name space args) scope d = Declares at name (As (RegionObject space 0 0)) scope ∷ operand_mentions true Anything region_letters args scope
   term_mentions (Field here from region flags items) scope d = Used' (ARegion here) from region scope ∷ item_mentions items scope
   term_mentions (IndexField here from index to register flags items) scope d = Used' AUnit from index scope ∷ Used' AUnit to register scope ∷ item_mentions items scope

@@ -124,6 +124,9 @@ part_of (Op.Control Control.If) args body = fitting (are 1 args) P.Within
 part_of (Op.Control Control.ElseIf) args body = fitting (are 1 args) P.Within
 part_of (Op.Control Control.Else) args body = fitting (are 0 args) P.Within
 part_of (Op.Control Control.While) args body = fitting (are 1 args) P.Within
+part_of (Op.Control Control.Switch) args body = fitting (are 1 args) P.Within
+part_of (Op.Control Control.Case) args body = fitting (are 1 args) P.Within
+part_of (Op.Control Control.Default) args body = fitting (are 0 args) P.Within
 part_of (Op.Control Control.Return) args body = fitting (are 1 args && are 0 body) P.Returns
 part_of _ args body = P.Nothing
 

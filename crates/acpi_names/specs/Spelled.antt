@@ -6,7 +6,7 @@ use Rattle.asl_tree.specs.declared.path.Path.{Path}
 use Rattle.asl_tree.specs.Names.{place_of, denoted, spelled_name}
 use Rattle.asl_meaning.specs.Declarations.{ExternalType}
 use Rattle.acpi_names.specs.Shortest.{spelled_use, spelled_item}
-use Rattle.asl_tree.specs.Tree.{Tree, Use, Call, Apply, Buffer, Package, VarPackage, CondRefOf, Return, Name, Alias, External, Method, Container', Scope, Trees, no_trees, tree, OperationRegion, Field, IndexField, BankField, CreateField, If, ElseIf, Else, While, Operated, Assigned, AssignedBy}
+use Rattle.asl_tree.specs.Tree.{Tree, Use, Call, Apply, Buffer, Package, VarPackage, CondRefOf, Return, Name, Alias, External, Method, Container', Scope, Trees, no_trees, tree, OperationRegion, Field, IndexField, BankField, CreateField, If, ElseIf, Else, While, Operated, Assigned, AssignedBy, Switch, Case, Default}
 
 module _ (has : AbsolutePath → Bool) where
   -- the scope of a Scope's terms
@@ -38,6 +38,9 @@ module _ (shorten : Bool) (has : AbsolutePath → Bool) (says : AbsolutePath →
     spelled (ElseIf test body) scope = ElseIf (spelled test scope) (spelled_all body scope)
     spelled (Else body) scope = Else (spelled_all body scope)
     spelled (While test body) scope = While (spelled test scope) (spelled_all body scope)
+    spelled (Switch value cases) scope = Switch (spelled value scope) (spelled_all cases scope)
+    spelled (Case value body) scope = Case (spelled value scope) (spelled_all body scope)
+    spelled (Default body) scope = Default (spelled_all body scope)
     spelled (OperationRegion at name space args) scope = OperationRegion at name space (spelled_all args scope)
     spelled (Field here from region flags items) scope = Field here from (spelled_use has shorten region scope) flags items
     spelled (IndexField here from index to register flags items) scope =

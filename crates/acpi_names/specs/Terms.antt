@@ -1,6 +1,6 @@
 -- Where expressions stand and where terms: no term that declares, and no statement, stands inside an expression.
 use Rattle.std.specs.Prelude.{Bool, true, false, ◌&&◌}
-use Rattle.asl_tree.specs.Tree.{Tree, Call, Apply, Buffer, Package, VarPackage, CondRefOf, Return, Name, Alias, External, Method, Mutex, Event, Container', Scope, Trees, no_trees, tree, OperationRegion, Field, IndexField, BankField, CreateField, If, ElseIf, Else, While, Operated, Assigned, AssignedBy}
+use Rattle.asl_tree.specs.Tree.{Tree, Call, Apply, Buffer, Package, VarPackage, CondRefOf, Return, Name, Alias, External, Method, Mutex, Event, Container', Scope, Trees, no_trees, tree, OperationRegion, Field, IndexField, BankField, CreateField, If, ElseIf, Else, While, Operated, Assigned, AssignedBy, Switch, Case, Default}
 use Rattle.asl_meaning.specs.Meaning.{SpotForm, OfInside, spot_form}
 
 -- an operator that leads to the place which its operand refers to has no targets
@@ -32,6 +32,9 @@ abbrev mutual
   is_value (ElseIf test body) = false
   is_value (Else body) = false
   is_value (While test body) = false
+  is_value (Switch value cases) = false
+  is_value (Case value body) = false
+  is_value (Default body) = false
   is_value (OperationRegion at name space args) = false
   is_value (Field here from region flags items) = false
   is_value (IndexField here from index to register flags items) = false
@@ -58,6 +61,9 @@ abbrev mutual
   is_term (ElseIf test body) = is_value test && are_terms body
   is_term (Else body) = are_terms body
   is_term (While test body) = is_value test && are_terms body
+  is_term (Switch value cases) = is_value value && are_terms cases
+  is_term (Case value body) = is_value value && are_terms body
+  is_term (Default body) = are_terms body
   is_term (OperationRegion at name space args) = are_values args
   is_term (Field here from region flags items) = true
   is_term (IndexField here from index to register flags items) = true

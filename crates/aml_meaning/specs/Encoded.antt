@@ -6,7 +6,7 @@ use Rattle.acpi_values.specs.Integers.{wrapped}
 use Rattle.acpi_values.specs.Revisions.{width_of}
 use Rattle.asl_tree.specs.declared.term.Literal.{Literal}
 use Rattle.asl_tree.specs.FieldItems.{FieldItem, UnitItem, SkipItem, OffsetItem, behind_item}
-use Rattle.asl_tree.specs.Tree.{Tree, Integer, Constant, String, InSlot, Debug, Omitted, Raw, Use, Call, Apply, Buffer, Package, VarPackage, CondRefOf, Return, Name, Alias, External, Method, Mutex, Event, Container', Scope, Fill, Misshapen, Operated, Assigned, AssignedBy, Trees, no_trees, tree, UnitName, OperationRegion, Field, IndexField, BankField, CreateField, If, ElseIf, Else, While, Break, Continue, Item}
+use Rattle.asl_tree.specs.Tree.{Tree, Integer, Constant, String, InSlot, Debug, Omitted, Raw, Use, Call, Apply, Buffer, Package, VarPackage, CondRefOf, Return, Name, Alias, External, Method, Mutex, Event, Container', Scope, Fill, Misshapen, Operated, Assigned, AssignedBy, Trees, no_trees, tree, UnitName, OperationRegion, Field, IndexField, BankField, CreateField, If, ElseIf, Else, While, Break, Continue, Item, Switch, Case, Default}
 use Rattle.acpi_state.specs.Objects.{Container, ThermalZone, PowerResource, Processor}
 use Rattle.aml_meaning.specs.Codes.{Code, PlainCode, SlotCode, DebugCode, OmittedCode, StringCode, BufferCode, PackageCode, VarPackageCode, CondRefOfCode, NameCode, AliasCode, ScopeCode, MethodCode, ExternalCode, MutexCode, EventCode, ReturnCode, DeviceCode, ThermalZoneCode, PowerResourceCode, ProcessorCode, code_bytes, OperationRegionCode, FieldCode, IndexFieldCode, BankFieldCode, CreateFieldCode, IfCode, ElseCode, WhileCode, BreakCode, ContinueCode}
 use Rattle.aml_code.specs.Encoding.{bit_count_bytes, packed, integer_bytes, name_bytes}
@@ -101,6 +101,9 @@ abbrev mutual
   encoded width short (Assigned target value) = []
   encoded width short (AssignedBy op target value) = []
   encoded width short (ElseIf test body) = []
+  encoded width short (Switch value cases) = []
+  encoded width short (Case value body) = []
+  encoded width short (Default body) = []
   encoded width short Misshapen = []
 
   pub encoded_all : Width → Bool → Trees → List ℕ

@@ -27,7 +27,7 @@ use Rattle.acpi_state.specs.Forms.{buffer_of, package_of, slot_here, if_data, co
 use Rattle.acpi_state.proofs.Readings.{Any, EndsExpression, same_stop}
 use Rattle.asl_tree.specs.Names.{is_known, place_of, denoted}
 use Rattle.asl_tree.specs.declared.term.Literal.{Literal}
-use Rattle.asl_tree.specs.Tree.{Tree, Integer, Constant, String, InSlot, Debug, Omitted, Raw, Use, Call, Apply, Buffer, Package, VarPackage, CondRefOf, Return, Name, Alias, External, Method, Mutex, Event, Container', Scope, Fill, Misshapen, Operated, Assigned, AssignedBy, Trees, no_trees, tree, count, OperationRegion, Field, IndexField, BankField, CreateField, If, ElseIf, Else, While, Break, Continue, Item}
+use Rattle.asl_tree.specs.Tree.{Tree, Integer, Constant, String, InSlot, Debug, Omitted, Raw, Use, Call, Apply, Buffer, Package, VarPackage, CondRefOf, Return, Name, Alias, External, Method, Mutex, Event, Container', Scope, Fill, Misshapen, Operated, Assigned, AssignedBy, Trees, no_trees, tree, count, OperationRegion, Field, IndexField, BankField, CreateField, If, ElseIf, Else, While, Break, Continue, Item, Switch, Case, Default}
 use Rattle.asl_meaning.specs.Meaning as S
 use Rattle.asl_meaning.specs.Meaning.{SourceRun, spot_form}
 use Rattle.asl_tree.specs.declared.path.Path.{Path}
@@ -146,6 +146,9 @@ module _ (given : Setting) where
   encoded_some (Assigned target value) scope ready = absurd ready
   encoded_some (AssignedBy op target value) scope ready = absurd ready
   encoded_some (ElseIf test body) scope ready = absurd ready
+  encoded_some (Switch value cases) scope ready = absurd ready
+  encoded_some (Case value body) scope ready = absurd ready
+  encoded_some (Default body) scope ready = absurd ready
   encoded_some Misshapen scope ready = absurd ready
 
   element_some : (t : Tree) (scope : AbsolutePath) → ElementReady given.known t (Ready t scope) → 1 ≤ length (E t)
@@ -223,6 +226,9 @@ module _ (given : Setting) where
   agree_place (Assigned target value) scope rest e ready = absurd ready
   agree_place (AssignedBy op target value) scope rest e ready = absurd ready
   agree_place (ElseIf test body) scope rest e ready = absurd ready
+  agree_place (Switch value cases) scope rest e ready = absurd ready
+  agree_place (Case value body) scope rest e ready = absurd ready
+  agree_place (Default body) scope rest e ready = absurd ready
   agree_place Misshapen scope rest e ready = absurd ready
 
   -- an operand as its letter asks
@@ -610,6 +616,9 @@ module _ (given : Setting) (turns : ℕ) (call : AbsolutePath → List Value →
     agree_run (Assigned target value) scope due (suc n) rest ready le fits = absurd ready
     agree_run (AssignedBy op target value) scope due (suc n) rest ready le fits = absurd ready
     agree_run (ElseIf test body) scope due (suc n) rest ready le fits = absurd ready
+    agree_run (Switch value cases) scope due (suc n) rest ready le fits = absurd ready
+    agree_run (Case value body) scope due (suc n) rest ready le fits = absurd ready
+    agree_run (Default body) scope due (suc n) rest ready le fits = absurd ready
     agree_run Misshapen scope due (suc n) rest ready le fits = absurd ready
 
     -- a term that stands for a place

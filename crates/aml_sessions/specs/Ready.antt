@@ -11,7 +11,7 @@ use Rattle.asl_meaning.specs.Meaning.{SpotForm, OfResult, OfInside, NoSpot, spot
 use Rattle.acpi_state.specs.FieldUnits.{OfOtherTable, OverItsOwn}
 use Rattle.acpi_state.specs.FieldActs.{region_letters, field_letters}
 use Rattle.asl_tree.specs.FieldItems.{FieldItem, UnitItem, SkipItem, OffsetItem, behind_item}
-use Rattle.asl_tree.specs.Tree.{Tree, Integer, Constant, String, InSlot, Debug, Omitted, Raw, Use, Call, Apply, Buffer, Package, VarPackage, CondRefOf, Return, Name, Alias, External, Method, Mutex, Event, Container', Scope, Fill, Misshapen, Operated, Assigned, AssignedBy, Trees, no_trees, tree, count, OperationRegion, Field, IndexField, BankField, CreateField, UnitName, If, ElseIf, Else, While, Break, Continue, Item}
+use Rattle.asl_tree.specs.Tree.{Tree, Integer, Constant, String, InSlot, Debug, Omitted, Raw, Use, Call, Apply, Buffer, Package, VarPackage, CondRefOf, Return, Name, Alias, External, Method, Mutex, Event, Container', Scope, Fill, Misshapen, Operated, Assigned, AssignedBy, Trees, no_trees, tree, count, OperationRegion, Field, IndexField, BankField, CreateField, UnitName, If, ElseIf, Else, While, Break, Continue, Item, Switch, Case, Default}
 use Rattle.asl_tree.specs.View.{trees_of}
 use Rattle.aml_code.specs.Fronts.{IsName, IsUsedName, is_segment}
 use Rattle.aml_meaning.specs.Codes.{HasOwnCode, IsSlot}
@@ -47,6 +47,9 @@ is_expression (CreateField form args at name) = false
 is_expression (Item item) = false
 is_expression (Fill bytes) = false
 is_expression (ElseIf test body) = false
+is_expression (Switch value cases) = false
+is_expression (Case value body) = false
+is_expression (Default body) = false
 is_expression Misshapen = false
 is_expression _ = true
 
@@ -209,6 +212,9 @@ module _ (known : Known) where
     IsReady (Assigned target value) scope = ⊥
     IsReady (AssignedBy op target value) scope = ⊥
     IsReady (ElseIf test body) scope = ⊥
+    IsReady (Switch value cases) scope = ⊥
+    IsReady (Case value body) scope = ⊥
+    IsReady (Default body) scope = ⊥
     IsReady Misshapen scope = ⊥
 
     -- a term that stands for a place, or a target that is left out

@@ -142,6 +142,9 @@ form_holds here (Op.Declaration Declaration.CreateQWordField) (tree source (tree
 form_holds here (Op.Control Control.Return) (tree value no_trees) no_trees h = refl
 form_holds here (Op.Control Control.If) (tree test no_trees) body h = absurd (grind arith)
 form_holds here (Op.Control Control.ElseIf) (tree test no_trees) body h = refl
+form_holds here (Op.Control Control.Switch) (tree value no_trees) cases h = refl
+form_holds here (Op.Control Control.Case) (tree value no_trees) body h = refl
+form_holds here (Op.Control Control.Default) no_trees body h = refl
 form_holds here (Op.Control Control.Else) no_trees body h = absurd (grind arith)
 form_holds here (Op.Control Control.While) (tree test no_trees) body h = absurd (grind arith)
 form_holds here (Op.Control Control.Break) no_trees no_trees h = refl

@@ -24,7 +24,7 @@ use Rattle.asl_tree.specs.Names.{Known, place_of}
 use Rattle.asl_meaning.specs.Starts.{IsKnownStart}
 use Rattle.asl_meaning.specs.Meaning.{SpotForm, OfResult, OfInside, NoSpot, spot_form}
 use Rattle.asl_tree.specs.FieldItems.{FieldItem}
-use Rattle.asl_tree.specs.Tree.{At, Tree, Integer, InSlot, Debug, Omitted, Raw, Use, Call, Apply, Buffer, Package, VarPackage, CondRefOf, Return, Name, Alias, External, Method, Mutex, Event, Container', Scope, Fill, Misshapen, Trees, no_trees, tree, count, If, ElseIf, Else, While, Item, OperationRegion, Field, IndexField, BankField, CreateField, UnitName, Operated, Assigned, AssignedBy}
+use Rattle.asl_tree.specs.Tree.{At, Tree, Integer, InSlot, Debug, Omitted, Raw, Use, Call, Apply, Buffer, Package, VarPackage, CondRefOf, Return, Name, Alias, External, Method, Mutex, Event, Container', Scope, Fill, Misshapen, Trees, no_trees, tree, count, If, ElseIf, Else, While, Item, OperationRegion, Field, IndexField, BankField, CreateField, UnitName, Operated, Assigned, AssignedBy, Switch, Case, Default}
 use Rattle.asl_tree.specs.View.{buffer, packaged, items_in, form, tree_of, row_trees, trees_of}
 use Rattle.aml_code.specs.Encoding.{name_bytes}
 use Rattle.aml_meaning.specs.Encoded.{encoded, encoded_all}
@@ -112,6 +112,9 @@ module _ (known : Known) where
     ready_whole (Assigned target value) scope h = absurd h
     ready_whole (AssignedBy op target value) scope h = absurd h
     ready_whole (ElseIf test body) scope h = absurd h
+    ready_whole (Switch value cases) scope h = absurd h
+    ready_whole (Case value body) scope h = absurd h
+    ready_whole (Default body) scope h = absurd h
     ready_whole _ scope h = tt
 
     spot_whole : (t : Tree) (scope : AbsolutePath) → IsSpot known t scope → IsWhole t
@@ -204,6 +207,9 @@ form_whole here (Op.Declaration Declaration.CreateQWordField) (tree source (tree
 form_whole here (Op.Control Control.Return) (tree value no_trees) no_trees h = ((h, tt), tt)
 form_whole here (Op.Control Control.If) (tree test no_trees) body h = ((h.0, tt), h.1)
 form_whole here (Op.Control Control.ElseIf) (tree test no_trees) body h = absurd h
+form_whole here (Op.Control Control.Switch) (tree value no_trees) cases h = absurd h
+form_whole here (Op.Control Control.Case) (tree value no_trees) body h = absurd h
+form_whole here (Op.Control Control.Default) no_trees body h = absurd h
 form_whole here (Op.Control Control.Else) no_trees body h = (tt, h)
 form_whole here (Op.Control Control.While) (tree test no_trees) body h = ((h.0, tt), h.1)
 form_whole here (Op.Control Control.Break) no_trees no_trees h = (tt, tt)

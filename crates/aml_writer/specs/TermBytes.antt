@@ -93,7 +93,7 @@ module _ (style : IntegerStyle) where
     pub term_bytes : Term → List ℕ
     term_bytes (D.Integer number) = number_bytes number
     term_bytes (D.Text text) = code_bytes StringCode ++ (text ++ 0x00 ∷ [])
-    term_bytes (D.Fill bytes) = []
+    term_bytes (D.Fill bytes named) = []
     term_bytes (D.Word word) = number_bytes (word_number word)
     term_bytes (D.Local index) = ((0x60 + index) % 256) ∷ []
     term_bytes (D.Arg index) = ((0x68 + index) % 256) ∷ []

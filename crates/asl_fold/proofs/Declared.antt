@@ -6,7 +6,7 @@ use Rattle.acpi_values.specs.Paths.{AbsolutePath}
 use Rattle.acpi_state.specs.Objects.{MethodObject, ContainerObject, root_objects}
 use Rattle.asl_meaning.specs.Declarations.{As, Declarations, nothing_declared, is_named, scope_path, with_declared, declare, declare_all, declarations, calls, calls_all, called, declared_kinds, external_names, as_known, externals, known_of}
 use Rattle.asl_tree.specs.Names.{place_of, denoted}
-use Rattle.asl_tree.specs.Tree.{Tree, Integer, Constant, Omitted, Call, Apply, Buffer, Package, VarPackage, CondRefOf, Return, Name, Method, Container', Scope, If, ElseIf, Else, While, OperationRegion, BankField, CreateField, Operated, Assigned, AssignedBy, Trees, no_trees, tree, count}
+use Rattle.asl_tree.specs.Tree.{Tree, Integer, Constant, Omitted, Call, Apply, Buffer, Package, VarPackage, CondRefOf, Return, Name, Method, Container', Scope, If, ElseIf, Else, While, OperationRegion, BankField, CreateField, Operated, Assigned, AssignedBy, Trees, no_trees, tree, count, Switch, Case, Default}
 use Rattle.acpi_names.specs.Errors.{whole_of}
 use Rattle.acpi_names.proofs.Mentions.{right_nil}
 use Rattle.asl_fold.specs.Folds.{reduced, sized, folded, folded_args, folded_all}
@@ -34,6 +34,9 @@ module _ (width : Width) where
     folded_declares statement (ElseIf test body) scope d = all_declare body scope d
     folded_declares statement (Else body) scope d = all_declare body scope d
     folded_declares statement (While test body) scope d = all_declare body scope d
+    folded_declares statement (Switch value cases) scope d = all_declare cases scope d
+    folded_declares statement (Case value body) scope d = all_declare body scope d
+    folded_declares statement (Default body) scope d = all_declare body scope d
     folded_declares statement _ scope d = refl
 
     pub all_declare : (ts : Trees) (scope : AbsolutePath) (d : Declarations) → declare_all (folded_all width ts) scope d ≡ declare_all ts scope d
@@ -91,6 +94,11 @@ module _ (width : Width) where
       folded_calls statement (Else body) scope d = all_call body scope d
       folded_calls statement (While test body) scope d =
           both (calls has (folded width false test) scope d) (calls_all has (folded_all width body) scope d) (calls has test scope d) (calls_all has body scope d) (folded_calls false test scope d) (all_call body scope d)
+      folded_calls statement (Switch value cases) scope d =
+          both (calls has (folded width false value) scope d) (calls_all has (folded_all width cases) scope d) (calls has value scope d) (calls_all has cases scope d) (folded_calls false value scope d) (all_call cases scope d)
+      folded_calls statement (Case value body) scope d =
+          both (calls has (folded width false value) scope d) (calls_all has (folded_all width body) scope d) (calls has value scope d) (calls_all has body scope d) (folded_calls false value scope d) (all_call body scope d)
+      folded_calls statement (Default body) scope d = all_call body scope d
       folded_calls statement (OperationRegion at name space args) scope d = args_call args scope d
       folded_calls statement (BankField here from region to bank value flags items) scope d = folded_calls false value scope d
       folded_calls statement (CreateField form args at name) scope d = args_call args scope d

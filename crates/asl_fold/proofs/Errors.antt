@@ -11,7 +11,7 @@ use Rattle.acpi_state.specs.Outcomes.{choose}
 use Rattle.asl_meaning.specs.Declarations.{As, Declarations, nothing_declared, is_named, scope_path, with_declared, declare}
 use Rattle.asl_meaning.specs.Meaning.{spot_form}
 use Rattle.asl_tree.specs.Names.{place_of, denoted}
-use Rattle.asl_tree.specs.Tree.{Tree, Integer, Constant, Omitted, Call, Apply, Buffer, Package, VarPackage, CondRefOf, Return, Name, Method, Container', Scope, If, ElseIf, Else, While, OperationRegion, BankField, CreateField, Operated, Assigned, AssignedBy, Trees, no_trees, tree, count}
+use Rattle.asl_tree.specs.Tree.{Tree, Integer, Constant, Omitted, Call, Apply, Buffer, Package, VarPackage, CondRefOf, Return, Name, Method, Container', Scope, If, ElseIf, Else, While, OperationRegion, BankField, CreateField, Operated, Assigned, AssignedBy, Trees, no_trees, tree, count, Switch, Case, Default}
 use Rattle.acpi_names.specs.Errors.{NameError, Asked, Anything, AUnit, ARegion, Whole, whole_of, asked_by, use_errors, call_errors, declared_errors, scope_errors, items_errors, cond_errors, names, names_all, asked_types, used_types, letter_types, spot_form_types, element_types, types, spot_types, first_types, operand_types, spot_types_all, element_types_all, types_all, unless, takes, name_end, WrongCount, name_errors, type_errors}
 use Rattle.acpi_names.proofs.Mentions.{right_nil}
 use Rattle.asl_fold.specs.Folds.{reduced, sized, folded, folded_args, folded_all}
@@ -87,6 +87,9 @@ module _ (width : Width) (whole : Whole) where
     folded_names statement (ElseIf test body) scope d = both (N (F test) scope d) (Ns (folded_all width body) scope d) (N test scope d) (Ns body scope d) (folded_names false test scope d) (all_named body scope d)
     folded_names statement (Else body) scope d = all_named body scope d
     folded_names statement (While test body) scope d = both (N (F test) scope d) (Ns (folded_all width body) scope d) (N test scope d) (Ns body scope d) (folded_names false test scope d) (all_named body scope d)
+    folded_names statement (Switch value cases) scope d = both (N (F value) scope d) (Ns (folded_all width cases) scope d) (N value scope d) (Ns cases scope d) (folded_names false value scope d) (all_named cases scope d)
+    folded_names statement (Case value body) scope d = both (N (F value) scope d) (Ns (folded_all width body) scope d) (N value scope d) (Ns body scope d) (folded_names false value scope d) (all_named body scope d)
+    folded_names statement (Default body) scope d = all_named body scope d
     folded_names statement (OperationRegion at name space args) scope d = ap (λ es. declared_errors whole at name scope d ++ es) (args_named args scope d)
     folded_names statement (BankField here from region to bank value flags items) scope d =
         ap (λ es. use_errors whole from region scope ++ (use_errors whole to bank scope ++ (es ++ items_errors whole items scope d))) (folded_names false value scope d)
@@ -187,6 +190,9 @@ module _ (width : Width) (whole : Whole) where
     folded_types statement (ElseIf test body) scope = both (T (F test) scope) (types_all whole (folded_all width body) scope) (T test scope) (types_all whole body scope) (folded_types false test scope) (all_typed body scope)
     folded_types statement (Else body) scope = all_typed body scope
     folded_types statement (While test body) scope = both (T (F test) scope) (types_all whole (folded_all width body) scope) (T test scope) (types_all whole body scope) (folded_types false test scope) (all_typed body scope)
+    folded_types statement (Switch value cases) scope = both (T (F value) scope) (types_all whole (folded_all width cases) scope) (T value scope) (types_all whole cases scope) (folded_types false value scope) (all_typed cases scope)
+    folded_types statement (Case value body) scope = both (T (F value) scope) (types_all whole (folded_all width body) scope) (T value scope) (types_all whole body scope) (folded_types false value scope) (all_typed body scope)
+    folded_types statement (Default body) scope = all_typed body scope
     folded_types statement (OperationRegion at name space args) scope = operands_typed Anything region_letters args scope
     folded_types statement (BankField here from region to bank value flags items) scope =
         ap (λ es. asked_types whole (ARegion here) from region scope ++ (asked_types whole AUnit to bank scope ++ es)) (folded_types false value scope)

@@ -7,9 +7,9 @@ use Rattle.acpi_values.specs.Operators as L
 use Rattle.acpi_state.specs.FieldActs.{region_letters, field_letters}
 use Rattle.asl_meaning.specs.Meaning.{SpotForm, OfResult, OfInside, NoSpot, spot_form}
 use Rattle.asl_tree.specs.FieldItems.{FieldItem}
-use Rattle.asl_tree.specs.Tree.{Tree, Integer, Constant, String, Raw, Use, Call, Apply, Buffer, Package, VarPackage, CondRefOf, Return, Name, Method, Container', Scope, If, ElseIf, Else, While, OperationRegion, BankField, CreateField, UnitName, Operated, Assigned, AssignedBy, Trees, no_trees, tree, count}
+use Rattle.asl_tree.specs.Tree.{Tree, Integer, Constant, String, Raw, Use, Call, Apply, Buffer, Package, VarPackage, CondRefOf, Return, Name, Method, Container', Scope, If, ElseIf, Else, While, OperationRegion, BankField, CreateField, UnitName, Operated, Assigned, AssignedBy, Trees, no_trees, tree, count, Switch, Case, Default}
 use Rattle.aml_sessions.specs.Ready.{is_expression, RawReady, SpotReady, AreItems}
-use Rattle.named_sessions.specs.Shaped.{UsedShaped, LetterShaped, ElementShaped, IsFormed, IsFormedSpot, IsFormedAlone, AreFormedOperands, AreFormedSpots, AreFormedValues, AreFormedElements, AreFormed, AreShaped}
+use Rattle.named_sessions.specs.Shaped.{UsedShaped, LetterShaped, ElementShaped, IsFormed, IsFormedSpot, IsFormedAlone, AreFormedOperands, AreFormedSpots, AreFormedValues, AreFormedElements, AreFormed, AreFormedCases, AreShaped, IsNumber, IsCaseMember, AreCaseMembers, HaveCaseMembers, IsCaseValue, StartsNoElse, IsFollowed}
 use Rattle.asl_fold.specs.Folds.{reduced, sized, folded, folded_args, folded_all}
 use Rattle.asl_fold.proofs.Values.{reduced_other, sized_other, sized_as, reduced_as, Targets, NoTarget, OneTarget, LastTarget}
 use Rattle.asl_fold.proofs.Declared.{count_args}
@@ -22,8 +22,8 @@ spot_by OfResult R I R' I' r i h = r h
 spot_by OfInside R I R' I' r i h = i h
 spot_by NoSpot R I R' I' r i h = h
 
--- whatever is asked of the lists of fields, and whether symbols may stand there or not
-module _ (width : Width) (Listed : List (FieldItem UnitName) → Type 0) (Symbols : Type 0) where
+-- whatever is asked of the lists of fields, and whether symbols and Switches may stand there or not
+module _ (width : Width) (Listed : List (FieldItem UnitName) → Type 0) (Symbols Switches : Type 0) where
   abbrev F : Tree → Tree
   F = folded width false
 
@@ -31,16 +31,16 @@ module _ (width : Width) (Listed : List (FieldItem UnitName) → Type 0) (Symbol
   Fs = folded_args width
 
   abbrev Formed : Tree → Type 0
-  Formed = IsFormed Listed Symbols
+  Formed = IsFormed Listed Symbols Switches
 
   abbrev Spot : Tree → Type 0
-  Spot = IsFormedSpot Listed Symbols
+  Spot = IsFormedSpot Listed Symbols Switches
 
   abbrev Spots : Trees → Type 0
-  Spots = AreFormedSpots Listed Symbols
+  Spots = AreFormedSpots Listed Symbols Switches
 
   abbrev Operands : List Letter → Trees → Type 0
-  Operands = AreFormedOperands Listed Symbols
+  Operands = AreFormedOperands Listed Symbols Switches
 
   abbrev Value : Tree → Type 0
   Value t = (is_expression t ≡ true) × Formed t
@@ -73,6 +73,48 @@ module _ (width : Width) (Listed : List (FieldItem UnitName) → Type 0) (Symbol
   target_spot _ _ (OneTarget t) h = h.0
   target_spot _ _ (LastTarget t) h = h.1.0
 
+  -- what stands behind a Switch
+  starts_no_else : (ts : Trees) → StartsNoElse ts → StartsNoElse (folded_all width ts)
+  starts_no_else no_trees h = tt
+  starts_no_else (tree (Else body) ts) h = absurd h
+  starts_no_else (tree (ElseIf test body) ts) h = absurd h
+  starts_no_else (tree (Apply op args targets) ts) h = reduced_other (λ t. StartsNoElse (tree t (folded_all width ts))) (λ op args targets. tt) (λ n. tt) width true op (Fs args) (Fs targets)
+  starts_no_else (tree (VarPackage size elements) ts) h = sized_other (λ t. StartsNoElse (tree t (folded_all width ts))) (λ n es. tt) (λ n es. tt) (F size) (Fs elements)
+  starts_no_else (tree _ ts) h = tt
+
+  folded_followed : (t : Tree) (ts : Trees) → IsFollowed t ts → IsFollowed (folded width true t) (folded_all width ts)
+  folded_followed (Switch value cases) ts h = starts_no_else ts h
+  folded_followed (Apply op args targets) ts h = reduced_other (λ t. IsFollowed t (folded_all width ts)) (λ op args targets. tt) (λ n. tt) width true op (Fs args) (Fs targets)
+  folded_followed (VarPackage size elements) ts h = sized_other (λ t. IsFollowed t (folded_all width ts)) (λ n es. tt) (λ n es. tt) (F size) (Fs elements)
+  folded_followed _ ts h = tt
+
+  -- what a Case compares with; its size stays a number
+  number_formed : (t : Tree) → IsNumber t → IsNumber (F t)
+  number_formed (Integer n) h = h
+  number_formed _ h = absurd h
+
+  member_formed : (t : Tree) → IsCaseMember t → IsCaseMember (F t)
+  member_formed (Integer n) h = h
+  member_formed (String text) h = h
+  member_formed (Buffer size bytes) h = number_formed size h
+  member_formed _ h = absurd h
+
+  members_formed : (ts : Trees) → AreCaseMembers ts → AreCaseMembers (Fs ts)
+  members_formed no_trees h = tt
+  members_formed (tree t ts) h = (member_formed t h.0, members_formed ts h.1)
+
+  some_formed : (ts : Trees) → HaveCaseMembers ts → HaveCaseMembers (Fs ts)
+  some_formed no_trees h = h
+  some_formed (tree t ts) h = members_formed (tree t ts) h
+
+  case_formed : (t : Tree) → IsCaseValue t → IsCaseValue (F t)
+  case_formed (Package n members) h = some_formed members h
+  case_formed (VarPackage size members) h = sized_as IsCaseValue (F size) (Fs members) (λ n e lt. some_formed members h.1) (number_formed size h.0, some_formed members h.1)
+  case_formed (Integer n) h = h
+  case_formed (String text) h = h
+  case_formed (Buffer size bytes) h = number_formed size h
+  case_formed _ h = absurd h
+
   -- what an operator becomes
   reduced_formed : (statement : Bool) (op : Plain) (args targets : Trees) → Formed (Apply op args targets) → Formed (reduced width statement op args targets)
   reduced_formed statement op args targets h =
@@ -82,12 +124,12 @@ module _ (width : Width) (Listed : List (FieldItem UnitName) → Type 0) (Symbol
   sized_formed size elements h = sized_as Formed size elements (λ n e lt. (lt, h.2)) h
 
   ready_spot : (op : Plain) (args targets : Trees) → (Operands (row_of op).operands args → Operands (row_of op).operands (Fs args)) → (Spots targets → Spots (Fs targets))
-      → (IsFormedAlone Listed Symbols args targets → IsFormedAlone Listed Symbols (Fs args) (Fs targets))
-      → SpotReady (spot_form op) (Operands (row_of op).operands args × (count targets ≡ (row_of op).targets) × Spots targets) (IsFormedAlone Listed Symbols args targets)
-      → SpotReady (spot_form op) (Operands (row_of op).operands (Fs args) × (count (Fs targets) ≡ (row_of op).targets) × Spots (Fs targets)) (IsFormedAlone Listed Symbols (Fs args) (Fs targets))
+      → (IsFormedAlone Listed Symbols Switches args targets → IsFormedAlone Listed Symbols Switches (Fs args) (Fs targets))
+      → SpotReady (spot_form op) (Operands (row_of op).operands args × (count targets ≡ (row_of op).targets) × Spots targets) (IsFormedAlone Listed Symbols Switches args targets)
+      → SpotReady (spot_form op) (Operands (row_of op).operands (Fs args) × (count (Fs targets) ≡ (row_of op).targets) × Spots (Fs targets)) (IsFormedAlone Listed Symbols Switches (Fs args) (Fs targets))
   ready_spot op args targets operands spots alone h =
-      spot_by (spot_form op) (Operands (row_of op).operands args × (count targets ≡ (row_of op).targets) × Spots targets) (IsFormedAlone Listed Symbols args targets)
-      (Operands (row_of op).operands (Fs args) × (count (Fs targets) ≡ (row_of op).targets) × Spots (Fs targets)) (IsFormedAlone Listed Symbols (Fs args) (Fs targets))
+      spot_by (spot_form op) (Operands (row_of op).operands args × (count targets ≡ (row_of op).targets) × Spots targets) (IsFormedAlone Listed Symbols Switches args targets)
+      (Operands (row_of op).operands (Fs args) × (count (Fs targets) ≡ (row_of op).targets) × Spots (Fs targets)) (IsFormedAlone Listed Symbols Switches (Fs args) (Fs targets))
       (λ r. (operands r.0, count_args width targets ∙ r.1, spots r.2)) alone h
 
   mutual
@@ -109,6 +151,9 @@ module _ (width : Width) (Listed : List (FieldItem UnitName) → Type 0) (Symbol
     formed statement (Scope here at name body) h = (h.0, all_formed body h.1)
     formed statement (If test body) h = (expression_same test ∙ h.0, formed false test h.1, all_formed body h.2)
     formed statement (ElseIf test body) h = (h.0, expression_same test ∙ h.1, formed false test h.2, all_formed body h.3)
+    formed statement (Switch value cases) h = (h.0, expression_same value ∙ h.1, formed false value h.2, cases_formed cases h.3)
+    formed statement (Case value body) h = absurd h
+    formed statement (Default body) h = absurd h
     formed statement (Else body) h = all_formed body h
     formed statement (While test body) h = (expression_same test ∙ h.0, formed false test h.1, all_formed body h.2)
     formed statement (OperationRegion at name space args) h = (h.0, h.1, operands_formed region_letters args h.2)
@@ -125,7 +170,7 @@ module _ (width : Width) (Listed : List (FieldItem UnitName) → Type 0) (Symbol
     spot_formed (VarPackage size elements) h = absurd h
     spot_formed _ h = h
 
-    alone_formed : (args targets : Trees) → IsFormedAlone Listed Symbols args targets → IsFormedAlone Listed Symbols (Fs args) (Fs targets)
+    alone_formed : (args targets : Trees) → IsFormedAlone Listed Symbols Switches args targets → IsFormedAlone Listed Symbols Switches (Fs args) (Fs targets)
     alone_formed (tree t no_trees) no_trees h = value_of t (λ k. formed false t k) h
     alone_formed no_trees targets h = absurd h
     alone_formed (tree t no_trees) (tree u us) h = absurd h
@@ -141,7 +186,7 @@ module _ (width : Width) (Listed : List (FieldItem UnitName) → Type 0) (Symbol
     spots_formed no_trees h = tt
     spots_formed (tree t ts) h = (spot_formed t h.0, spots_formed ts h.1)
 
-    values_formed : (ts : Trees) → AreFormedValues Listed Symbols ts → AreFormedValues Listed Symbols (Fs ts)
+    values_formed : (ts : Trees) → AreFormedValues Listed Symbols Switches ts → AreFormedValues Listed Symbols Switches (Fs ts)
     values_formed no_trees h = tt
     values_formed (tree t ts) h = (expression_same t ∙ h.0, formed false t h.1, values_formed ts h.2)
 
@@ -153,18 +198,28 @@ module _ (width : Width) (Listed : List (FieldItem UnitName) → Type 0) (Symbol
     element_formed (Buffer size bytes) h = (refl, value_of size (λ k. formed false size k) h.1)
     element_formed (Package n elements) h = (refl, (h.1.0, elements_formed elements h.1.1))
     element_formed (VarPackage size elements) h =
-        let all : (is_expression (F size) ≡ true) × Formed (F size) × AreFormedElements Listed Symbols (Fs elements) = (expression_same size ∙ h.1.0, formed false size h.1.1, elements_formed elements h.1.2) in
+        let all : (is_expression (F size) ≡ true) × Formed (F size) × AreFormedElements Listed Symbols Switches (Fs elements) = (expression_same size ∙ h.1.0, formed false size h.1.1, elements_formed elements h.1.2) in
         sized_as (λ t. ElementShaped t (Formed t)) (F size) (Fs elements) (λ n e lt. (refl, (lt, all.2))) (refl, all)
     element_formed _ h = never h.0
 
-    elements_formed : (ts : Trees) → AreFormedElements Listed Symbols ts → AreFormedElements Listed Symbols (Fs ts)
+    elements_formed : (ts : Trees) → AreFormedElements Listed Symbols Switches ts → AreFormedElements Listed Symbols Switches (Fs ts)
     elements_formed no_trees h = tt
     elements_formed (tree t ts) h = (element_formed t h.0, elements_formed ts h.1)
 
-    pub all_formed : (ts : Trees) → AreFormed Listed Symbols ts → AreFormed Listed Symbols (folded_all width ts)
+    pub all_formed : (ts : Trees) → AreFormed Listed Symbols Switches ts → AreFormed Listed Symbols Switches (folded_all width ts)
     all_formed no_trees h = tt
-    all_formed (tree t ts) h = (formed true t h.0, all_formed ts h.1)
+    all_formed (tree t ts) h = (formed true t h.0, folded_followed t ts h.1, all_formed ts h.2)
 
--- what may be written is so with its constants folded: a constant may be a statement
+    cases_formed : (ts : Trees) → AreFormedCases Listed Symbols Switches ts → AreFormedCases Listed Symbols Switches (folded_all width ts)
+    cases_formed no_trees h = tt
+    cases_formed (tree (Case value body) ts) h = (case_formed value h.0, all_formed body h.1, cases_formed ts h.2)
+    cases_formed (tree (Default body) no_trees) h = all_formed body h
+    cases_formed (tree _ _) h = absurd h
+
+-- what is formed is so with its constants folded: a constant may be a statement
+pub kept_formed : (Listed : List (FieldItem UnitName) → Type 0) (Symbols Switches : Type 0) (width : Width) (terms : Trees) → AreFormed Listed Symbols Switches terms → AreFormed Listed Symbols Switches (folded_all width terms)
+kept_formed Listed Symbols Switches width terms h = all_formed width Listed Symbols Switches terms h
+
+-- and what may be written
 pub kept_shaped : (width : Width) (terms : Trees) → AreShaped terms → AreShaped (folded_all width terms)
-kept_shaped width terms h = all_formed width (AreItems 0) ⊥ terms h
+kept_shaped width terms h = kept_formed (AreItems 0) ⊥ ⊥ width terms h

@@ -150,6 +150,9 @@ module _ (width : Width) where
   folded_body (Op.Control Control.ElseIf) body = folded_all width body
   folded_body (Op.Control Control.Else) body = folded_all width body
   folded_body (Op.Control Control.While) body = folded_all width body
+  folded_body (Op.Control Control.Switch) body = folded_all width body
+  folded_body (Op.Control Control.Case) body = folded_all width body
+  folded_body (Op.Control Control.Default) body = folded_all width body
   folded_body op body = body
 
   body_is : (op : Op) (body : Trees) → folded_by width (part_in (listing_of op)) body ≡ folded_body op body
@@ -164,6 +167,9 @@ module _ (width : Width) where
   body_is (Op.Control Control.ElseIf) body = statements_are body
   body_is (Op.Control Control.Else) body = statements_are body
   body_is (Op.Control Control.While) body = statements_are body
+  body_is (Op.Control Control.Switch) body = statements_are body
+  body_is (Op.Control Control.Case) body = statements_are body
+  body_is (Op.Control Control.Default) body = statements_are body
   body_is _ body = kept_are body
 
   by_items : (o : Option (List (FieldItem UnitName))) (statement : Bool) (made more : List (FieldItem UnitName) → Tree) → ((items : List (FieldItem UnitName)) → folded width statement (made items) ≡ more items) → folded width statement (choose o Misshapen made) ≡ choose o Misshapen more
@@ -203,6 +209,9 @@ module _ (width : Width) where
   kept_form s here (Op.Control Control.ElseIf) (tree test no_trees) body e = refl
   kept_form s here (Op.Control Control.Else) no_trees body e = refl
   kept_form s here (Op.Control Control.While) (tree test no_trees) body e = refl
+  kept_form s here (Op.Control Control.Switch) (tree value no_trees) cases e = refl
+  kept_form s here (Op.Control Control.Case) (tree value no_trees) body e = refl
+  kept_form s here (Op.Control Control.Default) no_trees body e = refl
   kept_form s here (Op.Control Control.Break) no_trees no_trees e = refl
   kept_form s here (Op.Control Control.Continue) no_trees no_trees e = refl
   kept_form s here (Op.Literal literal) no_trees no_trees e = refl

@@ -1,7 +1,9 @@
 -- A program does the same with its constants folded.
 use Rattle.std.proofs.Common.{◌≡◌, ℕ, zero, suc, Bool, true, false, List, [], ◌∷◌, Option, Some, None, refl, ap}
+use Rattle.std.specs.Prelude.{◌||◌}
 use Rattle.acpi_values.specs.declared.width.Width.{Width}
 use Rattle.acpi_values.specs.declared.operator.Plain.{Plain}
+use Rattle.acpi_values.specs.declared.operator.IntOp.TheVariants as IntOp
 use Rattle.acpi_values.specs.declared.operator.DataOp.TheVariants as DataOp
 use Rattle.acpi_values.specs.declared.fault.Fault.TheVariants.{WrongType}
 use Rattle.acpi_values.specs.Paths.{AbsolutePath}
@@ -29,14 +31,14 @@ use Rattle.asl_tree.specs.declared.path.Path.{Path}
 use Rattle.asl_tree.specs.Symbols.{compound_operator}
 use Rattle.asl_tree.specs.Literals.{literal_number}
 use Rattle.asl_tree.specs.Names.{Known, is_known, place_of, denoted, element_path}
-use Rattle.asl_tree.specs.Tree.{Tree, Integer, Constant, String, InSlot, Debug, Omitted, Raw, Use, Call, Apply, Buffer, Package, VarPackage, CondRefOf, Return, Name, Alias, External, Method, Mutex, Event, Container', Scope, Fill, Misshapen, Trees, no_trees, tree, OperationRegion, Field, IndexField, BankField, CreateField, UnitName, If, ElseIf, Else, While, Break, Continue, Item, Operated, Assigned, AssignedBy}
+use Rattle.asl_tree.specs.Tree.{Tree, Integer, Constant, String, InSlot, Debug, Omitted, Raw, Use, Call, Apply, Buffer, Package, VarPackage, CondRefOf, Return, Name, Alias, External, Method, Mutex, Event, Container', Scope, Fill, Misshapen, Trees, no_trees, tree, OperationRegion, Field, IndexField, BankField, CreateField, UnitName, If, ElseIf, Else, While, Break, Continue, Item, Operated, Assigned, AssignedBy, Switch, Case, Default}
 use Rattle.asl_meaning.specs.FieldTerms.{create_units}
 use Rattle.asl_meaning.specs.Meaning as S
-use Rattle.asl_meaning.specs.Meaning.{SourceRun, SpotForm, OfResult, OfInside, NoSpot, spot_form, store_last, operate, two_values, store_with, assign_with, target_operator}
+use Rattle.asl_meaning.specs.Meaning.{SourceRun, SpotForm, OfResult, OfInside, NoSpot, spot_form, store_last, operate, two_values, store_with, assign_with, target_operator, leave_switch}
 use Rattle.asl_meaning.specs.SourceSession.{source_session}
 use Rattle.asl_fold.specs.Folds.{folded, folded_args, folded_all}
 use Rattle.asl_fold.proofs.Alike.{Alike, alike_done, alike_stop, alike_fault, alike_then, alike_to, alike_act, alike_existing, alike_look, alike_if, alike_valued, alike_on_flow, alike_loop, alike_create, alike_keep, alike_body, alike_activation, alike_use, alike_written, alike_region, alike_buffer_field, same_session}
-use Rattle.asl_fold.proofs.Values.{reduced_other, sized_other}
+use Rattle.asl_fold.proofs.Values.{reduced_other, sized_other, sized_as}
 use Rattle.asl_fold.proofs.Reduced.{reduced_runs, reduced_spot, sized_runs}
 
 module _ (width : Width) (known : Known) where
@@ -130,6 +132,16 @@ module _ (width : Width) (known : Known) where
   alike_plain : (op : Plain) {ops ops' : SourceRun (List Operand)} {into into' : List Value → SourceRun (Unit {0})} → Alike (folded_all width) ops ops' → ((rs : List Value) → Alike (folded_all width) (into rs) (into' rs)) → Alike (folded_all width) (S.apply_with width op ops into) (S.apply_with width op ops' into')
   alike_plain op ho ht = alike_then ho (λ os. alike_then (alike_act (act_of op width os)) (λ rs. alike_then (ht rs) (λ u. alike_done (last_of rs))))
 
+  -- whether a value is equal to another
+  alike_equals : (v : Value) {m m' : SourceRun Value} → Alike (folded_all width) m m' → Alike (folded_all width) (S.equals width known v m) (S.equals width known v m')
+  alike_equals v h =
+      alike_then (alike_size (alike_plain (Plain.Number IntOp.LEqual) (alike_then (alike_done v) (λ v. alike_then h (λ w. alike_done (OfValue v ∷ OfValue w ∷ [])))) (λ rs. alike_done tt))) (λ n. alike_done (is_true n))
+
+  alike_leave : (f : Flow) → Alike (folded_all width) (leave_switch f) (leave_switch f)
+  alike_leave O.Continue = alike_done O.Continue
+  alike_leave (O.Return v) = alike_done (O.Return v)
+  alike_leave _ = alike_done (Normal false)
+
   alike_last : (n : ℕ) {spot spot' : SourceRun Spot} → Alike (folded_all width) spot spot' → (rs : List Value) → Alike (folded_all width) (store_last width n spot rs) (store_last width n spot' rs)
   alike_last zero h rs = alike_done tt
   alike_last (suc n) h [] = alike_fault WrongType
@@ -197,6 +209,10 @@ module _ (width : Width) (known : Known) (turns : ℕ) (call : AbsolutePath → 
     alike statement (Else body) scope due = alike_if due (alike_all body scope false) (alike_done (Normal false))
     alike statement (While test body) scope due =
         alike_loop {X = Unit {0}} turns (alike_then (alike_size width known (alike false test scope false)) (λ n. alike_done (is_true n, tt))) (λ u. alike_all body scope false)
+    alike statement (Switch value cases) scope due =
+        alike_then (alike_valued (alike false value scope false)) (λ v. alike_then (alike_cases cases v scope _ _ (alike_default cases scope)) (λ f. alike_leave width known f))
+    alike statement (Case value body) scope due = alike_stop Broken
+    alike statement (Default body) scope due = alike_stop Broken
     alike statement Break scope due = alike_done O.Break
     alike statement Continue scope due = alike_done O.Continue
     alike statement (OperationRegion at name space args) scope due = alike_then (alike_operands region_letters args scope) (λ os. alike_region width (place_of name scope) space os)
@@ -231,6 +247,37 @@ module _ (width : Width) (known : Known) (turns : ℕ) (call : AbsolutePath → 
     alike_inner letters (VarPackage size elements) scope =
         alike_to (sized_other (λ t. S.inner_operands width known turns call letters t scope ≡ stop Broken) (λ n es. refl) (λ n es. refl) (folded width false size) (folded_args width elements)) (alike_stop Broken)
     alike_inner letters _ scope = alike_stop Broken
+
+    -- the value of a Case
+    alike_hits : (t : Tree) (v : Value) (scope : AbsolutePath) (alone alone' : SourceRun Bool) → Alike (folded_all width) alone alone' → Alike (folded_all width) (S.hits width known turns call t alone v scope) (S.hits width known turns call (folded width false t) alone' v scope)
+    alike_hits (Package count members) v scope alone alone' h = alike_any members v scope
+    alike_hits (VarPackage size members) v scope alone alone' h =
+        alike_to (sized_as (λ t. S.hits width known turns call t alone' v scope ≡ S.hits_any width known turns call (folded_args width members) v scope) (folded width false size) (folded_args width members) (λ n e few. refl) refl) (alike_any members v scope)
+    alike_hits (Apply op args targets) v scope alone alone' h = alike_to (reduced_other (λ t. S.hits width known turns call t alone' v scope ≡ alone') (λ op args targets. refl) (λ n. refl) width false op (folded_args width args) (folded_args width targets)) h
+    alike_hits _ v scope alone alone' h = h
+
+    alike_any : (ts : Trees) (v : Value) (scope : AbsolutePath) → Alike (folded_all width) (S.hits_any width known turns call ts v scope) (S.hits_any width known turns call (folded_args width ts) v scope)
+    alike_any no_trees v scope = alike_done false
+    alike_any (tree t ts) v scope =
+        alike_then (alike_equals width known v (alike_valued (alike false t scope false))) (λ first. alike_then (alike_any ts v scope) (λ others. alike_done (first || others)))
+
+    -- the Cases of a Switch, and its Default
+    alike_cases : (ts : Trees) (v : Value) (scope : AbsolutePath) (m m' : SourceRun Flow) → Alike (folded_all width) m m' → Alike (folded_all width) (S.run_cases width known turns call ts v scope m) (S.run_cases width known turns call (folded_all width ts) v scope m')
+    alike_cases no_trees v scope m m' h = h
+    alike_cases (tree (Case value body) cases) v scope m m' h =
+        alike_then (alike_hits value v scope _ _ (alike_equals width known v (alike_valued (alike false value scope false)))) (λ hit. alike_if hit (alike_all body scope false) (alike_cases cases v scope m m' h))
+    alike_cases (tree (Apply op args targets) cases) v scope m m' h =
+        alike_to (reduced_other (λ t. S.run_cases width known turns call (tree t (folded_all width cases)) v scope m' ≡ S.run_cases width known turns call (folded_all width cases) v scope m') (λ op args targets. refl) (λ n. refl) width true op (folded_args width args) (folded_args width targets)) (alike_cases cases v scope m m' h)
+    alike_cases (tree (VarPackage size elements) cases) v scope m m' h =
+        alike_to (sized_other (λ t. S.run_cases width known turns call (tree t (folded_all width cases)) v scope m' ≡ S.run_cases width known turns call (folded_all width cases) v scope m') (λ n es. refl) (λ n es. refl) (folded width false size) (folded_args width elements)) (alike_cases cases v scope m m' h)
+    alike_cases (tree _ cases) v scope m m' h = alike_cases cases v scope m m' h
+
+    alike_default : (ts : Trees) (scope : AbsolutePath) → Alike (folded_all width) (S.run_default width known turns call ts scope) (S.run_default width known turns call (folded_all width ts) scope)
+    alike_default no_trees scope = alike_done (Normal false)
+    alike_default (tree (Default body) cases) scope = alike_all body scope false
+    alike_default (tree (Apply op args targets) cases) scope = alike_to (reduced_other (λ t. S.run_default width known turns call (tree t (folded_all width cases)) scope ≡ S.run_default width known turns call (folded_all width cases) scope) (λ op args targets. refl) (λ n. refl) width true op (folded_args width args) (folded_args width targets)) (alike_default cases scope)
+    alike_default (tree (VarPackage size elements) cases) scope = alike_to (sized_other (λ t. S.run_default width known turns call (tree t (folded_all width cases)) scope ≡ S.run_default width known turns call (folded_all width cases) scope) (λ n es. refl) (λ n es. refl) (folded width false size) (folded_args width elements)) (alike_default cases scope)
+    alike_default (tree _ cases) scope = alike_default cases scope
 
     alike_operands : (letters : List Letter) (ts : Trees) (scope : AbsolutePath) → Alike (folded_all width) (S.operands width known turns call letters ts scope) (S.operands width known turns call letters (folded_args width ts) scope)
     alike_operands [] no_trees scope = alike_done []

@@ -12,7 +12,7 @@ use Rattle.acpi_state.specs.Forms.{LocalSlot}
 use Rattle.acpi_state.specs.Outcomes.{choose}
 use Rattle.asl_tree.specs.Constants.{is_unary}
 use Rattle.asl_tree.specs.Literals.{literal_number}
-use Rattle.asl_tree.specs.Tree.{Tree, Integer, Constant, InSlot, Omitted, Call, Apply, Buffer, Package, VarPackage, CondRefOf, Return, Name, Method, Container', Scope, If, ElseIf, Else, While, OperationRegion, BankField, CreateField, Operated, Assigned, AssignedBy, Trees, no_trees, tree}
+use Rattle.asl_tree.specs.Tree.{Tree, Integer, Constant, InSlot, Omitted, Call, Apply, Buffer, Package, VarPackage, CondRefOf, Return, Name, Method, Container', Scope, If, ElseIf, Else, While, OperationRegion, BankField, CreateField, Operated, Assigned, AssignedBy, Trees, no_trees, tree, Switch, Case, Default}
 use Rattle.asl_tree.specs.View.{counted}
 use Rattle.asl_fold.specs.declared.fate.Fate.{Fate}
 
@@ -97,6 +97,9 @@ module _ (width : Width) where
     folded statement (ElseIf test body) = ElseIf (folded false test) (folded_all body)
     folded statement (Else body) = Else (folded_all body)
     folded statement (While test body) = While (folded false test) (folded_all body)
+    folded statement (Switch value cases) = Switch (folded false value) (folded_all cases)
+    folded statement (Case value body) = Case (folded false value) (folded_all body)
+    folded statement (Default body) = Default (folded_all body)
     folded statement (OperationRegion at name space args) = OperationRegion at name space (folded_args args)
     folded statement (BankField here from region to bank value flags items) = BankField here from region to bank (folded false value) flags items
     folded statement (CreateField form args at name) = CreateField form (folded_args args) at name

@@ -82,6 +82,9 @@ listing_of (Op.Control Control.If) = Listing.Terms
 listing_of (Op.Control Control.ElseIf) = Listing.Terms
 listing_of (Op.Control Control.Else) = Listing.Terms
 listing_of (Op.Control Control.While) = Listing.Terms
+listing_of (Op.Control Control.Switch) = Listing.Terms
+listing_of (Op.Control Control.Case) = Listing.Terms
+listing_of (Op.Control Control.Default) = Listing.Terms
 listing_of op = Listing.Others
 
 -- a member that is folded as what it is

@@ -9,7 +9,8 @@ ghost use Rattle.asl_tree.specs.Tree.{Trees};
 ghost use Rattle.asl_meaning.specs.Declarations.{declarations, externals, known_of};
 ghost use Rattle.asl_meaning.specs.SourceSession.{source_session};
 ghost use Rattle.acpi_names.specs.Errors.{whole_of, name_errors, type_errors};
-ghost use Rattle.named_sessions.specs.Shaped.{AreShaped};
+ghost use Rattle.aml_sessions.specs.Ready.{AreItems};
+ghost use Rattle.named_sessions.specs.Shaped.{AreFormed, AreShaped};
 ghost use Rattle.asl_fold.specs.Folds.{folded_all};
 
 /// A program has the same sessions with its constants folded.
@@ -28,7 +29,8 @@ pub fn same_names()
     ensures types { (width : Width) (program : Trees) → type_errors (folded_all width program) ≡ type_errors program }
 {}
 
-/// Where its terms may be written, they may be so with their constants folded.
+/// Where its terms may be written, or may be so once its Switches are loops, they are so with their constants folded.
 pub fn stays_shaped()
-    ensures { (width : Width) (terms : Trees) → AreShaped terms → AreShaped (folded_all width terms) }
+    ensures formed { (width : Width) (terms : Trees) → AreFormed (AreItems 0) ⊥ (Unit {0}) terms → AreFormed (AreItems 0) ⊥ (Unit {0}) (folded_all width terms) }
+    ensures shaped { (width : Width) (terms : Trees) → AreShaped terms → AreShaped (folded_all width terms) }
 {}

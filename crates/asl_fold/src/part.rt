@@ -109,9 +109,15 @@ pub(crate) fn listing_of(op: Op) -> Listing
             | Declaration::Processor
             | Declaration::Scope,
         )
-        | Op::Control(Control::If | Control::ElseIf | Control::Else | Control::While) => {
-            Listing::Terms
-        }
+        | Op::Control(
+            Control::If
+            | Control::ElseIf
+            | Control::Else
+            | Control::While
+            | Control::Switch
+            | Control::Case
+            | Control::Default,
+        ) => { Listing::Terms }
         _ => Listing::Others,
     }
 }

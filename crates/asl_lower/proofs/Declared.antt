@@ -9,7 +9,7 @@ use Rattle.acpi_state.specs.Objects.{MethodObject, ContainerObject, Names, root_
 use Rattle.asl_tree.specs.Names.{place_of, denoted}
 use Rattle.asl_tree.specs.declared.term.Compound.{Compound}
 use Rattle.asl_tree.specs.Symbols.{compound_operator}
-use Rattle.asl_tree.specs.Tree.{Tree, Omitted, Call, Apply, Buffer, Package, VarPackage, CondRefOf, Return, Name, Method, Container', Scope, If, ElseIf, Else, While, OperationRegion, BankField, CreateField, Operated, Assigned, AssignedBy, Trees, no_trees, tree, count}
+use Rattle.asl_tree.specs.Tree.{Tree, Omitted, Call, Apply, Buffer, Package, VarPackage, CondRefOf, Return, Name, Method, Container', Scope, If, ElseIf, Else, While, OperationRegion, BankField, CreateField, Operated, Assigned, AssignedBy, Trees, no_trees, tree, count, Switch, Case, Default}
 use Rattle.asl_meaning.specs.Declarations.{As, ExternalType, Declarations, nothing_declared, is_named, scope_path, with_declared, declare, declare_all, declarations, calls, calls_all, called, external_object, declared_kinds, external_names, as_known, externals, known_of}
 use Rattle.asl_meaning.specs.Meaning.{spot_form, target_operator}
 use Rattle.acpi_names.specs.Terms.{has_no_targets, is_value, are_values, is_term, are_terms}
@@ -36,6 +36,9 @@ mutual
   named_declares (ElseIf test body) scope d = all_declare body scope d
   named_declares (Else body) scope d = all_declare body scope d
   named_declares (While test body) scope d = all_declare body scope d
+  named_declares (Switch value cases) scope d = all_declare cases scope d
+  named_declares (Case value body) scope d = all_declare body scope d
+  named_declares (Default body) scope d = all_declare body scope d
   named_declares _ scope d = refl
 
   pub all_declare : (ts : Trees) (scope : AbsolutePath) (d : Declarations) → declare_all (named_all ts) scope d ≡ declare_all ts scope d
@@ -208,6 +211,9 @@ module _ (has : AbsolutePath → Bool) (path : AbsolutePath) where
     value_calls (ElseIf test body) e scope d = absurd cc
     value_calls (Else body) e scope d = absurd cc
     value_calls (While test body) e scope d = absurd cc
+    value_calls (Switch value cases) e scope d = absurd cc
+    value_calls (Case value body) e scope d = absurd cc
+    value_calls (Default body) e scope d = absurd cc
     value_calls (OperationRegion at name space args) e scope d = absurd cc
     value_calls (BankField here from region to bank value flags items) e scope d = absurd cc
     value_calls (CreateField form args at name) e scope d = absurd cc
@@ -238,6 +244,11 @@ module _ (has : AbsolutePath → Bool) (path : AbsolutePath) where
     term_calls (Else body) e scope d = list_calls body e scope d
     term_calls (While test body) e scope d =
         both (calls has (named test) scope d) (calls_all has (named_all body) scope d) (calls has test scope d) (calls_all has body scope d) (value_calls test (first_true (is_value test) (are_terms body) e) scope d) (list_calls body (second_true (is_value test) (are_terms body) e) scope d)
+    term_calls (Switch value cases) e scope d =
+        both (calls has (named value) scope d) (calls_all has (named_all cases) scope d) (calls has value scope d) (calls_all has cases scope d) (value_calls value (first_true (is_value value) (are_terms cases) e) scope d) (list_calls cases (second_true (is_value value) (are_terms cases) e) scope d)
+    term_calls (Case value body) e scope d =
+        both (calls has (named value) scope d) (calls_all has (named_all body) scope d) (calls has value scope d) (calls_all has body scope d) (value_calls value (first_true (is_value value) (are_terms body) e) scope d) (list_calls body (second_true (is_value value) (are_terms body) e) scope d)
+    term_calls (Default body) e scope d = list_calls body e scope d
     term_calls (OperationRegion at name space args) e scope d = values_calls args e scope d
     term_calls (BankField here from region to bank value flags items) e scope d = value_calls value e scope d
     term_calls (CreateField form args at name) e scope d = values_calls args e scope d

@@ -13,7 +13,7 @@ use Rattle.asl_tree.specs.declared.path.Path.{Path}
 use Rattle.asl_tree.specs.declared.term.Compound.{Compound}
 use Rattle.asl_tree.specs.Symbols.{compound_operator, takes_target}
 use Rattle.asl_tree.specs.Names.{place_of, denoted}
-use Rattle.asl_tree.specs.Tree.{At, Tree, Omitted, Use, Call, Apply, Buffer, Package, VarPackage, CondRefOf, Return, Name, Alias, External, Method, Mutex, Event, Container', Scope, If, ElseIf, Else, While, OperationRegion, Field, IndexField, BankField, CreateField, UnitName, Operated, Assigned, AssignedBy, Trees, no_trees, tree, count}
+use Rattle.asl_tree.specs.Tree.{At, Tree, Omitted, Use, Call, Apply, Buffer, Package, VarPackage, CondRefOf, Return, Name, Alias, External, Method, Mutex, Event, Container', Scope, If, ElseIf, Else, While, OperationRegion, Field, IndexField, BankField, CreateField, UnitName, Operated, Assigned, AssignedBy, Trees, no_trees, tree, count, Switch, Case, Default}
 use Rattle.asl_meaning.specs.Declarations.{As, Declarations, nothing_declared, is_named, scope_path, with_declared, declare, declarations, called, calls_all, known_of}
 use Rattle.asl_meaning.specs.Meaning.{SpotForm, OfResult, OfInside, NoSpot, spot_form, target_operator}
 use Rattle.acpi_names.specs.Errors.{Asked, Anything, AValue, AMutex, AnEvent, AUnit, ARegion, asked_by, asked_types, used_types, NameError, Whole, whole_of, names, names_all, cond_errors, use_errors, call_errors, declared_errors, scope_errors, items_errors, types, types_all, spot_types, first_types, operand_types, spot_types_all, element_types, element_types_all, letter_types, spot_form_types, name_errors, type_errors}
@@ -129,6 +129,9 @@ module _ (whole : Whole) (others : List (AbsolutePath × ℕ)) (same : (path : A
     value_names (ElseIf test body) e scope d h = absurd cc
     value_names (Else body) e scope d h = absurd cc
     value_names (While test body) e scope d h = absurd cc
+    value_names (Switch value cases) e scope d h = absurd cc
+    value_names (Case value body) e scope d h = absurd cc
+    value_names (Default body) e scope d h = absurd cc
     value_names (OperationRegion at name space args) e scope d h = absurd cc
     value_names (Field here from region flags items) e scope d h = absurd cc
     value_names (IndexField here from index to register flags items) e scope d h = absurd cc
@@ -176,6 +179,11 @@ module _ (whole : Whole) (others : List (AbsolutePath × ℕ)) (same : (path : A
     term_names (Else body) e scope d h = list_names body e scope d h
     term_names (While test body) e scope d h =
         none_both (value_names test (first_true (is_value test) (are_terms body) e) scope d (left_none (N test scope d) _ h)) (list_names body (second_true (is_value test) (are_terms body) e) scope d (right_none (N test scope d) _ h))
+    term_names (Switch value cases) e scope d h =
+        none_both (value_names value (first_true (is_value value) (are_terms cases) e) scope d (left_none (N value scope d) _ h)) (list_names cases (second_true (is_value value) (are_terms cases) e) scope d (right_none (N value scope d) _ h))
+    term_names (Case value body) e scope d h =
+        none_both (value_names value (first_true (is_value value) (are_terms body) e) scope d (left_none (N value scope d) _ h)) (list_names body (second_true (is_value value) (are_terms body) e) scope d (right_none (N value scope d) _ h))
+    term_names (Default body) e scope d h = list_names body e scope d h
     term_names (OperationRegion at name space args) e scope d h = none_both (left_none (declared_errors whole at name scope d) _ h) (values_names args e scope d (right_none (declared_errors whole at name scope d) _ h))
     term_names (Field here from region flags items) e scope d h = none_both (left_none (use_errors whole from region scope) _ h) (items_none items scope d (right_none (use_errors whole from region scope) _ h))
     term_names (IndexField here from index to register flags items) e scope d h =
@@ -340,6 +348,9 @@ module _ (whole : Whole) (others : List (AbsolutePath × ℕ)) (same : (path : A
     types_right (ElseIf test body) scope h = none_both (types_right test scope (left_none (K test scope) _ h)) (list_right body scope (right_none (K test scope) _ h))
     types_right (Else body) scope h = list_right body scope h
     types_right (While test body) scope h = none_both (types_right test scope (left_none (K test scope) _ h)) (list_right body scope (right_none (K test scope) _ h))
+    types_right (Switch value cases) scope h = none_both (types_right value scope (left_none (K value scope) _ h)) (list_right cases scope (right_none (K value scope) _ h))
+    types_right (Case value body) scope h = none_both (types_right value scope (left_none (K value scope) _ h)) (list_right body scope (right_none (K value scope) _ h))
+    types_right (Default body) scope h = list_right body scope h
     types_right (OperationRegion at name space args) scope h = operands_right Anything region_letters args scope h
     types_right (Field here from region flags items) scope h = h
     types_right (IndexField here from index to register flags items) scope h = h

@@ -1,9 +1,10 @@
 -- A program does the same with its symbolic operators named and its ElseIfs nested.
 use Rattle.std.proofs.Common.{◌≡◌, ℕ, zero, suc, Bool, true, false, List, [], ◌∷◌, Option, Some, None, refl, ap, ◌∙◌}
 use Rattle.std.proofs.Math.Path.{fun_ext}
-use Rattle.std.specs.Prelude.{if◌then◌else◌}
+use Rattle.std.specs.Prelude.{if◌then◌else◌, ◌||◌}
 use Rattle.acpi_values.specs.declared.width.Width.{Width}
 use Rattle.acpi_values.specs.declared.operator.Plain.{Plain}
+use Rattle.acpi_values.specs.declared.operator.IntOp.TheVariants as IntOp
 use Rattle.acpi_values.specs.declared.operator.DataOp.TheVariants as DataOp
 use Rattle.acpi_values.specs.declared.fault.Fault.TheVariants.{WrongType}
 use Rattle.acpi_values.specs.Paths.{AbsolutePath}
@@ -33,12 +34,12 @@ use Rattle.asl_tree.specs.declared.term.Compound.{Compound}
 use Rattle.asl_tree.specs.Symbols.{compound_operator, takes_target}
 use Rattle.asl_tree.specs.Literals.{literal_number}
 use Rattle.asl_tree.specs.Names.{Known, is_known, place_of, denoted, element_path}
-use Rattle.asl_tree.specs.Tree.{Tree, Integer, Constant, String, InSlot, Debug, Omitted, Raw, Use, Call, Apply, Buffer, Package, VarPackage, CondRefOf, Return, Name, Alias, External, Method, Mutex, Event, Container', Scope, Fill, Misshapen, Trees, no_trees, tree, OperationRegion, Field, IndexField, BankField, CreateField, UnitName, If, ElseIf, Else, While, Break, Continue, Item, Operated, Assigned, AssignedBy}
+use Rattle.asl_tree.specs.Tree.{Tree, Integer, Constant, String, InSlot, Debug, Omitted, Raw, Use, Call, Apply, Buffer, Package, VarPackage, CondRefOf, Return, Name, Alias, External, Method, Mutex, Event, Container', Scope, Fill, Misshapen, Trees, no_trees, tree, OperationRegion, Field, IndexField, BankField, CreateField, UnitName, If, ElseIf, Else, While, Break, Continue, Item, Operated, Assigned, AssignedBy, Switch, Case, Default}
 use Rattle.asl_meaning.specs.FieldTerms.{create_units}
 use Rattle.asl_meaning.specs.Meaning as S
-use Rattle.asl_meaning.specs.Meaning.{SourceRun, SpotForm, OfResult, OfInside, NoSpot, spot_form, store_last, operate, two_values, store_with, assign_with, target_operator}
+use Rattle.asl_meaning.specs.Meaning.{SourceRun, SpotForm, OfResult, OfInside, NoSpot, spot_form, store_last, operate, two_values, store_with, assign_with, target_operator, leave_switch}
 use Rattle.asl_meaning.specs.SourceSession.{source_session}
-use Rattle.asl_lower.specs.Nodes.{given, last_target, applied, assigned, assigned_by, named, inner_args, named_args, named_all}
+use Rattle.asl_lower.specs.Nodes.{before, given, last_target, applied, assigned, assigned_by, named, inner_args, named_args, named_all}
 use Rattle.asl_lower.proofs.Alike.{Alike, alike_done, alike_stop, alike_fault, alike_then, alike_to, alike_act, alike_existing, alike_look, alike_if, alike_valued, alike_on_flow, alike_loop, alike_create, alike_keep, alike_body, alike_activation, alike_use, alike_written, alike_region, alike_buffer_field, same_session}
 use Rattle.asl_lower.proofs.Runs.{before_same, named_ok, then_unit}
 
@@ -151,6 +152,16 @@ module _ (width : Width) (known : Known) where
   alike_plain : (op : Plain) {ops ops' : SourceRun (List Operand)} {into into' : List Value → SourceRun (Unit {0})} → Alike ops ops' → ((rs : List Value) → Alike (into rs) (into' rs)) → Alike (S.apply_with width op ops into) (S.apply_with width op ops' into')
   alike_plain op ho ht = alike_then ho (λ os. alike_then (alike_act (act_of op width os)) (λ rs. alike_then (ht rs) (λ u. alike_done (last_of rs))))
 
+  -- whether a value is equal to another
+  alike_equals : (v : Value) {m m' : SourceRun Value} → Alike m m' → Alike (S.equals width known v m) (S.equals width known v m')
+  alike_equals v h =
+      alike_then (alike_size (alike_plain (Plain.Number IntOp.LEqual) (alike_then (alike_done v) (λ v. alike_then h (λ w. alike_done (OfValue v ∷ OfValue w ∷ [])))) (λ rs. alike_done tt))) (λ n. alike_done (is_true n))
+
+  alike_leave : (f : Flow) → Alike (leave_switch f) (leave_switch f)
+  alike_leave O.Continue = alike_done O.Continue
+  alike_leave (O.Return v) = alike_done (O.Return v)
+  alike_leave _ = alike_done (Normal false)
+
   alike_last : (n : ℕ) {spot spot' : SourceRun Spot} → Alike spot spot' → (rs : List Value) → Alike (store_last width n spot rs) (store_last width n spot' rs)
   alike_last zero h rs = alike_done tt
   alike_last (suc n) h [] = alike_fault WrongType
@@ -167,6 +178,17 @@ module _ (width : Width) (known : Known) (turns : ℕ) (call : AbsolutePath → 
 
   abbrev spot_at : Tree → AbsolutePath → SourceRun Spot
   spot_at t scope = S.spot width known turns call t scope
+
+  -- among the Cases of a Switch an ElseIf, and an Else, are passed over
+  else_if_cases : (test : Tree) (body ts : Trees) (v : Value) (scope : AbsolutePath) (m : SourceRun Flow) → S.run_cases width known turns call (before (ElseIf test body) ts) v scope m ≡ S.run_cases width known turns call ts v scope m
+  else_if_cases test body (tree (Else other) rest) v scope m = refl
+  else_if_cases test body no_trees v scope m = refl
+  else_if_cases test body (tree t rest) v scope m = refl
+
+  else_if_default : (test : Tree) (body ts : Trees) (scope : AbsolutePath) → S.run_default width known turns call (before (ElseIf test body) ts) scope ≡ S.run_default width known turns call ts scope
+  else_if_default test body (tree (Else other) rest) scope = refl
+  else_if_default test body no_trees scope = refl
+  else_if_default test body (tree t rest) scope = refl
 
   -- targets of which the last one is given take the last result
   last_stores : (n : ℕ) (t : Tree) (rs : List Value) (scope : AbsolutePath) → S.store_all width known turns call (last_target n t) rs scope ≡ store_last width n (spot_at t scope) rs
@@ -286,6 +308,10 @@ module _ (width : Width) (known : Known) (turns : ℕ) (call : AbsolutePath → 
     alike (Else body) scope due = alike_if due (alike_all body scope false) (alike_done (Normal false))
     alike (While test body) scope due =
         alike_loop {X = Unit {0}} turns (alike_then (alike_size width known (alike test scope false)) (λ n. alike_done (is_true n, tt))) (λ u. alike_all body scope false)
+    alike (Switch value cases) scope due =
+        alike_then (alike_valued (alike value scope false)) (λ v. alike_then (alike_cases cases v scope _ _ (alike_default cases scope)) (λ f. alike_leave width known f))
+    alike (Case value body) scope due = alike_stop Broken
+    alike (Default body) scope due = alike_stop Broken
     alike Break scope due = alike_done O.Break
     alike Continue scope due = alike_done O.Continue
     alike (OperationRegion at name space args) scope due = alike_then (alike_operands region_letters args scope) (λ os. alike_region width (place_of name scope) space os)
@@ -318,6 +344,32 @@ module _ (width : Width) (known : Known) (turns : ℕ) (call : AbsolutePath → 
     alike_inner : (op : Plain) (value : Tree) (scope : AbsolutePath) → target_operator value ≡ Some op → Alike (S.inner_operands width known turns call (row_of op).operands value scope) (S.operands width known turns call (row_of op).operands (inner_args value) scope)
     alike_inner op (Operated symbol args) scope e = alike_operands (row_of op).operands args scope
     alike_inner op _ scope e = absurd cc
+
+    -- the value of a Case
+    alike_hits : (t : Tree) (v : Value) (scope : AbsolutePath) (alone alone' : SourceRun Bool) → Alike alone alone' → Alike (S.hits width known turns call t alone v scope) (S.hits width known turns call (named t) alone' v scope)
+    alike_hits (Package count members) v scope alone alone' h = alike_any members v scope
+    alike_hits (VarPackage count members) v scope alone alone' h = alike_any members v scope
+    alike_hits _ v scope alone alone' h = h
+
+    alike_any : (ts : Trees) (v : Value) (scope : AbsolutePath) → Alike (S.hits_any width known turns call ts v scope) (S.hits_any width known turns call (named_args ts) v scope)
+    alike_any no_trees v scope = alike_done false
+    alike_any (tree t ts) v scope =
+        alike_then (alike_equals width known v (alike_valued (alike t scope false))) (λ first. alike_then (alike_any ts v scope) (λ others. alike_done (first || others)))
+
+    -- the Cases of a Switch, and its Default
+    alike_cases : (ts : Trees) (v : Value) (scope : AbsolutePath) (m m' : SourceRun Flow) → Alike m m' → Alike (S.run_cases width known turns call ts v scope m) (S.run_cases width known turns call (named_all ts) v scope m')
+    alike_cases no_trees v scope m m' h = h
+    alike_cases (tree (Case value body) cases) v scope m m' h =
+        alike_then (alike_hits value v scope _ _ (alike_equals width known v (alike_valued (alike value scope false)))) (λ hit. alike_if hit (alike_all body scope false) (alike_cases cases v scope m m' h))
+    alike_cases (tree (ElseIf test body) cases) v scope m m' h =
+        alike_to (else_if_cases width known turns call (named test) (named_all body) (named_all cases) v scope m') (alike_cases cases v scope m m' h)
+    alike_cases (tree _ cases) v scope m m' h = alike_cases cases v scope m m' h
+
+    alike_default : (ts : Trees) (scope : AbsolutePath) → Alike (S.run_default width known turns call ts scope) (S.run_default width known turns call (named_all ts) scope)
+    alike_default no_trees scope = alike_done (Normal false)
+    alike_default (tree (Default body) cases) scope = alike_all body scope false
+    alike_default (tree (ElseIf test body) cases) scope = alike_to (else_if_default width known turns call (named test) (named_all body) (named_all cases) scope) (alike_default cases scope)
+    alike_default (tree _ cases) scope = alike_default cases scope
 
     alike_operands : (letters : List Letter) (ts : Trees) (scope : AbsolutePath) → Alike (S.operands width known turns call letters ts scope) (S.operands width known turns call letters (named_args ts) scope)
     alike_operands [] no_trees scope = alike_done []

@@ -9,7 +9,7 @@ use Rattle.asl_tree.specs.declared.term.Declaration.TheVariants as Declaration
 use Rattle.asl_tree.specs.declared.term.Op.{Op}
 use Rattle.asl_tree.specs.declared.term.Special.TheVariants as Special
 use Rattle.asl_tree.specs.Symbols.{compound_operator}
-use Rattle.asl_tree.specs.Tree.{Tree, Omitted, Call, Apply, Buffer, Package, VarPackage, CondRefOf, Return, Name, Method, Container', Scope, If, ElseIf, Else, While, OperationRegion, BankField, CreateField, Operated, Assigned, AssignedBy, Misshapen, Trees, no_trees, tree}
+use Rattle.asl_tree.specs.Tree.{Tree, Omitted, Call, Apply, Buffer, Package, VarPackage, CondRefOf, Return, Name, Method, Container', Scope, If, ElseIf, Else, While, OperationRegion, BankField, CreateField, Operated, Assigned, AssignedBy, Misshapen, Trees, no_trees, tree, Switch, Case, Default}
 use Rattle.asl_meaning.specs.Meaning.{target_operator}
 
 -- an operand that is left out has no value
@@ -78,6 +78,9 @@ abbrev mutual
   named (ElseIf test body) = ElseIf (named test) (named_all body)
   named (Else body) = Else (named_all body)
   named (While test body) = While (named test) (named_all body)
+  named (Switch value cases) = Switch (named value) (named_all cases)
+  named (Case value body) = Case (named value) (named_all body)
+  named (Default body) = Default (named_all body)
   named (OperationRegion at name space args) = OperationRegion at name space (named_args args)
   named (BankField here from region to bank value flags items) = BankField here from region to bank (named value) flags items
   named (CreateField form args at name) = CreateField form (named_args args) at name
@@ -111,6 +114,9 @@ named_body (Op.Control Control.If) body = named_all body
 named_body (Op.Control Control.ElseIf) body = named_all body
 named_body (Op.Control Control.Else) body = named_all body
 named_body (Op.Control Control.While) body = named_all body
+named_body (Op.Control Control.Switch) body = named_all body
+named_body (Op.Control Control.Case) body = named_all body
+named_body (Op.Control Control.Default) body = named_all body
 named_body op body = body
 
 abbrev pub is_symbolic : Op → Bool

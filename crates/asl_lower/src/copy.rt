@@ -5,7 +5,7 @@ ghost use Rattle.asl_tree.specs.Tree.{At};
 ghost use Rattle.asl_tree.specs.View.{tree_of, trees_of};
 
 use asl_tree::path::Path;
-use asl_tree::term::{Node, Term};
+use asl_tree::term::{NamedDescriptor, Node, Term};
 use iasl_ports::list::{List, Text};
 use std::alloc::{AllocError, Global};
 
@@ -25,6 +25,16 @@ fn copied_text(alloc: Global, text: &Text) -> Result<Text, AllocError>
 {
     let copy = Text::from_bytes(alloc, text.as_bytes())?;
     Ok(copy)
+}
+
+fn copied_names(
+    alloc: Global,
+    named: &List<NamedDescriptor>,
+) -> Result<List<NamedDescriptor>, AllocError>
+    ensures { IfOk result (λ copy. copy ≡ named.now) }
+{
+    let copy = named.as_slice().to_vec(alloc)?;
+    Ok(List::from_vec(copy))
 }
 
 /// A node of the same tree, with the ids and the places of the first.
@@ -72,7 +82,10 @@ fn copied_term(alloc: Global, term: &Term) -> Result<Term, AllocError>
             })
         }
         Term::Text(text) => Ok(Term::Text(copied_text(alloc, text)?)),
-        Term::Fill(bytes) => Ok(Term::Fill(copied_text(alloc, bytes)?)),
+        Term::Fill { bytes, named } => Ok(Term::Fill {
+            bytes: copied_text(alloc, bytes)?,
+            named: copied_names(alloc, named)?,
+        }),
         Term::Name(path) => Ok(Term::Name(copied_path(alloc, path)?)),
         Term::Integer(number) => Ok(Term::Integer(*number)),
         Term::Word(word) => Ok(Term::Word(*word)),

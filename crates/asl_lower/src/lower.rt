@@ -234,7 +234,15 @@ fn lower_body(alloc: Global, op: Op, body: Vec<Node>) -> Result<Vec<Node>, Alloc
             | Declaration::Processor
             | Declaration::Scope,
         )
-        | Op::Control(Control::If | Control::ElseIf | Control::Else | Control::While) => {
+        | Op::Control(
+            Control::If
+            | Control::ElseIf
+            | Control::Else
+            | Control::While
+            | Control::Switch
+            | Control::Case
+            | Control::Default,
+        ) => {
             let terms = lower(alloc, body)?;
             Ok(terms)
         }

@@ -1,8 +1,9 @@
 -- What a program means (ACPI Specification 6.4, 19): terms are taken from its tree, and names from what the program
 -- declares.
-use Rattle.std.specs.Prelude.{ℕ, zero, suc, Bool, false, List, [], ◌∷◌, Option, Some, None, if◌then◌else◌, true}
+use Rattle.std.specs.Prelude.{ℕ, zero, suc, Bool, false, List, [], ◌∷◌, Option, Some, None, if◌then◌else◌, true, ◌||◌}
 use Rattle.acpi_values.specs.declared.width.Width.{Width}
 use Rattle.acpi_values.specs.declared.operator.Plain.{Plain}
+use Rattle.acpi_values.specs.declared.operator.IntOp.TheVariants as IntOp
 use Rattle.acpi_values.specs.declared.operator.DataOp.TheVariants as DataOp
 use Rattle.acpi_values.specs.declared.fault.Fault.TheVariants.{WrongType}
 use Rattle.acpi_values.specs.Paths.{AbsolutePath}
@@ -31,7 +32,7 @@ use Rattle.asl_meaning.specs.FieldTerms.{create_units}
 use Rattle.asl_tree.specs.Literals.{literal_number}
 use Rattle.asl_tree.specs.Names.{Known, is_known, place_of, denoted, element_path}
 use Rattle.asl_tree.specs.Symbols.{compound_operator, takes_target}
-use Rattle.asl_tree.specs.Tree.{Tree, Integer, Constant, String, InSlot, Debug, Omitted, Raw, Use, Call, Apply, Buffer, Package, VarPackage, CondRefOf, Return, Name, Alias, External, Method, Mutex, Event, Container', Scope, Fill, Misshapen, Trees, no_trees, tree, OperationRegion, Field, IndexField, BankField, CreateField, If, ElseIf, Else, While, Break, Continue, Item, Operated, Assigned, AssignedBy}
+use Rattle.asl_tree.specs.Tree.{Tree, Integer, Constant, String, InSlot, Debug, Omitted, Raw, Use, Call, Apply, Buffer, Package, VarPackage, CondRefOf, Return, Name, Alias, External, Method, Mutex, Event, Container', Scope, Fill, Misshapen, Trees, no_trees, tree, OperationRegion, Field, IndexField, BankField, CreateField, If, ElseIf, Else, While, Break, Continue, Item, Operated, Assigned, AssignedBy, Switch, Case, Default}
 
 -- a run that keeps the bodies of methods as trees
 abbrev pub SourceRun : Type 0 → Type 0
@@ -80,6 +81,12 @@ assign_with width None operands value spot = store_with width value spot
 abbrev pub target_operator : Tree → Option Plain
 target_operator (Operated op args) = if takes_target op then Some op else None
 target_operator _ = None
+
+-- after what a Switch runs; a Break leaves the Switch alone
+abbrev pub leave_switch : {B : Type 0} → Flow → Run B Flow
+leave_switch O.Continue = done O.Continue
+leave_switch (O.Return v) = done (O.Return v)
+leave_switch _ = done (Normal false)
 
 module _ (known : Known) where
   -- the path that a name denotes, where it is there now
@@ -141,6 +148,11 @@ module _ (width : Width) (known : Known) where
   abbrev pub size_by : SourceRun Flow → SourceRun ℕ
   size_by m = then_run (then_run m value_of) (λ v. act (number_of width v))
 
+  -- whether a value is equal to another by LEqual
+  abbrev pub equals : Value → SourceRun Value → SourceRun Bool
+  equals v other =
+      then_run (size_by (apply_with width (Plain.Number IntOp.LEqual) (two_values (done v) other) (λ rs. done tt))) (λ n. done (is_true n))
+
   abbrev pub element_by : Tree → SourceRun Flow → AbsolutePath → SourceRun Value
   element_by (Use at name) m scope = done (Reference (Named (element_path (is_known known) name scope)))
   element_by t m scope = then_run m value_of
@@ -194,6 +206,10 @@ module _ (width : Width) (known : Known) where
       run (Else body) scope due = if due then run_all body scope false else done (Normal false)
       run (While test body) scope due =
           loop {X = Unit {0}} turns (then_run (size_by (run test scope false)) (λ n. done (is_true n, tt))) (λ u. run_all body scope false)
+      run (Switch value cases) scope due =
+          then_run (then_run (run value scope false) value_of) (λ v. then_run (run_cases cases v scope (run_default cases scope)) leave_switch)
+      run (Case value body) scope due = stop Broken
+      run (Default body) scope due = stop Broken
       run Break scope due = done O.Break
       run Continue scope due = done O.Continue
       run (OperationRegion at name space args) scope due =
@@ -233,6 +249,30 @@ module _ (width : Width) (known : Known) where
       operands (letter ∷ letters) (tree t ts) scope =
           then_run (operand_by letter t (run t scope false) (spot t scope) scope) (λ o. then_run (operands letters ts scope) (λ os. done (o ∷ os)))
       operands _ _ scope = stop Broken
+
+      -- whether a value is that of a Case, which `alone` compares; of a Package all members are compared instead, also behind one that is equal
+      pub hits : Tree → SourceRun Bool → Value → AbsolutePath → SourceRun Bool
+      hits (Package count members) alone v scope = hits_any members v scope
+      hits (VarPackage count members) alone v scope = hits_any members v scope
+      hits _ alone v scope = alone
+
+      pub hits_any : Trees → Value → AbsolutePath → SourceRun Bool
+      hits_any no_trees v scope = done false
+      hits_any (tree t ts) v scope =
+          then_run (equals v (then_run (run t scope false) value_of)) (λ first. then_run (hits_any ts v scope) (λ others. done (first || others)))
+
+      -- the first Case of a value, or else another run
+      pub run_cases : Trees → Value → AbsolutePath → SourceRun Flow → SourceRun Flow
+      run_cases no_trees v scope otherwise = otherwise
+      run_cases (tree (Case value body) cases) v scope otherwise =
+          then_run (hits value (equals v (then_run (run value scope false) value_of)) v scope) (λ hit. if hit then run_all body scope false else run_cases cases v scope otherwise)
+      run_cases (tree _ cases) v scope otherwise = run_cases cases v scope otherwise
+
+      -- the Default, wherever it stands among the Cases
+      pub run_default : Trees → AbsolutePath → SourceRun Flow
+      run_default no_trees scope = done (Normal false)
+      run_default (tree (Default body) cases) scope = run_all body scope false
+      run_default (tree _ cases) scope = run_default cases scope
 
       -- each target in order takes its result
       pub store_all : Trees → List Value → AbsolutePath → SourceRun (Unit {0})

@@ -7,6 +7,7 @@ use Rattle.acpi_values.specs.Paths.{NameSeg}
 use Rattle.asl_tree.specs.declared.term.Word.{Word}
 use Rattle.asl_tree.specs.declared.term.Node.{Node}
 use Rattle.asl_tree.specs.declared.term.Term.{Term}
+use Rattle.asl_tree.specs.declared.term.NamedDescriptor.{NamedDescriptor}
 use Rattle.asl_tree.specs.declared.term.Term as D
 use Rattle.asl_tree.specs.Tree.{At, Call, tree}
 use Rattle.asl_tree.specs.View.{form, tree_of, row_trees, trees_of}
@@ -73,13 +74,13 @@ pub text_tree : (text : List ℕ) (at : At) (next : ℕ) → tree_of at (D.Text 
 unfolding plan_of tree_of numbered
 text_tree text at next = refl
 
-pub none_in_fill : (bytes : List ℕ) → inside (plan_of (D.Fill bytes)) ≡ 0
+pub none_in_fill : (bytes : List ℕ) (named : List NamedDescriptor) → inside (plan_of (D.Fill bytes named)) ≡ 0
 unfolding plan_of
-none_in_fill bytes = refl
+none_in_fill bytes named = refl
 
-pub fill_tree : (bytes : List ℕ) (at : At) (next : ℕ) → tree_of at (D.Fill bytes) ≡ numbered at next (plan_of (D.Fill bytes))
+pub fill_tree : (bytes : List ℕ) (named : List NamedDescriptor) (at : At) (next : ℕ) → tree_of at (D.Fill bytes named) ≡ numbered at next (plan_of (D.Fill bytes named))
 unfolding plan_of tree_of numbered
-fill_tree bytes at next = refl
+fill_tree bytes named at next = refl
 
 pub none_in_word : (word : Word) → inside (plan_of (D.Word word)) ≡ 0
 unfolding plan_of

@@ -23,7 +23,7 @@ unfoldable mutual
   pub numbered : At → ℕ → Plan → Tree
   numbered at next (an_integer number) = Integer number
   numbered at next (a_text bytes) = String bytes
-  numbered at next (a_fill bytes) = Fill bytes
+  numbered at next (a_fill bytes named) = Fill bytes
   numbered at next (a_word word) = Integer (word_number word)
   numbered at next (a_local index) = InSlot (LocalSlot index)
   numbered at next (an_arg index) = InSlot (ArgSlot index)

@@ -57,7 +57,7 @@ fn numbered_inside(term: Term, first: u32) -> Option<(Term, u32)>
         }
         Term::Integer(number) => Some((Term::Integer(number), first)),
         Term::Text(text) => Some((Term::Text(text), first)),
-        Term::Fill(bytes) => Some((Term::Fill(bytes), first)),
+        Term::Fill { bytes, named } => Some((Term::Fill { bytes, named }, first)),
         Term::Word(word) => Some((Term::Word(word), first)),
         Term::Local(index) => Some((Term::Local(index), first)),
         Term::Arg(index) => Some((Term::Arg(index), first)),

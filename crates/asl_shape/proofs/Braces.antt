@@ -1,5 +1,5 @@
 -- Lists in braces.
-use Rattle.std.proofs.Common.{◌≡◌, ℕ, ◌+◌, ◌<◌, length, get_or, drop, drop-cons, add-one, ◌≤◌, List, [], ◌∷◌, refl, ap, ◌∙◌, sym, Option, Some, None, Bool, true, false, ◌&&◌, if◌then◌else◌}
+use Rattle.std.proofs.Common.{◌≡◌, ℕ, ◌+◌, ◌<◌, length, get_or, drop, drop-cons, add-one, ◌≤◌, List, [], ◌∷◌, refl, ap, ◌∙◌, sym, Option, Some, None, Bool, true, false, ◌&&◌, ◌||◌, if◌then◌else◌}
 use Rattle.std.proofs.lemmas.List.{drop_all}
 use Rattle.iasl_messages.specs.declared.place.Place.{Place}
 use Rattle.asl_parser.specs.declared.raw.Infix.{Infix}
@@ -8,9 +8,9 @@ use Rattle.asl_parser.specs.declared.raw.Raw.TheVariants as raw
 use Rattle.asl_words.specs.declared.operator.Slot.TheVariants as slot
 use Rattle.asl_words.specs.declared.operator.StringForm.TheVariants as form
 use Rattle.asl_parser.specs.Written.{writtens, written_in}
-use Rattle.asl_shape.specs.Shapes.{is_separator, is_comma, run_after, is_given, is_text, is_none}
-use Rattle.asl_words.specs.Meanings.{meaning_of, run_behind}
-use Rattle.asl_shape.specs.AtRaw.{is_separator_at, is_comma_at, run_after_at, is_listed_at, byte_slot_at, is_some, is_text_at, due_at}
+use Rattle.asl_shape.specs.Shapes.{is_separator, is_comma, run_after, is_given, is_text, is_none, default_after}
+use Rattle.asl_words.specs.Meanings.{meaning_of, run_behind, is_default}
+use Rattle.asl_shape.specs.AtRaw.{is_separator_at, is_comma_at, run_after_at, is_listed_at, byte_slot_at, is_some, is_text_at, due_at, default_after_at}
 use Rattle.acpi_state.specs.Outcomes.{choose}
 use Rattle.asl_shape.proofs.ItemLaws.{is_none_short, is_none_long}
 use Rattle.asl_parser.proofs.Views.{written_number, written_text, written_item, written_apply, written_list, written_comma, written_semicolon, written_empty}
@@ -120,6 +120,40 @@ unfolding run_after_at
 run_empty run = ap (run_after run) (written_empty)
 
 pub ruleset run_rules = (run_number, run_text, run_item, run_apply, run_list, run_comma, run_semicolon, run_empty)
+
+pub default_number : (before : Bool) (place : Place) (n : ℕ) → default_after_at before (raw.Number place n) ≡ before
+unfolding default_after_at
+default_number before place n = ap (default_after before) (written_number place n)
+
+pub default_text : (before : Bool) (place : Place) (bytes : List ℕ) → default_after_at before (raw.Text place bytes) ≡ before
+unfolding default_after_at
+default_text before place bytes = ap (default_after before) (written_text place bytes)
+
+pub default_item : (before : Bool) (place : Place) (word : List ℕ) (args body : Option (List Raw)) → default_after_at before (raw.Item place word args body) ≡ (before || is_default (meaning_of word (is_some body)))
+unfolding default_after_at
+default_item before place word args body = ap (default_after before) (written_item place word args body) ∙ ap (λ b. before || is_default (meaning_of word b)) (given_some body)
+
+pub default_apply : (before : Bool) (place : Place) (op : Infix) (args : List Raw) → default_after_at before (raw.Apply place op args) ≡ before
+unfolding default_after_at
+default_apply before place op args = ap (default_after before) (written_apply place op args)
+
+pub default_list : (before : Bool) (place : Place) (items : List Raw) → default_after_at before (raw.List place items) ≡ before
+unfolding default_after_at
+default_list before place items = ap (default_after before) (written_list place items)
+
+pub default_comma : (before : Bool) → default_after_at before (raw.Comma) ≡ before
+unfolding default_after_at
+default_comma before = ap (default_after before) (written_comma)
+
+pub default_semicolon : (before : Bool) → default_after_at before (raw.Semicolon) ≡ before
+unfolding default_after_at
+default_semicolon before = ap (default_after before) (written_semicolon)
+
+pub default_empty : (before : Bool) → default_after_at before (raw.Empty) ≡ before
+unfolding default_after_at
+default_empty before = ap (default_after before) (written_empty)
+
+pub ruleset default_rules = (default_number, default_text, default_item, default_apply, default_list, default_comma, default_semicolon, default_empty)
 
 pub listed_end : (due : Bool) → is_listed_at due [] ≡ true
 unfolding is_listed_at writtens

@@ -32,11 +32,11 @@ use Rattle.acpi_values.specs.Paths.{NameSeg}
 use Rattle.asl_tree.specs.Names.{single_segment}
 use Rattle.asl_shape.specs.Plans.{Plan, Plans, no_plans, an_integer, a_name, is_omitted, constant_of}
 use Rattle.asl_words.specs.Paths.{path_of}
-use Rattle.asl_words.specs.Operators.{parameters_of, body_of, role_of, block_parameters, offset_parameters, macro_parameters}
+use Rattle.asl_words.specs.Operators.{parameters_of, body_of, role_of, block_parameters, offset_parameters, macro_parameters, parameters_as, body_as}
 use Rattle.acpi_values.specs.Integers.{wrapped}
 use Rattle.acpi_values.specs.declared.width.Width.TheVariants.{W64}
 use Rattle.asl_shape.specs.Symbols.{symbol_of}
-use Rattle.asl_shape.specs.Shapes.{Shaped, fine, fault_at, refused, room_faults, template_shape, descriptor_shape, nowhere, valued, evaluated, after, checked, is_member, is_given, takes, count, has_arguments, are_all_types, text_plan, number_shape, string_shape, text_shape, path_shape, call_shape, listed_shape, read_shape, item_shape, form_shape, symbol_shape, within, place_of, is_separator, is_listed, byte_slot, list_shape, skipped, run_after, bare, operands, call_args, arguments, arguments_in, contents, members, terms, inside_of, is_element, meaning_in, offset_shape, macro_shape, macro_text, eisa_shape, uuid_shape, buffer_plan, is_field_list, begin, named_unit, unit_behind, no_comma, field_part, field_slot, due_behind, elements}
+use Rattle.asl_shape.specs.Shapes.{Shaped, fine, fault_at, refused, room_faults, template_shape, descriptor_shape, nowhere, valued, evaluated, after, checked, is_member, is_given, takes, count, has_arguments, are_all_types, text_plan, number_shape, string_shape, text_shape, path_shape, call_shape, listed_shape, read_shape, item_shape, form_shape, symbol_shape, within, place_of, is_separator, is_listed, byte_slot, list_shape, skipped, run_after, bare, operands, call_args, arguments, arguments_in, contents, members, terms, inside_of, is_element, meaning_in, offset_shape, macro_shape, macro_text, eisa_shape, uuid_shape, buffer_plan, is_field_list, begin, named_unit, unit_behind, no_comma, field_part, field_slot, due_behind, elements, case_member, case_value, is_case_member, member_count, is_case_package, cases, default_after}
 use Rattle.asl_words.specs.Resources.{descriptor_parameters, descriptor_body}
 use Rattle.resource_layout.specs.declared.descriptor.Descriptor.{Descriptor}
 use Rattle.asl_shape.specs.Descriptors.{is_roomy}
@@ -78,11 +78,13 @@ module _ (files : ℕ) where
       by : (o : Option (List ℕ)) → AreTold files (uuid_shape place o).faults
       by None = one 6027 place h
       by (Some uuid) = tt
-  macro_told TextMacro.Unicode place bytes h = either (is_all_text bytes) (fine (buffer_plan place (utf16_of bytes))) (refused 6024 place) tt (one 6024 place h)
+  macro_told TextMacro.Unicode place bytes h = either (is_all_text bytes) (fine (buffer_plan place (utf16_of bytes) [])) (refused 6024 place) tt (one 6024 place h)
 
   text_told : (s : Slot) (place : Place) (bytes : List ℕ) → IsIn files place → AreTold files (text_shape s place bytes).faults
   text_told slot.Expression place bytes h = string_told form.Any place bytes h
   text_told slot.Element place bytes h = string_told form.Any place bytes h
+  text_told slot.CaseValue place bytes h = string_told form.Any place bytes h
+  text_told slot.CaseMember place bytes h = string_told form.Any place bytes h
   text_told (slot.String f) place bytes h = string_told f place bytes h
   text_told (slot.MacroText m) place bytes h = macro_told m place bytes h
   text_told (slot.Term run) place bytes h = one 6025 place h
@@ -97,10 +99,22 @@ module _ (files : ℕ) where
   valued_told least most place (Err NoConstant.Fault) h = one 6024 place h
   valued_told least most place (Err NoConstant.Form) h = one 6022 place h
 
+  member_told : (width : Width) (place : Place) (p : Plan) → IsIn files place → AreTold files (case_member width place p).faults
+  member_told width place p h = either (is_case_member p) (fine p) (valued 0 18446744073709551615 place (constant_of width p)) tt (valued_told 0 18446744073709551615 place (constant_of width p) h)
+
+  value_told : (width : Width) (place : Place) (p : Plan) → IsIn files place → AreTold files (case_value width place p).faults
+  value_told width place p h = by (member_count p)
+    where
+      by : (o : Option ℕ) → AreTold files (choose o (case_member width place p) (λ n. if is_case_package n then fine p else refused 6024 place)).faults
+      by None = member_told width place p h
+      by (Some n) = either (is_case_package n) (fine p) (refused 6024 place) tt (one 6024 place h)
+
   evaluated_told : (width : Width) (s : Slot) (place : Place) (p : Plan) → IsIn files place → AreTold files (evaluated width s place p).faults
   evaluated_told width (slot.Constant least most) place p h = either (is_omitted p) (fine p) (valued least most place (constant_of W64 p)) tt (valued_told least most place (constant_of W64 p) h)
   evaluated_told width slot.Measure place p h = either (is_omitted p) (fine p) (valued 0 18446744073709551615 place (constant_of width p)) tt (valued_told 0 18446744073709551615 place (constant_of width p) h)
   evaluated_told width slot.Element place p h = either (is_member p) (fine p) (valued 0 18446744073709551615 place (constant_of width p)) tt (valued_told 0 18446744073709551615 place (constant_of width p) h)
+  evaluated_told width slot.CaseValue place p h = value_told width place p h
+  evaluated_told width slot.CaseMember place p h = member_told width place p h
   evaluated_told width slot.FieldElement place p h = either (is_element p) (fine p) (refused 6022 place) tt (one 6022 place h)
   evaluated_told width _ place p h = tt
 
@@ -204,7 +218,7 @@ module _ (files : ℕ) where
           symbol_told inside.width s place (symbol_of o) args h.0 (arguments_in_told (parameters_of (symbol_of o)) place inside ws h.0 h.1)
       bare_told s inside (item place w args body) h =
           let meaning = meaning_of w (is_given body) in
-          let form : Op → Shaped Plan = λ o. form_shape inside.width o place (arguments (parameters_of o) place inside args) (contents (body_of o) (within o inside) place body) in
+          let form : Op → Shaped Plan = λ o. form_shape inside.width o place (arguments (parameters_as o s) place inside args) (contents (body_as o s) (within o inside) place body) in
           let offset : Shaped Plan = offset_shape (arguments offset_parameters place inside args) in
           let expanded : TextMacro → Shaped Plan = λ m. macro_shape (arguments (macro_parameters m) place inside args) in
           let template : Shaped Plan = template_shape place (contents braces.Descriptors inside place body) in
@@ -218,7 +232,7 @@ module _ (files : ℕ) where
           let rest : Shaped Plans = contents (descriptor_body d) inside place body in
           let room = is_roomy d first.made rest.made in
           both (first.faults ++ rest.faults) (room_faults room place) (both first.faults rest.faults (arguments_told (descriptor_parameters d) place inside args h.0 h.1) (contents_told (descriptor_body d) inside place body h.0 h.2)) (room_told room place h.0))
-          (λ o. both (arguments (parameters_of o) place inside args).faults (contents (body_of o) (within o inside) place body).faults (arguments_told (parameters_of o) place inside args h.0 h.1) (contents_told (body_of o) (within o inside) place body h.0 h.2)))
+          (λ o. both (arguments (parameters_as o s) place inside args).faults (contents (body_as o s) (within o inside) place body).faults (arguments_told (parameters_as o s) place inside args h.0 h.1) (contents_told (body_as o s) (within o inside) place body h.0 h.2)))
       bare_told s inside comma h = tt
       bare_told s inside semicolon h = tt
       bare_told s inside empty h = tt
@@ -252,6 +266,8 @@ module _ (files : ℕ) where
       contents_told braces.FieldList inside place (given ws) p h = list_told place (is_field_list begin ws) (elements begin None inside ws) p (elements_told begin None inside ws tt h)
       contents_told (braces.Numbers most) inside place (given ws) p h = list_told place (is_listed true ws) (members (slot.Constant 0 most) inside ws) p (members_told (slot.Constant 0 most) inside ws h)
       contents_told braces.Descriptors inside place (given ws) p h = members_told slot.Descriptor inside ws h
+      contents_told braces.Cases inside place (given ws) p h = cases_told inside false ws h
+      contents_told braces.CaseMembers inside place (given ws) p h = list_told place (is_listed true ws) (members slot.CaseMember inside ws) p (members_told slot.CaseMember inside ws h)
 
       elements_told : (due : Due) (unit : Option UnitName) (inside : Around) (ws : Writtens) → UnitIn unit → AreWithin files ws → AreTold files (elements due unit inside ws).faults
       elements_told due unit inside none u h = tt
@@ -274,6 +290,11 @@ module _ (files : ℕ) where
       terms_told inside run none h = tt
       terms_told inside run (more w ws) h =
           skipped_told (is_separator w) (place_of nowhere w) (checked inside.width (slot.Term run) (place_of nowhere w) (bare (slot.Term run) inside w)) (terms inside (run_after run w) ws) (checked_told inside.width (slot.Term run) (place_of nowhere w) (bare (slot.Term run) inside w) (place_in nowhere w main h.0) (bare_told (slot.Term run) inside w h.0)) (terms_told inside (run_after run w) ws h.1)
+
+      cases_told : (inside : Around) (defaulted : Bool) (ws : Writtens) → AreWithin files ws → AreTold files (cases inside defaulted ws).faults
+      cases_told inside defaulted none h = tt
+      cases_told inside defaulted (more w ws) h =
+          skipped_told (is_separator w) (place_of nowhere w) (checked inside.width (slot.Branch defaulted) (place_of nowhere w) (bare (slot.Branch defaulted) inside w)) (cases inside (default_after defaulted w) ws) (checked_told inside.width (slot.Branch defaulted) (place_of nowhere w) (bare (slot.Branch defaulted) inside w) (place_in nowhere w main h.0) (bare_told (slot.Branch defaulted) inside w h.0)) (cases_told inside (default_after defaulted w) ws h.1)
 
     inside_told : (fault : Option ℕ) (place : Place) (inside : List Message) → IsIn files place → AreTold files inside → AreTold files (errors_inside fault place inside)
     inside_told (Some n) place inside h k = one n place h

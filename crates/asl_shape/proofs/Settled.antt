@@ -1,5 +1,6 @@
 -- The arguments of forms, by their nodes.
-use Rattle.std.proofs.Common.{◌≡◌, ℕ, zero, suc, ◌<◌, ◌≤◌, length, get_or, take, arith, List, [], ◌∷◌, ◌++◌, refl, ap, ◌∙◌, sym, false, None, Vec, Global}
+use Rattle.std.proofs.Common.{◌≡◌, ℕ, zero, suc, ◌+◌, ◌<◌, ◌≤◌, length, get_or, take, drop, add-one, arith, List, [], ◌∷◌, ◌++◌, refl, ap, ◌∙◌, sym, true, false, if◌then◌else◌, None, Vec, Global}
+use Rattle.std.specs.List.{remove}
 use Rattle.asl_tree.specs.declared.path.Path.{Path}
 use Rattle.asl_tree.specs.declared.term.Op.{Op}
 use Rattle.asl_tree.specs.declared.term.Literal.{Literal}
@@ -8,7 +9,7 @@ use Rattle.asl_tree.specs.declared.term.Term.{Term}
 use Rattle.asl_tree.specs.declared.term.Term as D
 use Rattle.acpi_values.specs.declared.width.Width.{Width}
 use Rattle.asl_shape.specs.Plans.{Plans, no_plans, plan, omitted, a_form, plan_of, plans_of, plan_at, number_of, first_plans, join, constant_of}
-use Rattle.asl_shape.specs.Shapes.{is_stated, one_plan, zero_plan, few_elements}
+use Rattle.asl_shape.specs.Shapes.{is_stated, one_plan, zero_plan, few_elements, is_default_op, is_default_plan, default_last}
 use Rattle.asl_shape.proofs.Plans.{plan_form, plan_call}
 use Rattle.asl_shape.proofs.Terms.{term_rules}
 
@@ -92,3 +93,51 @@ join_first ps = refl
 pub ruleset single_rules = (join_first, no_nodes)
 
 pub ruleset return_rules = (term_rules)
+
+-- ---- the Default of a Switch
+
+pub default_form : (o : Op) (args body : Vec Node Global) → is_default_plan (plan_of (D.Form o args body)) ≡ is_default_op o
+default_form o args body = ap is_default_plan (plan_form o args body)
+
+pub default_call : (path : Path) (args : Vec Node Global) → is_default_plan (plan_of (D.Call path args)) ≡ false
+default_call path args = ap is_default_plan (plan_call path args)
+
+pub ruleset default_rules = (term_rules, default_form, default_call)
+
+-- the nodes before one of them are no Default, and it moves behind those that follow it
+default_here : (nodes : List Node) (i : ℕ) (d : Node) → i < length nodes → is_default_plan (plan_of (get_or nodes i d).term) ≡ true → plans_of (remove nodes i ++ get_or nodes i d ∷ []) ≡ join (plans_of (take i nodes)) (default_last (plans_of (drop i nodes)))
+unfolding plans_of
+default_here [] i d lt e = absurd (omega (arith, lt))
+default_here (node ∷ nodes) zero d lt e = push_is nodes node ∙ sym (ap (λ b. if b then join (plans_of nodes) (one_plan node.place (plan_of node.term)) else plan node.place (plan_of node.term) (default_last (plans_of nodes))) e)
+default_here (node ∷ nodes) (suc i) d lt e = ap (plan node.place (plan_of node.term)) (default_here nodes i d (omega (arith, lt)) e)
+
+default_behind : (nodes : List Node) (i : ℕ) (d : Node) → i < length nodes → is_default_plan (plan_of (get_or nodes i d).term) ≡ false
+    → join (plans_of (take (suc i) nodes)) (default_last (plans_of (drop (suc i) nodes))) ≡ join (plans_of (take i nodes)) (default_last (plans_of (drop i nodes)))
+unfolding plans_of
+default_behind [] i d lt e = absurd (omega (arith, lt))
+default_behind (node ∷ nodes) zero d lt e = sym (ap (λ b. if b then join (plans_of nodes) (one_plan node.place (plan_of node.term)) else plan node.place (plan_of node.term) (default_last (plans_of nodes))) e)
+default_behind (node ∷ nodes) (suc i) d lt e = ap (plan node.place (plan_of node.term)) (default_behind nodes i d (omega (arith, lt)) e)
+
+default_nowhere : (nodes : List Node) (i : ℕ) → length nodes ≤ i → plans_of nodes ≡ join (plans_of (take i nodes)) (default_last (plans_of (drop i nodes)))
+unfolding plans_of
+default_nowhere [] zero le = refl
+default_nowhere [] (suc i) le = refl
+default_nowhere (node ∷ nodes) zero le = absurd (omega (arith, le))
+default_nowhere (node ∷ nodes) (suc i) le = ap (plan node.place (plan_of node.term)) (default_nowhere nodes i (omega (arith, le)))
+
+pub default_start : (nodes : List Node) → join (plans_of (take 0 nodes)) (default_last (plans_of (drop 0 nodes))) ≡ default_last (plans_of nodes)
+unfolding plans_of
+default_start nodes = refl
+
+pub default_next : (nodes : List Node) (i : ℕ) (d : Node) (w : Plans) → i < length nodes → is_default_plan (plan_of (get_or nodes i d).term) ≡ false
+    → join (plans_of (take i nodes)) (default_last (plans_of (drop i nodes))) ≡ w → join (plans_of (take (i + 1) nodes)) (default_last (plans_of (drop (i + 1) nodes))) ≡ w
+default_next nodes i d w lt e h = ap (λ k. join (plans_of (take k nodes)) (default_last (plans_of (drop k nodes)))) (add-one i) ∙ default_behind nodes i d lt e ∙ h
+
+pub default_moved : (nodes : List Node) (i : ℕ) (d node : Node) (w : Plans) → i < length nodes → is_default_plan (plan_of (get_or nodes i d).term) ≡ true → node ≡ get_or nodes i d
+    → join (plans_of (take i nodes)) (default_last (plans_of (drop i nodes))) ≡ w → plans_of (remove nodes i ++ node ∷ []) ≡ w
+default_moved nodes i d node w lt e f h = ap (λ n. plans_of (remove nodes i ++ n ∷ [])) f ∙ default_here nodes i d lt e ∙ h
+
+pub default_over : (nodes : List Node) (i : ℕ) (w : Plans) → length nodes ≤ i → join (plans_of (take i nodes)) (default_last (plans_of (drop i nodes))) ≡ w → plans_of nodes ≡ w
+default_over nodes i w le h = default_nowhere nodes i le ∙ h
+
+pub ruleset last_rules = (default_start, default_next, default_moved, default_over)

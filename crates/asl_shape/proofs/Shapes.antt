@@ -8,6 +8,8 @@ use Rattle.asl_parser.specs.declared.raw.Infix.{Infix}
 use Rattle.asl_parser.specs.declared.raw.Raw.{Raw}
 use Rattle.asl_parser.specs.declared.raw.Raw.TheVariants as raw
 use Rattle.asl_tree.specs.declared.term.Op.{Op}
+use Rattle.asl_tree.specs.declared.term.Op.TheVariants as op
+use Rattle.asl_tree.specs.declared.term.Special.{Special}
 use Rattle.asl_tree.specs.declared.term.Node.{Node}
 use Rattle.asl_words.specs.Paths.{path_of}
 use Rattle.asl_shape.specs.declared.around.Around.{Around}
@@ -23,14 +25,14 @@ use Rattle.asl_words.specs.declared.operator.Body.TheVariants as braces
 use Rattle.asl_words.specs.declared.meaning.Reading.TheVariants as read
 use Rattle.asl_parser.specs.Written.{writtens, written, written_in}
 use Rattle.asl_shape.specs.Sizes.{size, sizes, size_at, sizes_at, size_in_at}
-use Rattle.asl_words.specs.Operators.{parameters_of, body_of, offset_parameters, macro_parameters}
+use Rattle.asl_words.specs.Operators.{parameters_of, body_of, parameters_as, body_as, offset_parameters, macro_parameters}
 use Rattle.asl_shape.specs.Shapes
 use Rattle.asl_shape.specs.Symbols.{symbol_of}
 use Rattle.asl_shape.specs.Shapes.{Shaped, fine, refused, template_shape, descriptor_shape, is_given, inside_of, has_arguments, after, checked, evaluated, number_shape, text_shape, listed_shape, form_shape, symbol_shape, read_shape, item_shape, path_shape, call_shape, known_plan, within, place_of, joined, left_out, list_shape, skipped, is_separator, nowhere, bare, call_args, arguments, contents, meaning_in, offset_shape, macro_shape, begin}
 use Rattle.asl_words.specs.Meanings.{item_fault, meaning_of, reading_of, slot_as, unfit}
 use Rattle.asl_words.specs.Resources.{descriptor_parameters, descriptor_body}
 use Rattle.resource_layout.specs.declared.descriptor.Descriptor.{Descriptor}
-use Rattle.asl_shape.specs.AtRaw.{has_arguments_at, template_at, descriptor_at, inside_at, bare_at, listed_at, place_at, shape_at, is_separator_at, run_after_at, operands_at, call_at, arguments_at, arguments_in_at, contents_at, members_at, terms_at, member_at, argument_at, form_at, read_at, is_some, one_at, left_at, is_listed_at, byte_slot_at, item_at, meaning_at, offset_at, macro_at, is_field_list_at, elements_at}
+use Rattle.asl_shape.specs.AtRaw.{has_arguments_at, template_at, descriptor_at, inside_at, bare_at, listed_at, place_at, shape_at, is_separator_at, run_after_at, operands_at, call_at, arguments_at, arguments_in_at, contents_at, members_at, terms_at, member_at, argument_at, form_at, read_at, is_some, one_at, left_at, is_listed_at, byte_slot_at, item_at, meaning_at, offset_at, macro_at, is_field_list_at, elements_at, cases_at, default_after_at}
 use Rattle.asl_parser.proofs.Views.{written_number, written_text, written_item, written_apply, written_list, written_comma, written_semicolon, written_empty}
 use Rattle.asl_shape.proofs.Terms.{term_rules, omitted_term, offset_term, nothing_more}
 use Rattle.asl_shape.proofs.Braces.{given_some, from_item}
@@ -93,7 +95,7 @@ inside_written (Some raws) = refl
 pub bare_item : (s : Slot) (inside : Around) (place : Place) (w : List ℕ) (args body : Option (List Raw)) → bare_at s inside (raw.Item place w args body) ≡ item_at s inside place w args body
 unfolding bare_at item_at has_arguments_at read_at call_at offset_at macro_at template_at descriptor_at form_at arguments_at contents_at
 bare_item s inside place w args body =
-    let form : Op → Shaped Plan = λ o. form_at o place inside args body in
+    let form : Op → Shaped Plan = λ o. form_at s o place inside args body in
     let offset : Shaped Plan = offset_at place inside args in
     let expanded : TextMacro → Shaped Plan = λ m. macro_at m place inside args in
     let template : Shaped Plan = template_at place inside body in
@@ -133,9 +135,9 @@ arguments_are [] place inside None = refl
 arguments_are (q ∷ qs) place inside None = refl
 arguments_are qs place inside (Some raws) = refl
 
-pub form_is : (o : Op) (place : Place) (inside : Around) (args body : Option (List Raw)) → form_at o place inside args body ≡ form_shape inside.width o place (arguments_in_at (parameters_of o) place inside (inside_at args)) (contents_at (body_of o) (within o inside) place body)
+pub form_is : (s : Slot) (o : Op) (place : Place) (inside : Around) (args body : Option (List Raw)) → form_at s o place inside args body ≡ form_shape inside.width o place (arguments_in_at (parameters_as o s) place inside (inside_at args)) (contents_at (body_as o s) (within o inside) place body)
 unfolding form_at
-form_is o place inside args body = ap (λ a. form_shape inside.width o place a (contents_at (body_of o) (within o inside) place body)) (arguments_are (parameters_of o) place inside args)
+form_is s o place inside args body = ap (λ a. form_shape inside.width o place a (contents_at (body_as o s) (within o inside) place body)) (arguments_are (parameters_as o s) place inside args)
 
 pub offset_is : (place : Place) (inside : Around) (args : Option (List Raw)) → offset_at place inside args ≡ offset_shape (arguments_in_at offset_parameters place inside (inside_at args))
 unfolding offset_at
@@ -171,9 +173,9 @@ pub read_known : (s : Slot) (place : Place) (w : List ℕ) (k : Known) (inside :
 unfolding read_at
 read_known s place w k inside args body = refl
 
-pub read_form : (s : Slot) (place : Place) (w : List ℕ) (o : Op) (inside : Around) (args body : Option (List Raw)) → read_at s place w (read.Form o) inside args body ≡ form_shape inside.width o place (arguments_in_at (parameters_of o) place inside (inside_at args)) (contents_at (body_of o) (within o inside) place body)
+pub read_form : (s : Slot) (place : Place) (w : List ℕ) (o : Op) (inside : Around) (args body : Option (List Raw)) → read_at s place w (read.Form o) inside args body ≡ form_shape inside.width o place (arguments_in_at (parameters_as o s) place inside (inside_at args)) (contents_at (body_as o s) (within o inside) place body)
 unfolding read_at
-read_form s place w o inside args body = form_is o place inside args body
+read_form s place w o inside args body = form_is s o place inside args body
 
 pub read_offset : (s : Slot) (place : Place) (w : List ℕ) (inside : Around) (args body : Option (List Raw)) → read_at s place w read.Offset inside args body ≡ offset_at place inside args
 unfolding read_at
@@ -219,11 +221,21 @@ pub term_end : (inside : Around) (run : Option ℕ) (raws : List Raw) (i : ℕ) 
 unfolding terms_at writtens
 term_end inside run raws i le = ap (λ rs. Shapes.terms inside run (writtens rs)) (drop_all i raws le)
 
+pub case_step : (inside : Around) (defaulted : Bool) (raws : List Raw) (i : ℕ) (d : Raw) → i < length raws → cases_at inside defaulted (drop i raws) ≡ skipped (is_separator_at (get_or raws i d)) (place_at nowhere (get_or raws i d)) (shape_at (slot.Branch defaulted) inside (get_or raws i d)) (cases_at inside (default_after_at defaulted (get_or raws i d)) (drop (i + 1) raws))
+unfolding cases_at writtens place_at bare_at is_separator_at default_after_at
+case_step inside defaulted raws i d lt = ap (λ rs. Shapes.cases inside defaulted (writtens rs)) (from_item raws i d lt)
+
+pub case_end : (inside : Around) (defaulted : Bool) (raws : List Raw) (i : ℕ) → length raws ≤ i → cases_at inside defaulted (drop i raws) ≡ fine no_plans
+unfolding cases_at writtens
+case_end inside defaulted raws i le = ap (λ rs. Shapes.cases inside defaulted (writtens rs)) (drop_all i raws le)
+
 pub ruleset operand_rules = (operand_step, operand_end, append_assoc, join_assoc, nothing_more, nothing_behind)
 
 pub ruleset member_steps = (member_step, member_end, append_assoc, join_assoc, nothing_more, nothing_behind)
 
 pub ruleset term_steps = (term_step, term_end, append_assoc, join_assoc, nothing_more, nothing_behind)
+
+pub ruleset case_steps = (case_step, case_end, append_assoc, join_assoc, nothing_more, nothing_behind)
 
 pub ruleset argument_rules = (append_assoc, join_assoc, nothing_more, nothing_behind)
 
@@ -250,6 +262,8 @@ contents_none braces.Elements inside place = refl
 contents_none braces.FieldList inside place = refl
 contents_none (braces.Numbers most) inside place = refl
 contents_none braces.Descriptors inside place = refl
+contents_none braces.Cases inside place = refl
+contents_none braces.CaseMembers inside place = refl
 
 pub contents_no : (inside : Around) (place : Place) (raws : List Raw) → contents_at braces.No inside place (Some raws) ≡ fine no_plans
 unfolding contents_at
@@ -278,6 +292,25 @@ contents_numbers most inside place raws = refl
 pub contents_descriptors : (inside : Around) (place : Place) (raws : List Raw) → contents_at braces.Descriptors inside place (Some raws) ≡ members_at slot.Descriptor inside raws
 unfolding contents_at members_at
 contents_descriptors inside place raws = refl
+
+pub contents_cases : (inside : Around) (place : Place) (raws : List Raw) → contents_at braces.Cases inside place (Some raws) ≡ cases_at inside false raws
+unfolding contents_at cases_at
+contents_cases inside place raws = refl
+
+pub contents_case_members : (inside : Around) (place : Place) (raws : List Raw) → contents_at braces.CaseMembers inside place (Some raws) ≡ list_shape place (is_listed_at true raws) (members_at slot.CaseMember inside raws)
+unfolding contents_at members_at is_listed_at
+contents_case_members inside place raws = refl
+
+-- ---- what is written with a symbol is read as an expression
+
+pub expression_parameters : (o : Op) → parameters_as o slot.Expression ≡ parameters_of o
+expression_parameters (op.Special Special.Buffer) = refl
+expression_parameters (op.Special Special.Package) = refl
+expression_parameters _ = refl
+
+pub expression_body : (o : Op) → body_as o slot.Expression ≡ body_of o
+expression_body (op.Special Special.Package) = refl
+expression_body _ = refl
 
 -- ---- sizes
 
@@ -326,9 +359,9 @@ pub ruleset operand_all = (operand_faults, operand_made, operand_end, nothing_mo
 
 pub ruleset size_rules = (size_item, size_apply, size_inside, size_none, size_some, size_within)
 
-pub ruleset symbol_rules = (contents_none, nothing_more)
+pub ruleset symbol_rules = (contents_none, nothing_more, expression_parameters, expression_body)
 
-pub ruleset content_rules = (append_assoc, nothing_more, nothing_behind, contents_none, contents_no, contents_terms, contents_bytes, contents_elements, contents_fields, contents_numbers, contents_descriptors, size_some)
+pub ruleset content_rules = (append_assoc, nothing_more, nothing_behind, contents_none, contents_no, contents_terms, contents_bytes, contents_elements, contents_fields, contents_numbers, contents_descriptors, contents_cases, contents_case_members, size_some)
 
 -- ---- steps of the other lists
 
@@ -385,6 +418,22 @@ run_made inside run raws i d old new w lt e f =
     let rest = terms_at inside (run_after_at run r) (drop (i + 1) raws) in
     ap (λ ms. join ms rest.made) f ∙ join_assoc old (member_at (slot.Term run) inside r).made rest.made
     ∙ ap (λ ms. join old ms) (parted_made (is_separator_at r) (place_at nowhere r) (shape_at (slot.Term run) inside r) rest) ∙ ap (λ x. join old x.made) (sym (term_step inside run raws i d lt)) ∙ e
+
+pub case_faults : (inside : Around) (defaulted : Bool) (raws : List Raw) (i : ℕ) (d : Raw) (old new w : List Message) → i < length raws → old ++ (cases_at inside defaulted (drop i raws)).faults ≡ w → new ≡ old ++ (member_at (slot.Branch defaulted) inside (get_or raws i d)).faults → new ++ (cases_at inside (default_after_at defaulted (get_or raws i d)) (drop (i + 1) raws)).faults ≡ w
+unfolding member_at
+case_faults inside defaulted raws i d old new w lt e f =
+    let r = get_or raws i d in
+    let rest = cases_at inside (default_after_at defaulted r) (drop (i + 1) raws) in
+    ap (λ ms. ms ++ rest.faults) f ∙ append_assoc old (member_at (slot.Branch defaulted) inside r).faults rest.faults
+    ∙ ap (λ ms. old ++ ms) (parted (is_separator_at r) (place_at nowhere r) (shape_at (slot.Branch defaulted) inside r) rest) ∙ ap (λ x. old ++ x.faults) (sym (case_step inside defaulted raws i d lt)) ∙ e
+
+pub case_made : (inside : Around) (defaulted : Bool) (raws : List Raw) (i : ℕ) (d : Raw) (old new w : Plans) → i < length raws → join old (cases_at inside defaulted (drop i raws)).made ≡ w → new ≡ join old (member_at (slot.Branch defaulted) inside (get_or raws i d)).made → join new (cases_at inside (default_after_at defaulted (get_or raws i d)) (drop (i + 1) raws)).made ≡ w
+unfolding member_at
+case_made inside defaulted raws i d old new w lt e f =
+    let r = get_or raws i d in
+    let rest = cases_at inside (default_after_at defaulted r) (drop (i + 1) raws) in
+    ap (λ ms. join ms rest.made) f ∙ join_assoc old (member_at (slot.Branch defaulted) inside r).made rest.made
+    ∙ ap (λ ms. join old ms) (parted_made (is_separator_at r) (place_at nowhere r) (shape_at (slot.Branch defaulted) inside r) rest) ∙ ap (λ x. join old x.made) (sym (case_step inside defaulted raws i d lt)) ∙ e
 
 -- ---- arguments, by the parameters that are left
 

@@ -1,5 +1,5 @@
 -- Terms that are made.
-use Rattle.std.proofs.Common.{◌≡◌, ℕ, List, [], ◌++◌, append-nil, Vec, Global, refl, ap, true, false}
+use Rattle.std.proofs.Common.{◌≡◌, ℕ, suc, List, [], ◌∷◌, ◌++◌, length, append-nil, Vec, Global, refl, ap, ◌∙◌, true, false, Some, None, if◌then◌else◌}
 use Rattle.iasl_messages.specs.declared.message.Message.{Message}
 use Rattle.asl_tree.specs.declared.path.Path.{Path}
 use Rattle.acpi_values.specs.Paths.{NameSeg}
@@ -14,10 +14,11 @@ use Rattle.asl_tree.specs.declared.term.Literal.{Literal}
 use Rattle.asl_tree.specs.declared.term.Word.{Word}
 use Rattle.asl_tree.specs.declared.term.Node.{Node}
 use Rattle.asl_tree.specs.declared.term.Term.{Term}
+use Rattle.asl_tree.specs.declared.term.NamedDescriptor.{NamedDescriptor}
 use Rattle.asl_tree.specs.declared.term.Term as D
-use Rattle.asl_shape.specs.Plans.{plan_of, an_integer, a_text, a_fill, a_word, a_local, an_arg, debug, omitted, a_name, a_unit, a_skip, an_offset, is_omitted}
+use Rattle.asl_shape.specs.Plans.{plan_of, an_integer, a_text, a_fill, a_word, a_local, an_arg, debug, omitted, a_name, a_unit, a_skip, an_offset, is_omitted, plans_of, how_many}
 use Rattle.asl_shape.proofs.Plans.{plan_form, plan_call}
-use Rattle.asl_shape.specs.Shapes.{is_member, is_element}
+use Rattle.asl_shape.specs.Shapes.{is_member, is_element, is_buffer, is_package, is_case_member, member_count}
 
 pub omitted_term : plan_of D.Omitted ≡ omitted
 unfolding plan_of
@@ -47,9 +48,9 @@ pub name_term : (path : Path) → plan_of (D.Name path) ≡ a_name path
 unfolding plan_of
 name_term path = refl
 
-pub fill_term : (bytes : List ℕ) → plan_of (D.Fill bytes) ≡ a_fill bytes
+pub fill_term : (bytes : List ℕ) (named : List NamedDescriptor) → plan_of (D.Fill bytes named) ≡ a_fill bytes named
 unfolding plan_of
-fill_term bytes = refl
+fill_term bytes named = refl
 
 pub debug_term : plan_of D.Debug ≡ debug
 unfolding plan_of
@@ -100,6 +101,34 @@ pub member_call : (path : Path) (args : Vec Node Global) → is_member (plan_of 
 member_call path args = ap is_member (plan_call path args)
 
 pub ruleset member_rules = (term_rules, member_declaration, member_control, member_symbol, member_plain, member_literal, member_buffer, member_package, member_reference, member_call)
+
+pub case_member_form : (o : Op) (args body : Vec Node Global) → is_case_member (plan_of (D.Form o args body)) ≡ is_buffer o
+case_member_form o args body = ap is_case_member (plan_form o args body)
+
+pub case_member_call : (path : Path) (args : Vec Node Global) → is_case_member (plan_of (D.Call path args)) ≡ false
+case_member_call path args = ap is_case_member (plan_call path args)
+
+pub ruleset case_member_rules = (term_rules, case_member_form, case_member_call)
+
+-- as many plans as nodes
+pub plan_count : (nodes : List Node) → how_many (plans_of nodes) ≡ length nodes
+unfolding plans_of
+plan_count [] = refl
+plan_count (node ∷ nodes) = ap suc (plan_count nodes)
+
+count_form : (o : Op) (args body : Vec Node Global) → member_count (plan_of (D.Form o args body)) ≡ (if is_package o then Some (length body.items) else None)
+count_form o args body = ap member_count (plan_form o args body) ∙ ap (λ n. if is_package o then Some n else None) (plan_count body.items)
+
+pub count_package : (o : Op) (args body : Vec Node Global) → is_package o ≡ true → member_count (plan_of (D.Form o args body)) ≡ Some (length body.items)
+count_package o args body e = count_form o args body ∙ ap (λ b. if b then Some (length body.items) else None) e
+
+pub count_other : (o : Op) (args body : Vec Node Global) → is_package o ≡ false → member_count (plan_of (D.Form o args body)) ≡ None
+count_other o args body e = count_form o args body ∙ ap (λ b. if b then Some (length body.items) else None) e
+
+pub count_call : (path : Path) (args : Vec Node Global) → member_count (plan_of (D.Call path args)) ≡ None
+count_call path args = ap member_count (plan_call path args)
+
+pub ruleset count_rules = (term_rules, count_package, count_other, count_call)
 
 pub element_form : (o : Op) (args body : Vec Node Global) → is_element (plan_of (D.Form o args body)) ≡ false
 element_form o args body = ap is_element (plan_form o args body)

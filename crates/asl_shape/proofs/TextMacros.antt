@@ -3,6 +3,7 @@ use Rattle.std.proofs.Common.{◌≡◌, ℕ, ◌<◌, length, get_or, List, sym
 use Rattle.iasl_messages.specs.declared.place.Place.{Place}
 use Rattle.asl_tree.specs.declared.term.Op.{Op}
 use Rattle.asl_tree.specs.declared.term.Special.{Special}
+use Rattle.asl_tree.specs.declared.term.NamedDescriptor.{NamedDescriptor}
 use Rattle.asl_tree.specs.declared.term.Node.{Node}
 use Rattle.asl_tree.specs.declared.term.Term as D
 use Rattle.asl_shape.specs.Plans.{plan_of, plans_of, plan_at, a_form, a_fill, omitted}
@@ -11,8 +12,8 @@ use Rattle.asl_shape.proofs.Plans.{plan_form}
 use Rattle.asl_shape.proofs.Terms.{term_rules, nothing_more}
 use Rattle.asl_shape.proofs.Settled.{at_some, at_none, join_first}
 
-pub buffer_is : (args body : Vec Node Global) (place : Place) (bytes : List ℕ) → plans_of args.items ≡ one_plan place omitted → plans_of body.items ≡ one_plan place (a_fill bytes) → plan_of (D.Form (Op.Special Special.Buffer) args body) ≡ buffer_plan place bytes
-buffer_is args body place bytes e f = plan_form (Op.Special Special.Buffer) args body ∙ ap (λ ps. a_form (Op.Special Special.Buffer) ps (plans_of body.items)) e ∙ ap (a_form (Op.Special Special.Buffer) (one_plan place omitted)) f
+pub buffer_is : (args body : Vec Node Global) (place : Place) (bytes : List ℕ) (named : List NamedDescriptor) → plans_of args.items ≡ one_plan place omitted → plans_of body.items ≡ one_plan place (a_fill bytes named) → plan_of (D.Form (Op.Special Special.Buffer) args body) ≡ buffer_plan place bytes named
+buffer_is args body place bytes named e f = plan_form (Op.Special Special.Buffer) args body ∙ ap (λ ps. a_form (Op.Special Special.Buffer) ps (plans_of body.items)) e ∙ ap (a_form (Op.Special Special.Buffer) (one_plan place omitted)) f
 
 pub first_some : (nodes : List Node) (d : Node) → 0 < length nodes → d ≡ get_or nodes 0 d → plan_of d.term ≡ plan_at (plans_of nodes) 0
 first_some nodes d lt e = ap (λ (n : Node). plan_of n.term) e ∙ sym (at_some nodes 0 d lt)

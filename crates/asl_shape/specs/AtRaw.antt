@@ -20,9 +20,9 @@ use Rattle.asl_words.specs.declared.meaning.Reading.{Reading}
 use Rattle.asl_shape.specs.declared.fields.Due.{Due}
 use Rattle.asl_shape.specs.declared.fields.UnitName.{UnitName}
 use Rattle.asl_parser.specs.Written.{written, writtens, written_in}
-use Rattle.asl_shape.specs.Shapes.{Shaped, fine, takes, none_empty, has_arguments, is_comma, due_after, is_text, bare, run_after, is_call, is_separator, is_listed, byte_slot, skipped, joined, operands, call_args, arguments, arguments_in, contents, members, terms, read_shape, form_shape, within, place_of, nowhere, checked, item_shape, listed_shape, types_shape, is_type, are_types, is_type_or_list, are_all_types, meaning_in, goes_on, is_field_list, field_slot, unit_behind, field_part, due_behind, offset_shape, macro_shape, template_shape, descriptor_shape, elements, begin}
+use Rattle.asl_shape.specs.Shapes.{Shaped, fine, takes, none_empty, has_arguments, is_comma, due_after, is_text, bare, run_after, is_call, is_separator, is_listed, byte_slot, skipped, joined, operands, call_args, arguments, arguments_in, contents, members, terms, read_shape, form_shape, within, place_of, nowhere, checked, item_shape, listed_shape, types_shape, is_type, are_types, is_type_or_list, are_all_types, meaning_in, goes_on, is_field_list, field_slot, unit_behind, field_part, due_behind, offset_shape, macro_shape, template_shape, descriptor_shape, elements, begin, cases, default_after}
 use Rattle.asl_words.specs.Meanings.{item_fault, meaning_of, reading_of, slot_as}
-use Rattle.asl_words.specs.Operators.{parameters_of, body_of, offset_parameters, macro_parameters}
+use Rattle.asl_words.specs.Operators.{parameters_as, body_as, offset_parameters, macro_parameters}
 use Rattle.asl_words.specs.Resources.{descriptor_parameters, descriptor_body}
 
 unfoldable pub takes_at : List Parameter → List Raw → Bool
@@ -78,9 +78,15 @@ members_at s inside raws = members s inside (writtens raws)
 unfoldable pub terms_at : Around → Option ℕ → List Raw → Shaped Plans
 terms_at inside run raws = terms inside run (writtens raws)
 
--- a form with its arguments and its braces
-unfoldable pub form_at : Op → Place → Around → Option (List Raw) → Option (List Raw) → Shaped Plan
-form_at o place inside args body = form_shape inside.width o place (arguments_at (parameters_of o) place inside args) (contents_at (body_of o) (within o inside) place body)
+unfoldable pub cases_at : Around → Bool → List Raw → Shaped Plans
+cases_at inside defaulted raws = cases inside defaulted (writtens raws)
+
+unfoldable pub default_after_at : Bool → Raw → Bool
+default_after_at before raw = default_after before (written raw)
+
+-- a form with its arguments and its braces, read so
+unfoldable pub form_at : Slot → Op → Place → Around → Option (List Raw) → Option (List Raw) → Shaped Plan
+form_at s o place inside args body = form_shape inside.width o place (arguments_at (parameters_as o s) place inside args) (contents_at (body_as o s) (within o inside) place body)
 
 -- an Offset with its argument
 unfoldable pub offset_at : Place → Around → Option (List Raw) → Shaped Plan
@@ -100,7 +106,7 @@ descriptor_at d place inside args body = descriptor_shape d place (arguments_at 
 
 -- an item as it is read
 unfoldable pub read_at : Slot → Place → List ℕ → Reading → Around → Option (List Raw) → Option (List Raw) → Shaped Plan
-read_at s place w reading inside args body = read_shape s place w reading (call_at inside args) (offset_at place inside args) (λ m. macro_at m place inside args) (template_at place inside body) (λ d. descriptor_at d place inside args body) (λ o. form_at o place inside args body)
+read_at s place w reading inside args body = read_shape s place w reading (call_at inside args) (offset_at place inside args) (λ m. macro_at m place inside args) (template_at place inside body) (λ d. descriptor_at d place inside args body) (λ o. form_at s o place inside args body)
 
 abbrev pub is_some : Option (List Raw) → Bool
 is_some None = false

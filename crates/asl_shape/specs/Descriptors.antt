@@ -1,5 +1,9 @@
--- The bytes of a resource descriptor by what its arguments and its list come to.
-use Rattle.std.specs.Prelude.{ℕ, Bool, List, [], ◌∷◌, ◌++◌}
+-- The bytes of a resource descriptor by what its arguments and its list come to, and the descriptors in them that have names.
+use Rattle.std.specs.Prelude.{ℕ, ◌+◌, Bool, true, false, if◌then◌else◌, List, [], ◌∷◌, ◌++◌, length, map, Option, Some, None}
+use Rattle.acpi_values.specs.Paths.{NameSeg}
+use Rattle.acpi_state.specs.Outcomes.{choose}
+use Rattle.asl_tree.specs.Names.{single_segment}
+use Rattle.asl_tree.specs.declared.term.NamedDescriptor.{NamedDescriptor}
 use Rattle.iasl_messages.specs.declared.place.Place.{Place}
 use Rattle.resource_layout.specs.declared.descriptor.Descriptor.{Descriptor}
 use Rattle.resource_layout.specs.declared.descriptor.Giver.{Giver}
@@ -11,7 +15,7 @@ use Rattle.resource_macros.specs.declared.node.Node.{Node}
 use Rattle.resource_macros.specs.declared.node.Term.{Term}
 use Rattle.resource_macros.specs.declared.node.Term as R
 use Rattle.resource_macros.specs.Resources.{bytes_in, has_room}
-use Rattle.asl_shape.specs.Plans.{Plan, an_integer, a_text, a_fill, Plans, no_plans, plan, number_of}
+use Rattle.asl_shape.specs.Plans.{Plan, an_integer, a_text, a_fill, a_name, Plans, no_plans, plan, number_of}
 
 abbrev pub node : Place → Term → Node
 node place term = record { place = place; term = term }
@@ -50,7 +54,7 @@ abbrev pub own_bytes : Descriptor → Plans → Plans → List ℕ
 own_bytes d args body = bytes_in (row_of d) (descriptor_arguments d args) (member_nodes body)
 
 abbrev pub fill_of : Plan → List ℕ
-fill_of (a_fill bytes) = bytes
+fill_of (a_fill bytes named) = bytes
 fill_of _ = []
 
 -- the bytes of descriptors, one behind the other
@@ -58,6 +62,42 @@ abbrev pub fills_of : Plans → List ℕ
 fills_of no_plans = []
 fills_of (plan place p ps) = fill_of p ++ fills_of ps
 
+-- ---- the descriptors that have names
+
+abbrev pub is_name : Giver → Bool
+is_name g.Name = true
+is_name _ = false
+
+-- the segment that a name is
+abbrev pub segment_of : Plan → Option NameSeg
+segment_of (a_name path) = single_segment path
+segment_of _ = None
+
+-- a descriptor that has a name, at the begin of its bytes
+abbrev pub named_as : Descriptor → Place → Option NameSeg → List NamedDescriptor
+named_as d place None = []
+named_as d place (Some segment) = record { name = segment; place = place; descriptor = d; at = 0 } ∷ []
+
+-- the name that its arguments give it, if they do
+abbrev pub own_name : Descriptor → List Field → Plans → List NamedDescriptor
+own_name d [] ps = []
+own_name d (field ∷ fields) no_plans = []
+own_name d (field ∷ fields) (plan place p ps) = if is_name field.giver then named_as d place (segment_of p) else own_name d fields ps
+
+abbrev pub named_of : Plan → List NamedDescriptor
+named_of (a_fill bytes named) = named
+named_of _ = []
+
+-- so many bytes further behind
+abbrev pub moved : ℕ → NamedDescriptor → NamedDescriptor
+moved n named = record named { at = named.at + n }
+
+-- those of descriptors one behind the other, with so many bytes before the first
+abbrev pub names_from : ℕ → Plans → List NamedDescriptor
+names_from n no_plans = []
+names_from n (plan place p ps) = map (moved n) (named_of p) ++ names_from (n + length (fill_of p)) ps
+
 -- what a descriptor stands as: its own bytes, and behind them those of the descriptors in its list
 abbrev pub described : Descriptor → Plans → Plans → Plan
-described d args body = a_fill (own_bytes d args body ++ fills_of body)
+described d args body =
+    a_fill (own_bytes d args body ++ fills_of body) (own_name d (fields_of d) args ++ names_from (length (own_bytes d args body)) body)

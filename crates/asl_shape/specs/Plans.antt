@@ -8,6 +8,7 @@ use Rattle.asl_tree.specs.declared.constant.NoConstant.{NoConstant}
 use Rattle.asl_tree.specs.declared.path.Path.{Path}
 use Rattle.asl_tree.specs.declared.term.Op.{Op}
 use Rattle.asl_tree.specs.declared.term.Word.{Word}
+use Rattle.asl_tree.specs.declared.term.NamedDescriptor.{NamedDescriptor}
 use Rattle.asl_tree.specs.declared.term.Node.{Node}
 use Rattle.asl_tree.specs.declared.term.Term.{Term}
 use Rattle.asl_tree.specs.declared.term.Term as D
@@ -17,7 +18,7 @@ mutual
   pub data Plan : Type 0 where
     an_integer : (number : ℕ) → Plan
     a_text : (bytes : List ℕ) → Plan
-    a_fill : (bytes : List ℕ) → Plan
+    a_fill : (bytes : List ℕ) (named : List NamedDescriptor) → Plan
     a_word : (word : Word) → Plan
     a_local : (index : ℕ) → Plan
     an_arg : (index : ℕ) → Plan
@@ -39,7 +40,7 @@ unfoldable mutual
   pub plan_of : Term → Plan
   plan_of (D.Integer number) = an_integer number
   plan_of (D.Text text) = a_text text
-  plan_of (D.Fill bytes) = a_fill bytes
+  plan_of (D.Fill bytes named) = a_fill bytes named
   plan_of (D.Word word) = a_word word
   plan_of (D.Local index) = a_local index
   plan_of (D.Arg index) = an_arg index

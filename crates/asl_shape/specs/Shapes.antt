@@ -9,6 +9,7 @@ use Rattle.acpi_values.specs.declared.width.Width.TheVariants.{W64}
 use Rattle.asl_tree.specs.declared.constant.NoConstant.{NoConstant}
 use Rattle.asl_tree.specs.declared.path.Path.{Path}
 use Rattle.asl_tree.specs.Names.{is_searched, single_segment}
+use Rattle.asl_tree.specs.declared.term.NamedDescriptor.{NamedDescriptor}
 use Rattle.asl_tree.specs.declared.term.Op.{Op}
 use Rattle.asl_tree.specs.declared.term.Declaration.{Declaration}
 use Rattle.asl_tree.specs.declared.term.Control.{Control}
@@ -37,15 +38,15 @@ use Rattle.asl_shape.specs.declared.fields.Due.{Due}
 use Rattle.asl_shape.specs.declared.fields.UnitName.{UnitName}
 use Rattle.asl_parser.specs.Written as piece
 use Rattle.asl_parser.specs.Written.{Written, Writtens, Group, item, apply, listed, comma, semicolon, empty, none, more, absent, given}
-use Rattle.asl_words.specs.Operators.{parameters_of, body_of, role_of, offset_parameters, macro_parameters}
+use Rattle.asl_words.specs.Operators.{parameters_of, parameters_as, body_as, role_of, offset_parameters, macro_parameters}
 use Rattle.asl_words.specs.Resources.{descriptor_parameters, descriptor_body}
-use Rattle.asl_words.specs.Meanings.{meaning_of, may_end, unfit, item_fault, takes_expression, takes_role, takes_known, reading_of, run_behind, slot_as}
+use Rattle.asl_words.specs.Meanings.{meaning_of, may_end, unfit, item_fault, takes_expression, takes_role, takes_known, reading_of, run_behind, slot_as, is_default}
 use Rattle.asl_shape.specs.Symbols.{symbol_of}
 use Rattle.asl_words.specs.Texts.{has_form, is_all_text}
 use Rattle.asl_words.specs.Paths.{path_of}
 use Rattle.resource_macros.specs.Identifiers.{eisaid_of, uuid_of, utf16_of}
-use Rattle.asl_shape.specs.Plans.{Plan, an_integer, a_text, a_fill, a_word, a_local, an_arg, debug, omitted, a_name, a_unit, a_skip, an_offset, a_call, a_form, Plans, no_plans, plan, join, number_of, plan_at, first_plans, first_alone, is_omitted, constant_of}
-use Rattle.asl_shape.specs.Descriptors.{is_roomy, described, fills_of}
+use Rattle.asl_shape.specs.Plans.{Plan, an_integer, a_text, a_fill, a_word, a_local, an_arg, debug, omitted, a_name, a_unit, a_skip, an_offset, a_call, a_form, Plans, no_plans, plan, join, number_of, plan_at, first_plans, first_alone, is_omitted, how_many, constant_of}
+use Rattle.asl_shape.specs.Descriptors.{is_roomy, described, fills_of, names_from}
 
 -- ---- what comes of a part of a source: its errors in order, and its tree, which counts where there are none
 
@@ -136,6 +137,37 @@ is_element (a_name path) = is_searched path
 is_element (an_offset bytes) = true
 is_element _ = false
 
+abbrev pub is_buffer : Op → Bool
+is_buffer (Op.Special Special.Buffer) = true
+is_buffer _ = false
+
+abbrev pub is_package : Op → Bool
+is_package (Op.Special Special.Package) = true
+is_package _ = false
+
+-- what a member of a Case's Package is beside constants
+abbrev pub is_case_member : Plan → Bool
+is_case_member (a_text bytes) = true
+is_case_member (a_form o args body) = is_buffer o
+is_case_member _ = false
+
+-- a member of a Case's Package: a string, a Buffer or a constant
+abbrev pub case_member : Width → Place → Plan → Shaped Plan
+case_member width place p = if is_case_member p then fine p else valued 0 18446744073709551615 place (constant_of width p)
+
+-- how many members a Package has
+abbrev pub member_count : Plan → Option ℕ
+member_count (a_form o args body) = if is_package o then Some (how_many body) else None
+member_count _ = None
+
+-- a Package of a Case has 1 to 120 members
+abbrev pub is_case_package : ℕ → Bool
+is_case_package n = nat_le 1 n && nat_le n 120
+
+-- the value of a Case: such a member, or a Package of some
+abbrev pub case_value : Width → Place → Plan → Shaped Plan
+case_value width place p = choose (member_count p) (case_member width place p) (λ n. if is_case_package n then fine p else refused 6024 place)
+
 -- what the word of a part is, if it has one
 abbrev pub meaning_in : Written → Meaning
 meaning_in (item p w args body) = meaning_of w (is_given body)
@@ -147,6 +179,8 @@ abbrev pub evaluated : Width → Slot → Place → Plan → Shaped Plan
 evaluated width (slot.Constant least most) place p = if is_omitted p then fine p else valued least most place (constant_of W64 p)
 evaluated width slot.Measure place p = if is_omitted p then fine p else valued 0 18446744073709551615 place (constant_of width p)
 evaluated width slot.Element place p = if is_member p then fine p else valued 0 18446744073709551615 place (constant_of width p)
+evaluated width slot.CaseValue place p = case_value width place p
+evaluated width slot.CaseMember place p = case_member width place p
 evaluated width slot.FieldElement place p = if is_element p then fine p else refused 6022 place
 evaluated width _ place p = fine p
 
@@ -172,9 +206,9 @@ string_shape f place bytes = if has_form f bytes && is_all_text bytes then fine 
 
 -- ---- macros for identifiers and texts: each stands as what its string comes to
 
--- a Buffer of these bytes
-abbrev pub buffer_plan : Place → List ℕ → Plan
-buffer_plan place bytes = a_form (Op.Special Special.Buffer) (plan place omitted no_plans) (plan place (a_fill bytes) no_plans)
+-- a Buffer of these bytes, among which these descriptors have names
+abbrev pub buffer_plan : Place → List ℕ → List NamedDescriptor → Plan
+buffer_plan place bytes named = a_form (Op.Special Special.Buffer) (plan place omitted no_plans) (plan place (a_fill bytes named) no_plans)
 
 abbrev pub eisa_shape : Place → Option ℕ → Shaped Plan
 eisa_shape place None = refused 6026 place
@@ -182,10 +216,10 @@ eisa_shape place (Some number) = fine (a_word (Word.Identifier number))
 
 abbrev pub uuid_shape : Place → Option (List ℕ) → Shaped Plan
 uuid_shape place None = refused 6027 place
-uuid_shape place (Some bytes) = fine (buffer_plan place bytes)
+uuid_shape place (Some bytes) = fine (buffer_plan place bytes [])
 
 abbrev pub unicode_shape : Place → List ℕ → Shaped Plan
-unicode_shape place text = if is_all_text text then fine (buffer_plan place (utf16_of text)) else refused 6024 place
+unicode_shape place text = if is_all_text text then fine (buffer_plan place (utf16_of text) []) else refused 6024 place
 
 -- the string of a macro: the number of an identifier, the bytes of a UUID, or 16-bit characters with a final 0
 abbrev pub macro_text : TextMacro → Place → List ℕ → Shaped Plan
@@ -196,6 +230,8 @@ macro_text TextMacro.Unicode place text = unicode_shape place text
 abbrev pub text_shape : Slot → Place → List ℕ → Shaped Plan
 text_shape slot.Expression place bytes = string_shape form.Any place bytes
 text_shape slot.Element place bytes = string_shape form.Any place bytes
+text_shape slot.CaseValue place bytes = string_shape form.Any place bytes
+text_shape slot.CaseMember place bytes = string_shape form.Any place bytes
 text_shape (slot.String f) place bytes = string_shape f place bytes
 text_shape (slot.MacroText m) place bytes = macro_text m place bytes
 text_shape (slot.Term run) place bytes = refused 6025 place
@@ -326,8 +362,26 @@ settled width (Op.Declaration Declaration.IndexField) place ps = field_settled 2
 settled width (Op.Declaration Declaration.BankField) place ps = field_settled 3 place ps
 settled width _ place ps = ps
 
+abbrev pub is_default_op : Op → Bool
+is_default_op (Op.Control Control.Default) = true
+is_default_op _ = false
+
+abbrev pub is_default_plan : Plan → Bool
+is_default_plan (a_form o args body) = is_default_op o
+is_default_plan _ = false
+
+-- the Default behind all others
+abbrev pub default_last : Plans → Plans
+default_last no_plans = no_plans
+default_last (plan place p ps) = if is_default_plan p then join ps (one_plan place p) else plan place p (default_last ps)
+
+-- the braces of a form, from what is written in them: a Default stands behind the Cases of its Switch
+abbrev pub arranged : Op → Plans → Plans
+arranged (Op.Control Control.Switch) ps = default_last ps
+arranged _ ps = ps
+
 abbrev pub form_shape : Width → Op → Place → Shaped Plans → Shaped Plans → Shaped Plan
-form_shape width o place args body = record { faults = args.faults ++ body.faults; made = a_form o (settled width o place args.made) body.made }
+form_shape width o place args body = record { faults = args.faults ++ body.faults; made = a_form o (settled width o place args.made) (arranged o body.made) }
 
 -- what is written with a symbol, by what its operands come to
 abbrev pub symbol_shape : Width → Slot → Place → Op → Shaped Plans → Shaped Plan
@@ -353,7 +407,7 @@ descriptor_shape d place args body =
 
 -- a template stands as a Buffer of the bytes of its descriptors and the end tag
 abbrev pub template_plan : Place → Plans → Plan
-template_plan place ps = buffer_plan place (fills_of ps ++ 0x79 ∷ 0 ∷ [])
+template_plan place ps = buffer_plan place (fills_of ps ++ 0x79 ∷ 0 ∷ []) (names_from 0 ps)
 
 abbrev pub template_shape : Place → Shaped Plans → Shaped Plan
 template_shape place body = record { faults = body.faults; made = template_plan place body.made }
@@ -437,6 +491,11 @@ run_after run comma = run
 run_after run semicolon = run
 run_after run (item p w args body) = run_behind run (meaning_of w (is_given body))
 run_after run _ = None
+
+-- whether a Default stands before what follows a member of a Switch
+abbrev pub default_after : Bool → Written → Bool
+default_after before (item p w args body) = before || is_default (meaning_of w (is_given body))
+default_after before _ = before
 
 -- ---- the list of a field
 
@@ -537,7 +596,7 @@ abbrev mutual
       (offset_shape (arguments offset_parameters place inside args)) (λ m. macro_shape (arguments (macro_parameters m) place inside args))
       (template_shape place (contents braces.Descriptors inside place body))
       (λ d. descriptor_shape d place (arguments (descriptor_parameters d) place inside args) (contents (descriptor_body d) inside place body))
-      (λ o. form_shape inside.width o place (arguments (parameters_of o) place inside args) (contents (body_of o) (within o inside) place body)))
+      (λ o. form_shape inside.width o place (arguments (parameters_as o s) place inside args) (contents (body_as o s) (within o inside) place body)))
   bare s inside _ = fine omitted
 
   -- the arguments of a call
@@ -570,6 +629,8 @@ abbrev mutual
   contents braces.FieldList inside place (given ws) = list_shape place (is_field_list begin ws) (elements begin None inside ws)
   contents (braces.Numbers most) inside place (given ws) = list_shape place (is_listed true ws) (members (slot.Constant 0 most) inside ws)
   contents braces.Descriptors inside place (given ws) = members slot.Descriptor inside ws
+  contents braces.Cases inside place (given ws) = cases inside false ws
+  contents braces.CaseMembers inside place (given ws) = list_shape place (is_listed true ws) (members slot.CaseMember inside ws)
 
   pub members : Slot → Around → Writtens → Shaped Plans
   members s inside none = fine no_plans
@@ -587,6 +648,12 @@ abbrev mutual
   terms inside run none = fine no_plans
   terms inside run (more w ws) =
       skipped (is_separator w) (place_of nowhere w) (checked inside.width (slot.Term run) (place_of nowhere w) (bare (slot.Term run) inside w)) (terms inside (run_after run w) ws)
+
+  -- the members of a Switch; `defaulted` says whether a Default stands before
+  pub cases : Around → Bool → Writtens → Shaped Plans
+  cases inside defaulted none = fine no_plans
+  cases inside defaulted (more w ws) =
+      skipped (is_separator w) (place_of nowhere w) (checked inside.width (slot.Branch defaulted) (place_of nowhere w) (bare (slot.Branch defaulted) inside w)) (cases inside (default_after defaulted w) ws)
 
 -- a part of a source where it is read so
 abbrev pub shape : Slot → Around → Written → Shaped Plan

@@ -98,6 +98,8 @@ pub fn text(
     match slot {
         Slot::Expression => Ok(string(alloc, work, StringForm::Any, place, bytes)?),
         Slot::Element => Ok(string(alloc, work, StringForm::Any, place, bytes)?),
+        Slot::CaseValue => Ok(string(alloc, work, StringForm::Any, place, bytes)?),
+        Slot::CaseMember => Ok(string(alloc, work, StringForm::Any, place, bytes)?),
         Slot::String(form) => Ok(string(alloc, work, form, place, bytes)?),
         Slot::MacroText(text_macro) => Ok(macro_text(alloc, work, text_macro, place, bytes)?),
         Slot::Term { .. } => Ok(refuse(alloc, work, 6025, place)?),

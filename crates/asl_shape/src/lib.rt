@@ -19,4 +19,6 @@ pub use unit::shape;
 #[cfg(test)]
 mod resource_tests;
 #[cfg(test)]
+mod switch_tests;
+#[cfg(test)]
 mod tests;

@@ -7,7 +7,7 @@ use crate::around::Around;
 use crate::item::is_given;
 use asl_parser::Raw;
 use asl_tree::term::{Declaration, Op};
-use asl_words::meaning::{meaning_of, run_behind};
+use asl_words::meaning::{is_default, meaning_of, run_behind};
 use asl_words::operator::{Slot, StringForm};
 use asl_words::paths::parts;
 
@@ -142,5 +142,24 @@ pub fn run_after(run: Option<u8>, raw: &Raw) -> Option<u8>
         Raw::Apply { .. } => None,
         Raw::List { .. } => None,
         Raw::Empty => None,
+    }
+}
+
+/// Whether a Default stands before what follows a member of a Switch.
+#[tactic(auto, using(crate::proofs::Braces::default_rules))]
+pub fn default_after(before: bool, raw: &Raw) -> bool
+    ensures { result ≡ at.default_after_at before raw.now }
+{
+    match raw {
+        Raw::Item { word, body, .. } => {
+            before || is_default(meaning_of(word.as_bytes(), is_given(body)))
+        }
+        Raw::Number { .. } => before,
+        Raw::Text { .. } => before,
+        Raw::Apply { .. } => before,
+        Raw::List { .. } => before,
+        Raw::Comma => before,
+        Raw::Semicolon => before,
+        Raw::Empty => before,
     }
 }

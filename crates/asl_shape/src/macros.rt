@@ -6,23 +6,28 @@ ghost use Rattle.resource_macros.specs.Identifiers.{eisaid_of, uuid_of};
 
 use crate::settle::push;
 use crate::work::{Work, refuse};
-use asl_tree::term::{Node, Op, Special, Term, Word};
+use asl_tree::term::{NamedDescriptor, Node, Op, Special, Term, Word};
 use asl_words::operator::TextMacro;
 use asl_words::texts::is_text;
 use iasl_messages::place::Place;
-use iasl_ports::list::Text;
+use iasl_ports::list::{List, Text};
 use resource_macros::identifiers::{eisaid, utf16, uuid};
 use std::alloc::{AllocError, Global};
 
-/// A Buffer of these bytes.
+/// A Buffer of these bytes, among which these descriptors have names.
 #[tactic(auto, using(crate::proofs::TextMacros::buffer_rules))]
-pub fn buffer(alloc: Global, place: Place, bytes: Text) -> Result<Term, AllocError>
-    ensures { IfOk result (λ term. plan_of term ≡ spec.buffer_plan place bytes) }
+pub fn buffer(
+    alloc: Global,
+    place: Place,
+    bytes: Text,
+    named: List<NamedDescriptor>,
+) -> Result<Term, AllocError>
+    ensures { IfOk result (λ term. plan_of term ≡ spec.buffer_plan place bytes named) }
 {
     let mut args = Vec::new(alloc);
     push(&mut args, place, Term::Omitted)?;
     let mut body = Vec::new(alloc);
-    push(&mut body, place, Term::Fill(bytes))?;
+    push(&mut body, place, Term::Fill { bytes, named })?;
     Ok(Term::Form {
         op: Op::Special(Special::Buffer),
         args,
@@ -49,7 +54,12 @@ fn unique(alloc: Global, work: &mut Work, place: Place, text: &Text) -> Result<T
     ensures made { IfOk result (λ term. plan_of term ≡ (spec.uuid_shape place (uuid_of text.now)).made) }
 {
     match uuid(text.as_bytes()) {
-        Some(bytes) => Ok(buffer(alloc, place, Text::from_bytes(alloc, &bytes)?)?),
+        Some(bytes) => Ok(buffer(
+            alloc,
+            place,
+            Text::from_bytes(alloc, &bytes)?,
+            List::new(alloc),
+        )?),
         None => Ok(refuse(alloc, work, 6027, place)?),
     }
 }
@@ -61,7 +71,12 @@ fn characters(alloc: Global, work: &mut Work, place: Place, text: &Text) -> Resu
     ensures made { IfOk result (λ term. plan_of term ≡ (spec.unicode_shape place text.now).made) }
 {
     if is_text(text.as_bytes()) {
-        Ok(buffer(alloc, place, utf16(alloc, text.as_bytes())?)?)
+        Ok(buffer(
+            alloc,
+            place,
+            utf16(alloc, text.as_bytes())?,
+            List::new(alloc),
+        )?)
     } else {
         Ok(refuse(alloc, work, 6024, place)?)
     }

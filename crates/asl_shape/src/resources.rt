@@ -1,18 +1,20 @@
 //! Resource templates, which stand for the bytes of their descriptors.
-ghost use Rattle.std.specs.Prelude.{◌≡◌, ◌++◌, ◌∷◌, [], true, OnOk, IfOk};
+ghost use Rattle.std.specs.Prelude.{◌≡◌, ◌++◌, ◌∷◌, [], true, OnOk, IfOk, length, map};
 ghost use Rattle.asl_shape.specs.Descriptors as table;
 ghost use Rattle.asl_shape.specs.Shapes as spec;
 ghost use Rattle.asl_shape.specs.Plans.{plan_of, plans_of};
 ghost use Rattle.resource_layout.specs.Layout.{row_of};
 ghost use Rattle.resource_macros.specs.Reading.{IsResource};
 
+use crate::fields::named_unit;
 use crate::macros::buffer;
 use crate::settle::number_in;
 use crate::work::{Work, tell};
-use asl_tree::term::{Node, Term};
+use asl_tree::path::NameSeg;
+use asl_tree::term::{NamedDescriptor, Node, Term};
 use asl_words::paths::parts;
 use iasl_messages::place::Place;
-use iasl_ports::list::Text;
+use iasl_ports::list::{List, Text};
 use resource_layout::descriptor::{Descriptor, Field, Giver, Word};
 use resource_layout::layout::fields_of;
 use resource_macros::node;
@@ -35,7 +37,7 @@ fn argument_term(alloc: Global, giver: Giver, term: &Term) -> Result<node::Term,
     match term {
         Term::Integer(number) => Ok(number_term(giver, *number)),
         Term::Text(bytes) => Ok(node::Term::Text(Text::from_bytes(alloc, bytes.as_bytes())?)),
-        Term::Fill(_) => Ok(node::Term::Omitted),
+        Term::Fill { .. } => Ok(node::Term::Omitted),
         Term::Word(_) => Ok(node::Term::Omitted),
         Term::Local(_) => Ok(node::Term::Omitted),
         Term::Arg(_) => Ok(node::Term::Omitted),
@@ -87,13 +89,48 @@ fn member_nodes(alloc: Global, body: &[Node]) -> Result<Vec<node::Node>, AllocEr
     Ok(nodes)
 }
 
-// Adds the bytes of a descriptor.
+// What a descriptor comes to: its bytes, and which descriptors in them have names.
+#[derive(Drop)]
+struct Fill {
+    bytes: Vec<u8>,
+    named: Vec<NamedDescriptor>,
+}
+
+// A descriptor that has a name, so many bytes further behind.
+fn moved(named: NamedDescriptor, bytes: usize) -> Result<NamedDescriptor, AllocError>
+    ensures { IfOk result (λ further. further ≡ table.moved bytes named) }
+{
+    let Some(at) = named.at.checked_add(bytes) else {
+        return Err(AllocError);
+    };
+    Ok(NamedDescriptor { at, ..named })
+}
+
+// Adds the descriptors that have names, so many bytes further behind.
+fn add_names(
+    names: &mut Vec<NamedDescriptor>,
+    added: &[NamedDescriptor],
+    bytes: usize,
+) -> Result<(), AllocError>
+    ensures { OnOk result (names.new.items ≡ names.old.items ++ map (table.moved bytes) added.now) }
+{
+    for named in added {
+        names.push(moved(*named, bytes)?)?;
+    }
+    Ok(())
+}
+
+// Adds the bytes and the names of a descriptor.
 #[tactic(auto, using(crate::proofs::Descriptors::fill_rules))]
-fn add_fill(bytes: &mut Vec<u8>, term: &Term) -> Result<(), AllocError>
-    ensures { OnOk result (bytes.new.items ≡ bytes.old.items ++ table.fill_of (plan_of term.now)) }
+fn add_fill(fill: &mut Fill, term: &Term) -> Result<(), AllocError>
+    ensures bytes { OnOk result (fill.new.bytes.items ≡ fill.old.bytes.items ++ table.fill_of (plan_of term.now)) }
+    ensures names { OnOk result (fill.new.named.items ≡ fill.old.named.items ++ map (table.moved (length fill.old.bytes.items)) (table.named_of (plan_of term.now))) }
 {
     match term {
-        Term::Fill(fill) => Ok(bytes.extend_from_slice(fill.as_bytes())?),
+        Term::Fill { bytes, named } => {
+            add_names(&mut fill.named, named.as_slice(), fill.bytes.len())?;
+            Ok(fill.bytes.extend_from_slice(bytes.as_bytes())?)
+        }
         Term::Integer(_) => Ok(()),
         Term::Text(_) => Ok(()),
         Term::Word(_) => Ok(()),
@@ -110,14 +147,77 @@ fn add_fill(bytes: &mut Vec<u8>, term: &Term) -> Result<(), AllocError>
     }
 }
 
-// Adds the bytes of descriptors, one behind the other.
-fn add_fills(bytes: &mut Vec<u8>, nodes: &[Node]) -> Result<(), AllocError>
-    ensures { OnOk result (bytes.new.items ≡ bytes.old.items ++ table.fills_of (plans_of nodes.now)) }
+// Adds the bytes and the names of descriptors, one behind the other.
+fn add_fills(fill: &mut Fill, nodes: &[Node]) -> Result<(), AllocError>
+    ensures bytes { OnOk result (fill.new.bytes.items ≡ fill.old.bytes.items ++ table.fills_of (plans_of nodes.now)) }
+    ensures names { OnOk result (fill.new.named.items ≡ fill.old.named.items ++ table.names_from (length fill.old.bytes.items) (plans_of nodes.now)) }
 {
     for node in nodes {
-        add_fill(bytes, &node.term)?;
+        add_fill(fill, &node.term)?;
     }
     Ok(())
+}
+
+fn is_name(giver: Giver) -> bool
+    ensures { result ≡ table.is_name giver }
+{
+    matches!(giver, Giver::Name)
+}
+
+// The segment that a name is.
+#[tactic(auto, using(crate::proofs::Descriptors::segment_rules))]
+fn segment_of(place: Place, term: &Term) -> Option<NameSeg>
+    ensures { result ≡ table.segment_of (plan_of term.now) }
+{
+    match named_unit(place, term) {
+        Some(unit) => Some(unit.segment),
+        None => None,
+    }
+}
+
+// Adds a descriptor that has a name.
+#[tactic(auto, using(crate::proofs::Descriptors::own_name_rules))]
+fn add_named(
+    names: &mut Vec<NamedDescriptor>,
+    descriptor: Descriptor,
+    place: Place,
+    segment: Option<NameSeg>,
+) -> Result<(), AllocError>
+    ensures { OnOk result (names.new.items ≡ names.old.items ++ table.named_as descriptor place segment) }
+{
+    match segment {
+        Some(name) => Ok(names.push(NamedDescriptor {
+            name,
+            place,
+            descriptor,
+            at: 0,
+        })?),
+        None => Ok(()),
+    }
+}
+
+// Adds the name that its arguments give a descriptor, if they do.
+#[tactic(auto, using(crate::proofs::Descriptors::own_name_rules))]
+fn add_own_name(
+    names: &mut Vec<NamedDescriptor>,
+    descriptor: Descriptor,
+    fields: &[Field],
+    args: &[Node],
+) -> Result<(), AllocError>
+    ensures { OnOk result (names.new.items ≡ names.old.items ++ table.own_name descriptor fields.now (plans_of args.now)) }
+{
+    let Some((field, other_fields)) = parts(fields) else {
+        return Ok(());
+    };
+    let Some((arg, other_args)) = parts(args) else {
+        return Ok(());
+    };
+    if is_name(field.giver) {
+        let segment = segment_of(arg.place, &arg.term);
+        Ok(add_named(names, descriptor, arg.place, segment)?)
+    } else {
+        Ok(add_own_name(names, descriptor, other_fields, other_args)?)
+    }
 }
 
 // Tells of a descriptor that has no room for what it has.
@@ -157,19 +257,35 @@ pub fn describe(
     let members = member_nodes(alloc, body)?;
     let described = resource_macros::descriptor::describe(alloc, descriptor, &arguments, &members)?;
     ask_room(alloc, work, described.has_room, place)?;
-    let mut bytes = described.bytes;
-    add_fills(&mut bytes, body)?;
-    Ok(Term::Fill(Text::from_vec(alloc, bytes)?))
+    let mut named = Vec::new(alloc);
+    add_own_name(&mut named, descriptor, fields_of(descriptor), args)?;
+    let mut fill = Fill {
+        bytes: described.bytes,
+        named,
+    };
+    add_fills(&mut fill, body)?;
+    Ok(Term::Fill {
+        bytes: Text::from_vec(alloc, fill.bytes)?,
+        named: List::from_vec(fill.named),
+    })
 }
 
-/// What a template comes to by its descriptors: a Buffer of their bytes and the end tag (ACPI Specification 6.4,
+/// What a template comes to by its descriptors: a Buffer of their bytes and the end tag, with those that have names (ACPI Specification 6.4,
 /// 6.4.2.9).
 pub fn template(alloc: Global, place: Place, body: &[Node]) -> Result<Term, AllocError>
     ensures { IfOk result (λ term. plan_of term ≡ spec.template_plan place (plans_of body.now)) }
 {
-    let mut bytes = Vec::new(alloc);
-    add_fills(&mut bytes, body)?;
-    bytes.push(0x79)?;
-    bytes.push(0)?;
-    Ok(buffer(alloc, place, Text::from_vec(alloc, bytes)?)?)
+    let mut fill = Fill {
+        bytes: Vec::new(alloc),
+        named: Vec::new(alloc),
+    };
+    add_fills(&mut fill, body)?;
+    fill.bytes.push(0x79)?;
+    fill.bytes.push(0)?;
+    Ok(buffer(
+        alloc,
+        place,
+        Text::from_vec(alloc, fill.bytes)?,
+        List::from_vec(fill.named),
+    )?)
 }

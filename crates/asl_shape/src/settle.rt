@@ -19,7 +19,7 @@ pub fn number_in(term: &Term) -> u64
         Term::Text(_) => 0,
         Term::Name(_) => 0,
         Term::Form { .. } => 0,
-        Term::Fill(_) => 0,
+        Term::Fill { .. } => 0,
         Term::Word(_) => 0,
         Term::Local(_) => 0,
         Term::Arg(_) => 0,
@@ -187,6 +187,64 @@ fn package(
     match few_elements(width, nodes) {
         Some(count) => Ok(only(alloc, nodes, place, Term::Integer(count))?),
         None => Ok(()),
+    }
+}
+
+fn is_default_op(op: Op) -> bool
+    ensures { result ≡ spec.is_default_op op }
+{
+    matches!(op, Op::Control(Control::Default))
+}
+
+#[tactic(auto, using(crate::proofs::Settled::default_rules))]
+fn is_default(term: &Term) -> bool
+    ensures { result ≡ spec.is_default_plan (plan_of term.now) }
+{
+    match term {
+        Term::Form { op, .. } => is_default_op(*op),
+        Term::Integer(_) => false,
+        Term::Text(_) => false,
+        Term::Name(_) => false,
+        Term::Fill { .. } => false,
+        Term::Word(_) => false,
+        Term::Local(_) => false,
+        Term::Arg(_) => false,
+        Term::Debug => false,
+        Term::Omitted => false,
+        Term::Unit { .. } => false,
+        Term::Skip(_) => false,
+        Term::Offset(_) => false,
+        Term::Call { .. } => false,
+    }
+}
+
+fn is_default_node(node: &Node) -> bool
+    ensures { result ≡ spec.is_default_plan (plan_of node.now.term) }
+{
+    is_default(&node.term)
+}
+
+// The Default behind all others.
+#[tactic(auto, using(crate::proofs::Settled::last_rules))]
+fn put_default_last(nodes: &mut Vec<Node>) -> Result<(), AllocError>
+    ensures { OnOk result (plans_of nodes.new.items ≡ spec.default_last (plans_of nodes.old.items)) }
+{
+    for at in 0..nodes.len() {
+        if is_default_node(&nodes[at]) {
+            let default = nodes.remove(at);
+            return Ok(nodes.push(default)?);
+        }
+    }
+    Ok(())
+}
+
+/// The braces of a form, from what is written in them: a Default stands behind the Cases of its Switch.
+pub fn arrange(op: Op, nodes: &mut Vec<Node>) -> Result<(), AllocError>
+    ensures { OnOk result (plans_of nodes.new.items ≡ spec.arranged op (plans_of nodes.old.items)) }
+{
+    match op {
+        Op::Control(Control::Switch) => Ok(put_default_last(nodes)?),
+        _ => Ok(()),
     }
 }
 

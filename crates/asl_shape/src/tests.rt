@@ -110,7 +110,7 @@ fn tells_each_error_at_its_place(rt: HostRuntime) -> Result<(), Fail> {
     for (text, want) in [
         // Unknown operators, also those of later, and nothing inside of them.
         ("FOO12 ( BARBAR )", "6020@15 "),
-        ("SWITCH ( 1 ) { NAME ( ) }", "6020@15 "),
+        ("FOR ( 1 ) { NAME ( ) }", "6020@15 "),
         ("LOAD ( A )", "6020@15 "),
         ("FOO { }", "6020@15 "),
         // Paths: a long segment, and one in a method.
@@ -306,7 +306,7 @@ fn a_run_has_at_most_120_else_ifs(rt: HostRuntime) -> Result<(), Fail> {
 }
 
 /// The one term of a block, where there is no error.
-fn with_term(alloc: Global, text: &str) -> Result<Option<Program>, AllocError> {
+pub(crate) fn with_term(alloc: Global, text: &str) -> Result<Option<Program>, AllocError> {
     let source = format!(in alloc; "{HEAD} {text} }}")?;
     let tokens = tokens(alloc, source.as_str())?;
     if tokens.len() > 1000 {
@@ -499,7 +499,7 @@ pub(crate) fn has_buffer(alloc: Global, text: &str, bytes: &[u8]) -> Result<bool
     }
     match body.get(0) {
         Some(node) => match &node.term {
-            Term::Fill(fill) => Ok(fill.as_bytes() == bytes),
+            Term::Fill { bytes: fill, .. } => Ok(fill.as_bytes() == bytes),
             _ => Ok(false),
         },
         None => Ok(false),

@@ -12,17 +12,17 @@ use crate::fields::{
 };
 use crate::item::{inside_of, is_given, item_fault};
 use crate::leaf::{known_term, listed, number, path, place_in, text};
-use crate::lists::{byte_slot, is_listed, is_separator, run_after, within};
+use crate::lists::{byte_slot, default_after, is_listed, is_separator, run_after, within};
 use crate::macros::first_term;
 use crate::resources;
-use crate::settle::{number_at, number_in, push, settle};
+use crate::settle::{arrange, number_at, number_in, push, settle};
 use crate::symbol::symbol_of;
 use crate::work::{NOWHERE, Work, evaluate, refuse, tell};
 use asl_parser::{Raw, Raws};
 use asl_tree::term::{Node, Op, Term};
 use asl_words::meaning::{Reading, meaning_of, reading_of, slot_as, takes_role, unfit};
 use asl_words::operator::{Body, Parameter, Slot, TextMacro};
-use asl_words::parameters::{body_of, macro_parameters, offset_parameters, parameters_of, role_of};
+use asl_words::parameters::{body_as, macro_parameters, offset_parameters, parameters_as, role_of};
 use asl_words::paths::path_of;
 use asl_words::resources::{descriptor_body, descriptor_parameters};
 use iasl_messages::message::{Messages, Stage};
@@ -211,7 +211,9 @@ fn read(
         Reading::Template => Ok(template(alloc, work, inside, place, body)?),
         Reading::Descriptor(of) => Ok(descriptor(alloc, work, of, inside, place, args, body)?),
         Reading::Known(known) => Ok(known_term(slot, known)),
-        Reading::Form(op) => Ok(form(alloc, work, op, inside, place, inside_of(args), body)?),
+        Reading::Form(op) => {
+            Ok(form(alloc, work, slot, op, inside, place, inside_of(args), body)?)
+        }
     }
 }
 
@@ -377,33 +379,43 @@ fn symbol(
     ensures made { IfOk result (λ term. plan_of term ≡ (spec.symbol_shape inside.width slot place op (at.arguments_in_at (table.parameters_of op) place inside args.now)).made) }
 {
     if takes_role(slot, role_of(op)) {
-        Ok(form(alloc, work, op, inside, place, args, &None)?)
+        Ok(form(
+            alloc,
+            work,
+            Slot::Expression,
+            op,
+            inside,
+            place,
+            args,
+            &None,
+        )?)
     } else {
         Ok(refuse(alloc, work, unfit(slot), place)?)
     }
 }
 
-// An operator with its arguments and its braces.
+// An operator with its arguments and its braces, read so.
 #[cycle(shape)]
 #[tactic(auto, using(crate::proofs::Shapes::size_rules, crate::proofs::Shapes::form_rules))]
 fn form(
     alloc: Global,
     work: &mut Work,
+    slot: Slot,
     op: Op,
     inside: Around,
     place: Place,
     args: &[Raw],
     body: &Option<Raws>,
 ) -> Result<Term, AllocError>
-    ensures faults { OnOk result (work.new.faults.items ≡ work.old.faults.items ++ (spec.form_shape inside.width op place (at.arguments_in_at (table.parameters_of op) place inside args.now) (at.contents_at (table.body_of op) (spec.within op inside) place body.now)).faults) }
-    ensures made { IfOk result (λ term. plan_of term ≡ (spec.form_shape inside.width op place (at.arguments_in_at (table.parameters_of op) place inside args.now) (at.contents_at (table.body_of op) (spec.within op inside) place body.now)).made) }
+    ensures faults { OnOk result (work.new.faults.items ≡ work.old.faults.items ++ (spec.form_shape inside.width op place (at.arguments_in_at (table.parameters_as op slot) place inside args.now) (at.contents_at (table.body_as op slot) (spec.within op inside) place body.now)).faults) }
+    ensures made { IfOk result (λ term. plan_of term ≡ (spec.form_shape inside.width op place (at.arguments_in_at (table.parameters_as op slot) place inside args.now) (at.contents_at (table.body_as op slot) (spec.within op inside) place body.now)).made) }
 {
     let mut nodes = Vec::new(alloc);
     arguments(
         alloc,
         work,
         &mut nodes,
-        parameters_of(op),
+        parameters_as(op, slot),
         inside,
         place,
         args,
@@ -414,11 +426,12 @@ fn form(
         alloc,
         work,
         &mut terms,
-        body_of(op),
+        body_as(op, slot),
         within(op, inside),
         place,
         body,
     )?;
+    arrange(op, &mut terms)?;
     Ok(Term::Form {
         op,
         args: nodes,
@@ -514,6 +527,10 @@ fn contents(
             )?)
         }
         Body::Descriptors => Ok(members(alloc, work, nodes, Slot::Descriptor, inside, raws)?),
+        Body::Cases => Ok(cases(alloc, work, nodes, inside, raws)?),
+        Body::CaseMembers => {
+            Ok(elements(alloc, work, nodes, Slot::CaseMember, inside, place, raws)?)
+        }
     }
 }
 
@@ -705,6 +722,27 @@ pub fn terms(
     for raw in raws {
         add_member(alloc, work, nodes, Slot::Term { run }, inside, raw)?;
         run = run_after(run, raw);
+    }
+    Ok(())
+}
+
+// The Cases of a Switch, and its Default among them.
+#[cycle(shape)]
+#[tactic(auto, using(crate::proofs::Shapes::size_rules, crate::proofs::Shapes::case_steps))]
+fn cases(
+    alloc: Global,
+    work: &mut Work,
+    nodes: &mut Vec<Node>,
+    inside: Around,
+    raws: &[Raw],
+) -> Result<(), AllocError>
+    ensures faults { OnOk result (work.new.faults.items ≡ work.old.faults.items ++ (at.cases_at inside false raws.now).faults) }
+    ensures made { OnOk result (plans_of nodes.new.items ≡ join (plans_of nodes.old.items) (at.cases_at inside false raws.now).made) }
+{
+    let mut defaulted = false;
+    for raw in raws {
+        add_member(alloc, work, nodes, Slot::Branch { defaulted }, inside, raw)?;
+        defaulted = default_after(defaulted, raw);
     }
     Ok(())
 }

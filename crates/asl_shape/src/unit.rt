@@ -54,7 +54,7 @@ fn text_in(alloc: Global, term: &Term) -> Result<Text, AllocError>
         Term::Integer(_) => Ok(Text::new(alloc)),
         Term::Name(_) => Ok(Text::new(alloc)),
         Term::Form { .. } => Ok(Text::new(alloc)),
-        Term::Fill(_) => Ok(Text::new(alloc)),
+        Term::Fill { .. } => Ok(Text::new(alloc)),
         Term::Word(_) => Ok(Text::new(alloc)),
         Term::Local(_) => Ok(Text::new(alloc)),
         Term::Arg(_) => Ok(Text::new(alloc)),

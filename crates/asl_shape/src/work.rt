@@ -94,7 +94,7 @@ fn is_member(term: &Term) -> bool
             Op::Symbolic(_) => false,
         },
         Term::Integer(_) => false,
-        Term::Fill(_) => false,
+        Term::Fill { .. } => false,
         Term::Word(_) => true,
         Term::Local(_) => false,
         Term::Arg(_) => false,
@@ -104,6 +104,122 @@ fn is_member(term: &Term) -> bool
         Term::Skip(_) => false,
         Term::Offset(_) => false,
         Term::Call { .. } => false,
+    }
+}
+
+fn is_buffer(op: Op) -> bool
+    ensures { result ≡ spec.is_buffer op }
+{
+    matches!(op, Op::Special(Special::Buffer))
+}
+
+fn is_package(op: Op) -> bool
+    ensures { result ≡ spec.is_package op }
+{
+    matches!(op, Op::Special(Special::Package))
+}
+
+#[tactic(auto, using(crate::proofs::Terms::case_member_rules))]
+fn is_case_member(term: &Term) -> bool
+    ensures { result ≡ spec.is_case_member (plan_of term.now) }
+{
+    match term {
+        Term::Text(_) => true,
+        Term::Form { op, .. } => is_buffer(*op),
+        Term::Name(_) => false,
+        Term::Integer(_) => false,
+        Term::Fill { .. } => false,
+        Term::Word(_) => false,
+        Term::Local(_) => false,
+        Term::Arg(_) => false,
+        Term::Debug => false,
+        Term::Omitted => false,
+        Term::Unit { .. } => false,
+        Term::Skip(_) => false,
+        Term::Offset(_) => false,
+        Term::Call { .. } => false,
+    }
+}
+
+// How many members a Package has.
+#[tactic(auto, using(crate::proofs::Terms::count_rules))]
+fn member_count(term: &Term) -> Option<usize>
+    ensures { result ≡ spec.member_count (plan_of term.now) }
+{
+    match term {
+        Term::Form { op, body, .. } => {
+            if is_package(*op) {
+                Some(body.len())
+            } else {
+                None
+            }
+        }
+        Term::Text(_) => None,
+        Term::Name(_) => None,
+        Term::Integer(_) => None,
+        Term::Fill { .. } => None,
+        Term::Word(_) => None,
+        Term::Local(_) => None,
+        Term::Arg(_) => None,
+        Term::Debug => None,
+        Term::Omitted => None,
+        Term::Unit { .. } => None,
+        Term::Skip(_) => None,
+        Term::Offset(_) => None,
+        Term::Call { .. } => None,
+    }
+}
+
+// A member of a Package that is the value of a Case.
+#[tactic(auto, using(crate::proofs::Terms::nothing_more))]
+fn case_member(
+    alloc: Global,
+    work: &mut Work,
+    width: Width,
+    place: Place,
+    term: Term,
+) -> Result<Term, AllocError>
+    ensures faults { OnOk result (work.new.faults.items ≡ work.old.faults.items ++ (spec.case_member width place (plan_of term)).faults) }
+    ensures made { IfOk result (λ made. plan_of made ≡ (spec.case_member width place (plan_of term)).made) }
+{
+    if is_case_member(&term) {
+        Ok(term)
+    } else {
+        Ok(valued(alloc, work, 0, u64::MAX, place, value_of(width, &term))?)
+    }
+}
+
+// How many members a Package that is the value of a Case may have. Each is a test, and the tests of one Case stand
+// inside one another.
+const MOST_CASE_MEMBERS: usize = 120;
+
+fn is_case_package(members: usize) -> bool
+    ensures { result ≡ spec.is_case_package members }
+{
+    1 <= members && members <= MOST_CASE_MEMBERS
+}
+
+// The value of a Case.
+#[tactic(auto, using(crate::proofs::Terms::nothing_more))]
+fn case_value(
+    alloc: Global,
+    work: &mut Work,
+    width: Width,
+    place: Place,
+    term: Term,
+) -> Result<Term, AllocError>
+    ensures faults { OnOk result (work.new.faults.items ≡ work.old.faults.items ++ (spec.case_value width place (plan_of term)).faults) }
+    ensures made { IfOk result (λ made. plan_of made ≡ (spec.case_value width place (plan_of term)).made) }
+{
+    match member_count(&term) {
+        None => Ok(case_member(alloc, work, width, place, term)?),
+        Some(members) => {
+            if is_case_package(members) {
+                Ok(term)
+            } else {
+                Ok(refuse(alloc, work, 6024, place)?)
+            }
+        }
     }
 }
 
@@ -123,7 +239,7 @@ fn is_element(term: &Term) -> bool
         Term::Text(_) => false,
         Term::Form { .. } => false,
         Term::Integer(_) => false,
-        Term::Fill(_) => false,
+        Term::Fill { .. } => false,
         Term::Word(_) => false,
         Term::Local(_) => false,
         Term::Arg(_) => false,
@@ -146,7 +262,7 @@ pub fn is_omitted(term: &Term) -> bool
         Term::Name(_) => false,
         Term::Form { .. } => false,
         Term::Integer(_) => false,
-        Term::Fill(_) => false,
+        Term::Fill { .. } => false,
         Term::Word(_) => false,
         Term::Local(_) => false,
         Term::Arg(_) => false,
@@ -201,6 +317,8 @@ pub fn evaluate(
                 Ok(valued(alloc, work, 0, u64::MAX, place, value_of(width, &term))?)
             }
         }
+        Slot::CaseValue => Ok(case_value(alloc, work, width, place, term)?),
+        Slot::CaseMember => Ok(case_member(alloc, work, width, place, term)?),
         Slot::FieldElement => {
             if is_element(&term) {
                 Ok(term)

@@ -72,6 +72,23 @@ abbrev pub is_term : Slot → Bool
 is_term (slot.Term run) = true
 is_term _ = false
 
+-- whether a Default stands before, in the braces of a Switch
+abbrev pub default_before : Slot → Option Bool
+default_before (slot.Branch defaulted) = Some defaulted
+default_before _ = None
+
+-- in the braces of a Switch
+abbrev pub takes_branch : Slot → Bool
+takes_branch s = choose (default_before s) false (λ defaulted. true)
+
+-- in the braces of a Switch, behind no Default
+abbrev pub takes_default : Slot → Bool
+takes_default s = choose (default_before s) false not
+
+abbrev pub is_default : Meaning → Bool
+is_default (is.Operator (Op.Control Control.Default)) = true
+is_default _ = false
+
 abbrev pub is_field_element : Slot → Bool
 is_field_element slot.FieldElement = true
 is_field_element _ = false
@@ -82,6 +99,8 @@ may_stand s inside role.MethodStatement = inside
 may_stand s inside role.OuterTerm = not inside
 may_stand s inside role.Else = is_behind (run_of s)
 may_stand s inside role.ElseIf = has_room (run_of s)
+may_stand s inside role.Case = takes_branch s
+may_stand s inside role.Default = takes_default s
 may_stand s inside _ = true
 
 abbrev pub is_word : Known → Bool
@@ -112,13 +131,26 @@ abbrev pub takes_descriptor : Slot → Bool
 takes_descriptor slot.Descriptor = true
 takes_descriptor _ = false
 
--- a member of a template is a descriptor
-abbrev pub may_be : Slot → Bool → Meaning → Bool
-may_be s inside m = (is_descriptor m || not (takes_descriptor s)) && is_allowed s inside m
+abbrev pub is_branch_role : Role → Bool
+is_branch_role role.Case = true
+is_branch_role role.Default = true
+is_branch_role _ = false
 
--- the error of what is none of the kind that is asked for; a member of a template that is no descriptor is out of place
+abbrev pub is_branch : Meaning → Bool
+is_branch (is.Operator o) = is_branch_role (role_of o)
+is_branch _ = false
+
+-- a member of a template is a descriptor, and one of a Switch is a Case or a Default
+abbrev pub is_of_kind : Slot → Meaning → Bool
+is_of_kind s m = (is_descriptor m || not (takes_descriptor s)) && (is_branch m || not (takes_branch s))
+
+abbrev pub may_be : Slot → Bool → Meaning → Bool
+may_be s inside m = is_of_kind s m && is_allowed s inside m
+
+-- the error of what is none of the kind that is asked for; a member of a template that is no descriptor is out of
+-- place, and so is one of a Switch that is no Case and no Default
 abbrev pub unfit : Slot → ℕ
-unfit s = if takes_descriptor s then 6025 else 6022
+unfit s = if takes_descriptor s || takes_branch s then 6025 else 6022
 
 -- nothing is left out that has to stand
 abbrev pub may_end : List Parameter → Bool
@@ -139,7 +171,7 @@ abbrev pub is_unknown : Meaning → Bool
 is_unknown is.Unknown = true
 is_unknown _ = false
 
--- a name for a descriptor is not built
+-- a name for a descriptor is read, but not built
 abbrev pub is_descriptor_name : Slot → Meaning → Bool
 is_descriptor_name slot.DescriptorName is.Name = true
 is_descriptor_name _ _ = false
@@ -171,11 +203,14 @@ takes_expression slot.Expression = true
 takes_expression (slot.Constant least most) = true
 takes_expression slot.Measure = true
 takes_expression slot.Element = true
+takes_expression slot.CaseValue = true
+takes_expression slot.CaseMember = true
 takes_expression (slot.Term run) = true
 takes_expression _ = false
 
 abbrev pub takes_role : Slot → Role → Bool
 takes_role (slot.Term run) r = true
+takes_role (slot.Branch defaulted) r = is_branch_role r
 takes_role slot.Place r = is_place r
 takes_role s r = takes_expression s && is_value r
 
@@ -193,6 +228,11 @@ takes_path slot.External = true
 takes_path slot.Used = true
 takes_path slot.FieldElement = true
 takes_path s = takes_slot s
+
+-- where a single segment without a prefix may stand: what names a descriptor is nothing else
+abbrev pub takes_segment : Slot → Bool
+takes_segment slot.DescriptorName = true
+takes_segment s = takes_path s
 
 abbrev pub is_kind : WordKind → WordKind → Bool
 is_kind kind.Serialize kind.Serialize = true
@@ -229,15 +269,16 @@ takes_macro _ = false
 abbrev pub unless_wrong : Bool → Reading → Reading
 unless_wrong good reading = if good then reading else read.Wrong
 
-abbrev pub name_reading : Slot → Bool → Reading
-name_reading s true = unless_wrong (takes_expression s) read.Call
-name_reading s false = unless_wrong (takes_path s) read.Path
+-- a name, which may stand here or not where it has no brackets
+abbrev pub name_reading : Slot → Bool → Bool → Reading
+name_reading s fits true = unless_wrong (takes_expression s) read.Call
+name_reading s fits false = unless_wrong fits read.Path
 
 abbrev pub reading_of : Slot → Meaning → Bool → Reading
 reading_of s (is.Operator o) called = unless_wrong (takes_role s (role_of o)) (read.Form o)
 reading_of s (is.Known k) called = unless_wrong (takes_known s k) (read.Known k)
-reading_of s is.Name called = name_reading s called
-reading_of s is.Path called = name_reading s called
+reading_of s is.Name called = name_reading s (takes_segment s) called
+reading_of s is.Path called = name_reading s (takes_path s) called
 reading_of s is.Offset called = unless_wrong (is_field_element s) read.Offset
 reading_of s (is.Macro m) called = unless_wrong (takes_macro s) (read.Macro m)
 reading_of s is.Template called = unless_wrong (takes_macro s) read.Template

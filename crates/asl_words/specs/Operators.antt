@@ -1,6 +1,6 @@
 -- The operators and words of the language (ACPI Specification 6.4, 19.6): the words, and the arguments and braces of
 -- each operator. The operands and targets of the plain operators are those of their own table.
-use Rattle.std.specs.Prelude.{ℕ, ◌-◌, ◌^◌, nat_eq, ◌==◌, List, [], ◌∷◌, ◌++◌, length, take, drop, map, replicate, codes, Bool, true, false, ◌&&◌, Option, Some, None}
+use Rattle.std.specs.Prelude.{ℕ, ◌-◌, ◌^◌, nat_eq, nat_le, ◌==◌, if◌then◌else◌, List, [], ◌∷◌, ◌++◌, length, take, drop, map, replicate, codes, Bool, true, false, ◌&&◌, Option, Some, None}
 use Rattle.std.specs.List.{find, list_all}
 use Rattle.std.specs.Cmp.Lexicographic.{pointwise}
 use Rattle.acpi_values.specs.declared.operator.IntOp.{IntOp}
@@ -74,22 +74,43 @@ word text known = record { text = filled text; known = known }
 unfoldable pub operators : List Operator
 operators =
     row (codes "ADD") (number IntOp.Add) ∷
-    row (codes "SUBTRACT") (number IntOp.Subtract) ∷
-    row (codes "MULTIPLY") (number IntOp.Multiply) ∷
-    row (codes "SHIFTLEFT") (number IntOp.ShiftLeft) ∷
-    row (codes "SHIFTRIGHT") (number IntOp.ShiftRight) ∷
     row (codes "AND") (number IntOp.And) ∷
-    row (codes "NAND") (number IntOp.Nand) ∷
-    row (codes "OR") (number IntOp.Or) ∷
-    row (codes "NOR") (number IntOp.Nor) ∷
-    row (codes "XOR") (number IntOp.Xor) ∷
-    row (codes "MOD") (number IntOp.Mod) ∷
+    row (codes "ACQUIRE") (event EventOp.Acquire) ∷
+    row (codes "ALIAS") (declaration Declaration.Alias) ∷
+    row (codes "BUFFER") (special Special.Buffer) ∷
+    row (codes "BREAKPOINT") (event EventOp.BreakPoint) ∷
+    row (codes "BREAK") (control Control.Break) ∷
+    row (codes "BANKFIELD") (declaration Declaration.BankField) ∷
+    row (codes "CREATEDWORDFIELD") (declaration Declaration.CreateDWordField) ∷
+    row (codes "COPYOBJECT") (data' DataOp.CopyObject) ∷
+    row (codes "CONCATENATE") (data' DataOp.Concatenate) ∷
+    row (codes "CONCATENATERESTEMPLATE") (data' DataOp.ConcatenateResTemplate) ∷
+    row (codes "CONDREFOF") (special Special.CondRefOf) ∷
+    row (codes "CASE") (control Control.Case) ∷
+    row (codes "CONTINUE") (control Control.Continue) ∷
+    row (codes "CREATEFIELD") (declaration Declaration.CreateField) ∷
+    row (codes "CREATEBITFIELD") (declaration Declaration.CreateBitField) ∷
+    row (codes "CREATEBYTEFIELD") (declaration Declaration.CreateByteField) ∷
+    row (codes "CREATEWORDFIELD") (declaration Declaration.CreateWordField) ∷
+    row (codes "CREATEQWORDFIELD") (declaration Declaration.CreateQWordField) ∷
+    row (codes "DEVICE") (declaration Declaration.Device) ∷
     row (codes "DIVIDE") (number IntOp.Divide) ∷
-    row (codes "NOT") (number IntOp.Not) ∷
+    row (codes "DECREMENT") (data' DataOp.Decrement) ∷
+    row (codes "DEREFOF") (data' DataOp.DerefOf) ∷
+    row (codes "DEFAULT") (control Control.Default) ∷
+    row (codes "ELSE") (control Control.Else) ∷
+    row (codes "ELSEIF") (control Control.ElseIf) ∷
+    row (codes "EXTERNAL") (declaration Declaration.External) ∷
+    row (codes "EVENT") (declaration Declaration.Event) ∷
     row (codes "FINDSETLEFTBIT") (number IntOp.FindSetLeftBit) ∷
     row (codes "FINDSETRIGHTBIT") (number IntOp.FindSetRightBit) ∷
     row (codes "FROMBCD") (number IntOp.FromBcd) ∷
-    row (codes "TOBCD") (number IntOp.ToBcd) ∷
+    row (codes "FATAL") (event EventOp.Fatal) ∷
+    row (codes "FIELD") (declaration Declaration.Field) ∷
+    row (codes "IF") (control Control.If) ∷
+    row (codes "INCREMENT") (data' DataOp.Increment) ∷
+    row (codes "INDEX") (data' DataOp.Index) ∷
+    row (codes "INDEXFIELD") (declaration Declaration.IndexField) ∷
     row (codes "LAND") (number IntOp.LAnd) ∷
     row (codes "LOR") (number IntOp.LOr) ∷
     row (codes "LNOT") (number IntOp.LNot) ∷
@@ -99,120 +120,114 @@ operators =
     row (codes "LNOTEQUAL") (number IntOp.LNotEqual) ∷
     row (codes "LLESSEQUAL") (number IntOp.LLessEqual) ∷
     row (codes "LGREATEREQUAL") (number IntOp.LGreaterEqual) ∷
-    row (codes "INCREMENT") (data' DataOp.Increment) ∷
-    row (codes "DECREMENT") (data' DataOp.Decrement) ∷
+    row (codes "METHOD") (declaration Declaration.Method) ∷
+    row (codes "MULTIPLY") (number IntOp.Multiply) ∷
+    row (codes "MOD") (number IntOp.Mod) ∷
+    row (codes "MID") (data' DataOp.Mid) ∷
+    row (codes "MATCH") (data' DataOp.Match) ∷
+    row (codes "MUTEX") (declaration Declaration.Mutex) ∷
+    row (codes "NAME") (declaration Declaration.Name) ∷
+    row (codes "NAND") (number IntOp.Nand) ∷
+    row (codes "NOR") (number IntOp.Nor) ∷
+    row (codes "NOT") (number IntOp.Not) ∷
+    row (codes "NOTIFY") (event EventOp.Notify) ∷
+    row (codes "NOOP") (event EventOp.Noop) ∷
+    row (codes "OR") (number IntOp.Or) ∷
+    row (codes "OBJECTTYPE") (data' DataOp.ObjectType) ∷
+    row (codes "ONE") (literal Literal.One) ∷
+    row (codes "ONES") (literal Literal.Ones) ∷
+    row (codes "OPERATIONREGION") (declaration Declaration.OperationRegion) ∷
+    row (codes "PACKAGE") (special Special.Package) ∷
+    row (codes "POWERRESOURCE") (declaration Declaration.PowerResource) ∷
+    row (codes "PROCESSOR") (declaration Declaration.Processor) ∷
+    row (codes "RETURN") (control Control.Return) ∷
+    row (codes "REFOF") (data' DataOp.RefOf) ∷
+    row (codes "REVISION") (event EventOp.Revision) ∷
+    row (codes "RELEASE") (event EventOp.Release) ∷
+    row (codes "RESET") (event EventOp.Reset) ∷
     row (codes "STORE") (data' DataOp.Store) ∷
-    row (codes "COPYOBJECT") (data' DataOp.CopyObject) ∷
-    row (codes "CONCATENATE") (data' DataOp.Concatenate) ∷
-    row (codes "CONCATENATERESTEMPLATE") (data' DataOp.ConcatenateResTemplate) ∷
+    row (codes "SCOPE") (declaration Declaration.Scope) ∷
+    row (codes "SUBTRACT") (number IntOp.Subtract) ∷
+    row (codes "SHIFTLEFT") (number IntOp.ShiftLeft) ∷
+    row (codes "SHIFTRIGHT") (number IntOp.ShiftRight) ∷
+    row (codes "SIZEOF") (data' DataOp.SizeOf) ∷
+    row (codes "SIGNAL") (event EventOp.Signal) ∷
+    row (codes "SLEEP") (event EventOp.Sleep) ∷
+    row (codes "STALL") (event EventOp.Stall) ∷
+    row (codes "SWITCH") (control Control.Switch) ∷
+    row (codes "TOBCD") (number IntOp.ToBcd) ∷
     row (codes "TOBUFFER") (data' DataOp.ToBuffer) ∷
     row (codes "TODECIMALSTRING") (data' DataOp.ToDecimalString) ∷
     row (codes "TOHEXSTRING") (data' DataOp.ToHexString) ∷
     row (codes "TOINTEGER") (data' DataOp.ToInteger) ∷
     row (codes "TOSTRING") (data' DataOp.ToString) ∷
-    row (codes "MID") (data' DataOp.Mid) ∷
-    row (codes "INDEX") (data' DataOp.Index) ∷
-    row (codes "DEREFOF") (data' DataOp.DerefOf) ∷
-    row (codes "REFOF") (data' DataOp.RefOf) ∷
-    row (codes "SIZEOF") (data' DataOp.SizeOf) ∷
-    row (codes "OBJECTTYPE") (data' DataOp.ObjectType) ∷
-    row (codes "MATCH") (data' DataOp.Match) ∷
-    row (codes "ACQUIRE") (event EventOp.Acquire) ∷
-    row (codes "WAIT") (event EventOp.Wait) ∷
     row (codes "TIMER") (event EventOp.Timer) ∷
-    row (codes "REVISION") (event EventOp.Revision) ∷
-    row (codes "RELEASE") (event EventOp.Release) ∷
-    row (codes "SIGNAL") (event EventOp.Signal) ∷
-    row (codes "RESET") (event EventOp.Reset) ∷
-    row (codes "NOTIFY") (event EventOp.Notify) ∷
-    row (codes "SLEEP") (event EventOp.Sleep) ∷
-    row (codes "STALL") (event EventOp.Stall) ∷
-    row (codes "FATAL") (event EventOp.Fatal) ∷
-    row (codes "NOOP") (event EventOp.Noop) ∷
-    row (codes "BREAKPOINT") (event EventOp.BreakPoint) ∷
-    row (codes "ZERO") (literal Literal.Zero) ∷
-    row (codes "ONE") (literal Literal.One) ∷
-    row (codes "ONES") (literal Literal.Ones) ∷
-    row (codes "CONDREFOF") (special Special.CondRefOf) ∷
-    row (codes "BUFFER") (special Special.Buffer) ∷
-    row (codes "PACKAGE") (special Special.Package) ∷
-    row (codes "RETURN") (control Control.Return) ∷
-    row (codes "IF") (control Control.If) ∷
-    row (codes "ELSEIF") (control Control.ElseIf) ∷
-    row (codes "ELSE") (control Control.Else) ∷
-    row (codes "WHILE") (control Control.While) ∷
-    row (codes "BREAK") (control Control.Break) ∷
-    row (codes "CONTINUE") (control Control.Continue) ∷
-    row (codes "NAME") (declaration Declaration.Name) ∷
-    row (codes "ALIAS") (declaration Declaration.Alias) ∷
-    row (codes "EXTERNAL") (declaration Declaration.External) ∷
-    row (codes "METHOD") (declaration Declaration.Method) ∷
-    row (codes "MUTEX") (declaration Declaration.Mutex) ∷
-    row (codes "EVENT") (declaration Declaration.Event) ∷
-    row (codes "DEVICE") (declaration Declaration.Device) ∷
     row (codes "THERMALZONE") (declaration Declaration.ThermalZone) ∷
-    row (codes "POWERRESOURCE") (declaration Declaration.PowerResource) ∷
-    row (codes "PROCESSOR") (declaration Declaration.Processor) ∷
-    row (codes "SCOPE") (declaration Declaration.Scope) ∷
-    row (codes "OPERATIONREGION") (declaration Declaration.OperationRegion) ∷
-    row (codes "FIELD") (declaration Declaration.Field) ∷
-    row (codes "INDEXFIELD") (declaration Declaration.IndexField) ∷
-    row (codes "BANKFIELD") (declaration Declaration.BankField) ∷
-    row (codes "CREATEFIELD") (declaration Declaration.CreateField) ∷
-    row (codes "CREATEBITFIELD") (declaration Declaration.CreateBitField) ∷
-    row (codes "CREATEBYTEFIELD") (declaration Declaration.CreateByteField) ∷
-    row (codes "CREATEWORDFIELD") (declaration Declaration.CreateWordField) ∷
-    row (codes "CREATEDWORDFIELD") (declaration Declaration.CreateDWordField) ∷
-    row (codes "CREATEQWORDFIELD") (declaration Declaration.CreateQWordField) ∷
+    row (codes "WAIT") (event EventOp.Wait) ∷
+    row (codes "WHILE") (control Control.While) ∷
+    row (codes "XOR") (number IntOp.Xor) ∷
+    row (codes "ZERO") (literal Literal.Zero) ∷
     []
 
 -- the other words; those that are left out stand here where they might be taken for names
 unfoldable pub words : List Named
 words =
-    word (codes "NOTSERIALIZED") (known.Word kind.Serialize 0) ∷
-    word (codes "SERIALIZED") (known.Word kind.Serialize 1) ∷
-    word (codes "UNKNOWNOBJ") (known.Word kind.ObjectType 0) ∷
-    word (codes "INTOBJ") (known.Word kind.ObjectType 1) ∷
-    word (codes "STROBJ") (known.Word kind.ObjectType 2) ∷
+    word (codes "ANYACC") (known.Word kind.Access 0) ∷
+    word (codes "ARG0") (known.Arg 0) ∷
+    word (codes "ARG1") (known.Arg 1) ∷
+    word (codes "ARG2") (known.Arg 2) ∷
+    word (codes "ARG3") (known.Arg 3) ∷
+    word (codes "ARG4") (known.Arg 4) ∷
+    word (codes "ARG5") (known.Arg 5) ∷
+    word (codes "ARG6") (known.Arg 6) ∷
+    word (codes "ADDRESSRANGEMEMORY") (known.Word (kind.Resource k.Range) 0) ∷
+    word (codes "ADDRESSRANGERESERVED") (known.Word (kind.Resource k.Range) 1) ∷
+    word (codes "ADDRESSRANGEACPI") (known.Word (kind.Resource k.Range) 2) ∷
+    word (codes "ADDRESSRANGENVS") (known.Word (kind.Resource k.Range) 3) ∷
+    word (codes "ACTIVEHIGH") (known.Word (kind.Resource k.Level) 0) ∷
+    word (codes "ACTIVELOW") (known.Word (kind.Resource k.Level) 1) ∷
     word (codes "BUFFOBJ") (known.Word kind.ObjectType 3) ∷
-    word (codes "PKGOBJ") (known.Word kind.ObjectType 4) ∷
-    word (codes "FIELDUNITOBJ") (known.Word kind.ObjectType 5) ∷
-    word (codes "DEVICEOBJ") (known.Word kind.ObjectType 6) ∷
-    word (codes "EVENTOBJ") (known.Word kind.ObjectType 7) ∷
-    word (codes "METHODOBJ") (known.Word kind.ObjectType 8) ∷
-    word (codes "MUTEXOBJ") (known.Word kind.ObjectType 9) ∷
-    word (codes "OPREGIONOBJ") (known.Word kind.ObjectType 10) ∷
-    word (codes "POWERRESOBJ") (known.Word kind.ObjectType 11) ∷
-    word (codes "PROCESSOROBJ") (known.Word kind.ObjectType 12) ∷
-    word (codes "THERMALZONEOBJ") (known.Word kind.ObjectType 13) ∷
     word (codes "BUFFFIELDOBJ") (known.Word kind.ObjectType 14) ∷
-    word (codes "MTR") (known.Word kind.Match 0) ∷
-    word (codes "MEQ") (known.Word kind.Match 1) ∷
-    word (codes "MLE") (known.Word kind.Match 2) ∷
-    word (codes "MLT") (known.Word kind.Match 3) ∷
-    word (codes "MGE") (known.Word kind.Match 4) ∷
-    word (codes "MGT") (known.Word kind.Match 5) ∷
-    word (codes "SYSTEMMEMORY") (known.Word kind.Space 0) ∷
-    word (codes "SYSTEMIO") (known.Word kind.Space 1) ∷
-    word (codes "PCI_CONFIG") (known.Word kind.Space 2) ∷
+    word (codes "BYTEACC") (known.Word kind.Access 1) ∷
+    word (codes "BUSMASTER") (known.Word (kind.Resource k.BusMaster) 1) ∷
+    word (codes "CACHEABLE") (known.Word (kind.Resource k.Caching) 1) ∷
+    word (codes "COMPATIBILITY") (known.Word (kind.Resource k.DmaType) 0) ∷
+    word (codes "DEVICEOBJ") (known.Word kind.ObjectType 6) ∷
+    word (codes "DWORDACC") (known.Word kind.Access 3) ∷
+    word (codes "DEBUG") known.Debug ∷
+    word (codes "DENSETRANSLATION") (known.Word (kind.Resource k.Sparse) 0) ∷
+    word (codes "DECODE10") (known.Word (kind.Resource k.IoDecode) 0) ∷
+    word (codes "DECODE16") (known.Word (kind.Resource k.IoDecode) 1) ∷
+    word (codes "DMA") (known.Descriptor d.Dma) ∷
+    word (codes "DWORDIO") (known.Descriptor d.DWordIo) ∷
+    word (codes "DWORDMEMORY") (known.Descriptor d.DWordMemory) ∷
+    word (codes "DWORDSPACE") (known.Descriptor d.DWordSpace) ∷
+    word (codes "EVENTOBJ") (known.Word kind.ObjectType 7) ∷
     word (codes "EMBEDDEDCONTROL") (known.Word kind.Space 3) ∷
-    word (codes "SMBUS") (known.Word kind.Space 4) ∷
-    word (codes "SYSTEMCMOS") (known.Word kind.Space 5) ∷
-    word (codes "PCIBARTARGET") (known.Word kind.Space 6) ∷
-    word (codes "IPMI") (known.Word kind.Space 7) ∷
+    word (codes "EISAID") (known.Macro macros.EisaId) ∷
+    word (codes "ENTIRERANGE") (known.Word (kind.Resource k.IsaRange) 3) ∷
+    word (codes "EDGE") (known.Word (kind.Resource k.Mode) 1) ∷
+    word (codes "EXCLUSIVE") (known.Word (kind.Resource k.Sharing) 0) ∷
+    word (codes "EXCLUSIVEANDWAKE") (known.Word (kind.Resource k.Sharing) 2) ∷
+    word (codes "ENDDEPENDENTFN") (known.Descriptor d.EndDependentFn) ∷
+    word (codes "EXTENDEDIO") (known.Descriptor d.ExtendedIo) ∷
+    word (codes "EXTENDEDMEMORY") (known.Descriptor d.ExtendedMemory) ∷
+    word (codes "EXTENDEDSPACE") (known.Descriptor d.ExtendedSpace) ∷
+    word (codes "FIELDUNITOBJ") (known.Word kind.ObjectType 5) ∷
+    word (codes "FFIXEDHW") (known.Word (kind.Resource k.Space) 127) ∷
+    word (codes "FIXEDDMA") (known.Descriptor d.FixedDma) ∷
+    word (codes "FIXEDIO") (known.Descriptor d.FixedIo) ∷
+    word (codes "FOR") known.LeftOut ∷
     word (codes "GENERALPURPOSEIO") (known.Word kind.Space 8) ∷
     word (codes "GENERICSERIALBUS") (known.Word kind.Space 9) ∷
-    word (codes "PCC") (known.Word kind.Space 10) ∷
-    word (codes "ANYACC") (known.Word kind.Access 0) ∷
-    word (codes "BYTEACC") (known.Word kind.Access 1) ∷
-    word (codes "WORDACC") (known.Word kind.Access 2) ∷
-    word (codes "DWORDACC") (known.Word kind.Access 3) ∷
-    word (codes "QWORDACC") (known.Word kind.Access 4) ∷
-    word (codes "NOLOCK") (known.Word kind.Lock 0) ∷
+    word (codes "INTOBJ") (known.Word kind.ObjectType 1) ∷
+    word (codes "IPMI") (known.Word kind.Space 7) ∷
+    word (codes "ISAONLYRANGES") (known.Word (kind.Resource k.IsaRange) 2) ∷
+    word (codes "IRQ") (known.Descriptor d.Irq) ∷
+    word (codes "IRQNOFLAGS") (known.Descriptor d.IrqNoFlags) ∷
+    word (codes "IO") (known.Descriptor d.Io) ∷
+    word (codes "INTERRUPT") (known.Descriptor d.Interrupt) ∷
     word (codes "LOCK") (known.Word kind.Lock 1) ∷
-    word (codes "PRESERVE") (known.Word kind.Update 0) ∷
-    word (codes "WRITEASONES") (known.Word kind.Update 1) ∷
-    word (codes "WRITEASZEROS") (known.Word kind.Update 2) ∷
     word (codes "LOCAL0") (known.Local 0) ∷
     word (codes "LOCAL1") (known.Local 1) ∷
     word (codes "LOCAL2") (known.Local 2) ∷
@@ -221,102 +236,94 @@ words =
     word (codes "LOCAL5") (known.Local 5) ∷
     word (codes "LOCAL6") (known.Local 6) ∷
     word (codes "LOCAL7") (known.Local 7) ∷
-    word (codes "ARG0") (known.Arg 0) ∷
-    word (codes "ARG1") (known.Arg 1) ∷
-    word (codes "ARG2") (known.Arg 2) ∷
-    word (codes "ARG3") (known.Arg 3) ∷
-    word (codes "ARG4") (known.Arg 4) ∷
-    word (codes "ARG5") (known.Arg 5) ∷
-    word (codes "ARG6") (known.Arg 6) ∷
-    word (codes "DEBUG") known.Debug ∷
-    word (codes "OFFSET") known.Offset ∷
-    word (codes "EISAID") (known.Macro macros.EisaId) ∷
-    word (codes "TOUUID") (known.Macro macros.ToUuid) ∷
-    word (codes "UNICODE") (known.Macro macros.Unicode) ∷
-    word (codes "RESOURCEPRODUCER") (known.Word (kind.Resource k.Usage) 0) ∷
-    word (codes "RESOURCECONSUMER") (known.Word (kind.Resource k.Usage) 1) ∷
-    word (codes "POSDECODE") (known.Word (kind.Resource k.Decode) 0) ∷
-    word (codes "SUBDECODE") (known.Word (kind.Resource k.Decode) 1) ∷
+    word (codes "LEVEL") (known.Word (kind.Resource k.Mode) 0) ∷
+    word (codes "LOAD") known.LeftOut ∷
+    word (codes "METHODOBJ") (known.Word kind.ObjectType 8) ∷
+    word (codes "MUTEXOBJ") (known.Word kind.ObjectType 9) ∷
+    word (codes "MTR") (known.Word kind.Match 0) ∷
+    word (codes "MEQ") (known.Word kind.Match 1) ∷
+    word (codes "MLE") (known.Word kind.Match 2) ∷
+    word (codes "MLT") (known.Word kind.Match 3) ∷
+    word (codes "MGE") (known.Word kind.Match 4) ∷
+    word (codes "MGT") (known.Word kind.Match 5) ∷
     word (codes "MINNOTFIXED") (known.Word (kind.Resource k.MinimumFixed) 0) ∷
     word (codes "MINFIXED") (known.Word (kind.Resource k.MinimumFixed) 1) ∷
     word (codes "MAXNOTFIXED") (known.Word (kind.Resource k.MaximumFixed) 0) ∷
     word (codes "MAXFIXED") (known.Word (kind.Resource k.MaximumFixed) 1) ∷
+    word (codes "MEMORY24") (known.Descriptor d.Memory24) ∷
+    word (codes "MEMORY32") (known.Descriptor d.Memory32) ∷
+    word (codes "MEMORY32FIXED") (known.Descriptor d.Memory32Fixed) ∷
+    word (codes "NOTSERIALIZED") (known.Word kind.Serialize 0) ∷
+    word (codes "NOLOCK") (known.Word kind.Lock 0) ∷
+    word (codes "NONCACHEABLE") (known.Word (kind.Resource k.Caching) 0) ∷
+    word (codes "NONISAONLYRANGES") (known.Word (kind.Resource k.IsaRange) 1) ∷
+    word (codes "NOTBUSMASTER") (known.Word (kind.Resource k.BusMaster) 0) ∷
+    word (codes "OPREGIONOBJ") (known.Word kind.ObjectType 10) ∷
+    word (codes "OFFSET") known.Offset ∷
+    word (codes "PKGOBJ") (known.Word kind.ObjectType 4) ∷
+    word (codes "POWERRESOBJ") (known.Word kind.ObjectType 11) ∷
+    word (codes "PROCESSOROBJ") (known.Word kind.ObjectType 12) ∷
+    word (codes "PCI_CONFIG") (known.Word kind.Space 2) ∷
+    word (codes "PCIBARTARGET") (known.Word kind.Space 6) ∷
+    word (codes "PCC") (known.Word kind.Space 10) ∷
+    word (codes "PRESERVE") (known.Word kind.Update 0) ∷
+    word (codes "POSDECODE") (known.Word (kind.Resource k.Decode) 0) ∷
+    word (codes "PREFETCHABLE") (known.Word (kind.Resource k.Caching) 3) ∷
+    word (codes "QWORDACC") (known.Word kind.Access 4) ∷
+    word (codes "QWORDIO") (known.Descriptor d.QWordIo) ∷
+    word (codes "QWORDMEMORY") (known.Descriptor d.QWordMemory) ∷
+    word (codes "QWORDSPACE") (known.Descriptor d.QWordSpace) ∷
+    word (codes "RESOURCEPRODUCER") (known.Word (kind.Resource k.Usage) 0) ∷
+    word (codes "RESOURCECONSUMER") (known.Word (kind.Resource k.Usage) 1) ∷
     word (codes "READONLY") (known.Word (kind.Resource k.Access) 0) ∷
     word (codes "READWRITE") (known.Word (kind.Resource k.Access) 1) ∷
-    word (codes "NONCACHEABLE") (known.Word (kind.Resource k.Caching) 0) ∷
-    word (codes "CACHEABLE") (known.Word (kind.Resource k.Caching) 1) ∷
-    word (codes "WRITECOMBINING") (known.Word (kind.Resource k.Caching) 2) ∷
-    word (codes "PREFETCHABLE") (known.Word (kind.Resource k.Caching) 3) ∷
-    word (codes "ADDRESSRANGEMEMORY") (known.Word (kind.Resource k.Range) 0) ∷
-    word (codes "ADDRESSRANGERESERVED") (known.Word (kind.Resource k.Range) 1) ∷
-    word (codes "ADDRESSRANGEACPI") (known.Word (kind.Resource k.Range) 2) ∷
-    word (codes "ADDRESSRANGENVS") (known.Word (kind.Resource k.Range) 3) ∷
+    word (codes "RESOURCETEMPLATE") known.Template ∷
+    word (codes "REGISTER") (known.Descriptor d.Register) ∷
+    word (codes "SERIALIZED") (known.Word kind.Serialize 1) ∷
+    word (codes "STROBJ") (known.Word kind.ObjectType 2) ∷
+    word (codes "SYSTEMMEMORY") (known.Word kind.Space 0) ∷
+    word (codes "SYSTEMIO") (known.Word kind.Space 1) ∷
+    word (codes "SMBUS") (known.Word kind.Space 4) ∷
+    word (codes "SYSTEMCMOS") (known.Word kind.Space 5) ∷
+    word (codes "SUBDECODE") (known.Word (kind.Resource k.Decode) 1) ∷
+    word (codes "SPARSETRANSLATION") (known.Word (kind.Resource k.Sparse) 1) ∷
+    word (codes "SHARED") (known.Word (kind.Resource k.Sharing) 1) ∷
+    word (codes "SHAREDANDWAKE") (known.Word (kind.Resource k.Sharing) 3) ∷
+    word (codes "STARTDEPENDENTFN") (known.Descriptor d.StartDependentFn) ∷
+    word (codes "STARTDEPENDENTFNNOPRI") (known.Descriptor d.StartDependentFnNoPri) ∷
+    word (codes "THERMALZONEOBJ") (known.Word kind.ObjectType 13) ∷
+    word (codes "TOUUID") (known.Macro macros.ToUuid) ∷
     word (codes "TYPESTATIC") (known.Word (kind.Resource k.Translation) 0) ∷
     word (codes "TYPETRANSLATION") (known.Word (kind.Resource k.Translation) 1) ∷
-    word (codes "DENSETRANSLATION") (known.Word (kind.Resource k.Sparse) 0) ∷
-    word (codes "SPARSETRANSLATION") (known.Word (kind.Resource k.Sparse) 1) ∷
-    word (codes "NONISAONLYRANGES") (known.Word (kind.Resource k.IsaRange) 1) ∷
-    word (codes "ISAONLYRANGES") (known.Word (kind.Resource k.IsaRange) 2) ∷
-    word (codes "ENTIRERANGE") (known.Word (kind.Resource k.IsaRange) 3) ∷
-    word (codes "DECODE10") (known.Word (kind.Resource k.IoDecode) 0) ∷
-    word (codes "DECODE16") (known.Word (kind.Resource k.IoDecode) 1) ∷
-    word (codes "LEVEL") (known.Word (kind.Resource k.Mode) 0) ∷
-    word (codes "EDGE") (known.Word (kind.Resource k.Mode) 1) ∷
-    word (codes "ACTIVEHIGH") (known.Word (kind.Resource k.Level) 0) ∷
-    word (codes "ACTIVELOW") (known.Word (kind.Resource k.Level) 1) ∷
-    word (codes "EXCLUSIVE") (known.Word (kind.Resource k.Sharing) 0) ∷
-    word (codes "SHARED") (known.Word (kind.Resource k.Sharing) 1) ∷
-    word (codes "EXCLUSIVEANDWAKE") (known.Word (kind.Resource k.Sharing) 2) ∷
-    word (codes "SHAREDANDWAKE") (known.Word (kind.Resource k.Sharing) 3) ∷
-    word (codes "COMPATIBILITY") (known.Word (kind.Resource k.DmaType) 0) ∷
     word (codes "TYPEA") (known.Word (kind.Resource k.DmaType) 1) ∷
     word (codes "TYPEB") (known.Word (kind.Resource k.DmaType) 2) ∷
     word (codes "TYPEF") (known.Word (kind.Resource k.DmaType) 3) ∷
-    word (codes "NOTBUSMASTER") (known.Word (kind.Resource k.BusMaster) 0) ∷
-    word (codes "BUSMASTER") (known.Word (kind.Resource k.BusMaster) 1) ∷
     word (codes "TRANSFER8") (known.Word (kind.Resource k.Transfer) 0) ∷
     word (codes "TRANSFER8_16") (known.Word (kind.Resource k.Transfer) 1) ∷
     word (codes "TRANSFER16") (known.Word (kind.Resource k.Transfer) 2) ∷
+    word (codes "UNKNOWNOBJ") (known.Word kind.ObjectType 0) ∷
+    word (codes "UNICODE") (known.Macro macros.Unicode) ∷
+    word (codes "VENDORSHORT") (known.Descriptor d.VendorShort) ∷
+    word (codes "VENDORLONG") (known.Descriptor d.VendorLong) ∷
+    word (codes "WORDACC") (known.Word kind.Access 2) ∷
+    word (codes "WRITEASONES") (known.Word kind.Update 1) ∷
+    word (codes "WRITEASZEROS") (known.Word kind.Update 2) ∷
+    word (codes "WRITECOMBINING") (known.Word (kind.Resource k.Caching) 2) ∷
     word (codes "WIDTH8BIT") (known.Word (kind.Resource k.DmaWidth) 0) ∷
     word (codes "WIDTH16BIT") (known.Word (kind.Resource k.DmaWidth) 1) ∷
     word (codes "WIDTH32BIT") (known.Word (kind.Resource k.DmaWidth) 2) ∷
     word (codes "WIDTH64BIT") (known.Word (kind.Resource k.DmaWidth) 3) ∷
     word (codes "WIDTH128BIT") (known.Word (kind.Resource k.DmaWidth) 4) ∷
     word (codes "WIDTH256BIT") (known.Word (kind.Resource k.DmaWidth) 5) ∷
-    word (codes "FFIXEDHW") (known.Word (kind.Resource k.Space) 127) ∷
-    word (codes "RESOURCETEMPLATE") known.Template ∷
-    word (codes "IRQ") (known.Descriptor d.Irq) ∷
-    word (codes "IRQNOFLAGS") (known.Descriptor d.IrqNoFlags) ∷
-    word (codes "DMA") (known.Descriptor d.Dma) ∷
-    word (codes "FIXEDDMA") (known.Descriptor d.FixedDma) ∷
-    word (codes "STARTDEPENDENTFN") (known.Descriptor d.StartDependentFn) ∷
-    word (codes "STARTDEPENDENTFNNOPRI") (known.Descriptor d.StartDependentFnNoPri) ∷
-    word (codes "ENDDEPENDENTFN") (known.Descriptor d.EndDependentFn) ∷
-    word (codes "IO") (known.Descriptor d.Io) ∷
-    word (codes "FIXEDIO") (known.Descriptor d.FixedIo) ∷
-    word (codes "VENDORSHORT") (known.Descriptor d.VendorShort) ∷
-    word (codes "VENDORLONG") (known.Descriptor d.VendorLong) ∷
-    word (codes "MEMORY24") (known.Descriptor d.Memory24) ∷
-    word (codes "MEMORY32") (known.Descriptor d.Memory32) ∷
-    word (codes "MEMORY32FIXED") (known.Descriptor d.Memory32Fixed) ∷
-    word (codes "REGISTER") (known.Descriptor d.Register) ∷
-    word (codes "INTERRUPT") (known.Descriptor d.Interrupt) ∷
     word (codes "WORDIO") (known.Descriptor d.WordIo) ∷
-    word (codes "DWORDIO") (known.Descriptor d.DWordIo) ∷
-    word (codes "QWORDIO") (known.Descriptor d.QWordIo) ∷
-    word (codes "EXTENDEDIO") (known.Descriptor d.ExtendedIo) ∷
-    word (codes "DWORDMEMORY") (known.Descriptor d.DWordMemory) ∷
-    word (codes "QWORDMEMORY") (known.Descriptor d.QWordMemory) ∷
-    word (codes "EXTENDEDMEMORY") (known.Descriptor d.ExtendedMemory) ∷
     word (codes "WORDBUSNUMBER") (known.Descriptor d.WordBusNumber) ∷
     word (codes "WORDSPACE") (known.Descriptor d.WordSpace) ∷
-    word (codes "DWORDSPACE") (known.Descriptor d.DWordSpace) ∷
-    word (codes "QWORDSPACE") (known.Descriptor d.QWordSpace) ∷
-    word (codes "EXTENDEDSPACE") (known.Descriptor d.ExtendedSpace) ∷
-    word (codes "LOAD") known.LeftOut ∷
-    word (codes "FOR") known.LeftOut ∷
-    word (codes "CASE") known.LeftOut ∷
     []
+
+-- how many letters of the alphabet stand before the one that a word begins with
+abbrev pub place_of : List ℕ → Option ℕ
+place_of [] = None
+place_of (b ∷ bytes) = if nat_le 65 b then Some (b - 65) else None
 
 unfoldable pub row_in : List Operator → List ℕ → Option Operator
 row_in rows text = find (λ row. is_filled row.word text) rows
@@ -416,6 +423,8 @@ parameters_of (Op.Control Control.Return) = optional slot.Expression ∷ []
 parameters_of (Op.Control Control.If) = expression ∷ []
 parameters_of (Op.Control Control.ElseIf) = expression ∷ []
 parameters_of (Op.Control Control.While) = expression ∷ []
+parameters_of (Op.Control Control.Switch) = expression ∷ []
+parameters_of (Op.Control Control.Case) = asked slot.CaseValue ∷ []
 parameters_of (Op.Control op) = []
 parameters_of (Op.Declaration Declaration.Name) = declared ∷ expression ∷ []
 parameters_of (Op.Declaration Declaration.Alias) = used ∷ declared ∷ []
@@ -439,6 +448,17 @@ parameters_of (Op.Declaration Declaration.CreateDWordField) = expression ∷ exp
 parameters_of (Op.Declaration Declaration.CreateQWordField) = expression ∷ expression ∷ declared ∷ []
 parameters_of (Op.Declaration op) = declared ∷ []
 
+-- the size of a Buffer and the count of a Package, which may be left out, as constants
+abbrev pub constant_size : List Parameter
+constant_size = optional slot.Measure ∷ []
+
+-- the arguments where a form is read so: in the value of a Case a size and a count are constants
+abbrev pub parameters_as : Op → Slot → List Parameter
+parameters_as (Op.Special Special.Buffer) slot.CaseValue = constant_size
+parameters_as (Op.Special Special.Buffer) slot.CaseMember = constant_size
+parameters_as (Op.Special Special.Package) slot.CaseValue = constant_size
+parameters_as o s = parameters_of o
+
 -- the argument of an Offset
 unfoldable pub offset_parameters : List Parameter
 offset_parameters = asked slot.Measure ∷ []
@@ -461,6 +481,9 @@ body_of (Op.Control Control.If) = braces.Terms
 body_of (Op.Control Control.ElseIf) = braces.Terms
 body_of (Op.Control Control.Else) = braces.Terms
 body_of (Op.Control Control.While) = braces.Terms
+body_of (Op.Control Control.Switch) = braces.Cases
+body_of (Op.Control Control.Case) = braces.Terms
+body_of (Op.Control Control.Default) = braces.Terms
 body_of (Op.Declaration Declaration.Method) = braces.Terms
 body_of (Op.Declaration Declaration.Device) = braces.Terms
 body_of (Op.Declaration Declaration.ThermalZone) = braces.Terms
@@ -471,6 +494,11 @@ body_of (Op.Declaration Declaration.Field) = braces.FieldList
 body_of (Op.Declaration Declaration.IndexField) = braces.FieldList
 body_of (Op.Declaration Declaration.BankField) = braces.FieldList
 body_of _ = braces.No
+
+-- the braces where a form is read so: a Package that is the value of a Case holds values of a Case
+abbrev pub body_as : Op → Slot → Body
+body_as (Op.Special Special.Package) slot.CaseValue = braces.CaseMembers
+body_as o s = body_of o
 
 -- where an operator may stand; containers and methods stand in no method
 abbrev pub event_role : EventOp → Role
@@ -499,6 +527,8 @@ role_of (Op.Symbolic symbol) = role.Expression
 role_of (Op.Control Control.Return) = role.MethodStatement
 role_of (Op.Control Control.Else) = role.Else
 role_of (Op.Control Control.ElseIf) = role.ElseIf
+role_of (Op.Control Control.Case) = role.Case
+role_of (Op.Control Control.Default) = role.Default
 role_of (Op.Control op) = role.Statement
 role_of (Op.Declaration Declaration.Method) = role.OuterTerm
 role_of (Op.Declaration Declaration.Device) = role.OuterTerm

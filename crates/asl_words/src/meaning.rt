@@ -1,5 +1,5 @@
 //! What a word is, where it may stand, and what it is read as.
-ghost use Rattle.std.specs.Prelude.{◌≡◌, ◌==◌, ◌||◌, ◌∷◌, [], true, false, Some, None};
+ghost use Rattle.std.specs.Prelude.{◌≡◌, ◌==◌, ◌||◌, ◌&&◌, ◌∷◌, [], true, false, Some, None};
 ghost use Rattle.asl_words.specs.Meanings as spec;
 ghost use Rattle.asl_words.specs.declared.operator.Slot.TheVariants as slot;
 
@@ -150,6 +150,38 @@ fn is_term(slot: Slot) -> bool
     matches!(slot, Slot::Term { .. })
 }
 
+// Whether a Default stands before, in the braces of a Switch.
+fn default_before(slot: Slot) -> Option<bool>
+    ensures { result ≡ spec.default_before slot }
+{
+    match slot {
+        Slot::Branch { defaulted } => Some(defaulted),
+        _ => None,
+    }
+}
+
+fn takes_branch(slot: Slot) -> bool
+    ensures { result ≡ spec.takes_branch slot }
+{
+    default_before(slot).is_some()
+}
+
+fn takes_default(slot: Slot) -> bool
+    ensures { result ≡ spec.takes_default slot }
+{
+    match default_before(slot) {
+        None => false,
+        Some(defaulted) => !defaulted,
+    }
+}
+
+/// Whether an item is a Default.
+pub fn is_default(meaning: Meaning) -> bool
+    ensures { result ≡ spec.is_default meaning }
+{
+    matches!(meaning, Meaning::Operator(Op::Control(Control::Default)))
+}
+
 fn is_field_element(slot: Slot) -> bool
     ensures { result ≡ spec.is_field_element slot }
 {
@@ -164,6 +196,8 @@ fn may_stand(slot: Slot, inside: bool, role: Role) -> bool
         Role::OuterTerm => !inside,
         Role::Else => is_behind(run_of(slot)),
         Role::ElseIf => has_room(run_of(slot)),
+        Role::Case => takes_branch(slot),
+        Role::Default => takes_default(slot),
         Role::Expression | Role::Place | Role::Statement => true,
     }
 }
@@ -205,11 +239,35 @@ fn takes_descriptor(slot: Slot) -> bool
     matches!(slot, Slot::Descriptor)
 }
 
-/// Whether an item may stand here. A member of a resource template is a descriptor.
+fn is_branch_role(role: Role) -> bool
+    ensures { result ≡ spec.is_branch_role role }
+{
+    matches!(role, Role::Case | Role::Default)
+}
+
+fn is_branch(meaning: Meaning) -> bool
+    ensures { result ≡ spec.is_branch meaning }
+{
+    match meaning {
+        Meaning::Operator(operator) => is_branch_role(role_of(operator)),
+        _ => false,
+    }
+}
+
+// Whether an item is of the kind that alone may stand here. A member of a resource template is a descriptor, and one of
+// a Switch is a Case or a Default.
+fn is_of_kind(slot: Slot, meaning: Meaning) -> bool
+    ensures { result ≡ spec.is_of_kind slot meaning }
+{
+    (is_descriptor(meaning) || !takes_descriptor(slot))
+        && (is_branch(meaning) || !takes_branch(slot))
+}
+
+/// Whether an item may stand here.
 pub fn may_be(slot: Slot, inside: bool, meaning: Meaning) -> bool
     ensures { result ≡ spec.may_be slot inside meaning }
 {
-    if is_descriptor(meaning) || !takes_descriptor(slot) {
+    if is_of_kind(slot, meaning) {
         is_allowed(slot, inside, meaning)
     } else {
         false
@@ -217,11 +275,15 @@ pub fn may_be(slot: Slot, inside: bool, meaning: Meaning) -> bool
 }
 
 /// The number of the error that is told of what is none of the kind that is asked for: a member of a resource template
-/// that is no descriptor may not stand there (6025).
+/// that is no descriptor may not stand there (6025), nor may one of a Switch that is no Case and no Default.
 pub fn unfit(slot: Slot) -> u16
     ensures { result ≡ spec.unfit slot }
 {
-    if takes_descriptor(slot) { 6025 } else { 6022 }
+    if takes_descriptor(slot) || takes_branch(slot) {
+        6025
+    } else {
+        6022
+    }
 }
 
 /// Whether nothing is left out that has to stand.
@@ -250,7 +312,9 @@ fn has_braces(body: Body) -> bool
         | Body::Elements
         | Body::FieldList
         | Body::Numbers { .. }
-        | Body::Descriptors => true,
+        | Body::Descriptors
+        | Body::Cases
+        | Body::CaseMembers => true,
     }
 }
 
@@ -288,7 +352,7 @@ pub fn is_unknown(meaning: Meaning) -> bool
     }
 }
 
-/// Whether a word is the name of a descriptor, which is not built.
+/// Whether a word is the name of a descriptor, which is read, but not built.
 pub fn is_descriptor_name(slot: Slot, meaning: Meaning) -> bool
     ensures { result ≡ spec.is_descriptor_name slot meaning }
 {
@@ -310,8 +374,13 @@ fn is_value(role: Role) -> bool
 {
     match role {
         Role::Expression | Role::Place => true,
-        Role::Statement | Role::MethodStatement | Role::OuterTerm | Role::Else | Role::ElseIf =>
-            false,
+        Role::Statement
+        | Role::MethodStatement
+        | Role::OuterTerm
+        | Role::Else
+        | Role::ElseIf
+        | Role::Case
+        | Role::Default => false,
     }
 }
 
@@ -330,6 +399,7 @@ pub fn takes_expression(slot: Slot) -> bool
         Slot::Constant { .. } => true,
         Slot::Measure => true,
         Slot::Element => true,
+        Slot::CaseValue | Slot::CaseMember => true,
         Slot::Term { .. } => true,
         _ => false,
     }
@@ -341,6 +411,7 @@ pub fn takes_role(slot: Slot, role: Role) -> bool
 {
     match slot {
         Slot::Term { .. } => true,
+        Slot::Branch { .. } => is_branch_role(role),
         Slot::Place => is_place(role),
         _ => takes_expression(slot) && is_value(role),
     }
@@ -371,6 +442,16 @@ fn takes_path(slot: Slot) -> bool
     match slot {
         Slot::Declared | Slot::External | Slot::Used | Slot::FieldElement => true,
         _ => takes_slot(slot),
+    }
+}
+
+// Where a single segment without a prefix may stand: what names a descriptor is nothing else.
+fn takes_segment(slot: Slot) -> bool
+    ensures { result ≡ spec.takes_segment slot }
+{
+    match slot {
+        Slot::DescriptorName => true,
+        _ => takes_path(slot),
     }
 }
 
@@ -429,13 +510,14 @@ fn unless_wrong(good: bool, reading: Reading) -> Reading
     if good { reading } else { Reading::Wrong }
 }
 
-fn name_reading(slot: Slot, called: bool) -> Reading
-    ensures { result ≡ spec.name_reading slot called }
+// A name, which may stand here or not where it has no brackets.
+fn name_reading(slot: Slot, fits: bool, called: bool) -> Reading
+    ensures { result ≡ spec.name_reading slot fits called }
 {
     if called {
         unless_wrong(takes_expression(slot), Reading::Call)
     } else {
-        unless_wrong(takes_path(slot), Reading::Path)
+        unless_wrong(fits, Reading::Path)
     }
 }
 
@@ -446,7 +528,8 @@ pub fn reading_of(slot: Slot, meaning: Meaning, called: bool) -> Reading
     match meaning {
         Meaning::Operator(op) => unless_wrong(takes_role(slot, role_of(op)), Reading::Form(op)),
         Meaning::Known(known) => unless_wrong(takes_known(slot, known), Reading::Known(known)),
-        Meaning::Name | Meaning::Path => name_reading(slot, called),
+        Meaning::Name => name_reading(slot, takes_segment(slot), called),
+        Meaning::Path => name_reading(slot, takes_path(slot), called),
         Meaning::Offset => unless_wrong(is_field_element(slot), Reading::Offset),
         Meaning::Macro(text_macro) => {
             unless_wrong(takes_macro(slot), Reading::Macro(text_macro))

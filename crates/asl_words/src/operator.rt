@@ -86,6 +86,12 @@ pub enum Slot {
     FieldElement,
     /// A term of a list, directly behind an If and so many ElseIfs, or behind none.
     Term { run: Option<u8> },
+    /// A Case or a Default in the braces of a Switch, and whether a Default stands before it there.
+    Branch { defaulted: bool },
+    /// The value of a Case: a constant, which is evaluated at the table's width, a string, a Buffer, or a Package.
+    CaseValue,
+    /// A member of a Package that is the value of a Case; it is no Package.
+    CaseMember,
 }
 
 /// An argument of an operator.
@@ -112,6 +118,10 @@ pub enum Body {
     Numbers { most: u64 },
     /// Resource descriptors.
     Descriptors,
+    /// Cases and at most one Default.
+    Cases,
+    /// Members of a Package that is the value of a Case.
+    CaseMembers,
 }
 
 /// Where an operator may stand.
@@ -131,6 +141,10 @@ pub enum Role {
     Else,
     /// Directly behind an If and fewer ElseIfs than a run may have.
     ElseIf,
+    /// In the braces of a Switch.
+    Case,
+    /// In the braces of a Switch, behind no other Default.
+    Default,
 }
 
 /// An operator under its word.

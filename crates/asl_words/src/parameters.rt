@@ -60,6 +60,8 @@ const ACCESS: Parameter = asked!(Slot::Word(WordKind::Access));
 
 const LOCK: Parameter = asked!(Slot::Word(WordKind::Lock));
 
+const SIZE: Parameter = optional!(Slot::Measure);
+
 const UPDATE: Parameter = asked!(Slot::Word(WordKind::Update));
 
 #[tactic(auto, unfolding(crate::specs::Operators::parameters_of))]
@@ -191,8 +193,9 @@ fn of_control(op: Control) -> &'static [Parameter]
 {
     match op {
         Control::Return => &[optional!(Slot::Expression)],
-        Control::If | Control::ElseIf | Control::While => &[EXPRESSION],
-        Control::Else | Control::Break | Control::Continue => &[],
+        Control::If | Control::ElseIf | Control::While | Control::Switch => &[EXPRESSION],
+        Control::Case => &[asked!(Slot::CaseValue)],
+        Control::Else | Control::Default | Control::Break | Control::Continue => &[],
     }
 }
 
@@ -284,6 +287,18 @@ pub fn parameters_of(op: Op) -> &'static [Parameter]
     }
 }
 
+/// The arguments of an operator where it is read so: in the value of a Case, the size of a Buffer and the count of a
+/// Package are constants.
+pub fn parameters_as(op: Op, slot: Slot) -> &'static [Parameter]
+    ensures { result.now ≡ spec.parameters_as op slot }
+{
+    match (op, slot) {
+        (Op::Special(Special::Buffer), Slot::CaseValue | Slot::CaseMember) => &[SIZE],
+        (Op::Special(Special::Package), Slot::CaseValue) => &[SIZE],
+        _ => parameters_of(op),
+    }
+}
+
 /// The argument of an Offset in a field's list: the number of a byte.
 #[tactic(auto, unfolding(crate::specs::Operators::offset_parameters))]
 pub fn offset_parameters() -> &'static [Parameter]
@@ -327,7 +342,15 @@ pub fn body_of(op: Op) -> Body
     match op {
         Op::Special(Special::Buffer) => Body::Bytes,
         Op::Special(Special::Package) => Body::Elements,
-        Op::Control(Control::If | Control::ElseIf | Control::Else | Control::While) => Body::Terms,
+        Op::Control(
+            Control::If
+            | Control::ElseIf
+            | Control::Else
+            | Control::While
+            | Control::Case
+            | Control::Default,
+        ) => Body::Terms,
+        Op::Control(Control::Switch) => Body::Cases,
         Op::Declaration(
             Declaration::Method
             | Declaration::Device
@@ -340,6 +363,17 @@ pub fn body_of(op: Op) -> Body
             Body::FieldList
         }
         _ => Body::No,
+    }
+}
+
+/// What stands in the braces of an operator where it is read so: a Package that is the value of a Case holds values of
+/// a Case.
+pub fn body_as(op: Op, slot: Slot) -> Body
+    ensures { result ≡ spec.body_as op slot }
+{
+    match (op, slot) {
+        (Op::Special(Special::Package), Slot::CaseValue) => Body::CaseMembers,
+        _ => body_of(op),
     }
 }
 
@@ -368,7 +402,10 @@ fn control_role(op: Control) -> Role
         Control::Return => Role::MethodStatement,
         Control::Else => Role::Else,
         Control::ElseIf => Role::ElseIf,
-        Control::If | Control::While | Control::Break | Control::Continue => Role::Statement,
+        Control::Case => Role::Case,
+        Control::Default => Role::Default,
+        Control::If | Control::While | Control::Switch | Control::Break | Control::Continue =>
+            Role::Statement,
     }
 }
 

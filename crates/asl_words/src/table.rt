@@ -1,10 +1,11 @@
 //! The operators and words of the language (ACPI Specification 6.4, 19.6).
-ghost use Rattle.std.specs.Prelude.{◌≡◌, ◌==◌};
+ghost use Rattle.std.specs.Prelude.{◌≡◌, ◌==◌, map, false};
 ghost use Rattle.std.specs.List.{list_all};
 ghost use Rattle.std.specs.Option.{option_copied};
 ghost use Rattle.asl_words.specs.Operators as spec;
 
 use crate::operator::{Known, Named, Operator};
+use crate::paths::parts;
 use crate::words::WORDS;
 use acpi_values::operator::{DataOp, EventOp, IntOp, Plain};
 use asl_tree::term::{Control, Declaration, Literal, Op, Special};
@@ -18,333 +19,184 @@ macro_rules! row {
     };
 }
 
-/// The operators under their words.
-pub const OPERATORS: &[Operator] = &[
-    row!(
-        b"ADD                     ",
-        Op::Plain(Plain::Number(IntOp::Add))
-    ),
-    row!(
-        b"SUBTRACT                ",
-        Op::Plain(Plain::Number(IntOp::Subtract))
-    ),
-    row!(
-        b"MULTIPLY                ",
-        Op::Plain(Plain::Number(IntOp::Multiply))
-    ),
-    row!(
-        b"SHIFTLEFT               ",
-        Op::Plain(Plain::Number(IntOp::ShiftLeft))
-    ),
-    row!(
-        b"SHIFTRIGHT              ",
-        Op::Plain(Plain::Number(IntOp::ShiftRight))
-    ),
-    row!(
-        b"AND                     ",
-        Op::Plain(Plain::Number(IntOp::And))
-    ),
-    row!(
-        b"NAND                    ",
-        Op::Plain(Plain::Number(IntOp::Nand))
-    ),
-    row!(
-        b"OR                      ",
-        Op::Plain(Plain::Number(IntOp::Or))
-    ),
-    row!(
-        b"NOR                     ",
-        Op::Plain(Plain::Number(IntOp::Nor))
-    ),
-    row!(
-        b"XOR                     ",
-        Op::Plain(Plain::Number(IntOp::Xor))
-    ),
-    row!(
-        b"MOD                     ",
-        Op::Plain(Plain::Number(IntOp::Mod))
-    ),
-    row!(
-        b"DIVIDE                  ",
-        Op::Plain(Plain::Number(IntOp::Divide))
-    ),
-    row!(
-        b"NOT                     ",
-        Op::Plain(Plain::Number(IntOp::Not))
-    ),
-    row!(
-        b"FINDSETLEFTBIT          ",
-        Op::Plain(Plain::Number(IntOp::FindSetLeftBit))
-    ),
-    row!(
-        b"FINDSETRIGHTBIT         ",
-        Op::Plain(Plain::Number(IntOp::FindSetRightBit))
-    ),
-    row!(
-        b"FROMBCD                 ",
-        Op::Plain(Plain::Number(IntOp::FromBcd))
-    ),
-    row!(
-        b"TOBCD                   ",
-        Op::Plain(Plain::Number(IntOp::ToBcd))
-    ),
-    row!(
-        b"LAND                    ",
-        Op::Plain(Plain::Number(IntOp::LAnd))
-    ),
-    row!(
-        b"LOR                     ",
-        Op::Plain(Plain::Number(IntOp::LOr))
-    ),
-    row!(
-        b"LNOT                    ",
-        Op::Plain(Plain::Number(IntOp::LNot))
-    ),
-    row!(
-        b"LEQUAL                  ",
-        Op::Plain(Plain::Number(IntOp::LEqual))
-    ),
-    row!(
-        b"LGREATER                ",
-        Op::Plain(Plain::Number(IntOp::LGreater))
-    ),
-    row!(
-        b"LLESS                   ",
-        Op::Plain(Plain::Number(IntOp::LLess))
-    ),
-    row!(
-        b"LNOTEQUAL               ",
-        Op::Plain(Plain::Number(IntOp::LNotEqual))
-    ),
-    row!(
-        b"LLESSEQUAL              ",
-        Op::Plain(Plain::Number(IntOp::LLessEqual))
-    ),
-    row!(
-        b"LGREATEREQUAL           ",
-        Op::Plain(Plain::Number(IntOp::LGreaterEqual))
-    ),
-    row!(
-        b"INCREMENT               ",
-        Op::Plain(Plain::Data(DataOp::Increment))
-    ),
-    row!(
-        b"DECREMENT               ",
-        Op::Plain(Plain::Data(DataOp::Decrement))
-    ),
-    row!(
-        b"STORE                   ",
-        Op::Plain(Plain::Data(DataOp::Store))
-    ),
-    row!(
-        b"COPYOBJECT              ",
-        Op::Plain(Plain::Data(DataOp::CopyObject))
-    ),
-    row!(
-        b"CONCATENATE             ",
-        Op::Plain(Plain::Data(DataOp::Concatenate))
-    ),
-    row!(
-        b"CONCATENATERESTEMPLATE  ",
-        Op::Plain(Plain::Data(DataOp::ConcatenateResTemplate))
-    ),
-    row!(
-        b"TOBUFFER                ",
-        Op::Plain(Plain::Data(DataOp::ToBuffer))
-    ),
-    row!(
-        b"TODECIMALSTRING         ",
-        Op::Plain(Plain::Data(DataOp::ToDecimalString))
-    ),
-    row!(
-        b"TOHEXSTRING             ",
-        Op::Plain(Plain::Data(DataOp::ToHexString))
-    ),
-    row!(
-        b"TOINTEGER               ",
-        Op::Plain(Plain::Data(DataOp::ToInteger))
-    ),
-    row!(
-        b"TOSTRING                ",
-        Op::Plain(Plain::Data(DataOp::ToString))
-    ),
-    row!(
-        b"MID                     ",
-        Op::Plain(Plain::Data(DataOp::Mid))
-    ),
-    row!(
-        b"INDEX                   ",
-        Op::Plain(Plain::Data(DataOp::Index))
-    ),
-    row!(
-        b"DEREFOF                 ",
-        Op::Plain(Plain::Data(DataOp::DerefOf))
-    ),
-    row!(
-        b"REFOF                   ",
-        Op::Plain(Plain::Data(DataOp::RefOf))
-    ),
-    row!(
-        b"SIZEOF                  ",
-        Op::Plain(Plain::Data(DataOp::SizeOf))
-    ),
-    row!(
-        b"OBJECTTYPE              ",
-        Op::Plain(Plain::Data(DataOp::ObjectType))
-    ),
-    row!(
-        b"MATCH                   ",
-        Op::Plain(Plain::Data(DataOp::Match))
-    ),
-    row!(
-        b"ACQUIRE                 ",
-        Op::Plain(Plain::Event(EventOp::Acquire))
-    ),
-    row!(
-        b"WAIT                    ",
-        Op::Plain(Plain::Event(EventOp::Wait))
-    ),
-    row!(
-        b"TIMER                   ",
-        Op::Plain(Plain::Event(EventOp::Timer))
-    ),
-    row!(
-        b"REVISION                ",
-        Op::Plain(Plain::Event(EventOp::Revision))
-    ),
-    row!(
-        b"RELEASE                 ",
-        Op::Plain(Plain::Event(EventOp::Release))
-    ),
-    row!(
-        b"SIGNAL                  ",
-        Op::Plain(Plain::Event(EventOp::Signal))
-    ),
-    row!(
-        b"RESET                   ",
-        Op::Plain(Plain::Event(EventOp::Reset))
-    ),
-    row!(
-        b"NOTIFY                  ",
-        Op::Plain(Plain::Event(EventOp::Notify))
-    ),
-    row!(
-        b"SLEEP                   ",
-        Op::Plain(Plain::Event(EventOp::Sleep))
-    ),
-    row!(
-        b"STALL                   ",
-        Op::Plain(Plain::Event(EventOp::Stall))
-    ),
-    row!(
-        b"FATAL                   ",
-        Op::Plain(Plain::Event(EventOp::Fatal))
-    ),
-    row!(
-        b"NOOP                    ",
-        Op::Plain(Plain::Event(EventOp::Noop))
-    ),
-    row!(
-        b"BREAKPOINT              ",
-        Op::Plain(Plain::Event(EventOp::BreakPoint))
-    ),
-    row!(b"ZERO                    ", Op::Literal(Literal::Zero)),
-    row!(b"ONE                     ", Op::Literal(Literal::One)),
-    row!(b"ONES                    ", Op::Literal(Literal::Ones)),
-    row!(b"CONDREFOF               ", Op::Special(Special::CondRefOf)),
-    row!(b"BUFFER                  ", Op::Special(Special::Buffer)),
-    row!(b"PACKAGE                 ", Op::Special(Special::Package)),
-    row!(b"RETURN                  ", Op::Control(Control::Return)),
-    row!(b"IF                      ", Op::Control(Control::If)),
-    row!(b"ELSEIF                  ", Op::Control(Control::ElseIf)),
-    row!(b"ELSE                    ", Op::Control(Control::Else)),
-    row!(b"WHILE                   ", Op::Control(Control::While)),
-    row!(b"BREAK                   ", Op::Control(Control::Break)),
-    row!(b"CONTINUE                ", Op::Control(Control::Continue)),
-    row!(
-        b"NAME                    ",
-        Op::Declaration(Declaration::Name)
-    ),
-    row!(
-        b"ALIAS                   ",
-        Op::Declaration(Declaration::Alias)
-    ),
-    row!(
-        b"EXTERNAL                ",
-        Op::Declaration(Declaration::External)
-    ),
-    row!(
-        b"METHOD                  ",
-        Op::Declaration(Declaration::Method)
-    ),
-    row!(
-        b"MUTEX                   ",
-        Op::Declaration(Declaration::Mutex)
-    ),
-    row!(
-        b"EVENT                   ",
-        Op::Declaration(Declaration::Event)
-    ),
-    row!(
-        b"DEVICE                  ",
-        Op::Declaration(Declaration::Device)
-    ),
-    row!(
-        b"THERMALZONE             ",
-        Op::Declaration(Declaration::ThermalZone)
-    ),
-    row!(
-        b"POWERRESOURCE           ",
-        Op::Declaration(Declaration::PowerResource)
-    ),
-    row!(
-        b"PROCESSOR               ",
-        Op::Declaration(Declaration::Processor)
-    ),
-    row!(
-        b"SCOPE                   ",
-        Op::Declaration(Declaration::Scope)
-    ),
-    row!(
-        b"OPERATIONREGION         ",
-        Op::Declaration(Declaration::OperationRegion)
-    ),
-    row!(
-        b"FIELD                   ",
-        Op::Declaration(Declaration::Field)
-    ),
-    row!(
-        b"INDEXFIELD              ",
-        Op::Declaration(Declaration::IndexField)
-    ),
-    row!(
-        b"BANKFIELD               ",
-        Op::Declaration(Declaration::BankField)
-    ),
-    row!(
-        b"CREATEFIELD             ",
-        Op::Declaration(Declaration::CreateField)
-    ),
-    row!(
-        b"CREATEBITFIELD          ",
-        Op::Declaration(Declaration::CreateBitField)
-    ),
-    row!(
-        b"CREATEBYTEFIELD         ",
-        Op::Declaration(Declaration::CreateByteField)
-    ),
-    row!(
-        b"CREATEWORDFIELD         ",
-        Op::Declaration(Declaration::CreateWordField)
-    ),
-    row!(
-        b"CREATEDWORDFIELD        ",
-        Op::Declaration(Declaration::CreateDWordField)
-    ),
-    row!(
-        b"CREATEQWORDFIELD        ",
-        Op::Declaration(Declaration::CreateQWordField)
-    ),
+macro_rules! number {
+    ($word:expr, $op:ident) => {
+        row!($word, Op::Plain(Plain::Number(IntOp::$op)))
+    };
+}
+
+macro_rules! data {
+    ($word:expr, $op:ident) => {
+        row!($word, Op::Plain(Plain::Data(DataOp::$op)))
+    };
+}
+
+macro_rules! event {
+    ($word:expr, $op:ident) => {
+        row!($word, Op::Plain(Plain::Event(EventOp::$op)))
+    };
+}
+
+macro_rules! literal {
+    ($word:expr, $op:ident) => {
+        row!($word, Op::Literal(Literal::$op))
+    };
+}
+
+macro_rules! special {
+    ($word:expr, $op:ident) => {
+        row!($word, Op::Special(Special::$op))
+    };
+}
+
+macro_rules! control {
+    ($word:expr, $op:ident) => {
+        row!($word, Op::Control(Control::$op))
+    };
+}
+
+macro_rules! declaration {
+    ($word:expr, $op:ident) => {
+        row!($word, Op::Declaration(Declaration::$op))
+    };
+}
+
+/// The operators under their words: those that begin with A, with B, and so on.
+pub const OPERATORS: &[&[Operator]] = &[
+    &[
+        number!(b"ADD                     ", Add),
+        number!(b"AND                     ", And),
+        event!(b"ACQUIRE                 ", Acquire),
+        declaration!(b"ALIAS                   ", Alias),
+    ],
+    &[
+        special!(b"BUFFER                  ", Buffer),
+        event!(b"BREAKPOINT              ", BreakPoint),
+        control!(b"BREAK                   ", Break),
+        declaration!(b"BANKFIELD               ", BankField),
+    ],
+    &[
+        declaration!(b"CREATEDWORDFIELD        ", CreateDWordField),
+        data!(b"COPYOBJECT              ", CopyObject),
+        data!(b"CONCATENATE             ", Concatenate),
+        data!(b"CONCATENATERESTEMPLATE  ", ConcatenateResTemplate),
+        special!(b"CONDREFOF               ", CondRefOf),
+        control!(b"CASE                    ", Case),
+        control!(b"CONTINUE                ", Continue),
+        declaration!(b"CREATEFIELD             ", CreateField),
+        declaration!(b"CREATEBITFIELD          ", CreateBitField),
+        declaration!(b"CREATEBYTEFIELD         ", CreateByteField),
+        declaration!(b"CREATEWORDFIELD         ", CreateWordField),
+        declaration!(b"CREATEQWORDFIELD        ", CreateQWordField),
+    ],
+    &[
+        declaration!(b"DEVICE                  ", Device),
+        number!(b"DIVIDE                  ", Divide),
+        data!(b"DECREMENT               ", Decrement),
+        data!(b"DEREFOF                 ", DerefOf),
+        control!(b"DEFAULT                 ", Default),
+    ],
+    &[
+        control!(b"ELSE                    ", Else),
+        control!(b"ELSEIF                  ", ElseIf),
+        declaration!(b"EXTERNAL                ", External),
+        declaration!(b"EVENT                   ", Event),
+    ],
+    &[
+        number!(b"FINDSETLEFTBIT          ", FindSetLeftBit),
+        number!(b"FINDSETRIGHTBIT         ", FindSetRightBit),
+        number!(b"FROMBCD                 ", FromBcd),
+        event!(b"FATAL                   ", Fatal),
+        declaration!(b"FIELD                   ", Field),
+    ],
+    &[],
+    &[],
+    &[
+        control!(b"IF                      ", If),
+        data!(b"INCREMENT               ", Increment),
+        data!(b"INDEX                   ", Index),
+        declaration!(b"INDEXFIELD              ", IndexField),
+    ],
+    &[],
+    &[],
+    &[
+        number!(b"LAND                    ", LAnd),
+        number!(b"LOR                     ", LOr),
+        number!(b"LNOT                    ", LNot),
+        number!(b"LEQUAL                  ", LEqual),
+        number!(b"LGREATER                ", LGreater),
+        number!(b"LLESS                   ", LLess),
+        number!(b"LNOTEQUAL               ", LNotEqual),
+        number!(b"LLESSEQUAL              ", LLessEqual),
+        number!(b"LGREATEREQUAL           ", LGreaterEqual),
+    ],
+    &[
+        declaration!(b"METHOD                  ", Method),
+        number!(b"MULTIPLY                ", Multiply),
+        number!(b"MOD                     ", Mod),
+        data!(b"MID                     ", Mid),
+        data!(b"MATCH                   ", Match),
+        declaration!(b"MUTEX                   ", Mutex),
+    ],
+    &[
+        declaration!(b"NAME                    ", Name),
+        number!(b"NAND                    ", Nand),
+        number!(b"NOR                     ", Nor),
+        number!(b"NOT                     ", Not),
+        event!(b"NOTIFY                  ", Notify),
+        event!(b"NOOP                    ", Noop),
+    ],
+    &[
+        number!(b"OR                      ", Or),
+        data!(b"OBJECTTYPE              ", ObjectType),
+        literal!(b"ONE                     ", One),
+        literal!(b"ONES                    ", Ones),
+        declaration!(b"OPERATIONREGION         ", OperationRegion),
+    ],
+    &[
+        special!(b"PACKAGE                 ", Package),
+        declaration!(b"POWERRESOURCE           ", PowerResource),
+        declaration!(b"PROCESSOR               ", Processor),
+    ],
+    &[],
+    &[
+        control!(b"RETURN                  ", Return),
+        data!(b"REFOF                   ", RefOf),
+        event!(b"REVISION                ", Revision),
+        event!(b"RELEASE                 ", Release),
+        event!(b"RESET                   ", Reset),
+    ],
+    &[
+        data!(b"STORE                   ", Store),
+        declaration!(b"SCOPE                   ", Scope),
+        number!(b"SUBTRACT                ", Subtract),
+        number!(b"SHIFTLEFT               ", ShiftLeft),
+        number!(b"SHIFTRIGHT              ", ShiftRight),
+        data!(b"SIZEOF                  ", SizeOf),
+        event!(b"SIGNAL                  ", Signal),
+        event!(b"SLEEP                   ", Sleep),
+        event!(b"STALL                   ", Stall),
+        control!(b"SWITCH                  ", Switch),
+    ],
+    &[
+        number!(b"TOBCD                   ", ToBcd),
+        data!(b"TOBUFFER                ", ToBuffer),
+        data!(b"TODECIMALSTRING         ", ToDecimalString),
+        data!(b"TOHEXSTRING             ", ToHexString),
+        data!(b"TOINTEGER               ", ToInteger),
+        data!(b"TOSTRING                ", ToString),
+        event!(b"TIMER                   ", Timer),
+        declaration!(b"THERMALZONE             ", ThermalZone),
+    ],
+    &[],
+    &[],
+    &[
+        event!(b"WAIT                    ", Wait),
+        control!(b"WHILE                   ", While),
+    ],
+    &[number!(b"XOR                     ", Xor)],
+    &[],
+    &[literal!(b"ZERO                    ", Zero)],
 ];
 
 fn are_blank(bytes: &[u8]) -> bool
@@ -353,15 +205,26 @@ fn are_blank(bytes: &[u8]) -> bool
     bytes.iter().all(|byte| *byte == b' ')
 }
 
-// Whether these bytes are the word with blanks behind it. Most rows differ in their first letter already.
-#[tactic(auto, using(crate::proofs::Tables::first_differs))]
+// Whether the last byte of a word stands at its place there. In most other rows of the same letter it does not.
+#[tactic(auto, using(crate::proofs::Tables::last_rules))]
+fn ends_alike(bytes: &[u8], word: &[u8]) -> bool
+    ensures { result ≡ false → spec.is_filled bytes.now word.now ≡ false }
+{
+    match word.split_last() {
+        Some((last, front)) => match bytes.get(front.len()) {
+            Some(byte) => *byte == *last,
+            None => false,
+        },
+        None => true,
+    }
+}
+
+// Whether these bytes are the word with blanks behind it.
 fn is_filled(bytes: &[u8], word: &[u8]) -> bool
     ensures { result ≡ spec.is_filled bytes.now word.now }
 {
-    if let ([first, ..], [letter, ..]) = (bytes, word) {
-        if *first != *letter {
-            return false;
-        }
+    if !ends_alike(bytes, word) {
+        return false;
     }
     match bytes.strip_prefix(word) {
         Some(rest) => are_blank(rest),
@@ -369,37 +232,91 @@ fn is_filled(bytes: &[u8], word: &[u8]) -> bool
     }
 }
 
-#[tactic(auto, unfolding(crate::specs::Operators::row_in))]
-fn row_of(word: &[u8]) -> Option<&'static Operator>
-    ensures { option_copied result ≡ spec.row_in OPERATORS.now word.now }
+// How many letters of the alphabet stand before the one that a word begins with.
+fn place_of(word: &[u8]) -> Option<usize>
+    ensures { result ≡ spec.place_of word.now }
 {
-    OPERATORS.iter().find(|row| is_filled(&row.word, word))
+    let (first, _) = parts(word)?;
+    if b'A' <= *first {
+        Some((*first - b'A') as usize)
+    } else {
+        None
+    }
+}
+
+// The rows of the operators, letter by letter.
+fn operator_letters() -> &'static [&'static [Operator]]
+    ensures { map (λ rows. rows.now) result.now ≡ map (λ rows. rows.now) OPERATORS.now }
+{
+    OPERATORS
+}
+
+// The rows of the other words, letter by letter.
+fn word_letters() -> &'static [&'static [Named]]
+    ensures { map (λ rows. rows.now) result.now ≡ map (λ rows. rows.now) WORDS.now }
+{
+    WORDS
+}
+
+// The rows of a word's letter: what is not among them is no operator.
+#[tactic(auto, using(crate::proofs::Tables::operator_nowhere))]
+fn operators_by(word: &[u8]) -> &'static [Operator]
+    ensures { spec.row_in result.now word.now ≡ spec.row_in spec.operators word.now }
+{
+    let Some(place) = place_of(word) else {
+        return &[];
+    };
+    match operator_letters().get(place) {
+        Some(rows) => *rows,
+        None => &[],
+    }
+}
+
+// The rows of a word's letter: what is not among them stands for nothing.
+#[tactic(auto, using(crate::proofs::Tables::word_nowhere))]
+fn words_by(text: &[u8]) -> &'static [Named]
+    ensures { spec.named_in result.now text.now ≡ spec.named_in spec.words text.now }
+{
+    let Some(place) = place_of(text) else {
+        return &[];
+    };
+    match word_letters().get(place) {
+        Some(rows) => *rows,
+        None => &[],
+    }
+}
+
+#[tactic(auto, unfolding(crate::specs::Operators::row_in))]
+fn row_in(rows: &'static [Operator], word: &[u8]) -> Option<&'static Operator>
+    ensures { option_copied result ≡ spec.row_in rows.now word.now }
+{
+    rows.iter().find(|row| is_filled(&row.word, word))
 }
 
 #[tactic(auto, unfolding(crate::specs::Operators::named_in))]
-fn named_of(text: &[u8]) -> Option<&'static Named>
-    ensures { option_copied result ≡ spec.named_in WORDS.now text.now }
+fn named_in(rows: &'static [Named], text: &[u8]) -> Option<&'static Named>
+    ensures { option_copied result ≡ spec.named_in rows.now text.now }
 {
-    WORDS.iter().find(|row| is_filled(&row.text, text))
+    rows.iter().find(|row| is_filled(&row.text, text))
 }
 
 /// The operator of this word.
-#[tactic(auto, using(crate::proofs::Tables::operator_is))]
+#[tactic(auto, unfolding(crate::specs::Operators::operator_of))]
 pub fn operator_of(word: &[u8]) -> Option<Op>
     ensures { result ≡ spec.operator_of word.now }
 {
-    match row_of(word) {
+    match row_in(operators_by(word), word) {
         Some(row) => Some(row.op),
         None => None,
     }
 }
 
 /// What this word stands for.
-#[tactic(auto, using(crate::proofs::Tables::word_is))]
+#[tactic(auto, unfolding(crate::specs::Operators::word_of))]
 pub fn word_of(text: &[u8]) -> Option<Known>
     ensures { result ≡ spec.word_of text.now }
 {
-    match named_of(text) {
+    match named_in(words_by(text), text) {
         Some(row) => Some(row.known),
         None => None,
     }

@@ -24,7 +24,7 @@ no_item t not_unit not_skip not_offset = by_layer (D.out-Term t) (sym (D.roll-ou
     by_layer : (f : D.Term-F Term Node) → t ≡ D.roll-Term f → item_in (plan_of t) ≡ None
     by_layer (D.Term-F.Integer n) e = ap read (e ∙ V.rolls-Integer n)
     by_layer (D.Term-F.Text text) e = ap read (e ∙ V.rolls-Text text)
-    by_layer (D.Term-F.Fill bytes) e = ap read (e ∙ V.rolls-Fill bytes)
+    by_layer (D.Term-F.Fill bytes named) e = ap read (e ∙ V.rolls-Fill bytes named)
     by_layer (D.Term-F.Word word) e = ap read (e ∙ V.rolls-Word word)
     by_layer (D.Term-F.Local n) e = ap read (e ∙ V.rolls-Local n)
     by_layer (D.Term-F.Arg n) e = ap read (e ∙ V.rolls-Arg n)
@@ -48,7 +48,7 @@ nothing_wrong t not_form = by_layer (D.out-Term t) (sym (D.roll-out-Term t))
     by_layer : (f : D.Term-F Term Node) → t ≡ D.roll-Term f → term_errors (plan_of t) ≡ []
     by_layer (D.Term-F.Integer n) e = ap read (e ∙ V.rolls-Integer n)
     by_layer (D.Term-F.Text text) e = ap read (e ∙ V.rolls-Text text)
-    by_layer (D.Term-F.Fill bytes) e = ap read (e ∙ V.rolls-Fill bytes)
+    by_layer (D.Term-F.Fill bytes named) e = ap read (e ∙ V.rolls-Fill bytes named)
     by_layer (D.Term-F.Word word) e = ap read (e ∙ V.rolls-Word word)
     by_layer (D.Term-F.Local n) e = ap read (e ∙ V.rolls-Local n)
     by_layer (D.Term-F.Arg n) e = ap read (e ∙ V.rolls-Arg n)

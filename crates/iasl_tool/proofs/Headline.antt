@@ -38,7 +38,7 @@ use Rattle.iasl_options.proofs.Tasks.{task_from, task_to}
 use Rattle.generated_lines.specs.Generated.{generated_lines}
 use Rattle.iasl_messages.specs.Console.{devices_line}
 use Rattle.program_shapes.specs.Kept.{IsKeptSource}
-use Rattle.program_shapes.specs.Sources.{terms_in, fields_in, IsRight}
+use Rattle.program_shapes.specs.Sources.{terms_in, locals_in, fields_in, IsRight}
 use Rattle.program_shapes.proofs.Kept.{is_kept}
 use Rattle.program_shapes.proofs.Lexed.{lexed_short}
 use Rattle.program_shapes.proofs.Few.{few_tokens}
@@ -47,7 +47,7 @@ use Rattle.aml_writer.specs.Written.{most_table_bytes}
 use Rattle.iasl_tool.specs.declared.compile.Compiled.{Compiled}
 use Rattle.iasl_tool.specs.declared.compile.Compiled.TheVariants.{Table, Refused}
 use Rattle.iasl_tool.specs.declared.compile.Style.{Style}
-use Rattle.iasl_tool.specs.Compiled.{own_in, literals_in, with_notes, others_in, of_data, of_source, of_lines, of_items, of_terms, of_table, unless_wrong, with_others, of_outcome, of_tokens, written_in, cut_in, too_long}
+use Rattle.iasl_tool.specs.Compiled.{own_in, noted_in, with_notes, others_in, of_data, of_source, of_lines, of_items, of_terms, of_table, unless_wrong, with_others, of_outcome, of_tokens, written_in, cut_in, too_long}
 use Rattle.table_outputs.specs.Files.{table_name, table_files, name_in_use}
 use Rattle.table_outputs.specs.Decision.{only_by, asks_for_text}
 use Rattle.iasl_tool.specs.Due.{style_of, unless_in_use, made_files, refusal, made_or_in_use, has_warning, answer_to_text, answer_to_compiled, answer_to_preprocessed, answer_to_file, answer_to_task, answer_for}
@@ -61,13 +61,14 @@ abbrev signature_of : List Raw → List ℕ
 signature_of items = (fields_in items).signature
 
 -- what the tree of a right source comes to
-items_are : (style : Style) (lines : List Line) (items : List Raw) → IsRight items → length (written_in style items) ≤ most_table_bytes → of_items style lines items ≡ Table (signature_of items) (own_in items) (cut_in style lines items) (literals_in items)
+items_are : (style : Style) (lines : List Line) (items : List Raw) → IsRight items → length (written_in style items) ≤ most_table_bytes → of_items style lines items ≡ Table (signature_of items) (own_in items) (cut_in style lines items) (noted_in items)
 items_are style lines items right within =
     let place = block_place (writtens items) in
     let le : nat_le (length (written_in style items)) most_table_bytes ≡ true = le-leb (length (written_in style items)) most_table_bytes within in
-    ap (λ es. unless_wrong es (with_notes (literals_in items) (of_terms style lines place (core_places (terms_of (writtens items))) (own_in items) (fields_in items) (others_in items) (terms_in items)))) right.form
-    ∙ ap (λ es. with_notes (literals_in items) (unless_wrong es (of_table place (signature_of items) (own_in items) (written_in style items) (cut_in style lines items)))) (none_behind (told_errors (terms_in items)) (others_in items) (none_told (terms_in items) right.names right.counts) (both_right items right))
-    ∙ ap (λ c. with_notes (literals_in items) (if c then Table (signature_of items) (own_in items) (cut_in style lines items) [] else Refused (too_long place ∷ []))) le
+    ap (λ es. unless_wrong es (with_notes (noted_in items) (of_terms style lines place (core_places (terms_of (writtens items))) (own_in items) (fields_in items) (others_in items) (locals_in items) (terms_in items)))) right.form
+    ∙ ap (λ es. with_notes (noted_in items) (unless_wrong es (unless_wrong (locals_in items) (of_table place (signature_of items) (own_in items) (written_in style items) (cut_in style lines items))))) (none_behind (told_errors (terms_in items)) (others_in items) (none_told (terms_in items) right.names right.counts) (both_right items right))
+    ∙ ap (λ es. with_notes (noted_in items) (unless_wrong es (of_table place (signature_of items) (own_in items) (written_in style items) (cut_in style lines items)))) right.locals
+    ∙ ap (λ c. with_notes (noted_in items) (if c then Table (signature_of items) (own_in items) (cut_in style lines items) [] else Refused (too_long place ∷ []))) le
 
 -- the files of a source of these lines, of which the first has these bytes
 abbrev files_with : Request → List Line → List Raw → List ℕ → List Named
@@ -75,7 +76,7 @@ files_with request lines items bytes = (table_of request items, bytes) ∷ furth
 
 -- what is due of a source in which no warning refuses these bytes, whose name is free
 abbrev due_with : Request → List (List ℕ) → List Message → List ℕ → List Line → List Raw → List ℕ → Answer
-due_with request files notes more lines items bytes = made_files request.asked.switches.brief files (notes ++ literals_in items) (table_line (table_of request items) (signature_of items) (length bytes) ++ more) (files_with request lines items bytes)
+due_with request files notes more lines items bytes = made_files request.asked.switches.brief files (notes ++ noted_in items) (table_line (table_of request items) (signature_of items) (length bytes) ++ more) (files_with request lines items bytes)
 
 -- what is due of a source in which no warning refuses these bytes
 abbrev named_with : Request → List (List ℕ) → List Message → List ℕ → List Line → List Raw → List ℕ → Answer
@@ -84,7 +85,7 @@ named_with request files notes more lines items bytes = unless_in_use (name_in_u
 -- what is due of these bytes, whatever warnings there are
 abbrev noted_with : Request → List (List ℕ) → List Message → List ℕ → List Line → List Raw → List ℕ → Answer
 noted_with request files notes more lines items bytes =
-    cond (request.asked.switches.strict && has_warning (notes ++ literals_in items)) (refusal request.asked.switches.brief files (notes ++ literals_in items)) (named_with request files notes more lines items bytes)
+    cond (request.asked.switches.strict && has_warning (notes ++ noted_in items)) (refusal request.asked.switches.brief files (notes ++ noted_in items)) (named_with request files notes more lines items bytes)
 
 -- the bytes of its pieces are its table
 bytes_are : (request : Request) (lines : List Line) (items : List Raw) → errors_at items ≡ [] → IsKeptSource (writtens items) → table_bytes (cut_in (style_of request.asked) lines items) ≡ table_for request items
@@ -129,11 +130,11 @@ answer_is words told request items h =
     let notes = h.named.notes in
     let more = more_of h.named.come in
     let style = style_of request.asked in
-    let table : of_lines style lines ≡ Table (signature_of items) (own_in items) (cut_in style lines items) (literals_in items) =
+    let table : of_lines style lines ≡ Table (signature_of items) (own_in items) (cut_in style lines items) (noted_in items) =
     ap (of_tokens style lines) (cut_is_tokens lines h.tokens h.tokens_are) ∙ ap (of_outcome style lines h.tokens) (spelled_is_outcome items h.tokens h.spelled h.shallow h.low) ∙ items_are style lines items h.right h.table_within in
-    given_is words told request h.named (Table (signature_of items) (own_in items) (cut_in style lines items) (literals_in items)) (ap (λ c. cond c (of_data (compiled lines)) (of_lines style lines)) h.is_asl ∙ table)
+    given_is words told request h.named (Table (signature_of items) (own_in items) (cut_in style lines items) (noted_in items)) (ap (λ c. cond c (of_data (compiled lines)) (of_lines style lines)) h.is_asl ∙ table)
     ∙ ap (λ bytes. Some (noted_with request files notes more lines items bytes)) (bytes_are request lines items h.right.form (kept_source words told request items h))
-    ∙ ap (λ c. Some (cond c (refusal request.asked.switches.brief files (notes ++ literals_in items)) (named_with request files notes more lines items (table_for request items)))) (is_passed request.asked (notes ++ literals_in items) h.notes_pass)
+    ∙ ap (λ c. Some (cond c (refusal request.asked.switches.brief files (notes ++ noted_in items)) (named_with request files notes more lines items (table_for request items)))) (is_passed request.asked (notes ++ noted_in items) h.notes_pass)
     ∙ ap (λ o. Some (unless_in_use o (due_with request files notes more lines items (table_for request items)))) h.names_are_free
 
 pub puts_faithful_table : (words : List (List ℕ)) (told : List Named) (request : Request) (items : List Raw) (h : NamesSource words told request items) → PutsFaithfulTable words told request h.named.lines items
@@ -213,7 +214,7 @@ status_with words told k it = status_of (Some (answer_to_compiled k.request.aske
 
 module _ (words : List (List ℕ)) (told : List Named) where
   by_name : (k : Known words told) (asl : is_data_table k.named.lines ≡ false) (tokens : List Token) (items : List Raw) (o : Option (List ℕ)) → tokens_of k.named.lines ≡ Ok tokens → outcome tokens ≡ read items → IsRight items → nat_le (length (table_for k.request items)) most_table_bytes ≡ true
-      → LetsPass k.request.asked (k.named.notes ++ literals_in items) → name_in_use k.named.files (files_of k.request k.named.lines items) ≡ o → status_of (Some (unless_in_use o (due_with k.request k.named.files k.named.notes (more_of k.named.come) k.named.lines items (table_for k.request items)))) ≡ 0 → Found words told
+      → LetsPass k.request.asked (k.named.notes ++ noted_in items) → name_in_use k.named.files (files_of k.request k.named.lines items) ≡ o → status_of (Some (unless_in_use o (due_with k.request k.named.files k.named.notes (more_of k.named.come) k.named.lines items (table_for k.request items)))) ≡ 0 → Found words told
   by_name k asl tokens items (Some name) et eo es ec ep en h = absurd (omega (arith, h))
   by_name k asl tokens items None et eo es ec ep en h = a_source k.request items (record {
     named = k.named;
@@ -230,30 +231,35 @@ module _ (words : List (List ℕ)) (told : List Named) where
   })
 
   by_notes : (k : Known words told) (asl : is_data_table k.named.lines ≡ false) (tokens : List Token) (items : List Raw) (c : Bool) → tokens_of k.named.lines ≡ Ok tokens → outcome tokens ≡ read items → IsRight items → nat_le (length (table_for k.request items)) most_table_bytes ≡ true
-      → (k.request.asked.switches.strict && has_warning (k.named.notes ++ literals_in items)) ≡ c → status_of (Some (cond c (refusal k.request.asked.switches.brief k.named.files (k.named.notes ++ literals_in items)) (named_with k.request k.named.files k.named.notes (more_of k.named.come) k.named.lines items (table_for k.request items)))) ≡ 0 → Found words told
+      → (k.request.asked.switches.strict && has_warning (k.named.notes ++ noted_in items)) ≡ c → status_of (Some (cond c (refusal k.request.asked.switches.brief k.named.files (k.named.notes ++ noted_in items)) (named_with k.request k.named.files k.named.notes (more_of k.named.come) k.named.lines items (table_for k.request items)))) ≡ 0 → Found words told
   by_notes k asl tokens items true et eo es ec ep h = absurd (omega (arith, h))
   by_notes k asl tokens items false et eo es ec ep h =
-      by_name k asl tokens items (name_in_use k.named.files (files_of k.request k.named.lines items)) et eo es ec (lets_pass k.request.asked (k.named.notes ++ literals_in items) ep) refl h
+      by_name k asl tokens items (name_in_use k.named.files (files_of k.request k.named.lines items)) et eo es ec (lets_pass k.request.asked (k.named.notes ++ noted_in items) ep) refl h
 
   by_table : (k : Known words told) (asl : is_data_table k.named.lines ≡ false) (tokens : List Token) (items : List Raw) (c : Bool) → tokens_of k.named.lines ≡ Ok tokens → outcome tokens ≡ read items → IsRight items → nat_le (length (table_for k.request items)) most_table_bytes ≡ c
-      → status_with words told k (with_notes (literals_in items) (if c then Table (signature_of items) (own_in items) (cut_in (style_of k.request.asked) k.named.lines items) [] else Refused (too_long (block_place (writtens items)) ∷ []))) ≡ 0 → Found words told
+      → status_with words told k (with_notes (noted_in items) (if c then Table (signature_of items) (own_in items) (cut_in (style_of k.request.asked) k.named.lines items) [] else Refused (too_long (block_place (writtens items)) ∷ []))) ≡ 0 → Found words told
   by_table k asl tokens items true et eo es ec h =
       let kept = kept_from words told k.request k.named tokens items et (is_spelled tokens (Ok (record { items = items })) eo) in
-      by_notes k asl tokens items (k.request.asked.switches.strict && has_warning (k.named.notes ++ literals_in items)) et eo es ec refl
+      by_notes k asl tokens items (k.request.asked.switches.strict && has_warning (k.named.notes ++ noted_in items)) et eo es ec refl
       (subst (λ bytes. status_of (Some (noted_with k.request k.named.files k.named.notes (more_of k.named.come) k.named.lines items bytes)) ≡ 0) (bytes_are k.request k.named.lines items es.form kept) h)
   by_table k asl tokens items false et eo es ec h = absurd (omega (arith, h))
 
+  by_locals : (k : Known words told) (asl : is_data_table k.named.lines ≡ false) (tokens : List Token) (items : List Raw) (ms : List Message) → tokens_of k.named.lines ≡ Ok tokens → outcome tokens ≡ read items → locals_in items ≡ ms → (locals_in items ≡ [] → IsRight items)
+      → status_with words told k (with_notes (noted_in items) (unless_wrong ms (of_table (block_place (writtens items)) (signature_of items) (own_in items) (table_for k.request items) (cut_in (style_of k.request.asked) k.named.lines items)))) ≡ 0 → Found words told
+  by_locals k asl tokens items [] et eo el right h = by_table k asl tokens items (nat_le (length (table_for k.request items)) most_table_bytes) et eo (right el) refl h
+  by_locals k asl tokens items (m ∷ ms) et eo el right h = absurd (omega (arith, h))
+
   by_names : (k : Known words told) (asl : is_data_table k.named.lines ≡ false) (tokens : List Token) (items : List Raw) (ms : List Message) → tokens_of k.named.lines ≡ Ok tokens → outcome tokens ≡ read items → errors_at items ≡ [] → with_others (told_errors (terms_in items)) (others_in items) ≡ ms
-      → status_with words told k (with_notes (literals_in items) (unless_wrong ms (of_table (block_place (writtens items)) (signature_of items) (own_in items) (table_for k.request items) (cut_in (style_of k.request.asked) k.named.lines items)))) ≡ 0 → Found words told
+      → status_with words told k (with_notes (noted_in items) (unless_wrong ms (unless_wrong (locals_in items) (of_table (block_place (writtens items)) (signature_of items) (own_in items) (table_for k.request items) (cut_in (style_of k.request.asked) k.named.lines items))))) ≡ 0 → Found words told
   by_names k asl tokens items [] et eo form en h =
       let none = both_none (told_errors (terms_in items)) (others_in items) en in
       let names = right_names (terms_in items) none.0 in
       let others = none_of_others items none.1 in
-      by_table k asl tokens items (nat_le (length (table_for k.request items)) most_table_bytes) et eo (record { form = form; names = names.0; counts = names.1; statements = others.statements; layouts = others.layouts; regions = others.regions; types = others.types; sizes = others.sizes }) refl h
+      by_locals k asl tokens items (locals_in items) et eo refl (λ locals. record { form = form; names = names.0; counts = names.1; statements = others.statements; layouts = others.layouts; regions = others.regions; types = others.types; sizes = others.sizes; values = others.values; locals = locals }) h
   by_names k asl tokens items (m ∷ ms) et eo form en h = absurd (omega (arith, h))
 
   by_items : (k : Known words told) (asl : is_data_table k.named.lines ≡ false) (tokens : List Token) (items : List Raw) (ms : List Message) → tokens_of k.named.lines ≡ Ok tokens → outcome tokens ≡ read items → errors_at items ≡ ms
-      → status_with words told k (unless_wrong ms (with_notes (literals_in items) (of_terms (style_of k.request.asked) k.named.lines (block_place (writtens items)) (core_places (terms_of (writtens items))) (own_in items) (fields_in items) (others_in items) (terms_in items)))) ≡ 0 → Found words told
+      → status_with words told k (unless_wrong ms (with_notes (noted_in items) (of_terms (style_of k.request.asked) k.named.lines (block_place (writtens items)) (core_places (terms_of (writtens items))) (own_in items) (fields_in items) (others_in items) (locals_in items) (terms_in items)))) ≡ 0 → Found words told
   by_items k asl tokens items [] et eo form h = by_names k asl tokens items (with_others (told_errors (terms_in items)) (others_in items)) et eo form refl h
   by_items k asl tokens items (m ∷ ms) et eo form h = absurd (omega (arith, h))
 

@@ -3,6 +3,7 @@ pub mod Programs
 pub mod Written
 pub mod Outcomes
 pub mod Homes
+pub mod Given
 pub mod Sorting
 pub mod Texts
 pub mod Sizes

@@ -15,6 +15,7 @@ use Rattle.aml_code.specs.Header.{HeaderFields, fields_of}
 use Rattle.acpi_names.specs.Errors.{NameError, name_errors, type_errors}
 use Rattle.named_sessions.specs.Shaped.{AreFormed, AreNamed, AreShaped}
 use Rattle.asl_lower.specs.Nodes.{named_all}
+use Rattle.hidden_locals.specs.Switches.{without_switches}
 use Rattle.asl_parser.specs.declared.raw.Raw.{Raw}
 use Rattle.asl_parser.specs.Written.{writtens}
 use Rattle.asl_shape.specs.Plans.{Plans, plans_of, plan_at, number_of}
@@ -22,9 +23,12 @@ use Rattle.asl_shape.specs.Forms.{IsBlockOf, errors_at, args_of, block_place, te
 use Rattle.asl_numbers.specs.Numbers.{numbered_all}
 use Rattle.name_checks.specs.Messages.{message_of, first_errors, told_errors}
 use Rattle.program_shapes.specs.Kept.{IsKeptSource}
-use Rattle.program_shapes.specs.Sources.{terms_in, statements_in, layouts_in, regions_in, types_in, sizes_in, fields_in, width_in, IsRight}
+use Rattle.program_shapes.specs.Sources.{terms_in, statements_in, layouts_in, regions_in, types_in, sizes_in, values_in, locals_in, fields_in, width_in, IsRight}
 use Rattle.type_checks.specs.Types.{wrong_types}
 use Rattle.type_checks.specs.Sizes.{long_lists}
+use Rattle.switch_checks.specs.Repeats.{repeated_values}
+use Rattle.switch_checks.specs.Locals.{few_locals}
+use Rattle.name_notes.specs.Notes.{name_notes}
 use Rattle.std.specs.Str.{IsAscii}
 use Rattle.iasl_messages.specs.declared.place.Place.{Place}
 use Rattle.iasl_messages.specs.declared.place.Line.{Line}
@@ -42,7 +46,7 @@ use Rattle.literal_checks.specs.Literals.{cut_literals_at}
 use Rattle.iasl_tool.specs.declared.compile.Compiled.{Compiled}
 use Rattle.iasl_tool.specs.declared.compile.Compiled.TheVariants.{Table, Refused}
 use Rattle.iasl_tool.specs.declared.compile.Style.{Style}
-use Rattle.iasl_tool.specs.Compiled.{table_with, its_pieces, with_notes, literals_in, unless_wrong, is_of_kinds, others_in, with_others, own_in, of_table, of_terms, of_items, written_in, cut_in, too_long, HasAsciiName}
+use Rattle.iasl_tool.specs.Compiled.{table_with, its_pieces, with_notes, noted_in, unless_wrong, is_of_kinds, others_in, with_others, own_in, of_table, of_terms, of_items, written_in, cut_in, too_long, HasAsciiName}
 use Rattle.iasl_tool.specs.Ready.{HasRoom}
 
 abbrev pub ok_block : Block → Result Block AllocError
@@ -104,9 +108,9 @@ unfolding IsBlockOf
 same_terms items block terms h e = e ∙ ap (numbered_all 0) h.terms
 
 -- what is wrong with the statements of some plans, then with their lists of fields and the accesses of these, and then with the kinds of
--- arguments and the lengths of lists, at a width
+-- arguments, the lengths of lists and the values of Cases, at a width
 abbrev pub others_of : Width → Trees → Plans → List Message
-others_of width terms ps = errors_of_statements ps ++ all_errors ps ++ region_errors width terms ps ++ wrong_types terms ps ++ long_lists width ps
+others_of width terms ps = errors_of_statements ps ++ all_errors ps ++ region_errors width terms ps ++ wrong_types terms ps ++ long_lists width ps ++ repeated_values width ps
 
 same_others : (items : List Raw) (block : Block) (terms : Trees) → IsBlockOf items block → terms ≡ numbered_all 0 (plans_of block.terms.items) → others_of (width_of block.revision) terms (plans_of block.terms.items) ≡ others_in items
 unfolding IsBlockOf
@@ -115,42 +119,45 @@ same_others items block terms h is =
     ∙ ap (others_of (width_in items) (terms_in items)) h.terms
 
 -- its terms, numbered, are formed
-pub block_formed : (items : List Raw) (block : Block) (terms : Trees) → errors_at items ≡ [] → IsBlockOf items block → IsKeptSource (writtens items) → terms ≡ numbered_all 0 (plans_of block.terms.items) → AreFormed AreNamed (Unit {0}) terms
-block_formed items block terms e h k is = subst (AreFormed AreNamed (Unit {0})) (sym (same_terms items block terms h is)) (terms_are_formed items e k)
+pub block_formed : (items : List Raw) (block : Block) (terms : Trees) → errors_at items ≡ [] → IsBlockOf items block → IsKeptSource (writtens items) → terms ≡ numbered_all 0 (plans_of block.terms.items) → AreFormed AreNamed (Unit {0}) (Unit {0}) terms
+block_formed items block terms e h k is = subst (AreFormed AreNamed (Unit {0}) (Unit {0})) (sym (same_terms items block terms h is)) (terms_are_formed items e k)
 
 both_nil : (xs ys : List Message) → xs ++ ys ≡ [] → (xs ≡ []) × (ys ≡ [])
 both_nil [] ys e = (refl, e)
 both_nil (x ∷ xs) ys e = absurd cc
 
--- nothing is wrong with statements, lists of fields and accesses, with kinds and with the lengths of lists
+-- nothing is wrong with statements, lists of fields and accesses, with kinds, with the lengths of lists and with the values of Cases
 pub record NoOthers (items : List Raw) : Type 0 where
   pub statements : statements_in items ≡ []
   pub layouts : layouts_in items ≡ []
   pub regions : regions_in items ≡ []
   pub types : types_in items ≡ []
   pub sizes : sizes_in items ≡ []
+  pub values : values_in items ≡ []
 
 pub none_of_others : (items : List Raw) → others_in items ≡ [] → NoOthers items
 none_of_others items e =
-    let sizes = both_nil (statements_in items ++ layouts_in items ++ regions_in items ++ types_in items) (sizes_in items) e in
+    let values = both_nil (statements_in items ++ layouts_in items ++ regions_in items ++ types_in items ++ sizes_in items) (values_in items) e in
+    let sizes = both_nil (statements_in items ++ layouts_in items ++ regions_in items ++ types_in items) (sizes_in items) values.0 in
     let types = both_nil (statements_in items ++ layouts_in items ++ regions_in items) (types_in items) sizes.0 in
     let regions = both_nil (statements_in items ++ layouts_in items) (regions_in items) types.0 in
     let first = both_nil (statements_in items) (layouts_in items) regions.0 in
-    record { statements = first.0; layouts = first.1; regions = regions.1; types = types.1; sizes = sizes.1 }
+    record { statements = first.0; layouts = first.1; regions = regions.1; types = types.1; sizes = sizes.1; values = values.1 }
 
 pub both_right : (items : List Raw) → IsRight items → others_in items ≡ []
 both_right items right =
-    ap (λ ms. ms ++ layouts_in items ++ regions_in items ++ types_in items ++ sizes_in items) right.statements
-    ∙ ap (λ ms. ms ++ regions_in items ++ types_in items ++ sizes_in items) right.layouts
-    ∙ ap (λ ms. ms ++ types_in items ++ sizes_in items) right.regions
-    ∙ ap (λ ms. ms ++ sizes_in items) right.types
-    ∙ right.sizes
+    ap (λ ms. ms ++ layouts_in items ++ regions_in items ++ types_in items ++ sizes_in items ++ values_in items) right.statements
+    ∙ ap (λ ms. ms ++ regions_in items ++ types_in items ++ sizes_in items ++ values_in items) right.layouts
+    ∙ ap (λ ms. ms ++ types_in items ++ sizes_in items ++ values_in items) right.regions
+    ∙ ap (λ ms. ms ++ sizes_in items ++ values_in items) right.types
+    ∙ ap (λ ms. ms ++ values_in items) right.sizes
+    ∙ right.values
 
 -- and shaped, where nothing else is wrong
-pub block_shaped : (items : List Raw) (block : Block) (terms : Trees) (others : List Message) → errors_at items ≡ [] → IsBlockOf items block → IsKeptSource (writtens items) → terms ≡ numbered_all 0 (plans_of block.terms.items) → others ≡ others_of (width_of block.revision) terms (plans_of block.terms.items) → others ≡ [] → AreShaped (named_all terms)
+pub block_shaped : (items : List Raw) (block : Block) (terms : Trees) (others : List Message) → errors_at items ≡ [] → IsBlockOf items block → IsKeptSource (writtens items) → terms ≡ numbered_all 0 (plans_of block.terms.items) → others ≡ others_of (width_of block.revision) terms (plans_of block.terms.items) → others ≡ [] → AreShaped (named_all (without_switches terms))
 block_shaped items block terms others e h k is are none =
     let nothing : others_in items ≡ [] = sym (same_others items block terms h is) ∙ sym are ∙ none in
-    subst (λ ts. AreShaped (named_all ts)) (sym (same_terms items block terms h is)) (core_is_shaped items e (none_of_others items nothing).layouts k)
+    subst (λ ts. AreShaped (named_all (without_switches ts))) (sym (same_terms items block terms h is)) (core_is_shaped items e (none_of_others items nothing).layouts k)
 
 same_fields : (items : List Raw) (block : Block) → IsBlockOf items block → fields_of block ≡ fields_in items
 unfolding IsBlockOf
@@ -169,28 +176,38 @@ same_places : (items : List Raw) (block : Block) → IsBlockOf items block → c
 unfolding IsBlockOf
 same_places items block h = ap core_places h.terms
 
--- the notes on its literals are those of its source
-same_literals : (items : List Raw) (block : Block) → IsBlockOf items block → cut_literals_at (width_of block.revision) items ≡ literals_in items
+-- its Switches for which too few Locals are free are those of its source
+same_locals : (items : List Raw) (block : Block) (terms : Trees) → IsBlockOf items block → terms ≡ numbered_all 0 (plans_of block.terms.items) → few_locals terms (plans_of block.terms.items) ≡ locals_in items
 unfolding IsBlockOf
-same_literals items block h = ap (λ n. cut_literals_at (width_of n) items) h.revision
+same_locals items block terms h is = ap (λ ts. few_locals ts (plans_of block.terms.items)) (same_terms items block terms h is) ∙ ap (few_locals (terms_in items)) h.terms
+
+-- the notes on its literals and on its names
+abbrev pub noted_at : Width → List Raw → Trees → List Message
+noted_at width items terms = cut_literals_at width items ++ name_notes terms
+
+-- are those of its source
+same_notes : (items : List Raw) (block : Block) (terms : Trees) → IsBlockOf items block → terms ≡ numbered_all 0 (plans_of block.terms.items) → noted_at (width_of block.revision) items terms ≡ noted_in items
+unfolding IsBlockOf
+same_notes items block terms h is = ap (λ n. noted_at (width_of n) items terms) h.revision ∙ ap (noted_at (width_in items) items) (same_terms items block terms h is)
 
 -- and it comes to what its source comes to
-pub block_comes : (style : Style) (lines : List Line) (items : List Raw) (block : Block) (terms : Trees) (inner : List Place) (statements : List Message) (it : Compiled) → errors_at items ≡ [] → IsBlockOf items block → terms ≡ numbered_all 0 (plans_of block.terms.items)
-    → inner ≡ core_places (plans_of block.terms.items) → statements ≡ others_of (width_of block.revision) terms (plans_of block.terms.items)
-    → it ≡ with_notes (cut_literals_at (width_of block.revision) items) (of_terms style lines block.place inner block.file (fields_of block) statements terms) → it ≡ of_items style lines items
-block_comes style lines items block terms inner statements it e h is places are comes =
+pub block_comes : (style : Style) (lines : List Line) (items : List Raw) (block : Block) (terms : Trees) (inner : List Place) (statements few : List Message) (it : Compiled) → errors_at items ≡ [] → IsBlockOf items block → terms ≡ numbered_all 0 (plans_of block.terms.items)
+    → inner ≡ core_places (plans_of block.terms.items) → statements ≡ others_of (width_of block.revision) terms (plans_of block.terms.items) → few ≡ few_locals terms (plans_of block.terms.items)
+    → it ≡ with_notes (noted_at (width_of block.revision) items terms) (of_terms style lines block.place inner block.file (fields_of block) statements few terms) → it ≡ of_items style lines items
+block_comes style lines items block terms inner statements few it e h is places are lacks comes =
     let at = block_place (writtens items) in
     let core = core_places (terms_of (writtens items)) in
-    let told = of_terms style lines at core (own_in items) (fields_in items) (others_in items) (terms_in items) in
-    let same : of_terms style lines block.place inner block.file (fields_of block) statements terms ≡ told =
-    ap (λ p. of_terms style lines p inner block.file (fields_of block) statements terms) (same_place items block h)
-    ∙ ap (λ ps. of_terms style lines at ps block.file (fields_of block) statements terms) (places ∙ same_places items block h)
-    ∙ ap (λ own. of_terms style lines at core own (fields_of block) statements terms) (same_own items block h)
-    ∙ ap (λ f. of_terms style lines at core (own_in items) f statements terms) (same_fields items block h)
-    ∙ ap (λ ss. of_terms style lines at core (own_in items) (fields_in items) ss terms) (are ∙ same_others items block terms h is)
-    ∙ ap (of_terms style lines at core (own_in items) (fields_in items) (others_in items)) (same_terms items block terms h is) in
-    right_is (errors_at items) it (with_notes (literals_in items) told) e
-    (comes ∙ ap (λ it. with_notes (cut_literals_at (width_of block.revision) items) it) same ∙ ap (λ ns. with_notes ns told) (same_literals items block h))
+    let told = of_terms style lines at core (own_in items) (fields_in items) (others_in items) (locals_in items) (terms_in items) in
+    let same : of_terms style lines block.place inner block.file (fields_of block) statements few terms ≡ told =
+    ap (λ p. of_terms style lines p inner block.file (fields_of block) statements few terms) (same_place items block h)
+    ∙ ap (λ ps. of_terms style lines at ps block.file (fields_of block) statements few terms) (places ∙ same_places items block h)
+    ∙ ap (λ own. of_terms style lines at core own (fields_of block) statements few terms) (same_own items block h)
+    ∙ ap (λ f. of_terms style lines at core (own_in items) f statements few terms) (same_fields items block h)
+    ∙ ap (λ ss. of_terms style lines at core (own_in items) (fields_in items) ss few terms) (are ∙ same_others items block terms h is)
+    ∙ ap (λ fs. of_terms style lines at core (own_in items) (fields_in items) (others_in items) fs terms) (lacks ∙ same_locals items block terms h is)
+    ∙ ap (of_terms style lines at core (own_in items) (fields_in items) (others_in items) (locals_in items)) (same_terms items block terms h is) in
+    right_is (errors_at items) it (with_notes (noted_in items) told) e
+    (comes ∙ ap (λ it. with_notes (noted_at (width_of block.revision) items terms) it) same ∙ ap (λ ns. with_notes ns told) (same_notes items block terms h is))
 
 -- a block in whose names nothing is wrong
 pub right_comes : (r : Result Compiled AllocError) (errors : List Message) (it : Compiled) → errors ≡ [] → IfOk r (λ made. made ≡ it) → IfOk r (λ made. made ≡ unless_wrong errors it)
@@ -221,11 +238,11 @@ pub shape_comes : (stage : Stage) (messages errors : List Message) (it : Compile
 shape_comes stage messages errors it h e = refused_is messages errors it (subst (λ (s : Stage). ShapeRefuses s errors) e h)
 
 -- what a block that is compiled comes to is what its source comes to
-pub program_comes : (style : Style) (lines : List Line) (r : Result Compiled AllocError) (items : List Raw) (block : Block) (terms : Trees) (inner : List Place) (statements : List Message) → errors_at items ≡ [] → IsBlockOf items block → terms ≡ numbered_all 0 (plans_of block.terms.items)
-    → inner ≡ core_places (plans_of block.terms.items) → statements ≡ others_of (width_of block.revision) terms (plans_of block.terms.items)
-    → IfOk r (λ it. it ≡ with_notes (cut_literals_at (width_of block.revision) items) (of_terms style lines block.place inner block.file (fields_of block) statements terms)) → IfOk r (λ it. it ≡ of_items style lines items)
-program_comes style lines (Ok it) items block terms inner statements e h is places are comes = block_comes style lines items block terms inner statements it e h is places are comes
-program_comes style lines (Err error) items block terms inner statements e h is places are comes = tt
+pub program_comes : (style : Style) (lines : List Line) (r : Result Compiled AllocError) (items : List Raw) (block : Block) (terms : Trees) (inner : List Place) (statements few : List Message) → errors_at items ≡ [] → IsBlockOf items block → terms ≡ numbered_all 0 (plans_of block.terms.items)
+    → inner ≡ core_places (plans_of block.terms.items) → statements ≡ others_of (width_of block.revision) terms (plans_of block.terms.items) → few ≡ few_locals terms (plans_of block.terms.items)
+    → IfOk r (λ it. it ≡ with_notes (noted_at (width_of block.revision) items terms) (of_terms style lines block.place inner block.file (fields_of block) statements few terms)) → IfOk r (λ it. it ≡ of_items style lines items)
+program_comes style lines (Ok it) items block terms inner statements few e h is places are lacks comes = block_comes style lines items block terms inner statements few it e h is places are lacks comes
+program_comes style lines (Err error) items block terms inner statements few e h is places are lacks comes = tt
 
 -- lists that are empty, and others
 pub no_length : (messages : List Message) → length messages ≡ 0 → messages ≡ []
@@ -247,16 +264,20 @@ named_in_ascii style lines items kept = by (errors_at items) refl
     by_length true h = h
     by_length false h = tt
 
-    by_names : (ms : List Message) → IsAscii (own_in items) → HasAsciiName (unless_wrong ms (of_table place (fields_in items).signature (own_in items) (written_in style items) (cut_in style lines items)))
-    by_names [] h = by_length (nat_le (length (written_in style items)) most_table_bytes) h
+    by_locals : (ms : List Message) → IsAscii (own_in items) → HasAsciiName (unless_wrong ms (of_table place (fields_in items).signature (own_in items) (written_in style items) (cut_in style lines items)))
+    by_locals [] h = by_length (nat_le (length (written_in style items)) most_table_bytes) h
+    by_locals (m ∷ ms) h = tt
+
+    by_names : (ms : List Message) → IsAscii (own_in items) → HasAsciiName (unless_wrong ms (unless_wrong (locals_in items) (of_table place (fields_in items).signature (own_in items) (written_in style items) (cut_in style lines items))))
+    by_names [] h = by_locals (locals_in items) h
     by_names (m ∷ ms) h = tt
 
-    noted : (it : Compiled) → HasAsciiName it → HasAsciiName (with_notes (literals_in items) it)
+    noted : (it : Compiled) → HasAsciiName it → HasAsciiName (with_notes (noted_in items) it)
     noted (Table signature own pieces notes) h = h
     noted (Refused messages) h = tt
 
-    by : (ms : List Message) → errors_at items ≡ ms → HasAsciiName (unless_wrong ms (with_notes (literals_in items) (of_terms style lines place (core_places (terms_of (writtens items))) (own_in items) (fields_in items) (others_in items) (terms_in items))))
-    by [] e = noted (of_terms style lines place (core_places (terms_of (writtens items))) (own_in items) (fields_in items) (others_in items) (terms_in items)) (by_names (with_others (told_errors (terms_in items)) (others_in items)) (own_is_ascii items e kept))
+    by : (ms : List Message) → errors_at items ≡ ms → HasAsciiName (unless_wrong ms (with_notes (noted_in items) (of_terms style lines place (core_places (terms_of (writtens items))) (own_in items) (fields_in items) (others_in items) (locals_in items) (terms_in items))))
+    by [] e = noted (of_terms style lines place (core_places (terms_of (writtens items))) (own_in items) (fields_in items) (others_in items) (locals_in items) (terms_in items)) (by_names (with_others (told_errors (terms_in items)) (others_in items)) (own_is_ascii items e kept))
     by (m ∷ ms) e = tt
 
 pub ascii_comes : (r : Result Compiled AllocError) (it : Compiled) → HasAsciiName it → IfOk r (λ made. made ≡ it) → IfOk r HasAsciiName

@@ -17,6 +17,7 @@ use Rattle.aml_writer.specs.Cuts.{table_parts, pieces_with}
 use Rattle.named_sessions.specs.Core.{core_of}
 use Rattle.asl_lower.specs.Nodes.{named_all}
 use Rattle.asl_fold.specs.Folds.{folded_where}
+use Rattle.hidden_locals.specs.Switches.{without_switches}
 use Rattle.name_checks.specs.Messages.{told_errors}
 use Rattle.asl_parser.specs.declared.raw.Raw.{Raw}
 use Rattle.asl_parser.specs.Parse.{Outcome, outcome, read, stopped, sunk, tall}
@@ -24,7 +25,7 @@ use Rattle.asl_parser.specs.Written.{writtens}
 use Rattle.std.specs.Str.{IsAscii}
 use Rattle.asl_shape.specs.Plans.{plan_at, text_of}
 use Rattle.asl_shape.specs.Forms.{errors_at, block_place, args_of, terms_of}
-use Rattle.program_shapes.specs.Sources.{terms_in, statements_in, layouts_in, regions_in, types_in, sizes_in, fields_in, width_in, table_in}
+use Rattle.program_shapes.specs.Sources.{terms_in, statements_in, layouts_in, regions_in, types_in, sizes_in, values_in, locals_in, notes_in, fields_in, width_in, table_in}
 use Rattle.source_pieces.specs.Places.{core_places}
 use Rattle.source_pieces.specs.Pieces.{pieces_in}
 use Rattle.literal_checks.specs.Literals.{cut_literals_at}
@@ -55,9 +56,9 @@ its_table style terms block = table_with style (fields_of block) terms
 abbrev pub its_pieces : Style → List Line → List Place → HeaderFields → Trees → List Piece
 its_pieces style lines places fields terms = pieces_with lines places (table_parts fields style.short (core_of style.shorten terms))
 
--- terms with their symbols named, and their constants folded where that is asked for
-abbrev pub lowered_in : Style → HeaderFields → Trees → Trees
-lowered_in style fields terms = folded_where style.fold (width_of fields.revision) (named_all terms)
+-- terms with loops for their Switches, their symbols named, and their constants folded where that is asked for
+abbrev pub lowered_as : Style → HeaderFields → Trees → Trees
+lowered_as style fields terms = folded_where style.fold (width_of fields.revision) (named_all (without_switches terms))
 
 -- errors, where there are any
 abbrev pub unless_wrong : List Message → Compiled → Compiled
@@ -75,11 +76,11 @@ with_others [] others = others
 with_others (m ∷ ms) others = if is_of_kinds m.number then (m ∷ ms) ++ others else m ∷ ms
 
 -- a block of this form, whose core's terms stand at these places, that is refused with what is wrong with its names, its statements or the lists
--- of its fields
-abbrev pub of_terms : Style → List Line → Place → List Place → List ℕ → HeaderFields → List Message → Trees → Compiled
-of_terms style lines place inner own fields others terms =
-    let lowered = lowered_in style fields terms in
-    unless_wrong (with_others (told_errors terms) others) (of_table place fields.signature own (table_with style fields lowered) (its_pieces style lines (place ∷ inner) fields lowered))
+-- of its fields, and where nothing is, with its Switches for which too few Locals are free
+abbrev pub of_terms : Style → List Line → Place → List Place → List ℕ → HeaderFields → (others few : List Message) → Trees → Compiled
+of_terms style lines place inner own fields others few terms =
+    let lowered = lowered_as style fields terms in
+    unless_wrong (with_others (told_errors terms) others) (unless_wrong few (of_table place fields.signature own (table_with style fields lowered) (its_pieces style lines (place ∷ inner) fields lowered)))
 
 -- the numbers of the errors of the class of names
 abbrev pub is_of_names : ℕ → Bool
@@ -107,20 +108,24 @@ cut_in style lines items = pieces_in lines style.fold style.short style.shorten 
 abbrev pub literals_in : List Raw → List Message
 literals_in items = cut_literals_at (width_in items) items
 
+-- the notes on a source: its literals that are cut, and what is noted of its names
+abbrev pub noted_in : List Raw → List Message
+noted_in items = literals_in items ++ notes_in items
+
 -- the name that a source's block states for its file
 abbrev pub own_in : List Raw → List ℕ
 own_in items = text_of (plan_at (args_of (writtens items)) 0)
 
--- what is wrong with its statements, then with the lists of its fields and with their accesses, and then with the kinds of its arguments and
--- the lengths of its lists
+-- what is wrong with its statements, then with the lists of its fields and with their accesses, and then with the kinds of its arguments, the
+-- lengths of its lists and the values of its Cases
 abbrev pub others_in : List Raw → List Message
-others_in items = statements_in items ++ layouts_in items ++ regions_in items ++ types_in items ++ sizes_in items
+others_in items = statements_in items ++ layouts_in items ++ regions_in items ++ types_in items ++ sizes_in items ++ values_in items
 
 -- the tree of a source's syntax, that is refused with what is wrong with its form
 abbrev pub of_items : Style → List Line → List Raw → Compiled
 of_items style lines items =
     let ws = writtens items in
-    unless_wrong (errors_at items) (with_notes (literals_in items) (of_terms style lines (block_place ws) (core_places (terms_of ws)) (own_in items) (fields_in items) (others_in items) (terms_in items)))
+    unless_wrong (errors_at items) (with_notes (noted_in items) (of_terms style lines (block_place ws) (core_places (terms_of ws)) (own_in items) (fields_in items) (others_in items) (locals_in items) (terms_in items)))
 
 -- tokens that are a source, or the place where they stop being one or nest too deep
 abbrev pub of_outcome : Style → List Line → List Token → Outcome → Compiled

@@ -26,7 +26,7 @@ use Rattle.iasl_options.specs.Task.{Generates, IsTask, generated_settings}
 use Rattle.generated_lines.specs.Generated.{generated_lines}
 use Rattle.iasl_messages.specs.Console.{devices_line}
 use Rattle.program_shapes.specs.Sources.{IsRight, IsTableOf}
-use Rattle.iasl_tool.specs.Compiled.{own_in, literals_in, written_in, cut_in}
+use Rattle.iasl_tool.specs.Compiled.{own_in, noted_in, written_in, cut_in}
 use Rattle.table_outputs.specs.Files.{table_name, further_files, name_in_use}
 use Rattle.iasl_tool.specs.Due.{style_of, answer_for}
 
@@ -104,7 +104,7 @@ pub record NamesSource (words : List (List ℕ)) (told : List Named) (request : 
   pub low : IsLow limit (marks 0 tokens)
   pub right : IsRight items
   pub table_within : length (table_for request items) ≤ most_table_bytes
-  pub notes_pass : LetsPass request.asked (named.notes ++ literals_in items)
+  pub notes_pass : LetsPass request.asked (named.notes ++ noted_in items)
   pub names_are_free : name_in_use named.files (files_of request named.lines items) ≡ None
 
 -- The words name lines (`ComeFrom`), which are a data table in whose text there is no fault, with

@@ -2,6 +2,7 @@
 ghost use Rattle.std.specs.Prelude.{◌≡◌, ℕ, ◌<◌, ◌^◌, ◌++◌, ◌∷◌, [], length, All, Ok, IfOk, true};
 ghost use Rattle.acpi_values.specs.Revisions.{width_of};
 ghost use Rattle.literal_checks.specs.Literals.{cut_literals_at};
+ghost use Rattle.name_notes.specs.Notes.{name_notes};
 ghost use Rattle.asl_tree.specs.Tree.{Trees};
 ghost use Rattle.asl_tree.specs.View.{trees_of};
 ghost use Rattle.asl_tree.specs.declared.program.Block.{Block as SpecBlock};
@@ -14,6 +15,9 @@ ghost use Rattle.field_checks.specs.Lists.{all_errors};
 ghost use Rattle.region_checks.specs.Regions.{region_errors};
 ghost use Rattle.type_checks.specs.Types.{wrong_types};
 ghost use Rattle.type_checks.specs.Sizes.{long_lists};
+ghost use Rattle.switch_checks.specs.Repeats.{repeated_values};
+ghost use Rattle.switch_checks.specs.Locals.{few_locals};
+ghost use Rattle.hidden_locals.specs.Switches.{without_switches};
 ghost use Rattle.acpi_names.specs.Terms.{are_terms};
 ghost use Rattle.statement_checks.specs.Statements.{errors_of_statements};
 ghost use Rattle.asl_shape.specs.Plans.{plans_of};
@@ -52,10 +56,14 @@ use iasl_messages::place::{Lines, Pieces};
 use iasl_ports::list::{List, Text};
 use literal_checks::check::cut_literals;
 use name_checks::check::check;
+use name_notes::check::notes as notes_on_names;
 use name_spelling::spell::spell;
 use region_checks::check::region_faults;
 use statement_checks::check::statement_errors;
 use std::alloc::{AllocError, Global};
+use switch_checks::locals::few_locals;
+use switch_checks::repeat::repeated_values;
+use switch_loops::loops::loops;
 use type_checks::check::wrong_types;
 use type_checks::size::long_lists;
 
@@ -172,10 +180,11 @@ fn with_others(errors: Messages, others: Messages) -> Result<Messages, AllocErro
     }
 }
 
-// The block with its symbolic operators named and its ElseIfs nested, and its constants folded where that is asked for.
-#[tactic(auto, using(source_pieces::proofs::Planned::places_planned))]
+// The block with loops for its Switches, its symbolic operators named and its ElseIfs nested, and its constants folded where that is asked for.
+#[tactic(auto, using(crate::proofs::Given::are_given, source_pieces::proofs::Planned::places_planned))]
 fn lowered(alloc: Global, style: Style, block: Block) -> Result<Block, AllocError>
-    ensures terms { IfOk result (λ core. trees_of core.terms.items ≡ folded_where style.fold (width_of block.revision) (named_all (trees_of block.terms.items))) }
+    requires { AreFormed AreNamed (Unit {0}) (Unit {0}) (trees_of block.terms.items) }
+    ensures terms { IfOk result (λ core. trees_of core.terms.items ≡ folded_where style.fold (width_of block.revision) (named_all (without_switches (trees_of block.terms.items)))) }
     ensures places { IfOk result (λ core. places_of core.terms.items ≡ core_places (plans_of block.terms.items)) }
     ensures place { IfOk result (λ core. core.place ≡ block.place) }
     ensures file { IfOk result (λ core. core.file ≡ block.file) }
@@ -191,6 +200,7 @@ fn lowered(alloc: Global, style: Style, block: Block) -> Result<Block, AllocErro
         oem_revision,
         terms,
     } = block;
+    let terms = loops(alloc, terms)?;
     let named = lower(alloc, terms)?;
     let terms = fold_where(alloc, style.fold, Width::of_revision(revision), named)?;
     Ok(Block {
@@ -205,8 +215,8 @@ fn lowered(alloc: Global, style: Style, block: Block) -> Result<Block, AllocErro
     })
 }
 
-// A block whose nodes have their numbers: its table, with its symbols named and its names spelled, or what is wrong with its
-// names, its statements and the lists of its fields.
+// A block whose nodes have their numbers: its table, with loops for its Switches, its symbols named and its names spelled, or what is wrong
+// with its names, its statements and the lists of its fields, or else the Switches for which too few Locals are free.
 fn compile_block(
     alloc: Global,
     style: Style,
@@ -215,14 +225,18 @@ fn compile_block(
     others: Messages,
 ) -> Result<Compiled, AllocError>
     requires room { HasRoom (fields_of block) }
-    requires formed { AreFormed AreNamed (Unit {0}) (trees_of block.terms.items) }
-    requires shaped { others ≡ [] → AreShaped (named_all (trees_of block.terms.items)) }
-    ensures { IfOk result (λ it. it ≡ of_terms style lines.now.list block.place (core_places (plans_of block.terms.items)) block.file (fields_of block) others (trees_of block.terms.items)) }
+    requires formed { AreFormed AreNamed (Unit {0}) (Unit {0}) (trees_of block.terms.items) }
+    requires shaped { others ≡ [] → AreShaped (named_all (without_switches (trees_of block.terms.items))) }
+    ensures { IfOk result (λ it. it ≡ of_terms style lines.now.list block.place (core_places (plans_of block.terms.items)) block.file (fields_of block) others (few_locals (trees_of block.terms.items) (plans_of block.terms.items)) (trees_of block.terms.items)) }
 {
     match check(alloc, block.terms.as_slice()) {
         Ok(mut names) => {
             if !others.is_empty() {
                 return Ok(Compiled::Refused(others));
+            }
+            let few = few_locals(alloc, block.terms.as_slice())?;
+            if !few.is_empty() {
+                return Ok(Compiled::Refused(few));
             }
             let mut core = lowered(alloc, style, block)?;
             spell(
@@ -280,7 +294,7 @@ fn with_notes(notes: Messages, it: Compiled) -> Result<Compiled, AllocError>
     }
 }
 
-// A block, with the notes on the literals of its source.
+// A block, with the notes on the literals of its source and on its names.
 fn compile_noted(
     alloc: Global,
     style: Style,
@@ -290,11 +304,12 @@ fn compile_noted(
     others: Messages,
 ) -> Result<Compiled, AllocError>
     requires room { HasRoom (fields_of block) }
-    requires formed { AreFormed AreNamed (Unit {0}) (trees_of block.terms.items) }
-    requires shaped { others ≡ [] → AreShaped (named_all (trees_of block.terms.items)) }
-    ensures { IfOk result (λ it. it ≡ with_notes (cut_literals_at (width_of block.revision) unit.now.items) (of_terms style lines.now.list block.place (core_places (plans_of block.terms.items)) block.file (fields_of block) others (trees_of block.terms.items))) }
+    requires formed { AreFormed AreNamed (Unit {0}) (Unit {0}) (trees_of block.terms.items) }
+    requires shaped { others ≡ [] → AreShaped (named_all (without_switches (trees_of block.terms.items))) }
+    ensures { IfOk result (λ it. it ≡ with_notes (cut_literals_at (width_of block.revision) unit.now.items ++ name_notes (trees_of block.terms.items)) (of_terms style lines.now.list block.place (core_places (plans_of block.terms.items)) block.file (fields_of block) others (few_locals (trees_of block.terms.items) (plans_of block.terms.items)) (trees_of block.terms.items))) }
 {
-    let notes = cut_literals(alloc, Width::of_revision(block.revision), unit)?;
+    let literals = cut_literals(alloc, Width::of_revision(block.revision), unit)?;
+    let notes = both(literals, notes_on_names(alloc, block.terms.as_slice())?)?;
     with_notes(notes, compile_block(alloc, style, lines, block, others)?)
 }
 
@@ -308,16 +323,17 @@ fn block_of(program: Program) -> Result<Block, AllocError>
     }
 }
 
-// What is wrong with statements, then with the lists of fields and their accesses, and then with the kinds of arguments and the lengths of
-// lists.
+// What is wrong with statements, then with the lists of fields and their accesses, and then with the kinds of arguments, the lengths of lists
+// and the values of Cases.
 fn other_errors(alloc: Global, width: Width, terms: &[Node]) -> Result<Messages, AllocError>
     requires { are_terms (trees_of terms.now) ≡ true }
-    ensures { IfOk result (λ ms. ms ≡ errors_of_statements (plans_of terms.now) ++ all_errors (plans_of terms.now) ++ region_errors width (trees_of terms.now) (plans_of terms.now) ++ wrong_types (trees_of terms.now) (plans_of terms.now) ++ long_lists width (plans_of terms.now)) }
+    ensures { IfOk result (λ ms. ms ≡ errors_of_statements (plans_of terms.now) ++ all_errors (plans_of terms.now) ++ region_errors width (trees_of terms.now) (plans_of terms.now) ++ wrong_types (trees_of terms.now) (plans_of terms.now) ++ long_lists width (plans_of terms.now) ++ repeated_values width (plans_of terms.now)) }
 {
     let errors = both(statement_errors(alloc, terms)?, list_faults(alloc, terms)?)?;
     let errors = both(errors, region_faults(alloc, width, terms)?)?;
     let errors = both(errors, wrong_types(alloc, terms)?)?;
-    both(errors, long_lists(alloc, width, terms)?)
+    let errors = both(errors, long_lists(alloc, width, terms)?)?;
+    both(errors, repeated_values(alloc, width, terms)?)
 }
 
 // The tree of a source's syntax.

@@ -1,15 +1,8 @@
-mod data;
-mod data_rows;
 mod devices;
-mod folding;
-mod kinds;
 mod lending;
 mod limits;
 mod listing;
 mod options;
-mod rows;
-mod spelling;
-mod widths;
 
 ghost use Rattle.std.specs.Prelude.{IfOk};
 ghost use Rattle.iasl_backends.specs.Asked.{IsOneOfEach};

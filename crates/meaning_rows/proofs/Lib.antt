@@ -3,6 +3,8 @@ mod ValueRows
 mod FieldRows
 mod SessionRows
 mod ControlRows
+pub mod SwitchRows
+mod SwitchTables
 pub mod NameRows
 mod ShortestRows
 mod Whole

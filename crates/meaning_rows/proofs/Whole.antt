@@ -61,7 +61,7 @@ no_errors = refl
 
 is_shaped : AreShaped program
 is_shaped =
-    (((record { segments = (refl, tt); count = omega arith; rooted = λ root. refl }), refl, tt), (((record { segments = (refl, tt); count = omega arith; rooted = λ root. refl }), omega arith, ((refl, tt), ((refl, tt), tt))), (((record { is_name = (record { segments = (refl, tt); count = omega arith; rooted = λ root. refl }); start = tt }), omega arith, ((refl, omega arith), ((refl, omega arith), ((refl, omega arith), tt)))), (((record { is_name = (record { segments = (refl, tt); count = omega arith; rooted = λ root. refl }); start = tt }), (record { segments = (refl, tt); count = omega arith; rooted = λ root. refl })), (((record { segments = (refl, tt); count = omega arith; rooted = λ root. refl }), refl, (refl, omega arith)), ((((refl, (record { is_name = (record { segments = (refl, tt); count = omega arith; rooted = λ root. refl }); start = tt })), ((refl, tt), tt)), (record { segments = (refl, tt); count = omega arith; rooted = λ root. refl })), (((record { segments = (refl, tt); count = omega arith; rooted = λ root. refl }), tt, (((record { segments = (refl, tt); count = omega arith; rooted = λ root. refl }), refl, (omega arith, ((record { is_name = (record { segments = (refl, tt); count = omega arith; rooted = λ root. refl }); start = tt }), tt))), tt)), (((record { is_name = (record { segments = (refl, tt); count = omega arith; rooted = λ root. refl }); start = tt }), (((record { segments = (refl, tt); count = omega arith; rooted = λ root. refl }), refl, tt), tt)), (((record { segments = (refl, tt); count = omega arith; rooted = λ root. refl }), omega arith, ((refl, omega arith, (((record { segments = (refl, tt); count = omega arith; rooted = λ root. refl }), refl, tt), tt)), ((refl, (record { is_name = (record { segments = (refl, tt); count = omega arith; rooted = λ root. refl }); start = tt })), tt))), (((record { segments = (refl, tt); count = omega arith; rooted = λ root. refl }), omega arith, ((tt, ((refl, tt), ((record { is_name = (record { segments = (refl, tt); count = omega arith; rooted = λ root. refl }); start = tt }), tt)), refl, tt), ((refl, (record { is_name = (record { segments = (refl, tt); count = omega arith; rooted = λ root. refl }); start = tt })), tt))), (((record { segments = (refl, tt); count = omega arith; rooted = λ root. refl }), omega arith, ((tt, ((refl, tt), (omega arith, tt)), refl, tt), ((refl, (tt, ((refl, omega arith), ((refl, omega arith), tt)), refl, tt), ((tt, (omega arith, tt), refl, tt), tt)), ((refl, (tt, ((refl, omega arith), ((refl, (tt, ((refl, (tt, ((refl, (tt, ((refl, (record { is_name = (record { segments = (refl, (refl, tt)); count = omega arith; rooted = λ root. refl }); start = tt })), ((refl, tt), tt)), refl, (tt, tt))), tt), refl, tt)), tt), refl, tt)), tt)), refl, (tt, tt))), tt)))), (((record { segments = (refl, tt); count = omega arith; rooted = λ root. refl }), omega arith, ((refl, omega arith, ((refl, tt), tt)), (((refl, ((record { is_name = (record { segments = (refl, tt); count = omega arith; rooted = λ root. refl }); start = tt }), (refl, tt, tt))), tt), tt))), tt))))))))))))
+    (((record { segments = (refl, tt); count = omega arith; rooted = λ root. refl }), refl, tt), tt, (((record { segments = (refl, tt); count = omega arith; rooted = λ root. refl }), omega arith, ((refl, tt), ((refl, tt), tt))), tt, (((record { is_name = (record { segments = (refl, tt); count = omega arith; rooted = λ root. refl }); start = tt }), omega arith, ((refl, omega arith), ((refl, omega arith), ((refl, omega arith), tt)))), tt, (((record { is_name = (record { segments = (refl, tt); count = omega arith; rooted = λ root. refl }); start = tt }), (record { segments = (refl, tt); count = omega arith; rooted = λ root. refl })), tt, (((record { segments = (refl, tt); count = omega arith; rooted = λ root. refl }), refl, (refl, omega arith)), tt, ((((refl, (record { is_name = (record { segments = (refl, tt); count = omega arith; rooted = λ root. refl }); start = tt })), ((refl, tt), tt)), (record { segments = (refl, tt); count = omega arith; rooted = λ root. refl })), tt, (((record { segments = (refl, tt); count = omega arith; rooted = λ root. refl }), tt, (((record { segments = (refl, tt); count = omega arith; rooted = λ root. refl }), refl, (omega arith, ((record { is_name = (record { segments = (refl, tt); count = omega arith; rooted = λ root. refl }); start = tt }), tt))), tt, tt)), tt, (((record { is_name = (record { segments = (refl, tt); count = omega arith; rooted = λ root. refl }); start = tt }), (((record { segments = (refl, tt); count = omega arith; rooted = λ root. refl }), refl, tt), tt, tt)), tt, (((record { segments = (refl, tt); count = omega arith; rooted = λ root. refl }), omega arith, ((refl, omega arith, (((record { segments = (refl, tt); count = omega arith; rooted = λ root. refl }), refl, tt), tt, tt)), tt, ((refl, (record { is_name = (record { segments = (refl, tt); count = omega arith; rooted = λ root. refl }); start = tt })), tt, tt))), tt, (((record { segments = (refl, tt); count = omega arith; rooted = λ root. refl }), omega arith, ((tt, ((refl, tt), ((record { is_name = (record { segments = (refl, tt); count = omega arith; rooted = λ root. refl }); start = tt }), tt)), refl, tt), tt, ((refl, (record { is_name = (record { segments = (refl, tt); count = omega arith; rooted = λ root. refl }); start = tt })), tt, tt))), tt, (((record { segments = (refl, tt); count = omega arith; rooted = λ root. refl }), omega arith, ((tt, ((refl, tt), (omega arith, tt)), refl, tt), tt, ((refl, (tt, ((refl, omega arith), ((refl, omega arith), tt)), refl, tt), ((tt, (omega arith, tt), refl, tt), tt, tt)), tt, ((refl, (tt, ((refl, omega arith), ((refl, (tt, ((refl, (tt, ((refl, (tt, ((refl, (record { is_name = (record { segments = (refl, (refl, tt)); count = omega arith; rooted = λ root. refl }); start = tt })), ((refl, tt), tt)), refl, (tt, tt))), tt), refl, tt)), tt), refl, tt)), tt)), refl, (tt, tt))), tt, tt)))), tt, (((record { segments = (refl, tt); count = omega arith; rooted = λ root. refl }), omega arith, ((refl, omega arith, ((refl, tt), tt, tt)), tt, (((refl, ((record { is_name = (record { segments = (refl, tt); count = omega arith; rooted = λ root. refl }); start = tt }), (refl, tt, tt))), tt, tt), tt, tt))), tt, tt))))))))))))
 
 abbrev fields : HeaderFields
 fields = record { signature = codes "SSDT"; revision = 2; oem_id = codes "OEMX00"; table_id = codes "TABLE001"; oem_revision = 1 }

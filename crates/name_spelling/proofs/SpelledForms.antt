@@ -164,6 +164,9 @@ module _ (shorten : Bool) (has : AbsolutePath → Bool) (says : AbsolutePath →
   spelled_form told here (Op.Control Control.ElseIf) (tree test no_trees) body = refl
   spelled_form told here (Op.Control Control.Else) no_trees body = refl
   spelled_form told here (Op.Control Control.While) (tree test no_trees) body = refl
+  spelled_form told here (Op.Control Control.Switch) (tree value no_trees) cases = refl
+  spelled_form told here (Op.Control Control.Case) (tree value no_trees) body = refl
+  spelled_form told here (Op.Control Control.Default) no_trees body = refl
   spelled_form told here (Op.Control Control.Break) no_trees no_trees = refl
   spelled_form told here (Op.Control Control.Continue) no_trees no_trees = refl
   spelled_form told here (Op.Literal literal) no_trees no_trees = refl

@@ -17,7 +17,7 @@ use Rattle.asl_meaning.specs.Declarations.{Declared, As, AliasOf, ExternalType, 
 use Rattle.asl_meaning.specs.Meaning.{SpotForm, OfResult, OfInside, NoSpot, spot_form}
 use Rattle.acpi_state.specs.FieldActs.{region_letters, field_letters}
 use Rattle.asl_tree.specs.FieldItems.{FieldItem, UnitItem, SkipItem, OffsetItem}
-use Rattle.asl_tree.specs.Tree.{At, Tree, Integer, Constant, String, InSlot, Debug, Omitted, Raw, Use, Call, Apply, Buffer, Package, VarPackage, CondRefOf, Return, Name, Alias, External, Method, Mutex, Event, Container', Scope, Fill, Misshapen, Operated, Assigned, AssignedBy, Trees, no_trees, tree, count, OperationRegion, Field, IndexField, BankField, CreateField, UnitName, If, ElseIf, Else, While, Break, Continue, Item}
+use Rattle.asl_tree.specs.Tree.{At, Tree, Integer, Constant, String, InSlot, Debug, Omitted, Raw, Use, Call, Apply, Buffer, Package, VarPackage, CondRefOf, Return, Name, Alias, External, Method, Mutex, Event, Container', Scope, Fill, Misshapen, Operated, Assigned, AssignedBy, Trees, no_trees, tree, count, OperationRegion, Field, IndexField, BankField, CreateField, UnitName, If, ElseIf, Else, While, Break, Continue, Item, Switch, Case, Default}
 use Rattle.asl_meaning.proofs.Searches.{first_is_known, absolute_candidates}
 use Rattle.aml_code.specs.Fronts.{is_segment, AreSegments, IsName, HasStart, IsUsedName}
 use Rattle.aml_sessions.specs.Ready.{is_expression, AtMostOne, Denotes, IsSought, Declares, IsElementName, CondReady, SpotReady, LetterReady, ElementReady, IsReady, IsSpot, IsAlone, AreOperands, AreSpots, AreValues, AreElements, AreReady, AreItems, AreUnits, IsFound}
@@ -176,6 +176,9 @@ module _ (whole : Whole) where
     within (ElseIf test body) scope d e = within_all body scope d (right_none (names whole test scope d) _ e)
     within (Else body) scope d e = within_all body scope d e
     within (While test body) scope d e = within_all body scope d (right_none (names whole test scope d) _ e)
+    within (Switch value cases) scope d e = within_all cases scope d (right_none (names whole value scope d) _ e)
+    within (Case value body) scope d e = within_all body scope d (right_none (names whole value scope d) _ e)
+    within (Default body) scope d e = within_all body scope d e
     within (OperationRegion at name space args) scope d e = within_new d (place_of name scope) (As (RegionObject space 0 0)) (new_of at name scope d (left_none _ (names_all whole args scope d) e))
     within (Field here from region flags items) scope d e = within_items items scope d (right_none (use_errors whole from region scope) _ e)
     within (IndexField here from index to register flags items) scope d e = within_items items scope d (right_none (use_errors whole to register scope) _ (right_none (use_errors whole from index scope) _ e))
@@ -579,10 +582,13 @@ module _ (shorten : Bool) (whole : Whole) (says : AbsolutePath → ExternalType 
     ready (Assigned target value) scope d shaped valid e y w = absurd shaped.0
     ready (AssignedBy op target value) scope d shaped valid e y w = absurd shaped.0
     ready (ElseIf test body) scope d shaped valid e y w = absurd shaped.0
+    ready (Switch value cases) scope d shaped valid e y w = absurd shaped.0
+    ready (Case value body) scope d shaped valid e y w = absurd shaped
+    ready (Default body) scope d shaped valid e y w = absurd shaped
     ready Misshapen scope d shaped valid e y w = absurd shaped
 
     pub ready_all : (ts : Trees) (scope : AbsolutePath) (d : Declarations) → AreShaped ts → AreSegments scope → names_all whole ts scope d ≡ [] → types_all whole ts scope ≡ [] → Within (declare_all ts scope d) whole.all → AreReady known (spelled_all shorten has says ts scope) scope
     ready_all no_trees scope d shaped valid e y w = tt
     ready_all (tree t ts) scope d shaped valid e y w =
         let e' = right_none (names whole t scope d) (names_all whole ts scope (declare t scope d)) e in
-        (ready t scope d shaped.0 valid (left_none _ (names_all whole ts scope (declare t scope d)) e) (left_none _ (types_all whole ts scope) y) (within_then (declare t scope d) (declare_all ts scope (declare t scope d)) whole.all (within_all whole ts scope (declare t scope d) e') w), ready_all ts scope (declare t scope d) shaped.1 valid e' (right_none (types whole t scope) _ y) w)
+        (ready t scope d shaped.0 valid (left_none _ (names_all whole ts scope (declare t scope d)) e) (left_none _ (types_all whole ts scope) y) (within_then (declare t scope d) (declare_all ts scope (declare t scope d)) whole.all (within_all whole ts scope (declare t scope d) e') w), ready_all ts scope (declare t scope d) shaped.2 valid e' (right_none (types whole t scope) _ y) w)

@@ -32,7 +32,7 @@ use Rattle.asl_tree.specs.declared.path.Path.{Path}
 use Rattle.asl_tree.specs.Literals.{literal_number}
 use Rattle.asl_tree.specs.Names.{Known, is_known, place_of, denoted, element_path}
 use Rattle.asl_meaning.specs.Declarations.{ExternalType}
-use Rattle.asl_tree.specs.Tree.{Tree, Integer, Constant, String, InSlot, Debug, Omitted, Raw, Use, Call, Apply, Buffer, Package, VarPackage, CondRefOf, Return, Name, Alias, External, Method, Mutex, Event, Container', Scope, Fill, Misshapen, Operated, Assigned, AssignedBy, Trees, no_trees, tree, OperationRegion, Field, IndexField, BankField, CreateField, UnitName, If, ElseIf, Else, While, Break, Continue, Item}
+use Rattle.asl_tree.specs.Tree.{Tree, Integer, Constant, String, InSlot, Debug, Omitted, Raw, Use, Call, Apply, Buffer, Package, VarPackage, CondRefOf, Return, Name, Alias, External, Method, Mutex, Event, Container', Scope, Fill, Misshapen, Operated, Assigned, AssignedBy, Trees, no_trees, tree, OperationRegion, Field, IndexField, BankField, CreateField, UnitName, If, ElseIf, Else, While, Break, Continue, Item, Switch, Case, Default}
 use Rattle.asl_meaning.specs.Meaning as S
 use Rattle.asl_meaning.specs.Meaning.{SourceRun, SpotForm, OfResult, OfInside, NoSpot, spot_form}
 use Rattle.asl_meaning.specs.SourceSession.{source_session}
@@ -273,6 +273,9 @@ module _ (shorten : Bool) (width : Width) (says : AbsolutePath → ExternalType 
     alike (Assigned target value) scope due h = absurd h.0
     alike (AssignedBy op target value) scope due h = absurd h.0
     alike (ElseIf test body) scope due h = absurd h.0
+    alike (Switch value cases) scope due h = absurd h.0
+    alike (Case value body) scope due h = absurd h
+    alike (Default body) scope due h = absurd h
     alike Misshapen scope due h = absurd h
 
     alike_spot : (t : Tree) (scope : AbsolutePath) → IsShapedSpot t → Alike shorten width says known Any (λ p. p) (P t scope) (P' t scope)
@@ -323,7 +326,7 @@ module _ (shorten : Bool) (width : Width) (says : AbsolutePath → ExternalType 
 
     pub alike_all : (ts : Trees) (scope : AbsolutePath) (due : Bool) → AreShaped ts → Alike shorten width says known Any (λ f. f) (S.run_all width known turns call ts scope due) (S.run_all width known turns call' (spelled_all shorten has says ts scope) scope due)
     alike_all no_trees scope due h = agree_done G Any (λ f. f) (Normal false) tt
-    alike_all (tree t ts) scope due h = agree_then G Any (λ f. f) _ (alike t scope due h.0) (λ f any. agree_on_flow G f _ _ (λ d. alike_all ts scope d h.1))
+    alike_all (tree t ts) scope due h = agree_then G Any (λ f. f) _ (alike t scope due h.0) (λ f any. agree_on_flow G f _ _ (λ d. alike_all ts scope d h.2))
 
 module _ (shorten : Bool) (width : Width) (says : AbsolutePath → ExternalType → ExternalType) (known : Known) (turns : ℕ) where
   pub alike_call : (depth : ℕ) (path : AbsolutePath) (args : List Value) → Alike shorten width says known EndsExpression (λ f. f) (S.call_method width known turns depth path args) (S.call_method width known turns depth path args)

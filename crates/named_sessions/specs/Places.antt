@@ -1,7 +1,7 @@
 -- Where the nodes of trees and the errors of names stand.
 use Rattle.std.specs.Prelude.{ℕ, ◌<◌, List, [], ◌∷◌}
 use Rattle.asl_tree.specs.FieldItems.{FieldItem, UnitItem, SkipItem, OffsetItem}
-use Rattle.asl_tree.specs.Tree.{At, Tree, Use, Call, Apply, Buffer, Package, VarPackage, CondRefOf, Return, Name, Alias, External, Method, Mutex, Event, Container', Scope, Trees, no_trees, tree, OperationRegion, Field, IndexField, BankField, CreateField, UnitName, If, Else, While, Item, ElseIf, Operated, Assigned, AssignedBy}
+use Rattle.asl_tree.specs.Tree.{At, Tree, Use, Call, Apply, Buffer, Package, VarPackage, CondRefOf, Return, Name, Alias, External, Method, Mutex, Event, Container', Scope, Trees, no_trees, tree, OperationRegion, Field, IndexField, BankField, CreateField, UnitName, If, Else, While, Item, ElseIf, Operated, Assigned, AssignedBy, Switch, Case, Default}
 use Rattle.acpi_names.specs.Errors.{NameError, Twice, DeclaredHere, Missing, NoContainer, LeavesRoot, Differs, TooLong, WrongCount, WrongKind, UnbuiltSpace}
 
 -- a node in one of so many files
@@ -43,6 +43,9 @@ abbrev mutual
   IsWithin files (ElseIf test body) = IsWithin files test × AreWithin files body
   IsWithin files (Else body) = AreWithin files body
   IsWithin files (While test body) = IsWithin files test × AreWithin files body
+  IsWithin files (Switch value cases) = IsWithin files value × AreWithin files cases
+  IsWithin files (Case value body) = IsWithin files value × AreWithin files body
+  IsWithin files (Default body) = AreWithin files body
   IsWithin files (OperationRegion at name space args) = IsIn files at × AreWithin files args
   IsWithin files (Field here from region flags items) = IsIn files here × IsIn files from × AreItemsWithin files items
   IsWithin files (IndexField here from index to register flags items) = IsIn files here × IsIn files from × IsIn files to × AreItemsWithin files items

@@ -1,10 +1,10 @@
 -- What needs no names to be seen of a program: the forms of its terms and what fits its bytes.
-use Rattle.std.specs.Prelude.{◌≡◌, ◌<◌, ◌≤◌, true, List, [], ◌∷◌}
+use Rattle.std.specs.Prelude.{◌≡◌, ◌<◌, true, List, [], ◌∷◌}
 use Rattle.acpi_values.specs.Operators.{Letter, Valued, Kept, Placed, Used, Row, row_of}
 use Rattle.acpi_values.specs.Operators as L
 use Rattle.acpi_state.specs.FieldActs.{region_letters, field_letters}
 use Rattle.asl_meaning.specs.Meaning.{spot_form}
-use Rattle.asl_tree.specs.Tree.{Tree, Integer, Constant, String, InSlot, Debug, Omitted, Raw, Use, Call, Apply, Buffer, Package, VarPackage, CondRefOf, Return, Name, Alias, External, Method, Mutex, Event, Container', Scope, Fill, Misshapen, Operated, Assigned, AssignedBy, Trees, no_trees, tree, count, OperationRegion, Field, IndexField, BankField, CreateField, UnitName, If, ElseIf, Else, While, Break, Continue, Item}
+use Rattle.asl_tree.specs.Tree.{Tree, Integer, Constant, String, InSlot, Debug, Omitted, Raw, Use, Call, Apply, Buffer, Package, VarPackage, CondRefOf, Return, Name, Alias, External, Method, Mutex, Event, Container', Scope, Fill, Misshapen, Operated, Assigned, AssignedBy, Trees, no_trees, tree, count, OperationRegion, Field, IndexField, BankField, CreateField, UnitName, If, ElseIf, Else, While, Break, Continue, Item, Switch, Case, Default}
 use Rattle.asl_tree.specs.FieldItems.{FieldItem, UnitItem, SkipItem, OffsetItem}
 use Rattle.aml_code.specs.Fronts.{IsName, IsUsedName, is_segment}
 use Rattle.aml_meaning.specs.Codes.{HasOwnCode, IsSlot}
@@ -32,8 +32,44 @@ AreNamed (UnitItem name bits ∷ items) = (is_segment name.segment ≡ true) × 
 AreNamed (SkipItem bits ∷ items) = AreNamed items
 AreNamed (OffsetItem bytes ∷ items) = AreNamed items
 
--- a tree whose lists of fields are `Listed`, and in which what is written with a symbol, and an ElseIf, stands where that is `Symbols`
-module _ (Listed : List (FieldItem UnitName) → Type 0) (Symbols : Type 0) where
+-- the size of what a Case compares with is a number
+abbrev pub IsNumber : Tree → Type 0
+IsNumber (Integer number) = Unit {0}
+IsNumber _ = ⊥
+
+-- what a Case compares with: an integer, a string, a Buffer of constants, or a Package of at least one of these
+abbrev pub IsCaseMember : Tree → Type 0
+IsCaseMember (Integer number) = Unit {0}
+IsCaseMember (String text) = IsText text
+IsCaseMember (Buffer size bytes) = IsNumber size
+IsCaseMember _ = ⊥
+
+abbrev pub AreCaseMembers : Trees → Type 0
+AreCaseMembers no_trees = Unit {0}
+AreCaseMembers (tree member members) = IsCaseMember member × AreCaseMembers members
+
+abbrev pub HaveCaseMembers : Trees → Type 0
+HaveCaseMembers no_trees = ⊥
+HaveCaseMembers members = AreCaseMembers members
+
+abbrev pub IsCaseValue : Tree → Type 0
+IsCaseValue (Package n members) = HaveCaseMembers members
+IsCaseValue (VarPackage size members) = IsNumber size × HaveCaseMembers members
+IsCaseValue value = IsCaseMember value
+
+-- no Else stands directly behind a Switch
+abbrev pub StartsNoElse : Trees → Type 0
+StartsNoElse (tree (Else body) terms) = ⊥
+StartsNoElse (tree (ElseIf test body) terms) = ⊥
+StartsNoElse terms = Unit {0}
+
+abbrev pub IsFollowed : Tree → Trees → Type 0
+IsFollowed (Switch value cases) terms = StartsNoElse terms
+IsFollowed term terms = Unit {0}
+
+-- a tree whose lists of fields are `Listed`, and in which what is written with a symbol, and an ElseIf, stands where that is `Symbols`,
+-- and a Switch where that is `Switches`
+module _ (Listed : List (FieldItem UnitName) → Type 0) (Symbols Switches : Type 0) where
   abbrev mutual
     pub IsFormed : Tree → Type 0
     IsFormed (Integer number) = Unit {0}
@@ -77,6 +113,9 @@ module _ (Listed : List (FieldItem UnitName) → Type 0) (Symbols : Type 0) wher
     IsFormed (Assigned target value) = Symbols × IsFormedSpot target × (is_expression value ≡ true) × IsFormed value
     IsFormed (AssignedBy op target value) = Symbols × IsFormedSpot target × (is_expression target ≡ true) × IsFormed target × (is_expression value ≡ true) × IsFormed value
     IsFormed (ElseIf test body) = Symbols × (is_expression test ≡ true) × IsFormed test × AreFormed body
+    IsFormed (Switch value cases) = Switches × (is_expression value ≡ true) × IsFormed value × AreFormedCases cases
+    IsFormed (Case value body) = ⊥
+    IsFormed (Default body) = ⊥
     IsFormed Misshapen = ⊥
 
     -- a term that stands for a place, or a target that is left out
@@ -114,29 +153,36 @@ module _ (Listed : List (FieldItem UnitName) → Type 0) (Symbols : Type 0) wher
 
     pub AreFormed : Trees → Type 0
     AreFormed no_trees = Unit {0}
-    AreFormed (tree term terms) = IsFormed term × AreFormed terms
+    AreFormed (tree term terms) = IsFormed term × IsFollowed term terms × AreFormed terms
 
--- a tree without symbols and ElseIfs, in whose lists no Offset goes back and each count of bits can be written
+    -- the Cases of a Switch, and last its Default
+    pub AreFormedCases : Trees → Type 0
+    AreFormedCases no_trees = Unit {0}
+    AreFormedCases (tree (Case value body) cases) = IsCaseValue value × AreFormed body × AreFormedCases cases
+    AreFormedCases (tree (Default body) no_trees) = AreFormed body
+    AreFormedCases _ = ⊥
+
+-- a tree without symbols, ElseIfs and Switches, in whose lists no Offset goes back and each count of bits can be written
 abbrev pub IsShaped : Tree → Type 0
-IsShaped = IsFormed (AreItems 0) ⊥
+IsShaped = IsFormed (AreItems 0) ⊥ ⊥
 
 abbrev pub IsShapedSpot : Tree → Type 0
-IsShapedSpot = IsFormedSpot (AreItems 0) ⊥
+IsShapedSpot = IsFormedSpot (AreItems 0) ⊥ ⊥
 
 abbrev pub IsShapedAlone : Trees → Trees → Type 0
-IsShapedAlone = IsFormedAlone (AreItems 0) ⊥
+IsShapedAlone = IsFormedAlone (AreItems 0) ⊥ ⊥
 
 abbrev pub AreShapedOperands : List Letter → Trees → Type 0
-AreShapedOperands = AreFormedOperands (AreItems 0) ⊥
+AreShapedOperands = AreFormedOperands (AreItems 0) ⊥ ⊥
 
 abbrev pub AreShapedSpots : Trees → Type 0
-AreShapedSpots = AreFormedSpots (AreItems 0) ⊥
+AreShapedSpots = AreFormedSpots (AreItems 0) ⊥ ⊥
 
 abbrev pub AreShapedValues : Trees → Type 0
-AreShapedValues = AreFormedValues (AreItems 0) ⊥
+AreShapedValues = AreFormedValues (AreItems 0) ⊥ ⊥
 
 abbrev pub AreShapedElements : Trees → Type 0
-AreShapedElements = AreFormedElements (AreItems 0) ⊥
+AreShapedElements = AreFormedElements (AreItems 0) ⊥ ⊥
 
 abbrev pub AreShaped : Trees → Type 0
-AreShaped = AreFormed (AreItems 0) ⊥
+AreShaped = AreFormed (AreItems 0) ⊥ ⊥

@@ -13,6 +13,11 @@ use Rattle.acpi_names.specs.Terms.{are_terms}
 use Rattle.asl_lower.specs.Nodes.{named_all}
 use Rattle.asl_lower.proofs.Declared.{same_declarations, same_first_call}
 use Rattle.named_sessions.specs.Core.{core_of}
+use Rattle.named_sessions.specs.Shaped.{AreFormed, AreNamed}
+use Rattle.named_sessions.proofs.Terms.{formed_terms}
+use Rattle.hidden_locals.specs.Switches.{without_switches}
+use Rattle.loop_shapes.proofs.Formed.{loops_formed}
+use Rattle.loop_shapes.proofs.Names as loops
 use Rattle.named_sessions.proofs.Core.{core_spelled}
 use Rattle.asl_fold.specs.Folds.{folded_where}
 use Rattle.asl_fold.proofs.Asked.{where_declarations, where_whole}
@@ -29,3 +34,12 @@ core_lowered fold width shorten paths named table program spelt terms spells agr
     let core = folded_where fold width (named_all program) in
     core_spelled shorten paths named table core spelt spells (subst (Agrees paths named) (sym (where_declarations fold width (named_all program) ∙ same_declarations program)) agrees)
     (λ path. tabled path ∙ sym (ap (λ whole. lookup whole.calls path) (where_whole fold width (named_all program)) ∙ same_calls program terms path))
+
+-- the same with loops for Switches
+pub core_looped : (fold : Bool) (width : Width) (shorten : Bool) (paths : List AbsolutePath) (named : List Bool) (table : List (Option ℕ)) (program spelt : Trees) → AreFormed AreNamed (Unit {0}) (Unit {0}) program
+    → ((d : Declarations) (counts : List (AbsolutePath × ℕ)) → Agrees paths named d → Tabled paths table (lookup counts) → spelt ≡ spelled_all shorten (is_named d) (written_external counts) (folded_where fold width (named_all (without_switches program))) [])
+    → Agrees paths named (declarations program) → Tabled paths table (lookup (whole_of program).calls) → spelt ≡ core_of shorten (folded_where fold width (named_all (without_switches program)))
+core_looped fold width shorten paths named table program spelt formed spells agrees tabled =
+    core_lowered fold width shorten paths named table (without_switches program) spelt (formed_terms AreNamed (Unit {0}) ⊥ (without_switches program) (loops_formed AreNamed (Unit {0}) (Unit {0}) program formed)) spells
+    (subst (Agrees paths named) (sym (loops.same_declarations AreNamed (Unit {0}) (Unit {0}) program formed)) agrees)
+    (λ path. tabled path ∙ sym (ap (λ whole. lookup whole.calls path) (loops.same_whole AreNamed (Unit {0}) (Unit {0}) program formed)))

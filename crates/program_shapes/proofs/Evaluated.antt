@@ -1,5 +1,5 @@
 -- An argument that has to be a constant stands as one.
-use Rattle.std.proofs.Common.{◌≡◌, ℕ, ◌≤◌, Bool, true, false, List, [], ◌∷◌, Ok, Err, refl, subst}
+use Rattle.std.proofs.Common.{◌≡◌, ℕ, suc, ◌≤◌, Bool, true, false, List, [], ◌∷◌, Ok, Err, refl, subst}
 use Rattle.std.specs.Prelude.{nat_le, ◌&&◌, if◌then◌else◌, Result}
 use Rattle.std.proofs.lemmas.Bool.{leb-true}
 use Rattle.iasl_messages.specs.declared.place.Place.{Place}
@@ -7,18 +7,21 @@ use Rattle.asl_tree.specs.declared.constant.NoConstant.{NoConstant}
 use Rattle.asl_tree.specs.declared.term.Op.{Op}
 use Rattle.asl_tree.specs.declared.term.Literal.{Literal}
 use Rattle.asl_tree.specs.declared.term.Special.TheVariants as Special
-use Rattle.asl_tree.specs.Tree.{At, Tree, Integer, Omitted, Use, Package, VarPackage, Trees, no_trees, tree, count}
+use Rattle.asl_tree.specs.Tree.{At, Tree, Integer, String, Omitted, Use, Buffer, Package, VarPackage, Trees, no_trees, tree, count}
 use Rattle.asl_tree.specs.View.{form, counted}
-use Rattle.aml_sessions.specs.Ready.{is_expression, is_constant}
+use Rattle.aml_sessions.specs.Ready.{is_expression, is_constant, IsText}
+use Rattle.named_sessions.specs.Shaped.{IsCaseMember, IsCaseValue}
 use Rattle.asl_words.specs.declared.operator.Slot.{Slot}
 use Rattle.asl_words.specs.declared.operator.Slot.TheVariants as slot
 use Rattle.acpi_values.specs.declared.width.Width.TheVariants.{W64}
 use Rattle.acpi_values.specs.declared.width.Width.{Width}
-use Rattle.asl_shape.specs.Plans.{Plan, an_integer, a_text, a_word, omitted, a_name, a_form, Plans, is_omitted, constant_of}
-use Rattle.asl_shape.specs.Shapes.{Shaped, fine, refused, nowhere, valued, is_member, is_element, evaluated, after, checked}
+use Rattle.asl_shape.specs.Plans.{Plan, an_integer, a_text, a_word, omitted, a_name, a_form, Plans, no_plans, plan, is_omitted, how_many, constant_of}
+use Rattle.asl_shape.specs.Shapes.{Shaped, fine, refused, nowhere, valued, is_member, is_element, is_case_package, case_member, case_value, evaluated, after, checked}
 use Rattle.program_shapes.proofs.Fits.{Fits, IsAtMost}
+use Rattle.program_shapes.proofs.Forms.{IsPackageOf}
 use Rattle.asl_numbers.specs.Numbers.{numbered, numbered_all}
 use Rattle.program_shapes.proofs.Plans.{PlanAs, integer_as, text_as, word_as, name_as, form_as}
+use Rattle.program_shapes.proofs.Branches.{IsBranchBehind, branch_as}
 
 -- how a part is read before it is evaluated
 abbrev pub loose : Slot → Slot
@@ -26,6 +29,25 @@ loose (slot.Constant least most) = slot.Expression
 loose slot.Measure = slot.Expression
 loose slot.Element = slot.Expression
 loose s = s
+
+-- what a Case compares with, before it is evaluated: one that is no constant is none
+abbrev pub IsLooseMember : Plan → Type 0
+IsLooseMember (a_text bytes) = IsText bytes
+IsLooseMember (a_form (Op.Special Special.Buffer) args body) = PlanAs IsCaseMember (a_form (Op.Special Special.Buffer) args body)
+IsLooseMember _ = Unit {0}
+
+abbrev pub IsLooseValue : Plan → Type 0
+IsLooseValue (a_text bytes) = IsText bytes
+IsLooseValue (a_form (Op.Special Special.Buffer) args body) = PlanAs IsCaseMember (a_form (Op.Special Special.Buffer) args body)
+IsLooseValue (a_form (Op.Special Special.Package) args body) = PlanAs (IsPackageOf (how_many body)) (a_form (Op.Special Special.Package) args body)
+IsLooseValue _ = Unit {0}
+
+-- what stands in a slot, before it is evaluated
+abbrev pub Loosely : Slot → Plan → Type 0
+Loosely (slot.Branch defaulted) p = IsBranchBehind defaulted p
+Loosely slot.CaseValue p = IsLooseValue p
+Loosely slot.CaseMember p = IsLooseMember p
+Loosely s p = PlanAs (Fits (loose s)) p
 
 here : At
 here = record { id = 0; place = nowhere }
@@ -122,16 +144,69 @@ begun_fit width place p h e = by (is_element p) e
     by true e = h
     by false e = absurd cc
 
-pub evaluated_fit : (width : Width) (s : Slot) (place : Place) (p : Plan) → PlanAs (Fits (loose s)) p → (evaluated width s place p).faults ≡ [] → PlanAs (Fits s) (evaluated width s place p).made
+-- ---- what a Case compares with
+
+case_member_fit : (width : Width) (place : Place) (p : Plan) → IsLooseMember p → (case_member width place p).faults ≡ [] → PlanAs IsCaseMember (case_member width place p).made
+case_member_fit width place (a_text bytes) h e = text_as IsCaseMember bytes h
+case_member_fit width place (a_form (Op.Special Special.Buffer) args body) h e = h
+case_member_fit width place p h e = valued_fit IsCaseMember 0 18446744073709551615 place (constant_of width p) (λ n le. tt) e
+
+member_value : (t : Tree) → IsCaseMember t → IsCaseValue t
+member_value (Integer n) h = h
+member_value (String text) h = h
+member_value (Buffer size bytes) h = h
+member_value _ h = absurd h
+
+no_number : (n : ℕ) → 0 ≡ suc n → ⊥
+no_number n e = absurd cc
+
+-- a Package of at least one member
+some_members : (many : ℕ) (t : Tree) → IsPackageOf (suc many) t → IsCaseValue t
+some_members many (Package n no_trees) h = absurd (no_number many h.1)
+some_members many (Package n (tree t ts)) h = h.0
+some_members many (VarPackage size no_trees) h = absurd (no_number many h.2)
+some_members many (VarPackage size (tree t ts)) h = (h.0, h.1)
+some_members many _ h = absurd h
+
+package_value : (place : Place) (args body : Plans) → PlanAs (IsPackageOf (how_many body)) (a_form (Op.Special Special.Package) args body)
+    → (if is_case_package (how_many body) then fine (a_form (Op.Special Special.Package) args body) else refused 6024 place).faults ≡ []
+    → PlanAs IsCaseValue (if is_case_package (how_many body) then fine (a_form (Op.Special Special.Package) args body) else refused 6024 place).made
+package_value place args no_plans h e = absurd cc
+package_value place args (plan at q qs) h e = by (is_case_package (suc (how_many qs))) e
+  where
+    by : (b : Bool) → (if b then fine (a_form (Op.Special Special.Package) args (plan at q qs)) else refused 6024 place).faults ≡ []
+        → PlanAs IsCaseValue (if b then fine (a_form (Op.Special Special.Package) args (plan at q qs)) else refused 6024 place).made
+    by true e = λ here next. some_members (how_many qs) (numbered here next (a_form (Op.Special Special.Package) args (plan at q qs))) (h here next)
+    by false e = absurd cc
+
+case_value_fit : (width : Width) (place : Place) (p : Plan) → IsLooseValue p → (case_value width place p).faults ≡ [] → PlanAs IsCaseValue (case_value width place p).made
+case_value_fit width place (a_text bytes) h e = text_as IsCaseValue bytes h
+case_value_fit width place (a_form (Op.Special Special.Buffer) args body) h e = λ at next. member_value (numbered at next (a_form (Op.Special Special.Buffer) args body)) (h at next)
+case_value_fit width place (a_form (Op.Special Special.Package) args body) h e = package_value place args body h e
+case_value_fit width place p h e = valued_fit IsCaseValue 0 18446744073709551615 place (constant_of width p) (λ n le. tt) e
+
+pub evaluated_fit : (width : Width) (s : Slot) (place : Place) (p : Plan) → Loosely s p → (evaluated width s place p).faults ≡ [] → PlanAs (Fits s) (evaluated width s place p).made
 evaluated_fit width (slot.Constant least most) place p h e = constant_fit W64 least most place p h e
 evaluated_fit width slot.Measure place p h e = constant_fit width 0 18446744073709551615 place p h e
 evaluated_fit width slot.Element place p h e = element_fit width place p h e
 evaluated_fit width slot.FieldElement place p h e = begun_fit width place p h e
+evaluated_fit width (slot.Branch defaulted) place p h e = branch_as defaulted p h
+evaluated_fit width slot.CaseValue place p h e = case_value_fit width place p h e
+evaluated_fit width slot.CaseMember place p h e = case_member_fit width place p h e
 evaluated_fit width _ place p h e = h
 
-pub checked_fit : (width : Width) (s : Slot) (place : Place) (shape : Shaped Plan) → (shape.faults ≡ [] → PlanAs (Fits (loose s)) shape.made) → (checked width s place shape).faults ≡ [] → PlanAs (Fits s) (checked width s place shape).made
+pub checked_fit : (width : Width) (s : Slot) (place : Place) (shape : Shaped Plan) → (shape.faults ≡ [] → Loosely s shape.made) → (checked width s place shape).faults ≡ [] → PlanAs (Fits s) (checked width s place shape).made
 checked_fit width s place shape h e = by shape.faults refl e
   where
     by : (fs : List _) → shape.faults ≡ fs → (after fs shape (evaluated width s place shape.made)).faults ≡ [] → PlanAs (Fits s) (after fs shape (evaluated width s place shape.made)).made
     by [] f e = evaluated_fit width s place shape.made (h f) e
+    by (m ∷ ms) f e = absurd cc
+
+-- a member of a Switch has nothing to evaluate
+pub checked_branch : (width : Width) (defaulted : Bool) (place : Place) (shape : Shaped Plan) → (shape.faults ≡ [] → IsBranchBehind defaulted shape.made) → (checked width (slot.Branch defaulted) place shape).faults ≡ []
+    → IsBranchBehind defaulted (checked width (slot.Branch defaulted) place shape).made
+checked_branch width defaulted place shape h e = by shape.faults refl e
+  where
+    by : (fs : List _) → shape.faults ≡ fs → (after fs shape (fine shape.made)).faults ≡ [] → IsBranchBehind defaulted (after fs shape (fine shape.made)).made
+    by [] f e = h f
     by (m ∷ ms) f e = absurd cc

@@ -5,40 +5,58 @@ use Rattle.std.proofs.Math.Nat.{one-le-pow}
 use Rattle.acpi_values.specs.Operators.{Letter, Valued, Kept, Placed, Used, Row}
 use Rattle.acpi_values.specs.Operators as L
 use Rattle.asl_tree.specs.FieldItems.{OffsetItem}
-use Rattle.asl_tree.specs.Tree.{Tree, Integer, String, Omitted, Use, Fill, Item, Trees, no_trees, tree, count}
+use Rattle.asl_tree.specs.Tree.{Tree, Integer, String, Omitted, Use, Fill, Item, Case, Default, Trees, no_trees, tree, count}
 use Rattle.asl_tree.specs.View.{fits, operands_as, targets_of}
 use Rattle.aml_code.specs.Fronts.{IsName, IsUsedName}
 use Rattle.aml_sessions.specs.Ready.{is_expression, IsText}
-use Rattle.named_sessions.specs.Shaped.{UsedShaped, ElementShaped, IsFormed, IsFormedSpot, AreFormedOperands, AreFormedSpots, AreFormedValues, AreFormedElements, AreFormed, AreNamed, IsFormedAlone}
+use Rattle.named_sessions.specs.Shaped.{UsedShaped, ElementShaped, IsFormed, IsFormedSpot, AreFormedOperands, AreFormedSpots, AreFormedValues, AreFormedElements, AreFormed, AreNamed, IsFormedAlone, AreFormedCases, IsNumber, IsCaseMember, IsCaseValue}
 use Rattle.asl_words.specs.declared.operator.Parameter.{Parameter}
 use Rattle.asl_words.specs.declared.operator.Slot.{Slot}
 use Rattle.asl_words.specs.declared.operator.Slot.TheVariants as slot
 use Rattle.asl_words.specs.Operators.{target, by_letter}
 
--- what is formed in a source, where symbols and ElseIfs may stand
+-- what is formed in a source, where symbols, ElseIfs and Switches may stand
 abbrev pub Formed : Tree → Type 0
-Formed = IsFormed AreNamed (Unit {0})
+Formed = IsFormed AreNamed (Unit {0}) (Unit {0})
 
 abbrev pub FormedSpot : Tree → Type 0
-FormedSpot = IsFormedSpot AreNamed (Unit {0})
+FormedSpot = IsFormedSpot AreNamed (Unit {0}) (Unit {0})
 
 abbrev pub FormedAlone : Trees → Trees → Type 0
-FormedAlone = IsFormedAlone AreNamed (Unit {0})
+FormedAlone = IsFormedAlone AreNamed (Unit {0}) (Unit {0})
 
 abbrev pub FormedOperands : List Letter → Trees → Type 0
-FormedOperands = AreFormedOperands AreNamed (Unit {0})
+FormedOperands = AreFormedOperands AreNamed (Unit {0}) (Unit {0})
 
 abbrev pub FormedSpots : Trees → Type 0
-FormedSpots = AreFormedSpots AreNamed (Unit {0})
+FormedSpots = AreFormedSpots AreNamed (Unit {0}) (Unit {0})
 
 abbrev pub FormedValues : Trees → Type 0
-FormedValues = AreFormedValues AreNamed (Unit {0})
+FormedValues = AreFormedValues AreNamed (Unit {0}) (Unit {0})
 
 abbrev pub FormedElements : Trees → Type 0
-FormedElements = AreFormedElements AreNamed (Unit {0})
+FormedElements = AreFormedElements AreNamed (Unit {0}) (Unit {0})
 
 abbrev pub FormedTerms : Trees → Type 0
-FormedTerms = AreFormed AreNamed (Unit {0})
+FormedTerms = AreFormed AreNamed (Unit {0}) (Unit {0})
+
+abbrev pub FormedCases : Trees → Type 0
+FormedCases = AreFormedCases AreNamed (Unit {0}) (Unit {0})
+
+-- a Case of a Switch
+abbrev pub IsCase : Tree → Type 0
+IsCase (Case value body) = IsCaseValue value × FormedTerms body
+IsCase _ = ⊥
+
+abbrev pub IsDefault : Tree → Type 0
+IsDefault (Default body) = FormedTerms body
+IsDefault _ = ⊥
+
+-- a member of a Switch
+abbrev pub IsBranch : Tree → Type 0
+IsBranch (Case value body) = IsCaseValue value × FormedTerms body
+IsBranch (Default body) = FormedTerms body
+IsBranch _ = ⊥
 
 -- whether an argument is left out
 abbrev pub is_left_out : Tree → Bool
@@ -59,10 +77,6 @@ abbrev pub IsAtMost : ℕ → Tree → Type 0
 IsAtMost most (Integer n) = n ≤ most
 IsAtMost most _ = ⊥
 
-abbrev pub IsNumber : Tree → Type 0
-IsNumber (Integer n) = Unit {0}
-IsNumber _ = ⊥
-
 abbrev pub IsString : Tree → Type 0
 IsString (String text) = IsText text
 IsString _ = ⊥
@@ -78,7 +92,7 @@ abbrev pub IsFill : Tree → Type 0
 IsFill (Fill bytes) = Unit {0}
 IsFill _ = ⊥
 
--- what stands in a slot; there is no name of a descriptor
+-- what stands in a slot
 abbrev pub Fits : Slot → Tree → Type 0
 Fits slot.Expression t = (is_expression t ≡ true) × Formed t
 Fits slot.Place t = IsThere t
@@ -95,10 +109,13 @@ Fits (slot.String form) t = IsString t
 Fits (slot.MacroText m) t = (is_expression t ≡ true) × Formed t
 Fits slot.Element t = ElementShaped t (Formed t)
 Fits slot.RegisterSpace t = IsAtMost 255 t
-Fits slot.DescriptorName t = ⊥
+Fits slot.DescriptorName t = IsElement t
 Fits slot.Descriptor t = IsFill t
 Fits slot.FieldElement t = IsElement t
 Fits (slot.Term run) t = Formed t
+Fits (slot.Branch defaulted) t = IsBranch t
+Fits slot.CaseValue t = IsCaseValue t
+Fits slot.CaseMember t = IsCaseMember t
 
 -- what an operator takes as an argument, which may be left out
 abbrev pub Takes : Bool → Slot → Tree → Type 0

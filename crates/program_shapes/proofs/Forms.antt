@@ -14,12 +14,12 @@ use Rattle.acpi_state.specs.Outcomes.{choose}
 use Rattle.asl_tree.specs.FieldItems.{FieldItem}
 use Rattle.asl_tree.specs.Tree.{At, Tree, Integer, Omitted, Use, Package, VarPackage, CondRefOf, Field, IndexField, BankField, Misshapen, UnitName, Trees, no_trees, tree, count}
 use Rattle.asl_tree.specs.View.{form, buffer, body_bytes, packaged, counted, items_in}
-use Rattle.named_sessions.specs.Shaped.{AreNamed}
+use Rattle.named_sessions.specs.Shaped.{AreNamed, IsNumber, IsCaseMember, AreCaseMembers}
 use Rattle.asl_words.specs.declared.operator.Parameter.{Parameter}
 use Rattle.asl_words.specs.declared.operator.Slot.TheVariants as slot
 use Rattle.asl_words.specs.Operators.{asked, optional, expression, place, target, used, declared, space, constant}
 use Rattle.program_shapes.proofs.Plains.{spot_value}
-use Rattle.program_shapes.proofs.Fits.{Fits, Takes, TreesFit, Formed, FormedElements, FormedTerms}
+use Rattle.program_shapes.proofs.Fits.{Fits, Takes, TreesFit, Formed, FormedElements, FormedTerms, FormedCases, IsCase}
 
 -- ---- arguments of a known number
 
@@ -142,6 +142,12 @@ else_if_made here _ body (one t h) b = (tt, h.0, h.1, b)
 pub while_made : (here : At) (ts body : Trees) → One expression ts → FormedTerms body → Formed (form here (Op.Control Control.While) ts body)
 while_made here _ body (one t h) b = (h.0, h.1, b)
 
+pub switch_made : (here : At) (ts cases : Trees) → One expression ts → FormedCases cases → Formed (form here (Op.Control Control.Switch) ts cases)
+switch_made here _ cases (one t h) b = (tt, h.0, h.1, b)
+
+pub case_made : (here : At) (ts body : Trees) → One (asked slot.CaseValue) ts → FormedTerms body → IsCase (form here (Op.Control Control.Case) ts body)
+case_made here _ body (one t h) b = (h, b)
+
 pub device_made : (here : At) (ts body : Trees) → One declared ts → FormedTerms body → Formed (form here (Op.Declaration Declaration.Device) ts body)
 device_made here _ body (one (Use at name) h) b = (h, tt, b)
 device_made here _ body (one _ h) b = absurd h
@@ -201,6 +207,37 @@ package_made here _ body (one t (inl h)) es b = sized t h
     sized Omitted h = absurd cc
     sized (Integer n) h = counted_made n body es
     sized _ h = (h.0, h.1, es)
+
+-- ---- what a Case compares with
+
+pub case_buffer_made : (here : At) (ts body : Trees) → One (optional slot.Measure) ts → IsCaseMember (form here (Op.Special Special.Buffer) ts body)
+case_buffer_made here _ body (one t (inr e)) = subst (λ t. IsCaseMember (buffer t (body_bytes body))) (sym e) tt
+case_buffer_made here _ body (one t (inl h)) = sized t h
+  where
+    sized : (t : Tree) → Fits slot.Measure t → IsCaseMember (buffer t (body_bytes body))
+    sized (Integer n) h = tt
+    sized _ h = absurd h
+
+-- a Package of so many members
+abbrev pub IsPackageOf : ℕ → Tree → Type 0
+IsPackageOf many (Package n members) = AreCaseMembers members × (count members ≡ many)
+IsPackageOf many (VarPackage size members) = IsNumber size × AreCaseMembers members × (count members ≡ many)
+IsPackageOf many _ = ⊥
+
+counted_package : (n : ℕ) (members : Trees) → AreCaseMembers members → IsPackageOf (count members) (counted n members)
+counted_package n members h = by (nat_le n 255)
+  where
+    by : (b : Bool) → IsPackageOf (count members) (if b then Package n members else VarPackage (Integer n) members)
+    by true = (h, refl)
+    by false = (tt, h, refl)
+
+pub case_package_made : (here : At) (ts body : Trees) → One (optional slot.Measure) ts → AreCaseMembers body → IsPackageOf (count body) (form here (Op.Special Special.Package) ts body)
+case_package_made here _ body (one t (inr e)) b = subst (λ t. IsPackageOf (count body) (packaged t body)) (sym e) (counted_package (count body) body b)
+case_package_made here _ body (one t (inl h)) b = sized t h
+  where
+    sized : (t : Tree) → Fits slot.Measure t → IsPackageOf (count body) (packaged t body)
+    sized (Integer n) h = counted_package n body b
+    sized _ h = absurd h
 
 -- ---- fields
 

@@ -17,7 +17,7 @@ use Rattle.asl_words.specs.declared.meaning.Meaning.{Meaning}
 use Rattle.asl_words.specs.declared.meaning.Meaning.TheVariants as is
 use Rattle.asl_parser.specs.Written as piece
 use Rattle.asl_parser.specs.Written.{Written, Writtens, Group, item, apply, listed, comma, semicolon, empty, none, more, absent, given}
-use Rattle.asl_words.specs.Operators.{parameters_of, body_of, block_parameters, offset_parameters, macro_parameters}
+use Rattle.asl_words.specs.Operators.{parameters_as, body_as, block_parameters, offset_parameters, macro_parameters}
 use Rattle.acpi_values.specs.declared.width.Width.{Width}
 use Rattle.asl_shape.specs.declared.around.Around.{Around}
 use Rattle.asl_words.specs.Resources.{descriptor_parameters, descriptor_body}
@@ -73,13 +73,13 @@ string_form f inside (piece.text at bytes) sep emp e =
     (λ t g. let both = both_true (has_form f bytes) (is_all_text bytes) t in record { form = both.0; bytes = both.1 }) e
 string_form f inside (item at w args body) sep emp e =
     let m : Meaning = meaning_of w (is_given body) in
-    let form : Op → Shaped Plan = λ o. form_shape inside.width o at (arguments (parameters_of o) at inside args) (contents (body_of o) (within o inside) at body) in
+    let form : Op → Shaped Plan = λ o. form_shape inside.width o at (arguments (parameters_as o (slot.String f)) at inside args) (contents (body_as o (slot.String f)) (within o inside) at body) in
     let offset : Shaped Plan = offset_shape (arguments offset_parameters at inside args) in
     let expanded : TextMacro → Shaped Plan = λ m. macro_shape (arguments (macro_parameters m) at inside args) in
     let template : Shaped Plan = template_shape at (contents braces.Descriptors inside at body) in
     let described : Descriptor → Shaped Plan = λ d. descriptor_shape d at (arguments (descriptor_parameters d) at inside args) (contents (descriptor_body d) inside at body) in
     item_fit (λ p. IsTextOf f (text_of p)) (slot.String f) inside.method m (has_arguments m (inside_of args)) (is_given body) at (read_shape (slot.String f) at w (reading_of (slot.String f) m (is_given args)) (call_args inside args) offset expanded template described form)
-    (λ has g. absurd (no_string f at w m (is_given args) (call_args inside args) offset expanded template described form g)) e
+    (λ may has g. absurd (no_string f at w m (is_given args) (call_args inside args) offset expanded template described form g)) e
 string_form f inside (piece.number at n) sep emp e = absurd cc
 string_form f inside (listed at ws) sep emp e = absurd cc
 string_form f inside (apply at o ws) sep emp e = absurd cc

@@ -4,10 +4,12 @@ pub mod Forms
 pub mod Operators
 pub mod Words
 pub mod Plans
+pub mod Branches
 pub mod Settled
 pub mod Evaluated
 pub mod Macros
 pub mod Parts
+pub mod Followed
 pub mod Shapes
 pub mod Kept
 pub mod Lexed
@@ -27,4 +29,6 @@ pub mod Tables
 pub mod ListPlaces
 pub mod RegionPlaces
 pub mod TypePlaces
+pub mod SwitchPlaces
+pub mod NotePlaces
 pub mod NameLengths

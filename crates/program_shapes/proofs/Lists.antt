@@ -11,7 +11,7 @@ use Rattle.asl_tree.specs.declared.term.Declaration.TheVariants as Declaration
 use Rattle.asl_tree.specs.declared.term.Control.TheVariants as Control
 use Rattle.asl_tree.specs.declared.term.Special.TheVariants as Special
 use Rattle.asl_tree.specs.FieldItems.{FieldItem, UnitItem, SkipItem, OffsetItem, behind_item}
-use Rattle.asl_tree.specs.Tree.{At, Tree, Integer, Omitted, Use, Package, VarPackage, Method, Container', Scope, If, ElseIf, Else, While, Field, IndexField, BankField, Item, Misshapen, UnitName, Trees, no_trees, tree, count}
+use Rattle.asl_tree.specs.Tree.{At, Tree, Integer, Omitted, Use, Package, VarPackage, Method, Container', Scope, If, ElseIf, Else, While, Field, IndexField, BankField, Item, Misshapen, UnitName, Trees, no_trees, tree, count, Switch, Case, Default}
 use Rattle.asl_tree.specs.declared.term.Symbolic.TheVariants as Symbolic
 use Rattle.acpi_values.specs.Operators.{row_of}
 use Rattle.asl_tree.specs.View.{form, apply_of, fits, operands_as, operated, symbol_of, buffer, body_bytes, counted, packaged, items_in}
@@ -35,6 +35,9 @@ abbrev mutual
   term_faults (ElseIf test body) = layout_faults body
   term_faults (Else body) = layout_faults body
   term_faults (While test body) = layout_faults body
+  term_faults (Switch value cases) = layout_faults cases
+  term_faults (Case value body) = layout_faults body
+  term_faults (Default body) = layout_faults body
   term_faults (Field here from region flags items) = list_faults items
   term_faults (IndexField here from index to register flags items) = list_faults items
   term_faults (BankField here from region to bank value flags items) = list_faults items
@@ -154,6 +157,9 @@ form_item here (Op.Control Control.If) (tree test no_trees) body = refl
 form_item here (Op.Control Control.ElseIf) (tree test no_trees) body = refl
 form_item here (Op.Control Control.Else) no_trees body = refl
 form_item here (Op.Control Control.While) (tree test no_trees) body = refl
+form_item here (Op.Control Control.Switch) (tree value no_trees) cases = refl
+form_item here (Op.Control Control.Case) (tree value no_trees) body = refl
+form_item here (Op.Control Control.Default) no_trees body = refl
 form_item here (Op.Control Control.Break) no_trees no_trees = refl
 form_item here (Op.Control Control.Continue) no_trees no_trees = refl
 form_item here (Op.Literal literal) no_trees no_trees = refl
@@ -194,6 +200,9 @@ form_faults here (Op.Control Control.If) (tree test no_trees) body h k = h
 form_faults here (Op.Control Control.ElseIf) (tree test no_trees) body h k = h
 form_faults here (Op.Control Control.Else) no_trees body h k = h
 form_faults here (Op.Control Control.While) (tree test no_trees) body h k = h
+form_faults here (Op.Control Control.Switch) (tree value no_trees) cases h k = h
+form_faults here (Op.Control Control.Case) (tree value no_trees) body h k = h
+form_faults here (Op.Control Control.Default) no_trees body h k = h
 form_faults here (Op.Control Control.Break) no_trees no_trees h k = refl
 form_faults here (Op.Control Control.Continue) no_trees no_trees h k = refl
 form_faults here (Op.Literal literal) no_trees no_trees h k = refl

@@ -1,13 +1,12 @@
 -- The parts of a source, without those inside them.
-use Rattle.std.proofs.Common.{◌≡◌, ℕ, zero, suc, ◌%◌, ◌^◌, ◌<◌, ◌≤◌, Bool, true, false, List, [], ◌∷◌, ◌++◌, length, Option, Some, None, refl, sym, subst, arith}
-use Rattle.std.specs.Prelude.{nat_le, nat_eq, not, ◌&&◌, ◌||◌, if◌then◌else◌}
+use Rattle.std.proofs.Common.{◌≡◌, ℕ, zero, suc, ◌≤◌, Bool, true, false, List, [], ◌∷◌, ◌++◌, Option, Some, None, refl, sym, subst, arith}
+use Rattle.std.specs.Prelude.{nat_le, nat_eq, not, ◌&&◌, if◌then◌else◌, ◌||◌}
 use Rattle.std.specs.Option.{IfSome}
-use Rattle.std.proofs.lemmas.Nat.{mod_below}
 use Rattle.std.proofs.lemmas.Grind.{common_steps}
 use Rattle.iasl_messages.specs.declared.place.Place.{Place}
+use Rattle.acpi_state.specs.Outcomes.{choose}
 use Rattle.iasl_messages.specs.declared.message.Message.{Message}
 use Rattle.acpi_values.specs.Integers.{wrapped}
-use Rattle.acpi_values.specs.Widths.{ones_of}
 use Rattle.acpi_values.specs.declared.width.Width.TheVariants.{W64}
 use Rattle.acpi_values.specs.declared.operator.Plain.{Plain}
 use Rattle.acpi_values.specs.declared.operator.DataOp.{DataOp}
@@ -17,41 +16,45 @@ use Rattle.asl_tree.specs.declared.term.Op.{Op}
 use Rattle.asl_tree.specs.declared.term.Control.{Control}
 use Rattle.asl_tree.specs.declared.term.Declaration.{Declaration}
 use Rattle.asl_tree.specs.declared.term.Special.TheVariants as Special
-use Rattle.asl_tree.specs.declared.term.Symbolic.TheVariants as Symbolic
+use Rattle.asl_tree.specs.declared.term.Symbolic.{Symbolic}
 use Rattle.asl_tree.specs.declared.term.Compound.{Compound}
 use Rattle.asl_tree.specs.Tree.{At, Tree, Integer, String, Omitted, Package, VarPackage, Trees, no_trees, tree, count}
 use Rattle.asl_tree.specs.View.{form, counted}
 use Rattle.aml_code.specs.Fronts.{IsUsedName}
 use Rattle.aml_sessions.specs.Ready.{is_expression, IsText}
 use Rattle.resource_layout.specs.declared.descriptor.Descriptor.{Descriptor}
+use Rattle.named_sessions.specs.Shaped.{IsNumber, IsCaseMember, AreCaseMembers}
 use Rattle.asl_words.specs.declared.operator.Slot.{Slot}
 use Rattle.asl_words.specs.declared.operator.Slot.TheVariants as slot
 use Rattle.asl_words.specs.declared.operator.StringForm.{StringForm}
 use Rattle.asl_words.specs.declared.operator.StringForm.TheVariants as texts
 use Rattle.asl_words.specs.declared.operator.TextMacro.{TextMacro}
+use Rattle.asl_words.specs.declared.operator.Role.{Role}
+use Rattle.asl_words.specs.declared.operator.Role.TheVariants as role
 use Rattle.asl_words.specs.declared.operator.Known.{Known}
 use Rattle.asl_words.specs.declared.operator.Known.TheVariants as known
 use Rattle.asl_words.specs.declared.meaning.Meaning.{Meaning}
 use Rattle.asl_words.specs.declared.meaning.Meaning.TheVariants as is
 use Rattle.asl_words.specs.declared.meaning.Reading.TheVariants as read
 use Rattle.asl_words.specs.Paths.{path_of}
-use Rattle.asl_words.specs.Operators.{parameters_of, body_of, role_of, event_role, place, target, expression}
+use Rattle.asl_words.specs.Operators.{parameters_of, parameters_as, constant_size, body_of, body_as, role_of, plain_role, data_role, event_role, optional, place, target, expression}
 use Rattle.asl_parser.specs.Written.{Writtens}
 use Rattle.acpi_values.specs.declared.width.Width.{Width}
-use Rattle.asl_shape.specs.Plans.{Plan, an_integer, a_text, Plans, no_plans}
-use Rattle.asl_shape.specs.Shapes.{Shaped, fine, refused, number_shape, text_shape, string_shape, listed_shape, types_shape, are_all_types, known_plan, path_shape, call_shape, form_shape, symbol_shape, settled, item_shape, read_shape}
-use Rattle.asl_words.specs.Meanings.{takes_role, takes_known, takes_expression, takes_path, is_value, is_place, item_fault, reading_of, name_reading, unless_wrong, may_be, is_unknown, wants_braces, is_same, is_field_element, takes_macro, takes_descriptor, is_descriptor_name, unfit}
+use Rattle.asl_shape.specs.Plans.{Plan, an_integer, a_text, a_form, Plans, no_plans, how_many}
+use Rattle.asl_shape.specs.Shapes.{Shaped, fine, refused, number_shape, text_shape, string_shape, listed_shape, types_shape, are_all_types, known_plan, path_shape, call_shape, form_shape, symbol_shape, settled, package_settled, arranged, item_shape, read_shape}
+use Rattle.asl_words.specs.Meanings.{takes_role, takes_known, takes_expression, takes_path, takes_segment, is_value, is_place, item_fault, reading_of, name_reading, unless_wrong, may_be, is_unknown, wants_braces, is_same, is_field_element, takes_macro, takes_descriptor, unfit, default_before, takes_branch, is_branch_role, is_of_kind, may_stand, is_descriptor_name}
 use Rattle.asl_words.specs.Texts.{has_form, is_all_text, is_text_byte}
 use Rattle.asl_shape.specs.Shapes as shapes
-use Rattle.program_shapes.proofs.Fits.{IsThere, Fits, IsAtMost, IsNumber, IsElement, IsFill, Formed, FormedValues}
+use Rattle.program_shapes.proofs.Fits.{IsThere, Fits, IsAtMost, IsElement, IsFill, Formed, FormedValues}
 use Rattle.program_shapes.proofs.Plains.{plain_made, symbol_made, index_spot, deref_spot, symbol_spot}
-use Rattle.program_shapes.proofs.Forms.{Two, two, two_of}
-use Rattle.program_shapes.proofs.Operators.{SettledFit, BodyFit, form_made}
+use Rattle.program_shapes.proofs.Forms.{one_of, Two, two, two_of, case_buffer_made, case_package_made, IsPackageOf}
+use Rattle.program_shapes.proofs.Operators.{SettledFit, BodyFit, Made, form_made}
 use Rattle.program_shapes.proofs.Words.{IsSpelled, IsRightKnown, IsRightMeaning, both_true}
 use Rattle.asl_numbers.specs.Numbers.{numbered, numbered_all}
-use Rattle.program_shapes.proofs.Plans.{PlanAs, PlansAs, PlansFit, integer_as, text_as, local_as, arg_as, debug_as, name_as, call_as, form_as}
-use Rattle.program_shapes.proofs.Settled.{settled_fit}
-use Rattle.program_shapes.proofs.Evaluated.{loose}
+use Rattle.program_shapes.proofs.Plans.{PlanAs, PlansAs, PlansFit, integer_as, text_as, local_as, arg_as, debug_as, name_as, call_as, form_as, count_as, fits_as}
+use Rattle.program_shapes.proofs.Branches.{IsBranchBehind, ContentsFit, cases_arranged}
+use Rattle.program_shapes.proofs.Settled.{settled_fit, package_fit}
+use Rattle.program_shapes.proofs.Evaluated.{IsLooseMember, IsLooseValue, Loosely}
 use Rattle.program_shapes.proofs.Macros.{macro_fit}
 
 pub none_in : (a b : List Message) → a ++ b ≡ [] → (a ≡ []) × (b ≡ [])
@@ -66,11 +69,13 @@ good_of P false number at shape h e = absurd cc
 
 -- ---- leaves
 
-pub number_fit : (s : Slot) (at : Place) (n : ℕ) → (number_shape s at n).faults ≡ [] → PlanAs (Fits (loose s)) (number_shape s at n).made
+pub number_fit : (s : Slot) (at : Place) (n : ℕ) → (number_shape s at n).faults ≡ [] → Loosely s (number_shape s at n).made
 number_fit slot.Expression at n e = integer_as (Fits slot.Expression) (wrapped W64 n) (refl, tt)
 number_fit (slot.Constant least most) at n e = integer_as (Fits slot.Expression) (wrapped W64 n) (refl, tt)
 number_fit slot.Measure at n e = integer_as (Fits slot.Expression) (wrapped W64 n) (refl, tt)
 number_fit slot.Element at n e = integer_as (Fits slot.Expression) (wrapped W64 n) (refl, tt)
+number_fit slot.CaseValue at n e = tt
+number_fit slot.CaseMember at n e = tt
 number_fit _ at n e = absurd cc
 
 text_byte : (b : ℕ) → is_text_byte b ≡ true → nat_eq b 0 ≡ false
@@ -85,14 +90,19 @@ pub string_fit : (P : Tree → Type 0) (f : StringForm) (at : Place) (bytes : Li
 string_fit P f at bytes h e =
     good_of (PlanAs P) (has_form f bytes && is_all_text bytes) 6024 at (fine (a_text bytes)) (λ t f. text_as P bytes (h (all_text bytes (both_true (has_form _ bytes) (is_all_text bytes) t).1))) e
 
-pub text_fit : (s : Slot) (at : Place) (bytes : List ℕ) → (text_shape s at bytes).faults ≡ [] → PlanAs (Fits (loose s)) (text_shape s at bytes).made
+compared_text : (P : Plan → Type 0) (at : Place) (bytes : List ℕ) → (IsText bytes → P (a_text bytes)) → (string_shape texts.Any at bytes).faults ≡ [] → P (string_shape texts.Any at bytes).made
+compared_text P at bytes h e = good_of P (has_form texts.Any bytes && is_all_text bytes) 6024 at (fine (a_text bytes)) (λ t f. h (all_text bytes (both_true (has_form texts.Any bytes) (is_all_text bytes) t).1)) e
+
+pub text_fit : (s : Slot) (at : Place) (bytes : List ℕ) → (text_shape s at bytes).faults ≡ [] → Loosely s (text_shape s at bytes).made
 text_fit slot.Expression at bytes e = string_fit (Fits slot.Expression) texts.Any at bytes (λ h. (refl, h)) e
 text_fit slot.Element at bytes e = string_fit (Fits slot.Expression) texts.Any at bytes (λ h. (refl, h)) e
+text_fit slot.CaseValue at bytes e = compared_text IsLooseValue at bytes (λ h. h) e
+text_fit slot.CaseMember at bytes e = compared_text IsLooseMember at bytes (λ h. h) e
 text_fit (slot.String f) at bytes e = string_fit (Fits (slot.String f)) f at bytes (λ h. h) e
 text_fit (slot.MacroText m) at bytes e = macro_fit m at bytes e
 text_fit _ at bytes e = absurd cc
 
-pub listed_fit : (s : Slot) (at : Place) (ws : Writtens) → (listed_shape s at ws).faults ≡ [] → PlanAs (Fits (loose s)) (listed_shape s at ws).made
+pub listed_fit : (s : Slot) (at : Place) (ws : Writtens) → (listed_shape s at ws).faults ≡ [] → Loosely s (listed_shape s at ws).made
 listed_fit (slot.Types most) at ws e =
     good_of (PlanAs IsNumber) (are_all_types ws) 6022 at (if nat_le (shapes.count ws) most then fine (an_integer (shapes.count ws)) else refused 6024 at)
     (λ t f. good_of (PlanAs IsNumber) (nat_le (shapes.count ws) most) 6024 at (fine (an_integer (shapes.count ws))) (λ t f. integer_as IsNumber (shapes.count ws) tt) f) e
@@ -100,32 +110,37 @@ listed_fit _ at ws e = absurd cc
 
 -- ---- names and words
 
-pub path_fit : (s : Slot) (at : Place) (o : Option Path) → IfSome o IsUsedName → takes_path s ≡ true → (path_shape at o).faults ≡ [] → PlanAs (Fits (loose s)) (path_shape at o).made
+pub path_fit : (s : Slot) (at : Place) (o : Option Path) → IfSome o IsUsedName → takes_segment s ≡ true → (path_shape at o).faults ≡ [] → Loosely s (path_shape at o).made
 path_fit s at None h t e = absurd cc
 path_fit slot.Expression at (Some path) h t e = name_as (Fits slot.Expression) path (λ at. (refl, h))
 path_fit (slot.Constant least most) at (Some path) h t e = name_as (Fits slot.Expression) path (λ at. (refl, h))
 path_fit slot.Measure at (Some path) h t e = name_as (Fits slot.Expression) path (λ at. (refl, h))
 path_fit slot.Element at (Some path) h t e = name_as (Fits slot.Expression) path (λ at. (refl, h))
+path_fit slot.CaseValue at (Some path) h t e = tt
+path_fit slot.CaseMember at (Some path) h t e = tt
 path_fit slot.Place at (Some path) h t e = name_as (Fits slot.Place) path (λ at. (h, refl))
 path_fit slot.Named at (Some path) h t e = name_as (Fits slot.Named) path (λ at. (h, refl))
 path_fit slot.Declared at (Some path) h t e = name_as (Fits slot.Declared) path (λ at. h.is_name)
 path_fit slot.External at (Some path) h t e = name_as (Fits slot.External) path (λ at. h.is_name)
 path_fit slot.Used at (Some path) h t e = name_as (Fits slot.Used) path (λ at. h)
 path_fit slot.FieldElement at (Some path) h t e = name_as (Fits slot.FieldElement) path (λ at. h)
+path_fit slot.DescriptorName at (Some path) h t e = name_as (Fits slot.DescriptorName) path (λ at. h)
 path_fit (slot.Term run) at (Some path) h t e = name_as Formed path (λ at. h)
 path_fit _ at (Some path) h t e = absurd cc
 
 pub call_fit : (s : Slot) (at : Place) (o : Option Path) (args : Shaped Plans) → IfSome o IsUsedName → takes_expression s ≡ true → (args.faults ≡ [] → PlansAs FormedValues args.made) → (call_shape at o args).faults ≡ []
-    → PlanAs (Fits (loose s)) (call_shape at o args).made
+    → Loosely s (call_shape at o args).made
 call_fit s at None args h t k e = absurd cc
 call_fit slot.Expression at (Some path) args h t k e = call_as (Fits slot.Expression) path args.made (λ at m. (refl, (h, k e m)))
 call_fit (slot.Constant least most) at (Some path) args h t k e = call_as (Fits slot.Expression) path args.made (λ at m. (refl, (h, k e m)))
 call_fit slot.Measure at (Some path) args h t k e = call_as (Fits slot.Expression) path args.made (λ at m. (refl, (h, k e m)))
 call_fit slot.Element at (Some path) args h t k e = call_as (Fits slot.Expression) path args.made (λ at m. (refl, (h, k e m)))
+call_fit slot.CaseValue at (Some path) args h t k e = tt
+call_fit slot.CaseMember at (Some path) args h t k e = tt
 call_fit (slot.Term run) at (Some path) args h t k e = call_as Formed path args.made (λ at m. (h, k e m))
 call_fit _ at (Some path) args h t k e = absurd cc
 
-pub known_fit : (s : Slot) (k : Known) → IsRightKnown k → takes_known s k ≡ true → PlanAs (Fits (loose s)) (known_plan s k)
+pub known_fit : (s : Slot) (k : Known) → IsRightKnown k → takes_known s k ≡ true → Loosely s (known_plan s k)
 known_fit (slot.Word asked) (known.Word kind n) h t = integer_as (IsAtMost 255) n h
 known_fit (slot.Types most) (known.Word kind n) h t = integer_as IsNumber 1 tt
 known_fit _ (known.Word kind n) h t = absurd cc
@@ -133,6 +148,8 @@ known_fit slot.Expression (known.Local i) h t = local_as (Fits slot.Expression) 
 known_fit (slot.Constant least most) (known.Local i) h t = local_as (Fits slot.Expression) i (refl, h)
 known_fit slot.Measure (known.Local i) h t = local_as (Fits slot.Expression) i (refl, h)
 known_fit slot.Element (known.Local i) h t = local_as (Fits slot.Expression) i (refl, h)
+known_fit slot.CaseValue (known.Local i) h t = tt
+known_fit slot.CaseMember (known.Local i) h t = tt
 known_fit slot.Place (known.Local i) h t = local_as (Fits slot.Place) i (h, refl)
 known_fit slot.Named (known.Local i) h t = local_as (Fits slot.Named) i (h, refl)
 known_fit (slot.Term run) (known.Local i) h t = local_as Formed i h
@@ -141,6 +158,8 @@ known_fit slot.Expression (known.Arg i) h t = arg_as (Fits slot.Expression) i (r
 known_fit (slot.Constant least most) (known.Arg i) h t = arg_as (Fits slot.Expression) i (refl, h)
 known_fit slot.Measure (known.Arg i) h t = arg_as (Fits slot.Expression) i (refl, h)
 known_fit slot.Element (known.Arg i) h t = arg_as (Fits slot.Expression) i (refl, h)
+known_fit slot.CaseValue (known.Arg i) h t = tt
+known_fit slot.CaseMember (known.Arg i) h t = tt
 known_fit slot.Place (known.Arg i) h t = arg_as (Fits slot.Place) i (h, refl)
 known_fit slot.Named (known.Arg i) h t = arg_as (Fits slot.Named) i (h, refl)
 known_fit (slot.Term run) (known.Arg i) h t = arg_as Formed i h
@@ -149,6 +168,8 @@ known_fit slot.Expression known.Debug h t = debug_as (Fits slot.Expression) (ref
 known_fit (slot.Constant least most) known.Debug h t = debug_as (Fits slot.Expression) (refl, tt)
 known_fit slot.Measure known.Debug h t = debug_as (Fits slot.Expression) (refl, tt)
 known_fit slot.Element known.Debug h t = debug_as (Fits slot.Expression) (refl, tt)
+known_fit slot.CaseValue known.Debug h t = tt
+known_fit slot.CaseMember known.Debug h t = tt
 known_fit slot.Place known.Debug h t = debug_as (Fits slot.Place) (tt, refl)
 known_fit (slot.Term run) known.Debug h t = debug_as Formed tt
 known_fit _ known.Debug h t = absurd cc
@@ -164,7 +185,7 @@ known_fit _ (known.Descriptor d) h t = absurd cc
 pub record OpFits (op : Op) (t : Tree) : Type 0 where
   pub value : is_value (role_of op) ≡ true → is_expression t ≡ true
   pub spot : is_place (role_of op) ≡ true → IsThere t
-  pub shaped : Formed t
+  pub shaped : Made op t
 
 event_spot : (op : EventOp) → is_place (event_role op) ≡ true → ⊥
 event_spot EventOp.Acquire e = absurd cc
@@ -237,43 +258,196 @@ assign_value at _ (two t u h i) = refl
 assign_by_value : (at : At) (op : Compound) (ts : Trees) → Two place expression ts → is_expression (form at (Op.Symbolic (Symbolic.AssignBy op)) ts no_trees) ≡ true
 assign_by_value at op _ (two t u h i) = refl
 
-value_made : (at : At) (op : Op) (ts body : Trees) → SettledFit op ts → BodyFit (body_of op) body → is_value (role_of op) ≡ true → is_expression (form at op ts body) ≡ true
+value_made : (at : At) (op : Op) (ts body : Trees) → IsSpelled op → SettledFit op ts → BodyFit (body_of op) body → is_value (role_of op) ≡ true → is_expression (form at op ts body) ≡ true
 unfolding parameters_of
-value_made at (Op.Plain op) ts body h b e = subst (λ body. is_expression (form at (Op.Plain op) ts body) ≡ true) (sym b) (plain_made op ts h).0
-value_made at (Op.Literal l) ts body h b e = literal_value at l ts body (form_made at (Op.Literal l) ts body h b)
-value_made at (Op.Special Special.CondRefOf) ts body h b e = subst (λ body. is_expression (form at (Op.Special Special.CondRefOf) ts body) ≡ true) (sym b) (condition_value at ts (two_of place target ts h))
-value_made at (Op.Special Special.Buffer) ts body h b e = buffer_value at ts body (form_made at (Op.Special Special.Buffer) ts body h b)
-value_made at (Op.Special Special.Package) ts body h b e = package_value at ts body (form_made at (Op.Special Special.Package) ts body h b)
-value_made at (Op.Symbolic (Symbolic.Operator op)) ts body h b e = subst (λ body. is_expression (form at (Op.Symbolic (Symbolic.Operator op)) ts body) ≡ true) (sym b) (symbol_made op ts h).0
-value_made at (Op.Symbolic Symbolic.Assign) ts body h b e = subst (λ body. is_expression (form at (Op.Symbolic Symbolic.Assign) ts body) ≡ true) (sym b) (assign_value at ts (two_of place expression ts h))
-value_made at (Op.Symbolic (Symbolic.AssignBy op)) ts body h b e =
+value_made at (Op.Plain op) ts body i h b e = subst (λ body. is_expression (form at (Op.Plain op) ts body) ≡ true) (sym b) (plain_made op ts h).0
+value_made at (Op.Literal l) ts body i h b e = literal_value at l ts body (form_made at (Op.Literal l) ts body i h b)
+value_made at (Op.Special Special.CondRefOf) ts body i h b e = subst (λ body. is_expression (form at (Op.Special Special.CondRefOf) ts body) ≡ true) (sym b) (condition_value at ts (two_of place target ts h))
+value_made at (Op.Special Special.Buffer) ts body i h b e = buffer_value at ts body (form_made at (Op.Special Special.Buffer) ts body i h b)
+value_made at (Op.Special Special.Package) ts body i h b e = package_value at ts body (form_made at (Op.Special Special.Package) ts body i h b)
+value_made at (Op.Symbolic (Symbolic.Operator op)) ts body i h b e = subst (λ body. is_expression (form at (Op.Symbolic (Symbolic.Operator op)) ts body) ≡ true) (sym b) (symbol_made op ts h).0
+value_made at (Op.Symbolic Symbolic.Assign) ts body i h b e = subst (λ body. is_expression (form at (Op.Symbolic Symbolic.Assign) ts body) ≡ true) (sym b) (assign_value at ts (two_of place expression ts h))
+value_made at (Op.Symbolic (Symbolic.AssignBy op)) ts body i h b e =
     subst (λ body. is_expression (form at (Op.Symbolic (Symbolic.AssignBy op)) ts body) ≡ true) (sym b) (assign_by_value at op ts (two_of place expression ts h))
-value_made at (Op.Declaration op) ts body h b e = absurd (declaration_value op e)
-value_made at (Op.Control op) ts body h b e = absurd (control_value op e)
+value_made at (Op.Declaration op) ts body i h b e = absurd (declaration_value op e)
+value_made at (Op.Control op) ts body i h b e = absurd (control_value op e)
 
-pub form_fit : (width : Width) (op : Op) (at : Place) (gs bs : Shaped Plans) → IsSpelled op → (gs.faults ≡ [] → PlansFit (parameters_of op) gs.made) → (bs.faults ≡ [] → PlansAs (BodyFit (body_of op)) bs.made) → (form_shape width op at gs bs).faults ≡ []
+pub form_fit : (width : Width) (op : Op) (at : Place) (gs bs : Shaped Plans) → IsSpelled op → (gs.faults ≡ [] → PlansFit (parameters_of op) gs.made) → (bs.faults ≡ [] → PlansAs (BodyFit (body_of op)) (arranged op bs.made)) → (form_shape width op at gs bs).faults ≡ []
     → PlanAs (OpFits op) (form_shape width op at gs bs).made
-form_fit width op at gs bs i h k e = form_as (OpFits op) op (settled width op at gs.made) bs.made (λ here m n. made here (numbered_all m (settled width op at gs.made)) (numbered_all n bs.made) (settled_fit width op at gs.made (h (none_in gs.faults bs.faults e).0) m) (k (none_in gs.faults bs.faults e).1 n))
+form_fit width op at gs bs i h k e = form_as (OpFits op) op (settled width op at gs.made) (arranged op bs.made)
+    (λ here m n. made here (numbered_all m (settled width op at gs.made)) (numbered_all n (arranged op bs.made)) (settled_fit width op at gs.made (h (none_in gs.faults bs.faults e).0) m) (k (none_in gs.faults bs.faults e).1 n))
   where
     made : (here : At) (ts body : Trees) → SettledFit op ts → BodyFit (body_of op) body → OpFits op (form here op ts body)
-    made here ts body a b = record { value = value_made here op ts body a b; spot = spot_made here op ts body i a b; shaped = form_made here op ts body a b }
+    made here ts body a b = record { value = value_made here op ts body i a b; spot = spot_made here op ts body i a b; shaped = form_made here op ts body i a b }
 
-pub role_fit : (s : Slot) (op : Op) → takes_role s (role_of op) ≡ true → (t : Tree) → OpFits op t → Fits (loose s) t
-role_fit slot.Expression op e t h = (h.value e, h.shaped)
-role_fit (slot.Constant least most) op e t h = (h.value e, h.shaped)
-role_fit slot.Measure op e t h = (h.value e, h.shaped)
-role_fit slot.Element op e t h = (h.value e, h.shaped)
-role_fit slot.Place op e t h = h.spot e
-role_fit (slot.Term run) op e t h = h.shaped
-role_fit _ op e t h = absurd cc
+-- what stands for no branch of a Switch is formed
+formed_of : (op : Op) (t : Tree) → is_branch_role (role_of op) ≡ false → Made op t → Formed t
+formed_of (Op.Control Control.Case) t e h = absurd cc
+formed_of (Op.Control Control.Default) t e h = absurd cc
+formed_of (Op.Control _) t e h = h
+formed_of _ t e h = h
+
+value_role : (r : Role) → is_value r ≡ true → is_branch_role r ≡ false
+value_role role.Expression e = refl
+value_role role.Place e = refl
+value_role _ e = absurd cc
+
+value_fit : (op : Op) (t : Tree) → is_value (role_of op) ≡ true → OpFits op t → Fits slot.Expression t
+value_fit op t e h = (h.value e, formed_of op t (value_role (role_of op) e) h.shaped)
+
+-- where a form is read as what a Case compares with
+abbrev is_compared : Slot → Bool
+is_compared slot.CaseValue = true
+is_compared slot.CaseMember = true
+is_compared _ = false
+
+role_fit : (s : Slot) (op : Op) → is_compared s ≡ false → takes_branch s ≡ false → is_branch_role (role_of op) ≡ false → takes_role s (role_of op) ≡ true → (p : Plan) → PlanAs (OpFits op) p → Loosely s p
+role_fit slot.Expression op c b r e p h = λ at n. value_fit op (numbered at n p) e (h at n)
+role_fit (slot.Constant least most) op c b r e p h = λ at n. value_fit op (numbered at n p) e (h at n)
+role_fit slot.Measure op c b r e p h = λ at n. value_fit op (numbered at n p) e (h at n)
+role_fit slot.Element op c b r e p h = λ at n. value_fit op (numbered at n p) e (h at n)
+role_fit slot.Place op c b r e p h = λ at n. (h at n).spot e
+role_fit (slot.Term run) op c b r e p h = λ at n. formed_of op (numbered at n p) r (h at n).shaped
+role_fit _ op c b r e p h = absurd cc
+
+-- ---- forms that a Case compares with
+
+-- anywhere else their arguments and their braces are as ever
+parameters_same : (op : Op) (s : Slot) → is_compared s ≡ false → parameters_as op s ≡ parameters_of op
+parameters_same (Op.Special Special.Buffer) slot.CaseValue e = absurd cc
+parameters_same (Op.Special Special.Buffer) slot.CaseMember e = absurd cc
+parameters_same (Op.Special Special.Buffer) _ e = refl
+parameters_same (Op.Special Special.Package) slot.CaseValue e = absurd cc
+parameters_same (Op.Special Special.Package) _ e = refl
+parameters_same _ s e = refl
+
+body_same : (op : Op) (s : Slot) → is_compared s ≡ false → body_as op s ≡ body_of op
+body_same (Op.Special Special.Package) slot.CaseValue e = absurd cc
+body_same (Op.Special Special.Package) _ e = refl
+body_same _ s e = refl
+
+buffer_form : (width : Width) (at : Place) (ps bs : Plans) → PlansFit constant_size ps → PlanAs IsCaseMember (a_form (Op.Special Special.Buffer) (settled width (Op.Special Special.Buffer) at ps) bs)
+buffer_form width at ps bs h =
+    form_as IsCaseMember (Op.Special Special.Buffer) ps bs (λ here m n. case_buffer_made here (numbered_all m ps) (numbered_all n bs) (one_of (optional slot.Measure) (numbered_all m ps) (fits_as constant_size ps h m)))
+
+package_form : (width : Width) (at : Place) (ps bs : Plans) → PlansFit constant_size ps → PlansAs AreCaseMembers bs → PlanAs (IsPackageOf (how_many bs)) (a_form (Op.Special Special.Package) (settled width (Op.Special Special.Package) at ps) bs)
+package_form width at ps bs h k =
+    form_as (IsPackageOf (how_many bs)) (Op.Special Special.Package) (package_settled width at ps) bs
+    (λ here m n. subst (λ many. IsPackageOf many (form here (Op.Special Special.Package) (numbered_all m (package_settled width at ps)) (numbered_all n bs))) (count_as bs n)
+    (case_package_made here (numbered_all m (package_settled width at ps)) (numbered_all n bs) (one_of (optional slot.Measure) (numbered_all m (package_settled width at ps)) (package_fit slot.Measure few width at ps h m)) (k n)))
+  where
+    few : (n : ℕ) → n ≤ 255 → Fits slot.Measure (Integer n)
+    few n le = omega (arith, le)
+
+-- any other form has to be a constant
+value_form : (op : Op) (width : Width) (at : Place) (gs bs : Shaped Plans) → (gs.faults ≡ [] → PlansFit (parameters_as op slot.CaseValue) gs.made) → (bs.faults ≡ [] → ContentsFit (body_as op slot.CaseValue) bs.made)
+    → (form_shape width op at gs bs).faults ≡ [] → IsLooseValue (form_shape width op at gs bs).made
+value_form (Op.Special Special.Buffer) width at gs bs h k e = buffer_form width at gs.made bs.made (h (none_in gs.faults bs.faults e).0)
+value_form (Op.Special Special.Package) width at gs bs h k e = package_form width at gs.made bs.made (h (none_in gs.faults bs.faults e).0) (k (none_in gs.faults bs.faults e).1)
+value_form _ width at gs bs h k e = tt
+
+member_form : (op : Op) (width : Width) (at : Place) (gs bs : Shaped Plans) → (gs.faults ≡ [] → PlansFit (parameters_as op slot.CaseMember) gs.made) → (form_shape width op at gs bs).faults ≡ [] → IsLooseMember (form_shape width op at gs bs).made
+member_form (Op.Special Special.Buffer) width at gs bs h e = buffer_form width at gs.made bs.made (h (none_in gs.faults bs.faults e).0)
+member_form _ width at gs bs h e = tt
+
+-- ---- forms in the braces of a Switch
+
+data_branch : (op : DataOp) → is_branch_role (data_role op) ≡ true → ⊥
+data_branch DataOp.Index e = absurd cc
+data_branch _ e = absurd cc
+
+event_branch : (op : EventOp) → is_branch_role (event_role op) ≡ true → ⊥
+event_branch EventOp.Acquire e = absurd cc
+event_branch _ e = absurd cc
+
+plain_branch : (op : Plain) → is_branch_role (plain_role op) ≡ true → ⊥
+plain_branch (Plain.Number op) e = absurd cc
+plain_branch (Plain.Data op) e = data_branch op e
+plain_branch (Plain.Event op) e = event_branch op e
+
+declaration_branch : (op : Declaration) → is_branch_role (role_of (Op.Declaration op)) ≡ true → ⊥
+declaration_branch Declaration.Method e = absurd cc
+declaration_branch _ e = absurd cc
+
+symbol_branch : (op : Symbolic) → is_branch_role (role_of (Op.Symbolic op)) ≡ true → ⊥
+symbol_branch (Symbolic.Operator op) e = plain_branch op e
+symbol_branch _ e = absurd cc
+
+-- a Default stands behind no other
+branch_form : (defaulted inside : Bool) (op : Op) → may_stand (slot.Branch defaulted) inside (role_of op) ≡ true → is_branch_role (role_of op) ≡ true → (args body : Plans) → PlanAs (OpFits op) (a_form op args body) → IsBranchBehind defaulted (a_form op args body)
+branch_form defaulted inside (Op.Control Control.Case) m e args body h = ((λ at n. (h at n).shaped), (λ never. absurd cc))
+branch_form defaulted inside (Op.Control Control.Default) m e args body h = ((λ at n. (h at n).shaped), (λ same. no_default defaulted m))
+  where
+    no_default : (b : Bool) → not b ≡ true → b ≡ false
+    no_default true e = absurd cc
+    no_default false e = refl
+branch_form defaulted inside (Op.Control _) m e args body h = absurd cc
+branch_form defaulted inside (Op.Plain op) m e args body h = absurd (plain_branch op e)
+branch_form defaulted inside (Op.Literal l) m e args body h = absurd cc
+branch_form defaulted inside (Op.Special op) m e args body h = absurd cc
+branch_form defaulted inside (Op.Symbolic op) m e args body h = absurd (symbol_branch op e)
+branch_form defaulted inside (Op.Declaration op) m e args body h = absurd (declaration_branch op e)
+
+-- ---- a form where it stands
+
+not_both : (b : Bool) → b ≡ false → b ≡ true → ⊥
+not_both true e f = absurd cc
+not_both false e f = absurd cc
+
+-- a Case and a Default stand in a Switch alone
+no_branch : (s : Slot) (inside : Bool) (r : Role) → takes_branch s ≡ false → may_stand s inside r ≡ true → is_branch_role r ≡ false
+no_branch s inside role.Case b m = absurd (not_both (takes_branch s) b m)
+no_branch s inside role.Default b m = absurd (by (default_before s) b m)
+  where
+    by : (o : Option Bool) → choose o false (λ defaulted. true) ≡ false → choose o false not ≡ true → ⊥
+    by None b m = absurd cc
+    by (Some defaulted) b m = absurd cc
+no_branch s inside _ b m = refl
+
+-- what stands in the braces of a form as they are ever read
+body_arranged : (op : Op) (ps : Plans) → ContentsFit (body_of op) ps → PlansAs (BodyFit (body_of op)) (arranged op ps)
+body_arranged (Op.Control Control.Switch) ps h = cases_arranged ps h
+body_arranged (Op.Control _) ps h = h
+body_arranged (Op.Special Special.Buffer) ps h = h
+body_arranged (Op.Special _) ps h = h
+body_arranged (Op.Declaration Declaration.Method) ps h = h
+body_arranged (Op.Declaration _) ps h = h
+body_arranged _ ps h = h
+
+usual_form : (s : Slot) (width : Width) (op : Op) (at : Place) (gs bs : Shaped Plans) → is_compared s ≡ false → IsSpelled op → (gs.faults ≡ [] → PlansFit (parameters_as op s) gs.made) → (bs.faults ≡ [] → ContentsFit (body_as op s) bs.made)
+    → (form_shape width op at gs bs).faults ≡ [] → PlanAs (OpFits op) (form_shape width op at gs bs).made
+usual_form s width op at gs bs c i h k e =
+    form_fit width op at gs bs i (λ f. subst (λ qs. PlansFit qs gs.made) (parameters_same op s c) (h f)) (λ f. body_arranged op bs.made (subst (λ b. ContentsFit b bs.made) (body_same op s c) (k f))) e
+
+pub form_in : (s : Slot) (inside : Bool) (width : Width) (op : Op) (at : Place) (gs bs : Shaped Plans) → IsSpelled op → may_be s inside (is.Operator op) ≡ true → takes_role s (role_of op) ≡ true
+    → (gs.faults ≡ [] → PlansFit (parameters_as op s) gs.made) → (bs.faults ≡ [] → ContentsFit (body_as op s) bs.made) → (form_shape width op at gs bs).faults ≡ [] → Loosely s (form_shape width op at gs bs).made
+form_in slot.CaseValue inside width op at gs bs i m t h k e = value_form op width at gs bs h k e
+form_in slot.CaseMember inside width op at gs bs i m t h k e = member_form op width at gs bs h e
+form_in (slot.Branch defaulted) inside width op at gs bs i m t h k e =
+    branch_form defaulted inside op (both_true (is_of_kind (slot.Branch defaulted) (is.Operator op)) (may_stand (slot.Branch defaulted) inside (role_of op)) m).1 t (settled width op at gs.made) (arranged op bs.made)
+    (usual_form (slot.Branch defaulted) width op at gs bs refl i h k e)
+form_in s inside width op at gs bs i m t h k e =
+    role_fit s op refl refl (no_branch s inside (role_of op) refl (both_true (is_of_kind s (is.Operator op)) (may_stand s inside (role_of op)) m).1) t (form_shape width op at gs bs).made (usual_form s width op at gs bs refl i h k e)
+
+abbrev pub IsSymbolic : Op → Type 0
+IsSymbolic (Op.Symbolic symbol) = Unit {0}
+IsSymbolic _ = ⊥
+
+symbol_in : (s : Slot) (op : Op) → IsSymbolic op → is_branch_role (role_of op) ≡ false → takes_role s (role_of op) ≡ true → (args body : Plans) → PlanAs (OpFits op) (a_form op args body) → Loosely s (a_form op args body)
+symbol_in slot.CaseValue (Op.Symbolic symbol) i r e args body h = tt
+symbol_in slot.CaseValue _ i r e args body h = absurd i
+symbol_in slot.CaseMember (Op.Symbolic symbol) i r e args body h = tt
+symbol_in slot.CaseMember _ i r e args body h = absurd i
+symbol_in (slot.Branch defaulted) op i r e args body h = absurd (not_both (is_branch_role (role_of op)) r e)
+symbol_in s op i r e args body h = role_fit s op refl refl r e (a_form op args body) h
 
 -- what is written with a symbol, where it stands
-pub symbol_fit : (width : Width) (s : Slot) (at : Place) (op : Op) (gs : Shaped Plans) → IsSpelled op → PlansAs (BodyFit (body_of op)) no_plans → (gs.faults ≡ [] → PlansFit (parameters_of op) gs.made) → (symbol_shape width s at op gs).faults ≡ []
-    → PlanAs (Fits (loose s)) (symbol_shape width s at op gs).made
-symbol_fit width s at op gs i b h e = by (takes_role s (role_of op)) refl e
+pub symbol_fit : (width : Width) (s : Slot) (at : Place) (op : Op) (gs : Shaped Plans) → IsSpelled op → IsSymbolic op → is_branch_role (role_of op) ≡ false → PlansAs (BodyFit (body_of op)) (arranged op no_plans) → (gs.faults ≡ [] → PlansFit (parameters_of op) gs.made)
+    → (symbol_shape width s at op gs).faults ≡ [] → Loosely s (symbol_shape width s at op gs).made
+symbol_fit width s at op gs i c r b h e = by (takes_role s (role_of op)) refl e
   where
-    by : (t : Bool) → takes_role s (role_of op) ≡ t → (if t then form_shape width op at gs (fine no_plans) else refused (unfit s) at).faults ≡ [] → PlanAs (Fits (loose s)) (if t then form_shape width op at gs (fine no_plans) else refused (unfit s) at).made
-    by true t e = λ here n. role_fit s op t (numbered here n (form_shape width op at gs (fine no_plans)).made) (form_fit width op at gs (fine no_plans) i h (λ f. b) e here n)
+    by : (t : Bool) → takes_role s (role_of op) ≡ t → (if t then form_shape width op at gs (fine no_plans) else refused (unfit s) at).faults ≡ [] → Loosely s (if t then form_shape width op at gs (fine no_plans) else refused (unfit s) at).made
+    by true t e = symbol_in s op c r t (settled width op at gs.made) (arranged op no_plans) (form_fit width op at gs (fine no_plans) i h (λ f. b) e)
     by false t e = absurd cc
 
 -- ---- names as they are read
@@ -283,89 +457,94 @@ has_call is.Name = true
 has_call is.Path = true
 has_call _ = false
 
-named_fit : (s : Slot) (at : Place) (text : List ℕ) (called : Bool) (calls : Shaped Plans) (offset : Shaped Plan) (expanded : TextMacro → Shaped Plan) (template : Shaped Plan) (described : Descriptor → Shaped Plan) (form : Op → Shaped Plan) → IfSome (path_of text) IsUsedName → (calls.faults ≡ [] → PlansAs FormedValues calls.made)
-    → (read_shape s at text (name_reading s called) calls offset expanded template described form).faults ≡ [] → PlanAs (Fits (loose s)) (read_shape s at text (name_reading s called) calls offset expanded template described form).made
-named_fit s at text true calls offset expanded template described form path h e = by (takes_expression s) refl e
+-- where a path may stand, a single segment may stand too
+segment_path : (s : Slot) → takes_path s ≡ true → takes_segment s ≡ true
+segment_path slot.DescriptorName e = refl
+segment_path s e = e
+
+named_fit : (s : Slot) (at : Place) (text : List ℕ) (fits called : Bool) → (fits ≡ true → takes_segment s ≡ true) → (calls : Shaped Plans) (offset : Shaped Plan) (expanded : TextMacro → Shaped Plan) (template : Shaped Plan) (described : Descriptor → Shaped Plan) (form : Op → Shaped Plan) → IfSome (path_of text) IsUsedName → (calls.faults ≡ [] → PlansAs FormedValues calls.made)
+    → (read_shape s at text (name_reading s fits called) calls offset expanded template described form).faults ≡ [] → Loosely s (read_shape s at text (name_reading s fits called) calls offset expanded template described form).made
+named_fit s at text fits true whole calls offset expanded template described form path h e = by (takes_expression s) refl e
   where
-    by : (b : Bool) → takes_expression s ≡ b → (read_shape s at text (unless_wrong b read.Call) calls offset expanded template described form).faults ≡ [] → PlanAs (Fits (loose s)) (read_shape s at text (unless_wrong b read.Call) calls offset expanded template described form).made
+    by : (b : Bool) → takes_expression s ≡ b → (read_shape s at text (unless_wrong b read.Call) calls offset expanded template described form).faults ≡ [] → Loosely s (read_shape s at text (unless_wrong b read.Call) calls offset expanded template described form).made
     by true t e = call_fit s at (path_of text) calls path t h e
     by false t e = absurd cc
-named_fit s at text false calls offset expanded template described form path h e = by (takes_path s) refl e
+named_fit s at text fits false whole calls offset expanded template described form path h e = by fits refl e
   where
-    by : (b : Bool) → takes_path s ≡ b → (read_shape s at text (unless_wrong b read.Path) calls offset expanded template described form).faults ≡ [] → PlanAs (Fits (loose s)) (read_shape s at text (unless_wrong b read.Path) calls offset expanded template described form).made
-    by true t e = path_fit s at (path_of text) path t e
+    by : (b : Bool) → fits ≡ b → (read_shape s at text (unless_wrong b read.Path) calls offset expanded template described form).faults ≡ [] → Loosely s (read_shape s at text (unless_wrong b read.Path) calls offset expanded template described form).made
+    by true t e = path_fit s at (path_of text) path (whole t) e
     by false t e = absurd cc
 
 -- ---- an item as it is read
 
 -- an Offset stands where elements begin
-begun : (s : Slot) (p : Plan) → is_field_element s ≡ true → PlanAs IsElement p → PlanAs (Fits (loose s)) p
+begun : (s : Slot) (p : Plan) → is_field_element s ≡ true → PlanAs IsElement p → Loosely s p
 begun slot.FieldElement p e h = h
 begun _ p e h = absurd cc
 
 -- a macro or a template stands where an expression does
-evaluated_macro : (s : Slot) (p : Plan) → takes_macro s ≡ true → PlanAs (Fits slot.Expression) p → PlanAs (Fits (loose s)) p
+evaluated_macro : (s : Slot) (p : Plan) → takes_macro s ≡ true → PlanAs (Fits slot.Expression) p → Loosely s p
 evaluated_macro slot.Expression p t h = h
 evaluated_macro slot.Element p t h = h
 evaluated_macro _ p t h = absurd cc
 
 -- a descriptor stands in a template
-in_template : (s : Slot) (p : Plan) → takes_descriptor s ≡ true → PlanAs IsFill p → PlanAs (Fits (loose s)) p
+in_template : (s : Slot) (p : Plan) → takes_descriptor s ≡ true → PlanAs IsFill p → Loosely s p
 in_template slot.Descriptor p t h = h
 in_template _ p t h = absurd cc
 
 pub read_fit : (s : Slot) (at : Place) (text : List ℕ) (m : Meaning) (called : Bool) (calls : Shaped Plans) (offset : Shaped Plan) (expanded : TextMacro → Shaped Plan) (template : Shaped Plan) (described : Descriptor → Shaped Plan) (form : Op → Shaped Plan) → IsRightMeaning m → IfSome (path_of text) IsUsedName
     → (has_call m ≡ true → calls.faults ≡ [] → PlansAs FormedValues calls.made)
-    → ((op : Op) → m ≡ is.Operator op → (form op).faults ≡ [] → PlanAs (OpFits op) (form op).made)
+    → ((op : Op) → m ≡ is.Operator op → takes_role s (role_of op) ≡ true → (form op).faults ≡ [] → Loosely s (form op).made)
     → (offset.faults ≡ [] → PlanAs IsElement offset.made)
     → ((x : TextMacro) → m ≡ is.Macro x → (expanded x).faults ≡ [] → PlanAs (Fits slot.Expression) (expanded x).made)
     → (m ≡ is.Template → template.faults ≡ [] → PlanAs (Fits slot.Expression) template.made)
     → ((d : Descriptor) → m ≡ is.Descriptor d → (described d).faults ≡ [] → PlanAs IsFill (described d).made)
     → (read_shape s at text (reading_of s m called) calls offset expanded template described form).faults ≡ []
-    → PlanAs (Fits (loose s)) (read_shape s at text (reading_of s m called) calls offset expanded template described form).made
+    → Loosely s (read_shape s at text (reading_of s m called) calls offset expanded template described form).made
 read_fit s at text (is.Operator op) called calls offset expanded template described form right path h k o g v w e = by (takes_role s (role_of op)) refl e
   where
-    by : (b : Bool) → takes_role s (role_of op) ≡ b → (read_shape s at text (unless_wrong b (read.Form op)) calls offset expanded template described form).faults ≡ [] → PlanAs (Fits (loose s)) (read_shape s at text (unless_wrong b (read.Form op)) calls offset expanded template described form).made
-    by true t e = λ here n. role_fit s op t (numbered here n (form op).made) (k op refl e here n)
+    by : (b : Bool) → takes_role s (role_of op) ≡ b → (read_shape s at text (unless_wrong b (read.Form op)) calls offset expanded template described form).faults ≡ [] → Loosely s (read_shape s at text (unless_wrong b (read.Form op)) calls offset expanded template described form).made
+    by true t e = k op refl t e
     by false t e = absurd cc
 read_fit s at text (is.Known known) called calls offset expanded template described form right path h k o g v w e = by (takes_known s known) refl e
   where
-    by : (b : Bool) → takes_known s known ≡ b → (read_shape s at text (unless_wrong b (read.Known known)) calls offset expanded template described form).faults ≡ [] → PlanAs (Fits (loose s)) (read_shape s at text (unless_wrong b (read.Known known)) calls offset expanded template described form).made
+    by : (b : Bool) → takes_known s known ≡ b → (read_shape s at text (unless_wrong b (read.Known known)) calls offset expanded template described form).faults ≡ [] → Loosely s (read_shape s at text (unless_wrong b (read.Known known)) calls offset expanded template described form).made
     by true t e = known_fit s known right t
     by false t e = absurd cc
-read_fit s at text is.Name called calls offset expanded template described form right path h k o g v w e = named_fit s at text called calls offset expanded template described form path (h refl) e
-read_fit s at text is.Path called calls offset expanded template described form right path h k o g v w e = named_fit s at text called calls offset expanded template described form path (h refl) e
+read_fit s at text is.Name called calls offset expanded template described form right path h k o g v w e = named_fit s at text (takes_segment s) called (λ t. t) calls offset expanded template described form path (h refl) e
+read_fit s at text is.Path called calls offset expanded template described form right path h k o g v w e = named_fit s at text (takes_path s) called (segment_path s) calls offset expanded template described form path (h refl) e
 read_fit s at text is.Offset called calls offset expanded template described form right path h k o g v w e = by (is_field_element s) refl e
   where
-    by : (b : Bool) → is_field_element s ≡ b → (read_shape s at text (unless_wrong b read.Offset) calls offset expanded template described form).faults ≡ [] → PlanAs (Fits (loose s)) (read_shape s at text (unless_wrong b read.Offset) calls offset expanded template described form).made
+    by : (b : Bool) → is_field_element s ≡ b → (read_shape s at text (unless_wrong b read.Offset) calls offset expanded template described form).faults ≡ [] → Loosely s (read_shape s at text (unless_wrong b read.Offset) calls offset expanded template described form).made
     by true t e = begun s offset.made t (o e)
     by false t e = absurd cc
 read_fit s at text (is.Macro x) called calls offset expanded template described form right path h k o g v w e = by (takes_macro s) refl e
   where
-    by : (b : Bool) → takes_macro s ≡ b → (read_shape s at text (unless_wrong b (read.Macro x)) calls offset expanded template described form).faults ≡ [] → PlanAs (Fits (loose s)) (read_shape s at text (unless_wrong b (read.Macro x)) calls offset expanded template described form).made
+    by : (b : Bool) → takes_macro s ≡ b → (read_shape s at text (unless_wrong b (read.Macro x)) calls offset expanded template described form).faults ≡ [] → Loosely s (read_shape s at text (unless_wrong b (read.Macro x)) calls offset expanded template described form).made
     by true t e = evaluated_macro s (expanded x).made t (g x refl e)
     by false t e = absurd cc
 read_fit s at text is.Template called calls offset expanded template described form right path h k o g v w e = by (takes_macro s) refl e
   where
-    by : (b : Bool) → takes_macro s ≡ b → (read_shape s at text (unless_wrong b read.Template) calls offset expanded template described form).faults ≡ [] → PlanAs (Fits (loose s)) (read_shape s at text (unless_wrong b read.Template) calls offset expanded template described form).made
+    by : (b : Bool) → takes_macro s ≡ b → (read_shape s at text (unless_wrong b read.Template) calls offset expanded template described form).faults ≡ [] → Loosely s (read_shape s at text (unless_wrong b read.Template) calls offset expanded template described form).made
     by true t e = evaluated_macro s template.made t (v refl e)
     by false t e = absurd cc
 read_fit s at text (is.Descriptor d) called calls offset expanded template described form right path h k o g v w e = by (takes_descriptor s) refl e
   where
-    by : (b : Bool) → takes_descriptor s ≡ b → (read_shape s at text (unless_wrong b (read.Descriptor d)) calls offset expanded template described form).faults ≡ [] → PlanAs (Fits (loose s)) (read_shape s at text (unless_wrong b (read.Descriptor d)) calls offset expanded template described form).made
+    by : (b : Bool) → takes_descriptor s ≡ b → (read_shape s at text (unless_wrong b (read.Descriptor d)) calls offset expanded template described form).faults ≡ [] → Loosely s (read_shape s at text (unless_wrong b (read.Descriptor d)) calls offset expanded template described form).made
     by true t e = in_template s (described d).made t (w d refl e)
     by false t e = absurd cc
 read_fit s at text is.Unknown called calls offset expanded template described form right path h k o g v w e = absurd cc
 
-pub item_fit : (P : Plan → Type 0) (s : Slot) (inside : Bool) (m : Meaning) (has has_body : Bool) (at : Place) (shape : Shaped Plan) → (has ≡ true → shape.faults ≡ [] → P shape.made)
+pub item_fit : (P : Plan → Type 0) (s : Slot) (inside : Bool) (m : Meaning) (has has_body : Bool) (at : Place) (shape : Shaped Plan) → (may_be s inside m ≡ true → has ≡ true → shape.faults ≡ [] → P shape.made)
     → (item_shape at (item_fault s inside m has has_body) shape).faults ≡ [] → P (item_shape at (item_fault s inside m has has_body) shape).made
 item_fit P s inside m has has_body at shape h e = by (is_unknown m || is_descriptor_name s m) (may_be s inside m) has (is_same (wants_braces m) has_body) h e
   where
-    by : (a b c d : Bool) → (c ≡ true → shape.faults ≡ [] → P shape.made)
+    by : (a b c d : Bool) → (b ≡ true → c ≡ true → shape.faults ≡ [] → P shape.made)
         → (item_shape at (if a then Some 6020 else (if not b then Some 6025 else (if not c then Some 6021 else (if not d then Some 6023 else None)))) shape).faults ≡ []
         → P (item_shape at (if a then Some 6020 else (if not b then Some 6025 else (if not c then Some 6021 else (if not d then Some 6023 else None)))) shape).made
     by true b c d h e = absurd cc
     by false false c d h e = absurd cc
     by false true false d h e = absurd cc
     by false true true false h e = absurd cc
-    by false true true true h e = h refl e
+    by false true true true h e = h refl refl e

@@ -39,10 +39,10 @@ use Rattle.asl_shape.specs.declared.fields.Due.{Due}
 use Rattle.asl_shape.specs.declared.fields.UnitName.{UnitName}
 use Rattle.asl_shape.specs.Plans.{Plan, an_integer, a_text, a_name, Plans, no_plans, plan, plan_at, join, first_plans, first_alone, number_of, is_omitted, constant_of, plans_of}
 use Rattle.asl_words.specs.Paths.{path_of}
-use Rattle.asl_words.specs.Operators.{parameters_of, body_of, role_of, offset_parameters, macro_parameters}
+use Rattle.asl_words.specs.Operators.{parameters_of, parameters_as, body_as, role_of, offset_parameters, macro_parameters}
 use Rattle.asl_words.specs.Resources.{descriptor_parameters, descriptor_body}
 use Rattle.asl_shape.specs.Symbols.{symbol_of}
-use Rattle.asl_shape.specs.Shapes.{Shaped, fine, refused, nowhere, valued, evaluated, after, checked, is_member, is_given, count, has_arguments, are_all_types, number_shape, string_shape, text_shape, path_shape, call_shape, known_plan, listed_shape, read_shape, item_shape, form_shape, method_flags, one_plan, zero_plan, is_stated, stated_parameters, few_elements, settled, within, place_of, left_out, is_separator, is_listed, byte_slot, list_shape, skipped, run_after, bare, operands, call_args, arguments, arguments_in, contents, members, terms, inside_of, is_element, field_flags, field_settled, offset_shape, macro_shape, template_shape, descriptor_shape, macro_text, eisa_shape, uuid_shape, buffer_plan, meaning_in, is_field_list, begin, field_slot, named_unit, unit_behind, is_offset_plan, offset_alone, of_bits, field_part, due_behind, elements}
+use Rattle.asl_shape.specs.Shapes.{Shaped, fine, refused, nowhere, valued, evaluated, after, checked, is_member, is_given, count, has_arguments, are_all_types, number_shape, string_shape, text_shape, path_shape, call_shape, known_plan, listed_shape, read_shape, item_shape, form_shape, method_flags, one_plan, zero_plan, is_stated, stated_parameters, few_elements, settled, within, place_of, left_out, is_separator, is_listed, byte_slot, list_shape, skipped, run_after, bare, operands, call_args, arguments, arguments_in, contents, members, terms, inside_of, is_element, field_flags, field_settled, offset_shape, macro_shape, template_shape, descriptor_shape, macro_text, eisa_shape, uuid_shape, buffer_plan, meaning_in, is_field_list, begin, field_slot, named_unit, unit_behind, is_offset_plan, offset_alone, of_bits, field_part, due_behind, elements, is_case_member, case_member, member_count, is_case_package, case_value, is_default_plan, default_last, arranged, cases, default_after}
 use Rattle.asl_words.specs.Meanings.{item_fault, meaning_of, reading_of, takes_expression, takes_role, slot_as, unfit}
 use Rattle.asl_words.specs.Texts.{is_all_text, has_form}
 use Rattle.resource_macros.specs.Identifiers.{eisaid_of, uuid_of, utf16_of}
@@ -75,11 +75,13 @@ module _ (files : ℕ) where
       by : (o : Option (List ℕ)) → PlanWithin files (uuid_shape place o).made
       by None = tt
       by (Some uuid) = ((h, tt, tt), (h, tt, tt))
-  macro_in TextMacro.Unicode place bytes h = either (is_all_text bytes) (fine (buffer_plan place (utf16_of bytes))) (refused 6024 place) ((h, tt, tt), (h, tt, tt)) tt
+  macro_in TextMacro.Unicode place bytes h = either (is_all_text bytes) (fine (buffer_plan place (utf16_of bytes) [])) (refused 6024 place) ((h, tt, tt), (h, tt, tt)) tt
 
   text_in : (s : Slot) (place : Place) (bytes : List ℕ) → IsIn files place → PlanWithin files (text_shape s place bytes).made
   text_in slot.Expression place bytes h = string_in texts.Any place bytes
   text_in slot.Element place bytes h = string_in texts.Any place bytes
+  text_in slot.CaseValue place bytes h = string_in texts.Any place bytes
+  text_in slot.CaseMember place bytes h = string_in texts.Any place bytes
   text_in (slot.String f) place bytes h = string_in f place bytes
   text_in (slot.MacroText m) place bytes h = macro_in m place bytes h
   text_in _ place bytes h = tt
@@ -93,10 +95,22 @@ module _ (files : ℕ) where
   valued_in least most place (Err NoConstant.Fault) = tt
   valued_in least most place (Err NoConstant.Form) = tt
 
+  member_in : (width : Width) (place : Place) (p : Plan) → PlanWithin files p → PlanWithin files (case_member width place p).made
+  member_in width place p h = either (is_case_member p) (fine p) (valued 0 18446744073709551615 place (constant_of width p)) h (valued_in 0 18446744073709551615 place (constant_of width p))
+
+  value_in : (width : Width) (place : Place) (p : Plan) → PlanWithin files p → PlanWithin files (case_value width place p).made
+  value_in width place p h = by (member_count p)
+    where
+      by : (o : Option ℕ) → PlanWithin files (choose o (case_member width place p) (λ n. if is_case_package n then fine p else refused 6024 place)).made
+      by None = member_in width place p h
+      by (Some n) = either (is_case_package n) (fine p) (refused 6024 place) h tt
+
   evaluated_in : (width : Width) (s : Slot) (place : Place) (p : Plan) → PlanWithin files p → PlanWithin files (evaluated width s place p).made
   evaluated_in width (slot.Constant least most) place p h = either (is_omitted p) (fine p) (valued least most place (constant_of W64 p)) h (valued_in least most place (constant_of W64 p))
   evaluated_in width slot.Measure place p h = either (is_omitted p) (fine p) (valued 0 18446744073709551615 place (constant_of width p)) h (valued_in 0 18446744073709551615 place (constant_of width p))
   evaluated_in width slot.Element place p h = either (is_member p) (fine p) (valued 0 18446744073709551615 place (constant_of width p)) h (valued_in 0 18446744073709551615 place (constant_of width p))
+  evaluated_in width slot.CaseValue place p h = value_in width place p h
+  evaluated_in width slot.CaseMember place p h = member_in width place p h
   evaluated_in width slot.FieldElement place p h = either (is_element p) (fine p) (refused 6022 place) h tt
   evaluated_in width _ place p h = h
 
@@ -191,6 +205,18 @@ module _ (files : ℕ) where
   settled_in width (Op.Special Special.Package) place ps h k = package_in (few_elements (constant_of width (plan_at ps 0))) place ps h k
   settled_in width _ place ps h k = k
 
+  last_in : (ps : Plans) → PlansWithin files ps → PlansWithin files (default_last ps)
+  last_in no_plans h = tt
+  last_in (plan place p ps) h = by (is_default_plan p) (last_in ps h.2)
+    where
+      by : (c : Bool) → PlansWithin files (default_last ps) → PlansWithin files (if c then join ps (one_plan place p) else plan place p (default_last ps))
+      by true k = join_in ps (one_plan place p) h.2 (h.0, h.1, tt)
+      by false k = (h.0, h.1, k)
+
+  arranged_in : (o : Op) (ps : Plans) → PlansWithin files ps → PlansWithin files (arranged o ps)
+  arranged_in (Op.Control Control.Switch) ps h = last_in ps h
+  arranged_in _ ps h = h
+
   left_out_in : (place : Place) (qs : List Parameter) → IsIn files place → PlansWithin files (left_out place qs)
   left_out_in place [] h = tt
   left_out_in place (q ∷ qs) h = (h, tt, left_out_in place qs h)
@@ -264,10 +290,10 @@ module _ (files : ℕ) where
       bare_in s inside (apply place o ws) h =
           let args : Shaped Plans = arguments_in (parameters_of (symbol_of o)) place inside ws in
           either (takes_role s (role_of (symbol_of o))) (form_shape inside.width (symbol_of o) place args (fine no_plans)) (refused (unfit s) place)
-          (settled_in inside.width (symbol_of o) place args.made h.0 (arguments_in_within (parameters_of (symbol_of o)) place inside ws h.0 h.1), tt) tt
+          (settled_in inside.width (symbol_of o) place args.made h.0 (arguments_in_within (parameters_of (symbol_of o)) place inside ws h.0 h.1), arranged_in (symbol_of o) no_plans tt) tt
       bare_in s inside (item place w args body) h =
           let meaning = meaning_of w (is_given body) in
-          let form : Op → Shaped Plan = λ o. form_shape inside.width o place (arguments (parameters_of o) place inside args) (contents (body_of o) (within o inside) place body) in
+          let form : Op → Shaped Plan = λ o. form_shape inside.width o place (arguments (parameters_as o s) place inside args) (contents (body_as o s) (within o inside) place body) in
           let offset : Shaped Plan = offset_shape (arguments offset_parameters place inside args) in
           let expanded : TextMacro → Shaped Plan = λ m. macro_shape (arguments (macro_parameters m) place inside args) in
           let template : Shaped Plan = template_shape place (contents braces.Descriptors inside place body) in
@@ -276,7 +302,10 @@ module _ (files : ℕ) where
           (read_in s place w (reading_of s meaning (is_given args)) (call_args inside args) offset expanded template described form (call_args_in inside args h.1) tt
           (λ m. head_in (arguments (macro_parameters m) place inside args).made (arguments_within (macro_parameters m) place inside args h.0 h.1))
           ((h.0, tt, tt), (h.0, tt, tt)) (λ d. tt)
-          (λ o. (settled_in inside.width o place (arguments (parameters_of o) place inside args).made h.0 (arguments_within (parameters_of o) place inside args h.0 h.1), contents_in (body_of o) (within o inside) place body h.2)))
+          (λ o. (
+            settled_in inside.width o place (arguments (parameters_as o s) place inside args).made h.0 (arguments_within (parameters_as o s) place inside args h.0 h.1),
+            arranged_in o (contents (body_as o s) (within o inside) place body).made (contents_in (body_as o s) (within o inside) place body h.2),
+          )))
       bare_in s inside comma h = tt
       bare_in s inside semicolon h = tt
       bare_in s inside empty h = tt
@@ -309,6 +338,8 @@ module _ (files : ℕ) where
       contents_in braces.FieldList inside place (given ws) h = list_in place (is_field_list begin ws) (elements begin None inside ws) (elements_in begin None inside ws tt h)
       contents_in (braces.Numbers most) inside place (given ws) h = list_in place (is_listed true ws) (members (slot.Constant 0 most) inside ws) (members_in (slot.Constant 0 most) inside ws h)
       contents_in braces.Descriptors inside place (given ws) h = members_in slot.Descriptor inside ws h
+      contents_in braces.Cases inside place (given ws) h = cases_in inside false ws h
+      contents_in braces.CaseMembers inside place (given ws) h = list_in place (is_listed true ws) (members slot.CaseMember inside ws) (members_in slot.CaseMember inside ws h)
 
       elements_in : (due : Due) (unit : Option UnitName) (inside : Around) (ws : Writtens) → UnitIn unit → AreWithin files ws → PlansWithin files (elements due unit inside ws).made
       elements_in due unit inside none u h = tt
@@ -332,6 +363,12 @@ module _ (files : ℕ) where
       terms_in inside run (more w ws) h =
           skipped_in (is_separator w) (place_of nowhere w) (checked inside.width (slot.Term run) (place_of nowhere w) (bare (slot.Term run) inside w)) (terms inside (run_after run w) ws) (place_in nowhere w main h.0)
           (checked_in inside.width (slot.Term run) (place_of nowhere w) (bare (slot.Term run) inside w) (bare_in (slot.Term run) inside w h.0)) (terms_in inside (run_after run w) ws h.1)
+
+      cases_in : (inside : Around) (defaulted : Bool) (ws : Writtens) → AreWithin files ws → PlansWithin files (cases inside defaulted ws).made
+      cases_in inside defaulted none h = tt
+      cases_in inside defaulted (more w ws) h =
+          skipped_in (is_separator w) (place_of nowhere w) (checked inside.width (slot.Branch defaulted) (place_of nowhere w) (bare (slot.Branch defaulted) inside w)) (cases inside (default_after defaulted w) ws) (place_in nowhere w main h.0)
+          (checked_in inside.width (slot.Branch defaulted) (place_of nowhere w) (bare (slot.Branch defaulted) inside w) (bare_in (slot.Branch defaulted) inside w h.0)) (cases_in inside (default_after defaulted w) ws h.1)
 
     body_in : (around : Around) (body : Group) → IsGroupWithin files body → PlansWithin files (terms around None (inside_of body)).made
     body_in around absent h = tt

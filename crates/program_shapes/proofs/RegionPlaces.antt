@@ -3,7 +3,7 @@ use Rattle.std.specs.Prelude.{ℕ, ◌<◌}
 use Rattle.std.specs.List.{All}
 use Rattle.iasl_messages.specs.declared.message.Message.{Message}
 use Rattle.asl_shape.specs.Plans.{Plans}
-use Rattle.asl_tree.specs.Tree.{Tree, Method, Container', Scope, Trees, no_trees, tree, Field, BankField, If, ElseIf, Else, While}
+use Rattle.asl_tree.specs.Tree.{Tree, Method, Container', Scope, Trees, no_trees, tree, Field, BankField, If, ElseIf, Else, While, Switch, Case, Default}
 use Rattle.named_sessions.specs.Places.{IsWithin, AreWithin}
 use Rattle.region_checks.specs.Places.{IsFieldWithin, AreFieldsWithin}
 use Rattle.acpi_values.specs.declared.width.Width.{Width}
@@ -23,6 +23,9 @@ module _ (files : ℕ) where
     field_within (ElseIf test body) h = fields_within body h.1
     field_within (Else body) h = fields_within body h
     field_within (While test body) h = fields_within body h.1
+    field_within (Switch value cases) h = fields_within cases h.1
+    field_within (Case value body) h = fields_within body h.1
+    field_within (Default body) h = fields_within body h
     field_within _ h = tt
 
     fields_within : (ts : Trees) → AreWithin files ts → AreFieldsWithin files ts

@@ -11,15 +11,17 @@ use Rattle.asl_tree.specs.declared.term.Op.{Op}
 use Rattle.asl_tree.specs.declared.term.Declaration.TheVariants as Declaration
 use Rattle.asl_tree.specs.declared.term.Control.TheVariants as Control
 use Rattle.asl_tree.specs.declared.term.Literal.TheVariants as Literal
-use Rattle.asl_tree.specs.Tree.{At, Tree, Trees, no_trees}
+use Rattle.asl_tree.specs.Tree.{At, Tree, Integer, Trees, no_trees}
 use Rattle.asl_tree.specs.View.{form}
+use Rattle.named_sessions.specs.Shaped.{IsNumber}
 use Rattle.asl_words.specs.declared.operator.Parameter.{Parameter}
+use Rattle.asl_words.specs.declared.operator.Slot.{Slot}
 use Rattle.asl_words.specs.declared.operator.Slot.TheVariants as slot
 use Rattle.asl_words.specs.Operators.{asked, optional, expression, declared, used, external, constant, parameters_of}
 use Rattle.acpi_values.specs.declared.width.Width.{Width}
 use Rattle.asl_shape.specs.Plans.{Plan, an_integer, omitted, a_form, Plans, no_plans, plan, number_of, plan_at, constant_of}
 use Rattle.asl_shape.specs.Shapes.{settled, method_flags, field_flags, is_stated, one_plan, zero_plan, stated_parameters, few_elements, package_settled}
-use Rattle.program_shapes.proofs.Fits.{Fits, TreesFit, IsAtMost, IsNumber}
+use Rattle.program_shapes.proofs.Fits.{Fits, TreesFit, IsAtMost}
 use Rattle.program_shapes.proofs.Forms.{Two, two, two_of, Three, three, three_of}
 use Rattle.program_shapes.proofs.Operators.{SettledFit, ExternalFit}
 use Rattle.asl_numbers.specs.Numbers.{numbered_all}
@@ -81,19 +83,20 @@ external_fit place at p q n m h = by (is_stated q)
         external_two (numbered_all m (plan at p (plan place (an_integer n) no_plans))) (two_of external types (numbered_all m (plan at p (plan place (an_integer n) no_plans)))
         (fits_as (external ∷ types ∷ []) (plan at p (plan place (an_integer n) no_plans)) (h, (integer_as IsNumber n tt, tt)) m))
 
-package_fit : (width : Width) (place : Place) (ps : Plans) → PlansFit (optional slot.Expression ∷ []) ps → PlansAs (TreesFit (optional slot.Expression ∷ [])) (package_settled width place ps)
-package_fit width place ps h = by (constant_of width (plan_at ps 0))
+-- the number of elements of a Package, where it is read so
+pub package_fit : (s : Slot) → ((n : ℕ) → n ≤ 255 → Fits s (Integer n)) → (width : Width) (place : Place) (ps : Plans) → PlansFit (optional s ∷ []) ps → PlansAs (TreesFit (optional s ∷ [])) (package_settled width place ps)
+package_fit s few width place ps h = by (constant_of width (plan_at ps 0))
   where
-    alone : (n : ℕ) → n ≤ 255 → PlansAs (TreesFit (optional slot.Expression ∷ [])) (one_plan place (an_integer n))
-    alone n le = fits_as (optional slot.Expression ∷ []) (one_plan place (an_integer n)) (inl (integer_as (Fits slot.Expression) n (refl, omega (arith, le))), tt)
+    alone : (n : ℕ) → n ≤ 255 → PlansAs (TreesFit (optional s ∷ [])) (one_plan place (an_integer n))
+    alone n le = fits_as (optional s ∷ []) (one_plan place (an_integer n)) (inl (integer_as (Fits s) n (few n le)), tt)
 
-    if_few : (n : ℕ) (b : Bool) → nat_le n 255 ≡ b → PlansAs (TreesFit (optional slot.Expression ∷ [])) (choose (if b then Some n else None) ps (λ n. one_plan place (an_integer n)))
+    if_few : (n : ℕ) (b : Bool) → nat_le n 255 ≡ b → PlansAs (TreesFit (optional s ∷ [])) (choose (if b then Some n else None) ps (λ n. one_plan place (an_integer n)))
     if_few n true e = alone n (leb-true n 255 e)
-    if_few n false e = fits_as (optional slot.Expression ∷ []) ps h
+    if_few n false e = fits_as (optional s ∷ []) ps h
 
-    by : (r : Result ℕ NoConstant) → PlansAs (TreesFit (optional slot.Expression ∷ [])) (choose (few_elements r) ps (λ n. one_plan place (an_integer n)))
+    by : (r : Result ℕ NoConstant) → PlansAs (TreesFit (optional s ∷ [])) (choose (few_elements r) ps (λ n. one_plan place (an_integer n)))
     by (Ok n) = if_few n (nat_le n 255) refl
-    by (Err e) = fits_as (optional slot.Expression ∷ []) ps h
+    by (Err e) = fits_as (optional s ∷ []) ps h
 
 pub settled_fit : (width : Width) (op : Op) (place : Place) (ps : Plans) → PlansFit (parameters_of op) ps → PlansAs (SettledFit op) (settled width op place ps)
 unfolding parameters_of
@@ -133,5 +136,5 @@ settled_fit width (Op.Declaration Declaration.BankField) place (plan at p (plan 
     let flags : ℕ = field_flags 3 ps in
     let few : flags ≤ 255 = field_flags_fit (number_of (plan_at ps 3)) (number_of (plan_at ps 4)) (number_of (plan_at ps 5)) in
     fits_as (used ∷ used ∷ expression ∷ byte ∷ []) (plan at p (plan b q (plan c r (plan place (an_integer flags) no_plans)))) (h.0, (h.1.0, (h.1.1.0, (integer_as (IsAtMost 255) flags few, tt))))
-settled_fit width (Op.Special Special.Package) place ps h = package_fit width place ps h
+settled_fit width (Op.Special Special.Package) place ps h = package_fit slot.Expression (λ n le. (refl, tt)) width place ps h
 settled_fit width op place ps h = fits_as (parameters_of op) ps h

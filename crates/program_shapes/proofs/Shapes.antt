@@ -1,11 +1,12 @@
 -- A source without errors has a shape: each part of it fits where it stands.
-use Rattle.std.proofs.Common.{◌≡◌, inl, inr, ℕ, suc, ◌+◌, ◌<◌, ◌≤◌, ◌^◌, Bool, true, false, List, [], ◌∷◌, ◌++◌, length, zero, Option, Some, None, refl, sym, ap, subst, arith}
+use Rattle.std.proofs.Common.{◌≡◌, inl, inr, ℕ, suc, ◌+◌, ◌<◌, ◌≤◌, Bool, true, false, List, [], ◌∷◌, ◌++◌, length, zero, Option, Some, None, refl, ap, subst, arith}
 use Rattle.std.specs.Prelude.{nat_le, not, ◌||◌, if◌then◌else◌}
 use Rattle.std.proofs.lemmas.List.{length-append}
 use Rattle.iasl_messages.specs.declared.place.Place.{Place}
 use Rattle.acpi_values.specs.Widths.{ones_of}
 use Rattle.acpi_values.specs.declared.width.Width.TheVariants.{W64}
 use Rattle.asl_tree.specs.declared.term.Op.{Op}
+use Rattle.asl_tree.specs.declared.term.Special.TheVariants as Special
 use Rattle.acpi_state.specs.Outcomes.{choose}
 use Rattle.acpi_values.specs.Paths.{NameSeg}
 use Rattle.asl_tree.specs.FieldItems.{FieldItem, UnitItem, SkipItem, OffsetItem}
@@ -13,7 +14,7 @@ use Rattle.asl_tree.specs.Names.{single_in}
 use Rattle.asl_tree.specs.Tree.{Tree, Integer, String, Item, UnitName as FieldName, Trees, no_trees, tree, count}
 use Rattle.asl_tree.specs.View.{body_bytes, items_in, listed as bytes_listed}
 use Rattle.aml_code.specs.Fronts.{IsUsedName, AreSegments, is_segment}
-use Rattle.named_sessions.specs.Shaped.{AreNamed}
+use Rattle.named_sessions.specs.Shaped.{AreNamed, IsNumber, IsCaseMember, AreCaseMembers}
 use Rattle.resource_layout.specs.declared.descriptor.Descriptor.{Descriptor}
 use Rattle.resource_layout.specs.declared.descriptor.Kind.TheVariants as resource
 use Rattle.asl_words.specs.declared.operator.Parameter.{Parameter}
@@ -25,7 +26,7 @@ use Rattle.asl_words.specs.declared.operator.Body.{Body}
 use Rattle.asl_words.specs.declared.operator.Body.TheVariants as braces
 use Rattle.asl_words.specs.declared.meaning.Meaning.{Meaning}
 use Rattle.asl_words.specs.declared.meaning.Meaning.TheVariants as is
-use Rattle.asl_words.specs.Operators.{parameters_of, body_of, offset_parameters, macro_parameters}
+use Rattle.asl_words.specs.Operators.{parameters_of, parameters_as, body_of, body_as, role_of, offset_parameters, macro_parameters}
 use Rattle.asl_words.specs.Resources.{descriptor_parameters, descriptor_body}
 use Rattle.asl_words.specs.declared.operator.WordKind.TheVariants as kind
 use Rattle.acpi_values.specs.declared.width.Width.{Width}
@@ -35,22 +36,24 @@ use Rattle.asl_shape.specs.declared.fields.UnitName.{UnitName}
 use Rattle.asl_parser.specs.Written as piece
 use Rattle.asl_parser.specs.Written.{Written, Writtens, Group, item, apply, listed, comma, semicolon, empty, none, more, absent, given}
 use Rattle.asl_shape.specs.Plans.{Plan, omitted, a_name, a_unit, a_skip, an_offset, Plans, no_plans, plan, join, number_of, how_many}
-use Rattle.asl_shape.specs.Shapes.{Shaped, fine, refused, nowhere, is_given, is_empty, is_separator, inside_of, has_arguments, takes, none_empty, is_call, left_out, evaluated, checked, place_of, joined, skipped, list_shape, is_listed, byte_slot, run_after, within, form_shape, bare, operands, call_args, arguments, arguments_in, contents, members, terms, read_shape, string_shape, fault_at, offset_shape, macro_shape, template_shape, descriptor_shape, meaning_in, is_field_list, begin, field_slot, named_unit, unit_behind, offset_alone, of_bits, field_part, due_behind, elements}
-use Rattle.asl_words.specs.Meanings.{meaning_of, may_end, reading_of, slot_as, is_word_of}
+use Rattle.asl_shape.specs.Shapes.{Shaped, fine, refused, nowhere, is_given, is_empty, is_separator, inside_of, has_arguments, takes, none_empty, is_call, left_out, evaluated, checked, place_of, joined, skipped, list_shape, is_listed, byte_slot, run_after, within, form_shape, bare, operands, call_args, arguments, arguments_in, contents, members, terms, read_shape, string_shape, fault_at, offset_shape, macro_shape, template_shape, descriptor_shape, meaning_in, is_field_list, begin, field_slot, named_unit, unit_behind, offset_alone, of_bits, field_part, due_behind, elements, arranged, cases, default_after}
+use Rattle.asl_words.specs.Meanings.{meaning_of, may_end, may_be, is_branch_role, reading_of, slot_as, is_word_of}
 use Rattle.asl_shape.specs.Shapes as shapes
 use Rattle.asl_shape.specs.Symbols.{symbol_of}
 use Rattle.asl_parser.specs.declared.raw.Infix.{Infix}
 use Rattle.program_shapes.specs.Kept.{IsKept, AreArguments, EachArgument, AreMembers, EachMember}
-use Rattle.program_shapes.proofs.Fits.{Fits, IsAtMost, IsNumber, IsElement, Formed, FormedValues, FormedElements, FormedTerms}
+use Rattle.program_shapes.proofs.Fits.{Fits, IsAtMost, IsElement, FormedValues, FormedElements, FormedTerms}
 use Rattle.program_shapes.proofs.Forms.{ListFit}
 use Rattle.program_shapes.proofs.Operators.{BodyFit}
 use Rattle.program_shapes.proofs.Words.{path_ok, meaning_ok, symbol_spelled, both_true, IsRightMeaning}
 use Rattle.asl_numbers.specs.Numbers.{numbered, numbered_all}
 use Rattle.program_shapes.proofs.Plans.{PlanAs, PlansAs, PlanTakes, PlansFit, none_as, more_as, count_as}
-use Rattle.program_shapes.proofs.Evaluated.{loose, checked_fit}
+use Rattle.program_shapes.proofs.Evaluated.{Loosely, checked_fit, checked_branch}
+use Rattle.program_shapes.proofs.Branches.{AreBranches, ContentsFit}
+use Rattle.program_shapes.proofs.Followed.{branches_fit, terms_more}
 use Rattle.program_shapes.proofs.Macros.{macro_made}
 use Rattle.program_shapes.proofs.Macros.{template_fit, descriptor_fit}
-use Rattle.program_shapes.proofs.Parts.{none_in, number_fit, text_fit, string_fit, listed_fit, form_fit, symbol_fit, read_fit, item_fit, has_call}
+use Rattle.program_shapes.proofs.Parts.{none_in, number_fit, text_fit, string_fit, listed_fit, IsSymbolic, form_in, symbol_fit, read_fit, item_fit, has_call}
 
 not_true : (b : Bool) → not b ≡ true → b ≡ false
 not_true true e = absurd cc
@@ -80,7 +83,7 @@ left width slot.Measure at e = refl
 left width slot.Element at e = absurd cc
 left width _ at e = refl
 
-argument_fit : (b : Bool) (s : Slot) (inside : Around) (w : Written) → (is_empty w ≡ false → (bare s inside w).faults ≡ [] → PlanAs (Fits (loose s)) (bare s inside w).made) → (b || not (is_empty w)) ≡ true
+argument_fit : (b : Bool) (s : Slot) (inside : Around) (w : Written) → (is_empty w ≡ false → (bare s inside w).faults ≡ [] → Loosely s (bare s inside w).made) → (b || not (is_empty w)) ≡ true
     → (checked inside.width s (place_of nowhere w) (bare s inside w)).faults ≡ [] → PlanTakes b s (checked inside.width s (place_of nowhere w) (bare s inside w)).made
 argument_fit true s inside empty h t e = omit true s (evaluated inside.width s nowhere omitted).made (left inside.width s nowhere e) refl
 argument_fit false s inside empty h t e = absurd cc
@@ -288,36 +291,57 @@ next_fits Due.Comma unit place separator shape u h e = tt
 right_of : (m : Meaning) (op : Op) → m ≡ is.Operator op → IsRightMeaning m → IsRightMeaning (is.Operator op)
 right_of m op e h = subst IsRightMeaning e h
 
--- no braces stand behind a symbol
-symbol_body : (o : Infix) → body_of (symbol_of o) ≡ braces.No
-symbol_body Infix.Index = refl
-symbol_body _ = refl
+symbol_ever : (o : Infix) → IsSymbolic (symbol_of o)
+symbol_ever Infix.Index = tt
+symbol_ever _ = tt
 
-no_body : (o : Infix) → PlansAs (BodyFit (body_of (symbol_of o))) no_plans
-no_body o = subst (λ b. PlansAs (BodyFit b) no_plans) (sym (symbol_body o)) (none_as (BodyFit braces.No) refl)
+symbol_role : (o : Infix) → is_branch_role (role_of (symbol_of o)) ≡ false
+symbol_role Infix.Index = refl
+symbol_role _ = refl
+
+-- no braces stand behind a symbol
+no_body : (o : Infix) → PlansAs (BodyFit (body_of (symbol_of o))) (arranged (symbol_of o) no_plans)
+no_body Infix.Index = none_as (BodyFit braces.No) refl
+no_body _ = none_as (BodyFit braces.No) refl
+
+-- a form takes as many arguments, however it is read
+takes_as : (op : Op) (s : Slot) (ws : Writtens) → takes (parameters_of op) ws ≡ true → takes (parameters_as op s) ws ≡ true
+unfolding parameters_of
+takes_as (Op.Special Special.Buffer) slot.CaseValue none e = refl
+takes_as (Op.Special Special.Buffer) slot.CaseValue (more w ws) e = e
+takes_as (Op.Special Special.Buffer) slot.CaseMember none e = refl
+takes_as (Op.Special Special.Buffer) slot.CaseMember (more w ws) e = e
+takes_as (Op.Special Special.Buffer) _ ws e = e
+takes_as (Op.Special Special.Package) slot.CaseValue none e = refl
+takes_as (Op.Special Special.Package) slot.CaseValue (more w ws) e = e
+takes_as (Op.Special Special.Package) _ ws e = e
+takes_as _ s ws e = e
+
+may_of : (s : Slot) (inside : Bool) (m : Meaning) (op : Op) → m ≡ is.Operator op → may_be s inside m ≡ true → may_be s inside (is.Operator op) ≡ true
+may_of s inside m op e h = subst (λ m. may_be s inside m ≡ true) e h
 
 -- ---- the whole
 
 mutual
-  pub bare_fit : (s : Slot) (inside : Around) (w : Written) → IsKept w → is_separator w ≡ false → is_empty w ≡ false → (bare s inside w).faults ≡ [] → PlanAs (Fits (loose s)) (bare s inside w).made
+  pub bare_fit : (s : Slot) (inside : Around) (w : Written) → IsKept w → is_separator w ≡ false → is_empty w ≡ false → (bare s inside w).faults ≡ [] → Loosely s (bare s inside w).made
   bare_fit s inside (piece.number at n) k sep emp e = number_fit s at n e
   bare_fit s inside (piece.text at bytes) k sep emp e = text_fit s at bytes e
   bare_fit s inside (listed at ws) k sep emp e = listed_fit s at ws e
   bare_fit s inside (apply at o ws) k sep emp e =
-      symbol_fit inside.width s at (symbol_of o) (arguments_in (parameters_of (symbol_of o)) at inside ws) (symbol_spelled o) (no_body o) (λ f. each_fit (parameters_of (symbol_of o)) at inside ws k.0 k.1 f) e
+      symbol_fit inside.width s at (symbol_of o) (arguments_in (parameters_of (symbol_of o)) at inside ws) (symbol_spelled o) (symbol_ever o) (symbol_role o) (no_body o) (λ f. each_fit (parameters_of (symbol_of o)) at inside ws k.0 k.1 f) e
   bare_fit s inside (item at w args body) k sep emp e =
       let m : Meaning = meaning_of w (is_given body) in
-      let form : Op → Shaped Plan = λ o. form_shape inside.width o at (arguments (parameters_of o) at inside args) (contents (body_of o) (within o inside) at body) in
+      let form : Op → Shaped Plan = λ o. form_shape inside.width o at (arguments (parameters_as o s) at inside args) (contents (body_as o s) (within o inside) at body) in
       let offset : Shaped Plan = offset_shape (arguments offset_parameters at inside args) in
       let expanded : TextMacro → Shaped Plan = λ x. macro_shape (arguments (macro_parameters x) at inside args) in
       let template : Shaped Plan = template_shape at (contents braces.Descriptors inside at body) in
       let described : Descriptor → Shaped Plan = λ d. descriptor_shape d at (arguments (descriptor_parameters d) at inside args) (contents (descriptor_body d) inside at body) in
-      item_fit (PlanAs (Fits (loose s))) s inside.method m (has_arguments m (inside_of args)) (is_given body) at (read_shape s at w (reading_of s m (is_given args)) (call_args inside args) offset expanded template described form)
-      (λ has f. read_fit s at w m (is_given args) (call_args inside args) offset expanded template described form (meaning_ok w (is_given body)) (path_ok w)
+      item_fit (Loosely s) s inside.method m (has_arguments m (inside_of args)) (is_given body) at (read_shape s at w (reading_of s m (is_given args)) (call_args inside args) offset expanded template described form)
+      (λ may has f. read_fit s at w m (is_given args) (call_args inside args) offset expanded template described form (meaning_ok w (is_given body)) (path_ok w)
       (λ c g. calls_fit inside args k.0 (is_called m (inside_of args) has c) g)
-      (λ op is g. form_fit inside.width op at (arguments (parameters_of op) at inside args) (contents (body_of op) (within op inside) at body) (right_of m op is (meaning_ok w (is_given body)))
-      (λ f. arguments_fit (parameters_of op) at inside args k.0 (takes_of m op (inside_of args) is has) f)
-      (λ f. contents_fit (body_of op) (within op inside) at body k.1 f) g)
+      (λ op is t g. form_in s inside.method inside.width op at (arguments (parameters_as op s) at inside args) (contents (body_as op s) (within op inside) at body) (right_of m op is (meaning_ok w (is_given body))) (may_of s inside.method m op is may) t
+      (λ f. arguments_fit (parameters_as op s) at inside args k.0 (takes_as op s (inside_of args) (takes_of m op (inside_of args) is has)) f)
+      (λ f. contents_fit (body_as op s) (within op inside) at body k.1 f) g)
       (λ g. offset_fit (arguments offset_parameters at inside args))
       (λ x is g. macro_made x (arguments (macro_parameters x) at inside args).made (arguments_fit (macro_parameters x) at inside args k.0 (takes_text m x (inside_of args) is has) g))
       (λ is g. template_fit at (contents braces.Descriptors inside at body).made)
@@ -356,7 +380,7 @@ mutual
       let g = both_true (q.omittable || not (is_empty w)) (takes qs ws) t in
       (as_asked q.omittable q.slot (meaning_in w) first.made (argument_fit q.omittable s inside w (λ emp h. bare_fit s inside w k.0 k.1 emp h) g.0 f.0), each_fit qs at inside ws k.2 g.1 f.1)
 
-  contents_fit : (b : Body) (inside : Around) (at : Place) (body : Group) → AreMembers body → (contents b inside at body).faults ≡ [] → PlansAs (BodyFit b) (contents b inside at body).made
+  contents_fit : (b : Body) (inside : Around) (at : Place) (body : Group) → AreMembers body → (contents b inside at body).faults ≡ [] → ContentsFit b (contents b inside at body).made
   contents_fit braces.No inside at absent k e = none_as (BodyFit braces.No) refl
   contents_fit braces.Terms inside at absent k e = none_as (BodyFit braces.Terms) tt
   contents_fit braces.Bytes inside at absent k e = none_as (BodyFit braces.Bytes) (omega arith)
@@ -364,6 +388,8 @@ mutual
   contents_fit braces.Elements inside at absent k e = none_as (BodyFit braces.Elements) (tt, omega arith)
   contents_fit (braces.Numbers most) inside at absent k e = none_as (BodyFit (braces.Numbers most)) tt
   contents_fit braces.Descriptors inside at absent k e = none_as (BodyFit braces.Descriptors) tt
+  contents_fit braces.Cases inside at absent k e = tt
+  contents_fit braces.CaseMembers inside at absent k e = none_as AreCaseMembers tt
   contents_fit (braces.Numbers most) inside at (given ws) k e = λ m. tt
   contents_fit braces.Descriptors inside at (given ws) k e = λ m. tt
   contents_fit braces.No inside at (given ws) k e = none_as (BodyFit braces.No) refl
@@ -379,6 +405,8 @@ mutual
             let lt : shapes.count ws ≤ ones_of W64 = k.1 in
             omega (arith, all, some, lt)),
       )) e
+  contents_fit braces.Cases inside at (given ws) k e = cases_fit inside false ws k.0 e
+  contents_fit braces.CaseMembers inside at (given ws) k e = list_fit AreCaseMembers (is_listed true ws) at (members slot.CaseMember inside ws) (λ f. compared_fit inside ws k.0 f) e
 
   parts_fit : (due : Due) (unit : Option UnitName) (inside : Around) (ws : Writtens) → UnitFits unit → EachMember ws → (elements due unit inside ws).faults ≡ [] → PlansAs AreListed (elements due unit inside ws).made
   parts_fit due unit inside none u k e = none_as AreListed tt
@@ -405,11 +433,22 @@ mutual
       (λ t ts h i. (is_number 255 t h, i))
       (λ sep f. checked_fit inside.width (slot.Constant 0 255) (place_of nowhere w) (bare (slot.Constant 0 255) inside w) (λ h. bare_fit (slot.Constant 0 255) inside w k.0 sep k.1 h) f) (λ f. octets_fit inside ws k.2 f) e
 
+  compared_fit : (inside : Around) (ws : Writtens) → EachMember ws → (members slot.CaseMember inside ws).faults ≡ [] → PlansAs AreCaseMembers (members slot.CaseMember inside ws).made
+  compared_fit inside none k e = none_as AreCaseMembers tt
+  compared_fit inside (more w ws) k e =
+      skipped_fit AreCaseMembers IsCaseMember (is_separator w) (place_of nowhere w) (checked inside.width slot.CaseMember (place_of nowhere w) (bare slot.CaseMember inside w)) (members slot.CaseMember inside ws) (λ t ts h i. (h, i))
+      (λ sep f. checked_fit inside.width slot.CaseMember (place_of nowhere w) (bare slot.CaseMember inside w) (λ h. bare_fit slot.CaseMember inside w k.0 sep k.1 h) f) (λ f. compared_fit inside ws k.2 f) e
+
+  cases_fit : (inside : Around) (defaulted : Bool) (ws : Writtens) → EachMember ws → (cases inside defaulted ws).faults ≡ [] → AreBranches defaulted (cases inside defaulted ws).made
+  cases_fit inside defaulted none k e = tt
+  cases_fit inside defaulted (more w ws) k e =
+      branches_fit inside defaulted w (cases inside (default_after defaulted w) ws) k.1 (λ sep f. checked_branch inside.width defaulted (place_of nowhere w) (bare (slot.Branch defaulted) inside w) (λ h. bare_fit (slot.Branch defaulted) inside w k.0 sep k.1 h) f)
+      (λ f. cases_fit inside (default_after defaulted w) ws k.2 f) e
+
   pub terms_fit : (inside : Around) (run : Option ℕ) (ws : Writtens) → EachMember ws → (terms inside run ws).faults ≡ [] → PlansAs FormedTerms (terms inside run ws).made
   terms_fit inside run none k e = none_as FormedTerms tt
   terms_fit inside run (more w ws) k e =
-      skipped_fit FormedTerms Formed (is_separator w) (place_of nowhere w) (checked inside.width (slot.Term run) (place_of nowhere w) (bare (slot.Term run) inside w)) (terms inside (run_after run w) ws) (λ t ts h i. (h, i))
-      (λ sep f. checked_fit inside.width (slot.Term run) (place_of nowhere w) (bare (slot.Term run) inside w) (λ h. bare_fit (slot.Term run) inside w k.0 sep k.1 h) f) (λ f. terms_fit inside (run_after run w) ws k.2 f) e
+      terms_more inside run w ws (λ sep f. checked_fit inside.width (slot.Term run) (place_of nowhere w) (bare (slot.Term run) inside w) (λ h. bare_fit (slot.Term run) inside w k.0 sep k.1 h) f) (λ f. terms_fit inside (run_after run w) ws k.2 f) e
 
 -- the terms of a block
 pub in_braces : (around : Around) (body : Group) → AreMembers body → (terms around None (inside_of body)).faults ≡ [] → PlansAs FormedTerms (terms around None (inside_of body)).made

@@ -9,12 +9,18 @@ use Rattle.named_sessions.specs.Shaped.{AreFormed, AreNamed, AreShaped}
 use Rattle.named_sessions.specs.Core.{core_of}
 use Rattle.named_sessions.proofs.Main.{is_faithful}
 use Rattle.named_sessions.proofs.Terms.{formed_terms}
+use Rattle.acpi_names.specs.Errors.{name_errors, type_errors}
 use Rattle.acpi_names.specs.Terms.{are_terms}
 use Rattle.acpi_state.specs.Sessions.{present_ones}
 use Rattle.asl_meaning.specs.Declarations.{known_of, externals}
 use Rattle.aml_meaning.specs.ByteSession.{IsFaithful}
 use Rattle.aml_sessions.specs.Ready.{AreItems}
 use Rattle.asl_lower.specs.Nodes.{named_all}
+use Rattle.hidden_locals.specs.Switches.{without_switches, HaveLocals}
+use Rattle.loop_shapes.proofs.Formed.{loops_formed}
+use Rattle.loop_shapes.proofs.Names.{same_name_errors, same_type_errors}
+use Rattle.loop_shapes.proofs.Faithful.{does_unswitched}
+use Rattle.switch_checks.proofs.Silent.{have_locals}
 use Rattle.asl_fold.specs.Folds.{folded_where}
 use Rattle.asl_fold.proofs.Asked.{where_shaped, where_name_errors, where_type_errors}
 use Rattle.asl_lower.proofs.Named.{same_named}
@@ -29,20 +35,24 @@ use Rattle.asl_shape.specs.Forms.{errors_at, args_of, terms_of}
 use Rattle.program_shapes.specs.Kept.{IsKeptSource}
 use Rattle.program_shapes.proofs.Lists.{plans_laid}
 use Rattle.program_shapes.proofs.Laid.{terms_laid}
-use Rattle.program_shapes.specs.Sources.{terms_in, layouts_in, fields_in, width_in, table_in, IsRight, IsTableOf}
+use Rattle.program_shapes.specs.Sources.{terms_in, layouts_in, fields_in, width_in, lowered_in, table_in, IsRight, IsTableOf}
 use Rattle.program_shapes.proofs.Folded.{does_unfolded}
 use Rattle.program_shapes.proofs.Blocks.{terms_as, room_in}
 use Rattle.program_shapes.proofs.Headers.{HaveRoom}
 
 -- its terms are formed
-pub terms_are_formed : (items : List Raw) → errors_at items ≡ [] → IsKeptSource (writtens items) → AreFormed AreNamed (Unit {0}) (terms_in items)
+pub terms_are_formed : (items : List Raw) → errors_at items ≡ [] → IsKeptSource (writtens items) → AreFormed AreNamed (Unit {0}) (Unit {0}) (terms_in items)
 unfolding errors_at
 terms_are_formed items e k = terms_as (writtens items) e k 0
 
--- and, with their symbols named, shaped where nothing is wrong with the lists of fields
-pub core_is_shaped : (items : List Raw) → errors_at items ≡ [] → layouts_in items ≡ [] → IsKeptSource (writtens items) → AreShaped (named_all (terms_in items))
+-- and laid, where nothing is wrong with the lists of fields
+terms_are_laid : (items : List Raw) → errors_at items ≡ [] → layouts_in items ≡ [] → IsKeptSource (writtens items) → AreFormed (AreItems 0) (Unit {0}) (Unit {0}) (terms_in items)
 unfolding errors_at
-core_is_shaped items e l k = all_named (AreItems 0) (terms_in items) (terms_laid (Unit {0}) (terms_in items) (terms_as (writtens items) e k 0) (plans_laid 0 (terms_of (writtens items)) l))
+terms_are_laid items e l k = terms_laid (Unit {0}) (Unit {0}) (terms_in items) (terms_as (writtens items) e k 0) (plans_laid 0 (terms_of (writtens items)) l)
+
+-- and with loops for its Switches and its symbols named, shaped
+pub core_is_shaped : (items : List Raw) → errors_at items ≡ [] → layouts_in items ≡ [] → IsKeptSource (writtens items) → AreShaped (named_all (without_switches (terms_in items)))
+core_is_shaped items e l k = all_named (AreItems 0) ⊥ (without_switches (terms_in items)) (loops_formed (AreItems 0) (Unit {0}) (Unit {0}) (terms_in items) (terms_are_laid items e l k))
 
 -- what does as a program in which symbols are named does as the program
 lowered_faithful : (width : Width) (program : Trees) (bytes : List ℕ) → are_terms program ≡ true → IsFaithful width (known_of (named_all program)) (externals (named_all program)) (named_all program) bytes
@@ -62,17 +72,24 @@ does_as fold short shorten items right kept within =
     let fields = fields_in items in
     let width = width_in items in
     let program = terms_in items in
-    let named = named_all program in
-    let core = folded_where fold width named in
+    let loops = without_switches program in
+    let named = named_all loops in
+    let core = lowered_in fold items in
     let content = encoded_all width short (core_of shorten core) in
     let size = header_length + length content in
     let header = header_with fields size (checksum_of (header_with fields size 0 ++ content)) in
     let small : length content ≤ 16777216 = omega (arith, within, length-append header content) in
-    let terms : are_terms program ≡ true = formed_terms AreNamed (Unit {0}) program (terms_are_formed items right.form kept) in
+    let formed : AreFormed AreNamed (Unit {0}) (Unit {0}) program = terms_are_formed items right.form kept in
+    let terms : are_terms loops ≡ true = formed_terms AreNamed (Unit {0}) ⊥ loops (loops_formed AreNamed (Unit {0}) (Unit {0}) program formed) in
+    let locals : HaveLocals program = have_locals program (terms_of (writtens items)) right.locals in
+    let names : name_errors loops ≡ [] = same_name_errors AreNamed (Unit {0}) (Unit {0}) program formed ∙ right.names in
+    let counts : type_errors loops ≡ [] = same_type_errors AreNamed (Unit {0}) (Unit {0}) program formed ∙ right.counts in
     let room : HaveRoom (args_of (writtens items)) = room_in (writtens items) right.form kept in
     let signature : length fields.signature ≡ 4 = room.signature in
+    let table = table_in fold short shorten items in
     record {
       header = is_header fields content signature (omega (arith, small)) (mod_below (number_of (plan_at (args_of (writtens items)) 5)) 4294967296 (omega arith));
-      faithful = lowered_faithful width program (table_in fold short shorten items) terms (does_unfolded fold width named (table_in fold short shorten items)
-          (is_faithful shorten width short core (table_in fold short shorten items) (where_shaped fold width named (core_is_shaped items right.form right.layouts kept)) (where_name_errors fold width named ∙ no_name_errors program terms right.names) (where_type_errors fold width named ∙ no_type_errors program terms right.counts) (width_is fields content signature) (omega (arith, small)) (definition_is fields content signature (omega (arith, small)))));
+      faithful = does_unswitched AreNamed (Unit {0}) (Unit {0}) program formed locals width table
+          (lowered_faithful width loops table terms (does_unfolded fold width named table
+          (is_faithful shorten width short core table (where_shaped fold width named (core_is_shaped items right.form right.layouts kept)) (where_name_errors fold width named ∙ no_name_errors loops terms names) (where_type_errors fold width named ∙ no_type_errors loops terms counts) (width_is fields content signature) (omega (arith, small)) (definition_is fields content signature (omega (arith, small))))));
     }

@@ -133,6 +133,9 @@ module _ (files : ℕ) where
   form_within here (Op.Control Control.ElseIf) (tree test no_trees) body h a b = (a.0, b)
   form_within here (Op.Control Control.Else) no_trees body h a b = b
   form_within here (Op.Control Control.While) (tree test no_trees) body h a b = (a.0, b)
+  form_within here (Op.Control Control.Switch) (tree value no_trees) cases h a b = (a.0, b)
+  form_within here (Op.Control Control.Case) (tree value no_trees) body h a b = (a.0, b)
+  form_within here (Op.Control Control.Default) no_trees body h a b = b
   form_within here (Op.Control Control.Break) no_trees no_trees h a b = tt
   form_within here (Op.Control Control.Continue) no_trees no_trees h a b = tt
   form_within here (Op.Literal literal) no_trees no_trees h a b = tt
@@ -153,7 +156,7 @@ module _ (files : ℕ) where
     numbered_in : (at : At) (next : ℕ) (p : Plan) → IsIn files at → PlanWithin files p → IsWithin files (numbered at next p)
     numbered_in at next (an_integer number) h k = tt
     numbered_in at next (a_text bytes) h k = tt
-    numbered_in at next (a_fill bytes) h k = tt
+    numbered_in at next (a_fill bytes named) h k = tt
     numbered_in at next (a_word word) h k = tt
     numbered_in at next (a_local index) h k = tt
     numbered_in at next (an_arg index) h k = tt

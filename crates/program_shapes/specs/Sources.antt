@@ -11,6 +11,7 @@ use Rattle.acpi_names.specs.Errors.{name_errors, type_errors}
 use Rattle.named_sessions.specs.Core.{core_of}
 use Rattle.asl_lower.specs.Nodes.{named_all}
 use Rattle.asl_fold.specs.Folds.{folded_where}
+use Rattle.hidden_locals.specs.Switches.{without_switches}
 use Rattle.asl_parser.specs.declared.raw.Raw.{Raw}
 use Rattle.asl_parser.specs.Written.{writtens}
 use Rattle.asl_shape.specs.Plans.{Plans, plan_at, text_of, number_of}
@@ -22,6 +23,9 @@ use Rattle.field_checks.specs.Lists.{all_errors}
 use Rattle.region_checks.specs.Regions.{region_errors}
 use Rattle.type_checks.specs.Types.{wrong_types}
 use Rattle.type_checks.specs.Sizes.{long_lists}
+use Rattle.switch_checks.specs.Repeats.{repeated_values}
+use Rattle.switch_checks.specs.Locals.{few_locals}
+use Rattle.name_notes.specs.Notes.{name_notes}
 
 -- its terms, each node with its number
 abbrev pub terms_in : List Raw → Trees
@@ -64,13 +68,29 @@ types_in items = wrong_types (terms_in items) (terms_of (writtens items))
 abbrev pub sizes_in : List Raw → List Message
 sizes_in items = long_lists (width_in items) (terms_of (writtens items))
 
--- its table: the header, and the bytes of its terms with their symbols named, their constants folded and their names spelled; whether constants are
--- folded, whether 0, 1 and all ones have a byte of their own, and whether names are shortened, is the caller's choice
+-- the values of its Cases that an earlier one of their Switch has
+abbrev pub values_in : List Raw → List Message
+values_in items = repeated_values (width_in items) (terms_of (writtens items))
+
+-- its Switches for which too few Locals are free
+abbrev pub locals_in : List Raw → List Message
+locals_in items = few_locals (terms_in items) (terms_of (writtens items))
+
+-- the notes on its names
+abbrev pub notes_in : List Raw → List Message
+notes_in items = name_notes (terms_in items)
+
+-- the program's core, before its names are spelled: loops stand for its Switches, its symbols are named, and its constants are folded where that is
+-- asked for
+abbrev pub lowered_in : Bool → List Raw → Trees
+lowered_in fold items = folded_where fold (width_in items) (named_all (without_switches (terms_in items)))
+
+-- its table: the header, and the bytes of its core with its names spelled; whether constants are folded, whether 0, 1 and all ones have a byte of their own, and whether names are shortened, is the caller's choice
 abbrev pub table_in : Bool → Bool → Bool → List Raw → List ℕ
-table_in fold short shorten items = table_bytes (fields_in items) (encoded_all (width_in items) short (core_of shorten (folded_where fold (width_in items) (named_all (terms_in items)))))
+table_in fold short shorten items = table_bytes (fields_in items) (encoded_all (width_in items) short (core_of shorten (lowered_in fold items)))
 
 -- nothing is wrong with its form, its names, how many arguments its calls have, its statements, the lists of its fields and their accesses,
--- the kinds of its arguments, and the lengths of its lists
+-- the kinds of its arguments, the lengths of its lists, the values of its Cases, and the Locals that are free for its Switches
 pub record IsRight (items : List Raw) : Type 0 where
   pub form : errors_at items ≡ []
   pub names : name_errors (terms_in items) ≡ []
@@ -80,6 +100,8 @@ pub record IsRight (items : List Raw) : Type 0 where
   pub regions : regions_in items ≡ []
   pub types : types_in items ≡ []
   pub sizes : sizes_in items ≡ []
+  pub values : values_in items ≡ []
+  pub locals : locals_in items ≡ []
 
 -- for every bound, answers and calls that may be asked, whatever other tables are there, every session over the bytes is the program's at
 -- this width

@@ -92,6 +92,9 @@ module _ (width : Width) where
   measured_form here (Op.Control Control.ElseIf) (tree test no_trees) body given plans = refl
   measured_form here (Op.Control Control.Else) no_trees body given plans = refl
   measured_form here (Op.Control Control.While) (tree test no_trees) body given plans = refl
+  measured_form here (Op.Control Control.Switch) (tree value no_trees) cases given plans = refl
+  measured_form here (Op.Control Control.Case) (tree value no_trees) body given plans = refl
+  measured_form here (Op.Control Control.Default) no_trees body given plans = refl
   measured_form here (Op.Control Control.Break) no_trees no_trees given plans = refl
   measured_form here (Op.Control Control.Continue) no_trees no_trees given plans = refl
   measured_form here (Op.Literal literal) no_trees no_trees given plans = refl

@@ -150,7 +150,7 @@ module _ (width : Width) where
       by_layer : (f : D.Term-F Term Node) → t ≡ D.roll-Term f → measures width (tree_of at t) p ≡ []
       by_layer (D.Term-F.Integer n) e = ap said (e ∙ V.rolls-Integer n)
       by_layer (D.Term-F.Text text) e = ap said (e ∙ V.rolls-Text text)
-      by_layer (D.Term-F.Fill bytes) e = ap said (e ∙ V.rolls-Fill bytes)
+      by_layer (D.Term-F.Fill bytes named) e = ap said (e ∙ V.rolls-Fill bytes named)
       by_layer (D.Term-F.Word word) e = ap said (e ∙ V.rolls-Word word)
       by_layer (D.Term-F.Local n) e = ap said (e ∙ V.rolls-Local n)
       by_layer (D.Term-F.Arg n) e = ap said (e ∙ V.rolls-Arg n)

@@ -1,7 +1,7 @@
 -- Where the fields of a block stand.
 use Rattle.std.specs.Prelude.{ℕ}
 use Rattle.asl_parser.specs.Within.{IsIn}
-use Rattle.asl_tree.specs.Tree.{Tree, Method, Container', Scope, Trees, no_trees, tree, Field, BankField, If, ElseIf, Else, While}
+use Rattle.asl_tree.specs.Tree.{Tree, Method, Container', Scope, Trees, no_trees, tree, Field, BankField, If, ElseIf, Else, While, Switch, Case, Default}
 
 -- the node of each field of a region, at any depth, stands in one of so many files
 abbrev mutual
@@ -15,6 +15,9 @@ abbrev mutual
   IsFieldWithin files (ElseIf test body) = AreFieldsWithin files body
   IsFieldWithin files (Else body) = AreFieldsWithin files body
   IsFieldWithin files (While test body) = AreFieldsWithin files body
+  IsFieldWithin files (Switch value cases) = AreFieldsWithin files cases
+  IsFieldWithin files (Case value body) = AreFieldsWithin files body
+  IsFieldWithin files (Default body) = AreFieldsWithin files body
   IsFieldWithin files t = Unit {0}
 
   pub AreFieldsWithin : ℕ → Trees → Type 0

@@ -1,37 +1,34 @@
 -- A source's core has as many pieces as places.
-use Rattle.std.proofs.Common.{◌≡◌, ℕ, suc, ◌+◌, Bool, true, false, List, [], length, refl, sym, ap, ◌∙◌, arith, length-append}
-use Rattle.std.specs.Prelude.{nat_le, ◌&&◌, if◌then◌else◌}
+use Rattle.std.proofs.Common.{◌≡◌, ℕ, suc, ◌+◌, Bool, true, false, List, [], ◌∷◌, length, Option, Some, None, refl, sym, ap, ◌∙◌, arith, length-append}
+use Rattle.std.specs.Prelude.{nat_le, ◌||◌, if◌then◌else◌}
 use Rattle.iasl_messages.specs.declared.place.Place.{Place}
 use Rattle.acpi_values.specs.Paths.{AbsolutePath}
 use Rattle.acpi_values.specs.declared.operator.Plain.{Plain}
 use Rattle.acpi_values.specs.declared.width.Width.{Width}
-use Rattle.acpi_values.specs.Operators.{row_of}
 use Rattle.asl_tree.specs.declared.term.Op.{Op}
 use Rattle.asl_tree.specs.declared.term.Declaration.TheVariants as Declaration
 use Rattle.asl_tree.specs.declared.term.Control.TheVariants as Control
-use Rattle.asl_tree.specs.declared.term.Symbolic.TheVariants as Symbolic
-use Rattle.asl_tree.specs.Symbols.{takes_target}
-use Rattle.asl_tree.specs.Tree.{At, Tree, Integer, Use, Apply, Package, VarPackage, Method, Container', Scope, If, ElseIf, Else, While, Trees, no_trees, tree}
-use Rattle.asl_tree.specs.View.{fits, form, counted}
+use Rattle.asl_tree.specs.Tree.{At, Tree, Integer, Use, Apply, Package, VarPackage, Method, Container', Scope, If, ElseIf, Else, While, Break, Continue, Switch, Case, Default, Trees, no_trees, tree}
+use Rattle.asl_tree.specs.View.{form, counted}
 use Rattle.asl_tree.specs.Names.{place_of, is_known}
 use Rattle.asl_meaning.specs.Declarations.{ExternalType, known_of}
-use Rattle.term_places.specs.Places.{holds_terms}
-use Rattle.acpi_names.specs.Parts.{are}
 use Rattle.acpi_names.specs.Spelled.{inner_scope, spelled, spelled_all}
-use Rattle.acpi_names.specs.Walked.{OfForm}
 use Rattle.named_sessions.specs.Core.{says_of, core_of}
 use Rattle.asl_fold.specs.declared.fate.Fate.{Fate}
 use Rattle.asl_fold.specs.Folds.{fate_of, replaced, reduced, sized, folded, folded_args, folded_all, folded_where}
-use Rattle.asl_lower.specs.declared.kind.Kind.{Kind}
-use Rattle.asl_lower.specs.Kinds.{flagged, tree_kind, shape_kind}
 use Rattle.asl_lower.specs.Nodes.{before, named, named_all}
-use Rattle.asl_lower.proofs.KindRows.{form_kind}
 use Rattle.asl_shape.specs.Plans.{Plan, a_form, Plans, no_plans, plan}
-use Rattle.asl_numbers.specs.Numbers.{inside, nodes, numbered, numbered_all}
-use Rattle.program_shapes.proofs.Fits.{Formed, FormedTerms}
+use Rattle.asl_numbers.specs.Numbers.{inside as within, nodes, numbered, numbered_all}
+use Rattle.hidden_locals.specs.Crossing.{has_continue, have_continue}
+use Rattle.hidden_locals.specs.Turns.{Plan as Turns, value_local, then_trees, else_of, loop_of, loop_terms, continue_terms}
+use Rattle.hidden_locals.specs.Switches.{plan_of, chain_of, unswitched_all, links, default_link, without_switches}
+use Rattle.switch_loops.specs.declared.kind.Kind.{Kind}
+use Rattle.switch_loops.specs.Places.{Following, chain_places, else_places, turn_places, loop_places, continue_places, body_inside}
+use Rattle.switch_loops.proofs.KindRows.{tree_kind}
+use Rattle.program_shapes.proofs.Fits.{Formed, FormedTerms, FormedCases}
 use Rattle.aml_writer.specs.Cuts.{cut, cut_all}
-use Rattle.aml_writer.proofs.Cuts.{holds, form_holds}
-use Rattle.source_pieces.specs.Places.{form_at, core_places_at, core_places}
+use Rattle.source_pieces.specs.Places.{is_left, are_left, form_at, case_at, core_places_at, core_places_in, cases_in, core_places}
+use Rattle.source_pieces.proofs.Forms.{plain_kind, form_left, not_among, case_left}
 
 -- a term, and those of the term lists in it
 abbrev mutual
@@ -167,89 +164,169 @@ mutual
   named_counts no_trees = refl
   named_counts (tree t ts) = before_count (named t) (named_all ts) ∙ ap (λ n. n + all_cuts (named_all ts)) (named_count t) ∙ ap (λ n. lows t + n) (named_counts ts)
 
+-- ---- loops stand for Switches
+
+then_lows : (ts us : Trees) → all_lows (then_trees ts us) ≡ all_lows ts + all_lows us
+then_lows no_trees us = omega arith
+then_lows (tree t ts) us = let more = then_lows ts us in omega (arith, more)
+
+turn_lows : (value l : Tree) (chain : Trees) (place : Place) (places : List Place) → all_lows chain ≡ length places → lows (loop_of value l chain) ≡ length (turn_places place places)
+turn_lows value l chain place places e = ap (λ n. suc (1 + n)) (then_lows chain (tree Break no_trees) ∙ ap (λ n. n + 1) e ∙ sym (length-append places (place ∷ []))) ∙ omega arith
+
+loop_lows : (turns : Turns) (left inside : Bool) (loop : Tree) (rest : Trees) (place : Place) (turn : List Place) → lows loop ≡ length turn → all_lows (loop_terms turns left inside loop rest) ≡ length (loop_places left inside place turn) + all_lows rest
+loop_lows turns false inside loop rest place turn e = ap (λ n. n + all_lows rest) e
+loop_lows turns true false loop rest place turn e = let longer = length-append turn (place ∷ place ∷ place ∷ []) in omega (arith, e, longer)
+loop_lows turns true true loop rest place turn e = let longer = length-append turn (place ∷ place ∷ []) in omega (arith, e, longer)
+
+continue_lows : (turns : Turns) (inside : Bool) (rest : Trees) (place : Place) → all_lows (continue_terms turns inside rest) ≡ length (continue_places inside place) + all_lows rest
+continue_lows turns false rest place = refl
+continue_lows turns true rest place = omega arith
+
+-- as many terms as places
+abbrev AsMany : Option Trees → Following → Type 0
+AsMany None None = Unit {0}
+AsMany (Some terms) (Some link) = all_lows terms ≡ length link.1
+AsMany _ _ = ⊥
+
+chain_lows : (o : Option Trees) (f : Following) → AsMany o f → all_lows (chain_of o) ≡ length (chain_places f)
+chain_lows None None h = refl
+chain_lows None (Some link) h = absurd h
+chain_lows (Some terms) None h = absurd h
+chain_lows (Some terms) (Some link) h = h
+
+else_lows : (o : Option Trees) (f : Following) → AsMany o f → all_lows (else_of o) ≡ length (else_places f)
+else_lows None None h = refl
+else_lows None (Some link) h = absurd h
+else_lows (Some terms) None h = absurd h
+else_lows (Some terms) (Some link) h = omega (arith, h)
+
+-- what stands for terms, and for the Cases of a Switch
+abbrev AreTurned : Trees → (Bool → List Place) → Type 0
+AreTurned terms places = (turns : Turns) (level : ℕ) (inside : Bool) → all_lows (unswitched_all turns level inside terms) ≡ length (places inside)
+
+abbrev AreLinked : Trees → Following → Type 0
+AreLinked cases following = (turns : Turns) (level : ℕ) → AsMany (links turns level cases (default_link turns level cases)) following
+
+alone_lows : (t : Tree) (turns : Turns) (level : ℕ) (inside : Bool) (rest : Trees) → tree_kind t ≡ Kind.Other → all_lows (unswitched_all turns level inside (tree t rest)) ≡ 1 + all_lows (unswitched_all turns level inside rest)
+alone_lows (Method at name flags body) turns level inside rest e = absurd cc
+alone_lows (Container' kind at name body) turns level inside rest e = absurd cc
+alone_lows (Scope here at name body) turns level inside rest e = absurd cc
+alone_lows (If test body) turns level inside rest e = absurd cc
+alone_lows (ElseIf test body) turns level inside rest e = absurd cc
+alone_lows (Else body) turns level inside rest e = absurd cc
+alone_lows (While test body) turns level inside rest e = absurd cc
+alone_lows (Switch value cases) turns level inside rest e = absurd cc
+alone_lows (Case value body) turns level inside rest e = absurd cc
+alone_lows (Default body) turns level inside rest e = absurd cc
+alone_lows Continue turns level inside rest e = absurd cc
+alone_lows t turns level inside rest e = refl
+
+-- a form before others
+module _ (turns : Turns) (level : ℕ) (inside : Bool) (rest : Trees) (left : Bool) (place : Place) (inner : Bool → List Place) (following : Following) where
+  abbrev more : ℕ
+  more = all_lows (unswitched_all turns level inside rest)
+
+  pub form_count : (here : At) (op : Op) (args body : Trees) → Formed (form here op args body) → (FormedTerms body → AreTurned body inner) → (FormedCases body → have_continue body ≡ left) → (FormedCases body → AreLinked body following)
+      → all_lows (unswitched_all turns level inside (tree (form here op args body) rest)) ≡ length (form_at op inside left place (inner (body_inside op inside)) (chain_places following)) + more
+  form_count here (Op.Declaration Declaration.Method) (tree (Use at name) (tree (Integer arity) no_trees)) body h i k l = ap (λ n. suc n + more) (i h.2 (plan_of body) 0 false)
+  form_count here (Op.Declaration Declaration.Method) _ body h i k l = absurd h
+  form_count here (Op.Declaration Declaration.Device) (tree (Use at name) no_trees) body h i k l = ap (λ n. suc n + more) (i h.2 turns level inside)
+  form_count here (Op.Declaration Declaration.Device) _ body h i k l = absurd h
+  form_count here (Op.Declaration Declaration.ThermalZone) (tree (Use at name) no_trees) body h i k l = ap (λ n. suc n + more) (i h.2 turns level inside)
+  form_count here (Op.Declaration Declaration.ThermalZone) _ body h i k l = absurd h
+  form_count here (Op.Declaration Declaration.PowerResource) (tree (Use at name) (tree (Integer power) (tree (Integer order) no_trees))) body h i k l = ap (λ n. suc n + more) (i h.2 turns level inside)
+  form_count here (Op.Declaration Declaration.PowerResource) _ body h i k l = absurd h
+  form_count here (Op.Declaration Declaration.Processor) (tree (Use at name) (tree (Integer number) (tree (Integer address) (tree (Integer size) no_trees)))) body h i k l = ap (λ n. suc n + more) (i h.2 turns level inside)
+  form_count here (Op.Declaration Declaration.Processor) _ body h i k l = absurd h
+  form_count here (Op.Declaration Declaration.Scope) (tree (Use at name) no_trees) body h i k l = ap (λ n. suc n + more) (i h.1 turns level inside)
+  form_count here (Op.Declaration Declaration.Scope) _ body h i k l = absurd h
+  form_count here (Op.Control Control.If) (tree test no_trees) body h i k l = ap (λ n. suc n + more) (i h.2 turns level inside)
+  form_count here (Op.Control Control.If) _ body h i k l = absurd h
+  form_count here (Op.Control Control.ElseIf) (tree test no_trees) body h i k l = ap (λ n. suc (suc n) + more) (i h.3 turns level inside)
+  form_count here (Op.Control Control.ElseIf) _ body h i k l = absurd h
+  form_count here (Op.Control Control.Else) no_trees body h i k l = ap (λ n. suc n + more) (i h turns level inside)
+  form_count here (Op.Control Control.Else) _ body h i k l = absurd h
+  form_count here (Op.Control Control.While) (tree test no_trees) body h i k l = ap (λ n. suc n + more) (i h.2 turns level false)
+  form_count here (Op.Control Control.While) _ body h i k l = absurd h
+  form_count here (Op.Control Control.Switch) (tree value no_trees) body h i k l =
+      let chain = chain_of (links turns level body (default_link turns level body)) in
+      let turn = turn_places place (chain_places following) in
+      loop_lows turns (have_continue body) inside (loop_of value (value_local turns level) chain) (unswitched_all turns level inside rest) place turn
+      (turn_lows value (value_local turns level) chain place (chain_places following) (chain_lows (links turns level body (default_link turns level body)) following (l h.3 turns level)))
+      ∙ ap (λ b. length (loop_places b inside place turn) + more) (k h.3)
+  form_count here (Op.Control Control.Switch) _ body h i k l = absurd h
+  form_count here (Op.Control Control.Case) (tree value no_trees) body h i k l = absurd h
+  form_count here (Op.Control Control.Case) _ body h i k l = absurd h
+  form_count here (Op.Control Control.Default) no_trees body h i k l = absurd h
+  form_count here (Op.Control Control.Default) _ body h i k l = absurd h
+  form_count here (Op.Control Control.Continue) no_trees no_trees h i k l = continue_lows turns inside (unswitched_all turns level inside rest) place
+  form_count here (Op.Control Control.Continue) _ _ h i k l = absurd h
+  form_count here op args body h i k l = alone_lows (form here op args body) turns level inside rest (plain_kind here op args body refl refl)
+
+case_count : (turns : Turns) (level : ℕ) (place : Place) (inner : Bool → List Place) (following : Following) (here : At) (op : Op) (args body cases : Trees) → FormedCases (tree (form here op args body) cases) → (FormedTerms body → AreTurned body inner)
+    → (FormedCases cases → AreLinked cases following) → AsMany (links turns level (tree (form here op args body) cases) (default_link turns level (tree (form here op args body) cases))) (case_at op place (inner true) following)
+case_count turns level place inner following here (Op.Control Control.Case) (tree value no_trees) body cases h i k =
+    let behind = links turns level cases (default_link turns level cases) in
+    ap (λ n. suc n + all_lows (else_of behind)) (i h.1 turns (suc level) true) ∙ ap (λ n. suc (length (inner true)) + n) (else_lows behind following (k h.2 turns level)) ∙ sym (length-append (place ∷ inner true) (else_places following))
+case_count turns level place inner following here (Op.Control Control.Case) _ body cases h i k = absurd h
+case_count turns level place inner following here (Op.Control Control.Default) no_trees body no_trees h i k = i h turns (suc level) true
+case_count turns level place inner following here (Op.Control Control.Default) no_trees body (tree t ts) h i k = absurd h
+case_count turns level place inner following here (Op.Control Control.Default) _ body cases h i k = absurd h
+case_count turns level place inner following here op args body cases h i k = absurd (not_among here op args body cases refl h)
+
 -- ---- formed terms by their plans
 
--- a form around so many
-abbrev form_lows : Op → ℕ → ℕ
-form_lows (Op.Control Control.ElseIf) inner = suc (suc inner)
-form_lows op inner = suc (if holds_terms op then inner else 0)
+mutual
+  unfolding numbered is_left
 
-alone_lows : (t : Tree) → holds t ≡ false → (tree_kind t ≡ Kind.ElseIf → ⊥) → lows t ≡ 1
-alone_lows (Method at name flags body) e never = absurd cc
-alone_lows (Container' kind at name body) e never = absurd cc
-alone_lows (Scope here at name body) e never = absurd cc
-alone_lows (If test body) e never = absurd cc
-alone_lows (ElseIf test body) e never = absurd (never refl)
-alone_lows (Else body) e never = absurd cc
-alone_lows (While test body) e never = absurd cc
-alone_lows t e never = refl
+  plan_left : (at : At) (next : ℕ) (p : Plan) → Formed (numbered at next p) → has_continue (numbered at next p) ≡ is_left p
+  plan_left at next (a_form op args body) h =
+      form_left at op (numbered_all next args) (numbered_all (next + nodes args) body) (are_left body) h (λ k. plans_left (next + nodes args) body k) (λ k. cases_left (next + nodes args) body k)
+  plan_left at next p h = refl
 
-no_flag : (a b : Bool) (op : Plain) → flagged a (flagged b (Kind.Operated op)) ≡ Kind.ElseIf → ⊥
-no_flag true true op e = absurd cc
-no_flag true false op e = absurd cc
-no_flag false b op e = absurd cc
+  plans_left : (next : ℕ) (ps : Plans) → FormedTerms (numbered_all next ps) → have_continue (numbered_all next ps) ≡ are_left ps
+  plans_left next no_plans h = refl
+  plans_left next (plan place p ps) h =
+      ap (λ b. b || have_continue (numbered_all (suc (next + within p)) ps)) (plan_left (record { id = next; place = place }) (suc next) p h.0) ∙ ap (λ b. is_left p || b) (plans_left (suc (next + within p)) ps h.2)
 
--- a form of another kind of term
-no_else_if : (op : Op) (args body : Trees) → form_lows op 0 ≡ 1 → shape_kind (OfForm op args body) ≡ Kind.ElseIf → ⊥
-no_else_if (Op.Control Control.ElseIf) args body e k = absurd (omega (arith, e))
-no_else_if (Op.Control Control.Else) no_trees body e k = absurd cc
-no_else_if (Op.Control Control.Else) (tree t ts) body e k = absurd cc
-no_else_if (Op.Symbolic (Symbolic.Operator op)) args body e k = no_flag (are 0 body && fits (row_of op).operands args) (takes_target op) op k
-no_else_if op args body e k = absurd cc
-
-form_count : (here : At) (op : Op) (args body : Trees) (inner : ℕ) → Formed (form here op args body) → (FormedTerms body → all_lows body ≡ inner) → lows (form here op args body) ≡ form_lows op inner
-form_count here (Op.Declaration Declaration.Method) (tree (Use at name) (tree (Integer arity) no_trees)) body inner h k = ap suc (k h.2)
-form_count here (Op.Declaration Declaration.Method) _ body inner h k = absurd h
-form_count here (Op.Declaration Declaration.Device) (tree (Use at name) no_trees) body inner h k = ap suc (k h.2)
-form_count here (Op.Declaration Declaration.Device) _ body inner h k = absurd h
-form_count here (Op.Declaration Declaration.ThermalZone) (tree (Use at name) no_trees) body inner h k = ap suc (k h.2)
-form_count here (Op.Declaration Declaration.ThermalZone) _ body inner h k = absurd h
-form_count here (Op.Declaration Declaration.PowerResource) (tree (Use at name) (tree (Integer level) (tree (Integer order) no_trees))) body inner h k = ap suc (k h.2)
-form_count here (Op.Declaration Declaration.PowerResource) _ body inner h k = absurd h
-form_count here (Op.Declaration Declaration.Processor) (tree (Use at name) (tree (Integer number) (tree (Integer address) (tree (Integer size) no_trees)))) body inner h k = ap suc (k h.2)
-form_count here (Op.Declaration Declaration.Processor) _ body inner h k = absurd h
-form_count here (Op.Declaration Declaration.Scope) (tree (Use at name) no_trees) body inner h k = ap suc (k h.1)
-form_count here (Op.Declaration Declaration.Scope) _ body inner h k = absurd h
-form_count here (Op.Control Control.If) (tree test no_trees) body inner h k = ap suc (k h.2)
-form_count here (Op.Control Control.If) _ body inner h k = absurd h
-form_count here (Op.Control Control.ElseIf) (tree test no_trees) body inner h k = ap (λ n. suc (suc n)) (k h.3)
-form_count here (Op.Control Control.ElseIf) _ body inner h k = absurd h
-form_count here (Op.Control Control.Else) no_trees body inner h k = ap suc (k h)
-form_count here (Op.Control Control.Else) _ body inner h k = absurd h
-form_count here (Op.Control Control.While) (tree test no_trees) body inner h k = ap suc (k h.2)
-form_count here (Op.Control Control.While) _ body inner h k = absurd h
-form_count here op args body inner h k = alone_lows (form here op args body) (form_holds here op args body refl) (λ e. no_else_if op args body refl (sym (form_kind here op args body) ∙ e))
-
-form_planned : (here : At) (op : Op) (next : ℕ) (args : Plans) (body : Trees) (place : Place) (inner : List Place) → Formed (form here op (numbered_all next args) body) → form_lows op (length inner) ≡ length (form_at op args place inner)
-unfolding numbered_all
-form_planned here (Op.Control Control.ElseIf) next no_plans body place inner h = absurd h
-form_planned here (Op.Control Control.ElseIf) next (plan at test no_plans) body place inner h = refl
-form_planned here (Op.Control Control.ElseIf) next (plan at test (plan at' p ps)) body place inner h = absurd h
-form_planned here op next args body place inner h = by_list (holds_terms op)
-  where
-    by_list : (c : Bool) → suc (if c then length inner else 0) ≡ suc (length (if c then inner else []))
-    by_list true = refl
-    by_list false = refl
+  cases_left : (next : ℕ) (ps : Plans) → FormedCases (numbered_all next ps) → have_continue (numbered_all next ps) ≡ are_left ps
+  cases_left next no_plans h = refl
+  cases_left next (plan place (a_form op args body) ps) h =
+      let behind = suc (next + (nodes args + nodes body)) in
+      case_left (record { id = next; place = place }) op (numbered_all (suc next) args) (numbered_all (suc next + nodes args) body) (numbered_all behind ps) (are_left body) (are_left ps) h
+      (λ k. plans_left (suc next + nodes args) body k) (λ k. cases_left behind ps k)
+  cases_left next (plan place p ps) h = absurd h
 
 mutual
   unfolding numbered core_places_at
 
-  plan_count : (place : Place) (at : At) (next : ℕ) (p : Plan) → Formed (numbered at next p) → lows (numbered at next p) ≡ length (core_places_at place p)
-  plan_count place at next (a_form op args body) h =
-      form_count at op (numbered_all next args) (numbered_all (next + nodes args) body) (length (core_places body)) h (λ k. plans_count (next + nodes args) body k)
-      ∙ form_planned at op next args (numbered_all (next + nodes args) body) place (core_places body) h
-  plan_count place at next p h = refl
+  plan_count : (turns : Turns) (level : ℕ) (inside : Bool) (rest : Trees) (place : Place) (at : At) (next : ℕ) (p : Plan) → Formed (numbered at next p)
+      → all_lows (unswitched_all turns level inside (tree (numbered at next p) rest)) ≡ length (core_places_at inside place p) + all_lows (unswitched_all turns level inside rest)
+  plan_count turns level inside rest place at next (a_form op args body) h =
+      form_count turns level inside rest (are_left body) place (λ inside. core_places_in inside body) (cases_in body) at op (numbered_all next args) (numbered_all (next + nodes args) body) h
+      (λ k. plans_count (next + nodes args) body k) (λ k. cases_left (next + nodes args) body k) (λ k. cases_count (next + nodes args) body k)
+  plan_count turns level inside rest place at next p h = refl
 
-  plans_count : (next : ℕ) (ps : Plans) → FormedTerms (numbered_all next ps) → all_lows (numbered_all next ps) ≡ length (core_places ps)
-  plans_count next no_plans h = refl
-  plans_count next (plan place p ps) h =
-      let at : At = record { id = next; place = place } in
-      ap (λ n. n + all_lows (numbered_all (suc (next + inside p)) ps)) (plan_count place at (suc next) p h.0) ∙ ap (λ n. length (core_places_at place p) + n) (plans_count (suc (next + inside p)) ps h.1)
-      ∙ sym (length-append (core_places_at place p) (core_places ps))
+  plans_count : (next : ℕ) (ps : Plans) → FormedTerms (numbered_all next ps) → AreTurned (numbered_all next ps) (λ inside. core_places_in inside ps)
+  plans_count next no_plans h turns level inside = refl
+  plans_count next (plan place p ps) h turns level inside =
+      let behind = suc (next + within p) in
+      plan_count turns level inside (numbered_all behind ps) place (record { id = next; place = place }) (suc next) p h.0 ∙ ap (λ n. length (core_places_at inside place p) + n) (plans_count behind ps h.2 turns level inside)
+      ∙ sym (length-append (core_places_at inside place p) (core_places_in inside ps))
+
+  cases_count : (next : ℕ) (ps : Plans) → FormedCases (numbered_all next ps) → AreLinked (numbered_all next ps) (cases_in ps)
+  cases_count next no_plans h turns level = tt
+  cases_count next (plan place (a_form op args body) ps) h turns level =
+      let behind = suc (next + (nodes args + nodes body)) in
+      case_count turns level place (λ inside. core_places_in inside body) (cases_in ps) (record { id = next; place = place }) op (numbered_all (suc next) args) (numbered_all (suc next + nodes args) body) (numbered_all behind ps) h
+      (λ k. plans_count (suc next + nodes args) body k) (λ k. cases_count behind ps k)
+  cases_count next (plan place p ps) h turns level = absurd h
 
 -- as many terms in the term lists of a formed program's core as its plans have places
-pub core_count : (shorten fold : Bool) (width : Width) (ps : Plans) → FormedTerms (numbered_all 0 ps) → all_cuts (core_of shorten (folded_where fold width (named_all (numbered_all 0 ps)))) ≡ length (core_places ps)
+pub core_count : (shorten fold : Bool) (width : Width) (ps : Plans) → FormedTerms (numbered_all 0 ps) → all_cuts (core_of shorten (folded_where fold width (named_all (without_switches (numbered_all 0 ps))))) ≡ length (core_places ps)
+unfolding core_places
 core_count shorten fold width ps h =
     let terms = numbered_all 0 ps in
-    let program = folded_where fold width (named_all terms) in
-    spelled_counts shorten (is_known (known_of program)) (says_of program) program [] ∙ where_counts fold width (named_all terms) ∙ named_counts terms ∙ plans_count 0 ps h
+    let loops = without_switches terms in
+    let program = folded_where fold width (named_all loops) in
+    spelled_counts shorten (is_known (known_of program)) (says_of program) program [] ∙ where_counts fold width (named_all loops) ∙ named_counts loops ∙ plans_count 0 ps h (plan_of terms) 0 false

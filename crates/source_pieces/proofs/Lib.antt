@@ -1,3 +1,4 @@
+mod Forms
 pub mod Planned
 pub mod Written
 mod Counts

@@ -10,30 +10,26 @@ use Rattle.term_places.specs.Places.{places_of}
 use Rattle.aml_code.specs.Header.{fields_of}
 use Rattle.aml_sessions.specs.Ready.{AreReady}
 use Rattle.named_sessions.specs.Core.{core_of}
-use Rattle.asl_lower.specs.Nodes.{named_all}
-use Rattle.asl_fold.specs.Folds.{folded_where}
-use Rattle.asl_lower.specs.Places.{lowered_places}
 use Rattle.asl_parser.specs.declared.raw.Raw.{Raw}
 use Rattle.asl_parser.specs.Written.{writtens}
 use Rattle.asl_shape.specs.Plans.{plans_of}
 use Rattle.asl_shape.specs.Forms.{block_place, terms_of}
-use Rattle.program_shapes.specs.Sources.{fields_in, terms_in, width_in}
+use Rattle.program_shapes.specs.Sources.{fields_in, lowered_in}
 use Rattle.aml_writer.specs.Cuts.{table_parts, ArePieces, IsCut}
 use Rattle.source_pieces.specs.Places.{core_places}
 use Rattle.source_pieces.specs.Pieces.{places_in, parts_in}
-use Rattle.source_pieces.proofs.Planned.{places_planned}
 
 -- the same places and the same bytes
 same_pieces : (lines : List Line) (places places' : List Place) (parts parts' : List (List ℕ)) (pieces : List Piece) → places ≡ places' → parts ≡ parts' → ArePieces lines places parts pieces → ArePieces lines places' parts' pieces
 same_pieces lines places places' parts parts' pieces e f h = subst (λ ps. ArePieces lines places' ps pieces) f (subst (λ ps. ArePieces lines ps parts pieces) e h)
 
--- what is written of a core: a block that was lowered, and whose names were spelled, stands where the source's block stands and has its header, and its
--- terms are ready
+-- what is written of a core: a block in which loops stand for Switches, that was lowered, and whose names were spelled, stands where the source's block stands and has its
+-- header, and its terms are ready
 pub pieces_of_source : (known : Known) (fold short shorten : Bool) (lines : List Line) (items : List Raw) (block core : Block) (pieces : List Piece) → IsCut lines core short pieces → AreReady known (trees_of core.terms.items) []
-    → block.place ≡ block_place (writtens items) → core.place ≡ block.place → fields_of core ≡ fields_in items → plans_of block.terms.items ≡ terms_of (writtens items) → places_of core.terms.items ≡ lowered_places block.terms.items
-    → trees_of core.terms.items ≡ core_of shorten (folded_where fold (width_in items) (named_all (terms_in items))) → ArePieces lines (places_in items) (parts_in fold short shorten items) pieces
+    → block.place ≡ block_place (writtens items) → core.place ≡ block.place → fields_of core ≡ fields_in items → plans_of block.terms.items ≡ terms_of (writtens items) → places_of core.terms.items ≡ core_places (plans_of block.terms.items)
+    → trees_of core.terms.items ≡ core_of shorten (lowered_in fold items) → ArePieces lines (places_in items) (parts_in fold short shorten items) pieces
 pieces_of_source known fold short shorten lines items block core pieces cut ready at place fields plans places terms =
     same_pieces lines (core.place ∷ places_of core.terms.items) (places_in items) (table_parts (fields_of core) short (trees_of core.terms.items)) (parts_in fold short shorten items) pieces
-    (ap (λ at. at ∷ places_of core.terms.items) (place ∙ at) ∙ ap (λ ps. block_place (writtens items) ∷ ps) (places ∙ places_planned block.terms.items ∙ ap core_places plans))
+    (ap (λ at. at ∷ places_of core.terms.items) (place ∙ at) ∙ ap (λ ps. block_place (writtens items) ∷ ps) (places ∙ ap core_places plans))
     (ap (λ fields. table_parts fields short (trees_of core.terms.items)) fields ∙ ap (table_parts (fields_in items) short) terms)
     (cut.cut known ready)

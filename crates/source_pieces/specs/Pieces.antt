@@ -5,12 +5,10 @@ use Rattle.iasl_messages.specs.declared.place.Place.{Place}
 use Rattle.iasl_messages.specs.declared.place.Line.{Line}
 use Rattle.iasl_messages.specs.declared.place.Piece.{Piece}
 use Rattle.named_sessions.specs.Core.{core_of}
-use Rattle.asl_lower.specs.Nodes.{named_all}
-use Rattle.asl_fold.specs.Folds.{folded_where}
 use Rattle.asl_parser.specs.declared.raw.Raw.{Raw}
 use Rattle.asl_parser.specs.Written.{writtens}
 use Rattle.asl_shape.specs.Forms.{block_place, terms_of}
-use Rattle.program_shapes.specs.Sources.{fields_in, terms_in, width_in, table_in}
+use Rattle.program_shapes.specs.Sources.{fields_in, lowered_in, table_in}
 use Rattle.aml_writer.specs.Pieces.{joined_pieces}
 use Rattle.aml_writer.specs.Cuts.{table_parts, pieces_with}
 use Rattle.source_pieces.specs.Places.{core_places}
@@ -21,7 +19,7 @@ places_in items = block_place (writtens items) ∷ core_places (terms_of (writte
 
 -- their bytes; whether constants are folded, whether 0, 1 and all ones have a byte of their own, and whether names are shortened, is the caller's choice
 abbrev pub parts_in : Bool → Bool → Bool → List Raw → List (List ℕ)
-parts_in fold short shorten items = table_parts (fields_in items) short (core_of shorten (folded_where fold (width_in items) (named_all (terms_in items))))
+parts_in fold short shorten items = table_parts (fields_in items) short (core_of shorten (lowered_in fold items))
 
 -- the pieces of a source's table, with the texts of these lines
 abbrev pub pieces_in : List Line → Bool → Bool → Bool → List Raw → List Piece

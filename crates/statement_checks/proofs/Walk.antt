@@ -10,7 +10,7 @@ use Rattle.statement_checks.specs.Statements.{term_errors, statement_errors}
 abbrev pub Remains : Around → List Node → ℕ → List Message → List Message → Type 0
 Remains around nodes i initial now = now ++ statement_errors around (plans_of (drop i nodes)) ≡ initial ++ statement_errors around (plans_of nodes)
 
-plans_at : (nodes : List Node) (i : ℕ) (node : Node) → i < length nodes → node ≡ get_or nodes i node → plans_of (drop i nodes) ≡ plan node.place (plan_of node.term) (plans_of (drop (suc i) nodes))
+pub plans_at : (nodes : List Node) (i : ℕ) (node : Node) → i < length nodes → node ≡ get_or nodes i node → plans_of (drop i nodes) ≡ plan node.place (plan_of node.term) (plans_of (drop (suc i) nodes))
 unfolding plans_of
 plans_at [] i node lt e = absurd (omega (arith, lt))
 plans_at (n ∷ nodes) zero node lt e = ap (λ (m : Node). plan m.place (plan_of m.term) (plans_of nodes)) (sym e)
@@ -27,7 +27,7 @@ next_checked around nodes i node initial now next lt e before told =
     ∙ ap (λ ps. now ++ statement_errors around ps) (sym (plans_at nodes i node lt e))
     ∙ before
 
-no_more : (nodes : List Node) (i : ℕ) → length nodes ≤ i → plans_of (drop i nodes) ≡ no_plans
+pub no_more : (nodes : List Node) (i : ℕ) → length nodes ≤ i → plans_of (drop i nodes) ≡ no_plans
 unfolding plans_of
 no_more [] zero le = refl
 no_more [] (suc i) le = refl

@@ -1,5 +1,5 @@
--- The errors of statements: a loop is left where none is around, and an argument is used that the method does not have.
-use Rattle.std.specs.Prelude.{ℕ, ◌%◌, nat_le, Bool, true, false, not, List, [], ◌∷◌, ◌++◌}
+-- The errors of statements: a loop or a Switch is left where none is around, and an argument is used that the method does not have.
+use Rattle.std.specs.Prelude.{ℕ, ◌%◌, nat_le, Bool, true, false, ◌||◌, not, List, [], ◌∷◌, ◌++◌}
 use Rattle.iasl_messages.specs.declared.place.Place.{Place}
 use Rattle.iasl_messages.specs.declared.message.Message.{Message}
 use Rattle.asl_tree.specs.declared.term.Op.{Op}
@@ -9,26 +9,31 @@ use Rattle.asl_shape.specs.Plans.{Plan, an_arg, a_call, a_form, Plans, no_plans,
 use Rattle.asl_shape.specs.Shapes.{fault_at}
 use Rattle.statement_checks.specs.declared.check.Around.{Around}
 
--- the terms of a block stand in no method and in no loop
+-- the terms of a block stand in no method, no loop and no Switch
 abbrev pub outside : Around
-outside = record { arguments = 0; in_loop = false }
+outside = record { arguments = 0; in_loop = false; in_switch = false }
 
 -- a method begins anew, with as many arguments as the low three bits of its flags say, which stand behind its name
 abbrev pub in_method : Plans → Around
-in_method args = record { arguments = number_of (plan_at args 1) % 8; in_loop = false }
+in_method args = record { arguments = number_of (plan_at args 1) % 8; in_loop = false; in_switch = false }
 
 abbrev pub in_while : Around → Around
-in_while around = record { arguments = around.arguments; in_loop = true }
+in_while around = record { arguments = around.arguments; in_loop = true; in_switch = around.in_switch }
+
+-- a Switch hides no loop: a Continue in it goes to the loop around it
+abbrev pub in_switch : Around → Around
+in_switch around = record { arguments = around.arguments; in_loop = around.in_loop; in_switch = true }
 
 -- what the body of a form stands in, where the form itself stands in `around`: an If, an Else and a Device change nothing
 abbrev pub around_body : Op → Plans → Around → Around
 around_body (Op.Declaration Declaration.Method) args around = in_method args
 around_body (Op.Control Control.While) args around = in_while around
+around_body (Op.Control Control.Switch) args around = in_switch around
 around_body _ args around = around
 
--- a loop is left, or its next turn begun, where none is around
+-- a loop or a Switch is left where none is around, or the next turn of a loop begun where no loop is
 abbrev pub misses_loop : Op → Around → Bool
-misses_loop (Op.Control Control.Break) around = not around.in_loop
+misses_loop (Op.Control Control.Break) around = not (around.in_loop || around.in_switch)
 misses_loop (Op.Control Control.Continue) around = not around.in_loop
 misses_loop _ around = false
 

@@ -1,4 +1,4 @@
-//! Loops that are left, and arguments of methods, checked.
+//! Loops and Switches that are left, and arguments of methods, checked.
 ghost use Rattle.std.specs.Prelude.{◌≡◌, ◌%◌, ◌++◌, IfOk, OnOk};
 ghost use Rattle.asl_shape.specs.Plans.{plan_at, plan_of, plans_of, number_of};
 ghost use Rattle.statement_checks.specs.Statements as spec;
@@ -10,12 +10,13 @@ use iasl_messages::place::Place;
 use iasl_ports::list::Text;
 use std::alloc::{AllocError, Global};
 
-/// What a term stands in: how many arguments its method has, none outside of methods, and whether a While of the same
-/// method or block is around it.
+/// What a term stands in: how many arguments its method has, none outside of methods, and whether a While and whether a
+/// Switch of the same method or block is around it.
 #[derive(Clone, Copy)]
 pub struct Around {
     pub arguments: u64,
     pub in_loop: bool,
+    pub in_switch: bool,
 }
 
 #[tactic(auto, using(asl_shape::proofs::Terms::integer_term, crate::proofs::Terms::no_number))]
@@ -47,21 +48,27 @@ fn around_body(op: Op, args: &[Node], around: Around) -> Around
         Op::Declaration(Declaration::Method) => Around {
             arguments: argument_count(args),
             in_loop: false,
+            in_switch: false,
         },
         Op::Control(Control::While) => Around {
-            arguments: around.arguments,
             in_loop: true,
+            ..around
+        },
+        Op::Control(Control::Switch) => Around {
+            in_switch: true,
+            ..around
         },
         _ => around,
     }
 }
 
-// Whether a form leaves a loop or begins its next turn where no loop is around.
+// Whether a form leaves a loop or a Switch where none is around, or begins the next turn of a loop where no loop is.
 fn misses_loop(op: Op, around: Around) -> bool
     ensures { result ≡ spec.misses_loop op around }
 {
     match op {
-        Op::Control(Control::Break | Control::Continue) => !around.in_loop,
+        Op::Control(Control::Break) => !(around.in_loop || around.in_switch),
+        Op::Control(Control::Continue) => !around.in_loop,
         _ => false,
     }
 }
@@ -134,9 +141,10 @@ fn all_errors(
     Ok(())
 }
 
-/// The errors of the statements of a block, in the order of the source: 6052 at each Break and Continue that stands in no
-/// While of its own method or block (ACPI Specification 6.4, 19.6.8 and 19.6.18), and 6055 at each ArgN whose number is
-/// that of the method's arguments or more, or that stands in no method (19.2.5).
+/// The errors of the statements of a block, in the order of the source: 6052 at each Break that stands in no While and no
+/// Switch of its own method or block, and at each Continue that stands in no While of it (ACPI Specification 6.4, 19.6.8
+/// and 19.6.16), and 6055 at each ArgN whose number is that of the method's arguments or more, or that stands in
+/// no method (19.2.5).
 pub fn statement_errors(alloc: Global, terms: &[Node]) -> Result<Messages, AllocError>
     ensures { IfOk result (λ ms. ms ≡ spec.errors_of_statements (plans_of terms.now)) }
 {
@@ -144,6 +152,7 @@ pub fn statement_errors(alloc: Global, terms: &[Node]) -> Result<Messages, Alloc
     let outside = Around {
         arguments: 0,
         in_loop: false,
+        in_switch: false,
     };
     all_errors(alloc, &mut out, terms, outside)?;
     Ok(out)

@@ -104,6 +104,41 @@ fn tells_loops_that_are_not_there(rt: HostRuntime) -> Result<(), Fail> {
 }
 
 #[test]
+fn tells_switches_and_loops_that_are_not_there(rt: HostRuntime) -> Result<(), Fail> {
+    let alloc = rt.alloc();
+    for (text, want) in [
+        // A Break leaves a Switch, and behind it none is around.
+        ("METHOD ( M ) { SWITCH ( 1 ) { CASE ( 1 ) { BREAK } } }", ""),
+        (
+            "METHOD ( M ) { SWITCH ( 1 ) { CASE ( 1 ) { SWITCH ( 2 ) { CASE ( 2 ) { BREAK } } BREAK } } }",
+            "",
+        ),
+        ("METHOD ( M ) { SWITCH ( 1 ) { } BREAK }", "6052 2.12; "),
+        // A Continue goes to a loop, through Switches.
+        (
+            "METHOD ( M ) { SWITCH ( 1 ) { CASE ( 1 ) { CONTINUE } } }",
+            "6052 2.16; ",
+        ),
+        (
+            "METHOD ( M ) { WHILE ( 1 ) { SWITCH ( 2 ) { DEFAULT { CONTINUE } } } }",
+            "",
+        ),
+        (
+            "METHOD ( M ) { SWITCH ( 1 ) { CASE ( 1 ) { WHILE ( 2 ) { CONTINUE } CONTINUE } } }",
+            "6052 2.23; ",
+        ),
+        // A method in a Switch begins anew.
+        (
+            "SWITCH ( 1 ) { CASE ( 1 ) { METHOD ( M ) { BREAK } BREAK } }",
+            "6052 2.16; ",
+        ),
+    ] {
+        assert_eq!(rt; errors(alloc, text)?.as_str(), want, "at {text}");
+    }
+    Ok(())
+}
+
+#[test]
 fn tells_arguments_that_a_method_does_not_have(rt: HostRuntime) -> Result<(), Fail> {
     let alloc = rt.alloc();
     for (text, want) in [

@@ -4,6 +4,7 @@ use Rattle.acpi_values.specs.Paths.{NameSeg}
 use Rattle.asl_tree.specs.declared.path.Path.{Path}
 use Rattle.asl_tree.specs.declared.term.Op.{Op}
 use Rattle.asl_tree.specs.declared.term.Word.{Word}
+use Rattle.asl_tree.specs.declared.term.NamedDescriptor.{NamedDescriptor}
 use Rattle.asl_tree.specs.declared.term.Node.{Node}
 use Rattle.asl_tree.specs.declared.term.Term.{Term}
 use Rattle.asl_tree.specs.declared.term.Term as D
@@ -28,7 +29,7 @@ inside_form t op args body xs ys e a b = ap inside (form_is t op args body xs ys
 
 -- what holds of each term that this one may be
 pub by_term : (P : Term → Type 0) (t : Term)
-    → ((n : ℕ) → t ≡ D.Integer n → P (D.Integer n)) → ((s : List ℕ) → t ≡ D.Text s → P (D.Text s)) → ((s : List ℕ) → t ≡ D.Fill s → P (D.Fill s)) → ((w : Word) → t ≡ D.Word w → P (D.Word w))
+    → ((n : ℕ) → t ≡ D.Integer n → P (D.Integer n)) → ((s : List ℕ) → t ≡ D.Text s → P (D.Text s)) → ((s : List ℕ) (named : List NamedDescriptor) → t ≡ D.Fill s named → P (D.Fill s named)) → ((w : Word) → t ≡ D.Word w → P (D.Word w))
     → ((n : ℕ) → t ≡ D.Local n → P (D.Local n)) → ((n : ℕ) → t ≡ D.Arg n → P (D.Arg n)) → (t ≡ D.Debug → P D.Debug) → (t ≡ D.Omitted → P D.Omitted) → ((p : Path) → t ≡ D.Name p → P (D.Name p))
     → ((s : NameSeg) (n : ℕ) → t ≡ D.Unit s n → P (D.Unit s n)) → ((n : ℕ) → t ≡ D.Skip n → P (D.Skip n)) → ((n : ℕ) → t ≡ D.Offset n → P (D.Offset n))
     → ((p : Path) (v : Vec Node Global) → t ≡ D.Call p v → P (D.Call p v)) → ((o : Op) (v w : Vec Node Global) → t ≡ D.Form o v w → P (D.Form o v w)) → P t
@@ -40,7 +41,7 @@ by_term P t integer text fill word local arg debug' omitted' name unit skip offs
     by_layer : (f : D.Term-F Term Node) → t ≡ D.roll-Term f → P t
     by_layer (D.Term-F.Integer n) e = let q = e ∙ V.rolls-Integer n in at (D.Integer n) q (integer n q)
     by_layer (D.Term-F.Text s) e = let q = e ∙ V.rolls-Text s in at (D.Text s) q (text s q)
-    by_layer (D.Term-F.Fill s) e = let q = e ∙ V.rolls-Fill s in at (D.Fill s) q (fill s q)
+    by_layer (D.Term-F.Fill s named) e = let q = e ∙ V.rolls-Fill s named in at (D.Fill s named) q (fill s named q)
     by_layer (D.Term-F.Word w) e = let q = e ∙ V.rolls-Word w in at (D.Word w) q (word w q)
     by_layer (D.Term-F.Local n) e = let q = e ∙ V.rolls-Local n in at (D.Local n) q (local n q)
     by_layer (D.Term-F.Arg n) e = let q = e ∙ V.rolls-Arg n in at (D.Arg n) q (arg n q)
@@ -55,18 +56,18 @@ by_term P t integer text fill word local arg debug' omitted' name unit skip offs
 
 -- what holds of the plans of all terms but calls and forms
 pub of_leaves : (P : Plan → Type 0)
-    → ((n : ℕ) → P (an_integer n)) → ((s : List ℕ) → P (a_text s)) → ((s : List ℕ) → P (a_fill s)) → ((w : Word) → P (a_word w)) → ((n : ℕ) → P (a_local n)) → ((n : ℕ) → P (an_arg n)) → P debug → P omitted
+    → ((n : ℕ) → P (an_integer n)) → ((s : List ℕ) → P (a_text s)) → ((s : List ℕ) (named : List NamedDescriptor) → P (a_fill s named)) → ((w : Word) → P (a_word w)) → ((n : ℕ) → P (a_local n)) → ((n : ℕ) → P (an_arg n)) → P debug → P omitted
     → ((p : Path) → P (a_name p)) → ((s : NameSeg) (n : ℕ) → P (a_unit s n)) → ((n : ℕ) → P (a_skip n)) → ((n : ℕ) → P (an_offset n))
     → (t : Term) → ((p : Path) (v : Vec Node Global) → t ≡ D.Call p v → ⊥) → ((o : Op) (v w : Vec Node Global) → t ≡ D.Form o v w → ⊥) → P (plan_of t)
 unfolding plan_of
 of_leaves P integer text fill word local arg debug' omitted' name unit skip offset t not_call not_form =
-    by_term (λ u. P (plan_of u)) t (λ n e. integer n) (λ s e. text s) (λ s e. fill s) (λ w e. word w) (λ n e. local n) (λ n e. arg n) (λ e. debug') (λ e. omitted') (λ p e. name p)
+    by_term (λ u. P (plan_of u)) t (λ n e. integer n) (λ s e. text s) (λ s named e. fill s named) (λ w e. word w) (λ n e. local n) (λ n e. arg n) (λ e. debug') (λ e. omitted') (λ p e. name p)
     (λ s n e. unit s n) (λ n e. skip n) (λ n e. offset n) (λ p v e. absurd (not_call p v e)) (λ o v w e. absurd (not_form o v w e))
 
 -- no node stands inside a leaf
 pub none_inside : (t : Term) → ((p : Path) (v : Vec Node Global) → t ≡ D.Call p v → ⊥) → ((o : Op) (v w : Vec Node Global) → t ≡ D.Form o v w → ⊥) → inside (plan_of t) ≡ 0
 none_inside =
-    of_leaves (λ p. inside p ≡ 0) (λ n. refl) (λ s. refl) (λ s. refl) (λ w. refl) (λ n. refl) (λ n. refl) refl refl (λ p. refl) (λ s n. refl) (λ n. refl) (λ n. refl)
+    of_leaves (λ p. inside p ≡ 0) (λ n. refl) (λ s. refl) (λ s named. refl) (λ w. refl) (λ n. refl) (λ n. refl) refl refl (λ p. refl) (λ s n. refl) (λ n. refl) (λ n. refl)
 
 -- ---- nodes one after another
 

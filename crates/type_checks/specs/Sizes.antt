@@ -12,7 +12,7 @@ use Rattle.asl_shape.specs.Shapes.{fault_at}
 -- how many bytes a string or the contents of a macro are; a string has a 00 behind it
 abbrev pub bytes_alone : Plan → Option ℕ
 bytes_alone (a_text bytes) = Some (suc (length bytes))
-bytes_alone (a_fill bytes) = Some (length bytes)
+bytes_alone (a_fill bytes named) = Some (length bytes)
 bytes_alone p = None
 
 -- the bytes that a Buffer lists: those of what stands alone, or one for each

@@ -44,7 +44,7 @@ fn bytes_alone(term: &Term) -> Option<usize>
 {
     match term {
         Term::Text(text) => Some(text.as_bytes().len() + 1),
-        Term::Fill(bytes) => Some(bytes.as_bytes().len()),
+        Term::Fill { bytes, .. } => Some(bytes.as_bytes().len()),
         _ => None,
     }
 }

@@ -1,11 +1,11 @@
 use Rattle.std.proofs.Common.{◌≡◌, ◌++◌, append-nil, slice_get, Some, ◌+◌, arith, drop, get_or, ap, sym, ◌∙◌}
 use Rattle.asl_shape.specs.Shapes.{nowhere, one_plan}
-use Rattle.asl_shape.specs.AtRaw.{shape_at, bare_at, member_at, one_at, run_after_at, terms_at, part_at, unit_at, due_behind_at}
+use Rattle.asl_shape.specs.AtRaw.{shape_at, bare_at, member_at, one_at, run_after_at, terms_at, default_after_at, cases_at, part_at, unit_at, due_behind_at}
 use Rattle.asl_shape.specs.Plans.{plans_of, join}
 use Rattle.asl_words.specs.declared.operator.Slot.TheVariants as slot
 use Rattle.asl_words.specs.Meanings.{slot_as}
 use Rattle.asl_shape.proofs.Terms.{omitted_term}
-use Rattle.asl_shape.proofs.Shapes.{bare_item, operand_faults, operand_made, list_faults, list_made, run_faults, run_made, item_smaller, argument_some_faults, argument_some_made, left_faults, left_made, argument_faults, argument_made, got_some, got_none}
+use Rattle.asl_shape.proofs.Shapes.{bare_item, operand_faults, operand_made, list_faults, list_made, run_faults, run_made, case_faults, case_made, item_smaller, argument_some_faults, argument_some_made, left_faults, left_made, argument_faults, argument_made, got_some, got_none}
 use Rattle.asl_shape.proofs.FieldSteps.{element_faults, element_made}
 use Rattle.asl_shape.proofs.tree.+shape.Goals as goal
 
@@ -44,6 +44,19 @@ terms-loop-raw-preserved t c =
       made = ap (λ n. join (plans_of c.add_member.new.nodes.items) (terms_at c.args.inside n (drop (c.loop-raw.raw-index + 1) c.args.raws.now)).made) run
           ∙ run_made c.args.inside c.loop-raw.run c.args.raws.now c.loop-raw.raw-index r (plans_of c.loop-raw.nodes.items) (plans_of c.add_member.new.nodes.items) _ c.loop-raw-test.true c.loop-raw.invariant.made
           (c.in_ok-add_member.ensures.made ∙ ap (λ r. join (plans_of c.loop-raw.nodes.items) (member_at (slot.Term c.loop-raw.run) c.args.inside r).made) c.raw-item.is);
+    }
+
+pub cases-loop-raw-preserved : goal.cases-loop-raw-preserved
+cases-loop-raw-preserved t c =
+    let r = c.raw-item.result in
+    let next : c.default_after-defaulted.result ≡ default_after_at c.loop-raw.defaulted (get_or c.args.raws.now c.loop-raw.raw-index r) = c.default_after-defaulted.ensures ∙ ap (default_after_at c.loop-raw.defaulted) c.raw-item.is in
+    record {
+      faults = ap (λ n. c.add_member.new.work.faults.items ++ (cases_at c.args.inside n (drop (c.loop-raw.raw-index + 1) c.args.raws.now)).faults) next
+          ∙ case_faults c.args.inside c.loop-raw.defaulted c.args.raws.now c.loop-raw.raw-index r c.loop-raw.work.faults.items c.add_member.new.work.faults.items _ c.loop-raw-test.true c.loop-raw.invariant.faults
+          (c.in_ok-add_member.ensures.faults ∙ ap (λ r. c.loop-raw.work.faults.items ++ (member_at (slot.Branch c.loop-raw.defaulted) c.args.inside r).faults) c.raw-item.is);
+      made = ap (λ n. join (plans_of c.add_member.new.nodes.items) (cases_at c.args.inside n (drop (c.loop-raw.raw-index + 1) c.args.raws.now)).made) next
+          ∙ case_made c.args.inside c.loop-raw.defaulted c.args.raws.now c.loop-raw.raw-index r (plans_of c.loop-raw.nodes.items) (plans_of c.add_member.new.nodes.items) _ c.loop-raw-test.true c.loop-raw.invariant.made
+          (c.in_ok-add_member.ensures.made ∙ ap (λ r. join (plans_of c.loop-raw.nodes.items) (member_at (slot.Branch c.loop-raw.defaulted) c.args.inside r).made) c.raw-item.is);
     }
 
 pub bare-item-requires : goal.bare-item-requires

@@ -1,8 +1,8 @@
-use Rattle.std.proofs.Common.{◌≡◌, ◌+◌, ◌*◌, ◌++◌, drop, None}
+use Rattle.std.proofs.Common.{◌≡◌, ◌+◌, ◌*◌, ◌++◌, drop, None, false}
 use Rattle.asl_shape.specs.Plans.{plans_of, join}
 use Rattle.asl_shape.specs.Sizes.{size_at, sizes_at, size_in_at}
 use Rattle.asl_shape.specs.Shapes.{begin}
-use Rattle.asl_shape.specs.AtRaw.{operands_at, arguments_in_at, members_at, terms_at, elements_at}
+use Rattle.asl_shape.specs.AtRaw.{operands_at, arguments_in_at, members_at, terms_at, elements_at, cases_at}
 use Rattle.asl_shape.proofs.tree.+shape.Given as goal
 
 abbrev pub decreases-shape : goal.decreases-shape
@@ -109,3 +109,12 @@ decreases-template l = 16 * (size_in_at l.body.now) + 8
 
 abbrev pub decreases-descriptor : goal.decreases-descriptor
 decreases-descriptor l = 16 * (size_in_at l.args.now + size_in_at l.body.now) + 8
+
+abbrev pub decreases-cases : goal.decreases-cases
+decreases-cases l = 16 * (sizes_at l.raws.now) + 5
+
+abbrev pub invariant-cases-loop-raw : goal.invariant-cases-loop-raw
+invariant-cases-loop-raw l = record {
+  faults : l.work.faults.items ++ (cases_at l.inside l.defaulted (drop l.raw-index l.raws)).faults ≡ l.fn.work.faults.items ++ (cases_at l.inside false l.raws).faults;
+  made : join (plans_of l.nodes.items) (cases_at l.inside l.defaulted (drop l.raw-index l.raws)).made ≡ join (plans_of l.fn.nodes.items) (cases_at l.inside false l.raws).made;
+}

@@ -13,7 +13,7 @@ returns-in-Text c =
 pub returns-in-Fill : goal.returns-in-Fill
 returns-in-Fill c =
     let same : length c.as_bytes-in-Fill.result.now ≡ length c.in-Fill.bytes = ap length c.as_bytes-in-Fill.ensures in
-    ap (λ (n : ℕ). Some n) same ∙ sym (ap bytes_alone (ap plan_of c.in-Fill.is ∙ fill_term c.in-Fill.bytes))
+    ap (λ (n : ℕ). Some n) same ∙ sym (ap bytes_alone (ap plan_of c.in-Fill.is ∙ fill_term c.in-Fill.bytes _))
 
 pub returns-in_default : goal.returns-in_default
 returns-in_default c = sym (no_bytes_alone c.args.term.now c.in_default.not-Text c.in_default.not-Fill)

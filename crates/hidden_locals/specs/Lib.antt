@@ -1,0 +1,11 @@
+pub mod Worlds
+pub mod Blind
+pub mod Runs
+pub mod Terms
+pub mod Programs
+pub mod Locals
+pub mod Steps
+pub mod Turns
+pub mod Crossing
+pub mod Switches
+pub mod Rows

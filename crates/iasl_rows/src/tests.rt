@@ -1,0 +1,109 @@
+mod controller;
+mod data;
+mod data_rows;
+mod folding;
+mod kinds;
+mod rows;
+mod spelling;
+mod switches;
+mod widths;
+
+ghost use Rattle.std.specs.Prelude.{IfOk};
+ghost use Rattle.iasl_backends.specs.Asked.{IsOneOfEach};
+
+use iasl_backends::backend::Backend;
+use iasl_backends::c_hex::CHex;
+use iasl_backends::lent::one_of_each;
+use iasl_backends::listing::Listing;
+use iasl_backends::raw_aml::RawAml;
+use iasl_ports::list::Texts;
+use iasl_ports::memory::{MemoryFiles, MemoryOutputs, MemorySink};
+use iasl_tool::run::iasl;
+use std::alloc::{AllocError, Global};
+
+const HEADER: usize = 36;
+
+#[derive(Drop)]
+struct Ran {
+    status: u8,
+    outs: MemoryOutputs,
+    console: MemorySink,
+}
+
+// One box of each kind of outputs.
+fn boxes(alloc: Global) -> Result<Vec<Box<dyn Backend>>, AllocError>
+    ensures { IfOk result (λ backends. IsOneOfEach (λ b. kind_of b) backends.items) }
+{
+    one_of_each(
+        alloc,
+        Box::new(alloc, RawAml::new(alloc))?,
+        Box::new(alloc, CHex::new(alloc))?,
+        Box::new(alloc, Listing::new(alloc))?,
+    )
+}
+
+// A run with these words, where the text of `t.asl` is this one.
+fn run(alloc: Global, words: &[&str], text: &[u8]) -> Result<Ran, AllocError> {
+    let mut files = MemoryFiles::new(alloc);
+    files.add("t.asl", text)?;
+    let mut outs = MemoryOutputs::new(alloc);
+    let mut console = MemorySink::new(alloc, 1000)?;
+    let mut given = Vec::new(alloc);
+    for word in words {
+        given.push(String::from_str(alloc, word)?)?;
+    }
+    let mut backends = boxes(alloc)?;
+    let status = iasl(
+        alloc,
+        &given,
+        &mut files,
+        &mut outs,
+        &mut console,
+        &mut backends,
+    );
+    Ok(Ran {
+        status,
+        outs,
+        console,
+    })
+}
+
+fn are(texts: &Texts, wanted: &[&[u8]]) -> bool {
+    let mut same = texts.len() == wanted.len();
+    for (i, one) in wanted.iter().enumerate() {
+        same = same && texts.get(i).is_some_and(|text| text.as_bytes() == *one);
+    }
+    same
+}
+
+// A source of one block with these terms.
+fn source(alloc: Global, terms: &str) -> Result<Vec<u8>, AllocError> {
+    let mut text = Vec::new(alloc);
+    text.extend_from_slice(
+        b"DefinitionBlock (\"\", \"SSDT\", 2, \"OEMX00\", \"TABLE001\", 1)\n{\n    ",
+    )?;
+    text.extend_from_slice(terms.as_bytes())?;
+    text.extend_from_slice(b"\n}\n")?;
+    Ok(text)
+}
+
+// Whether these terms come to these bytes behind the header of the table.
+fn comes_to(alloc: Global, terms: &str, bytes: &[u8]) -> Result<bool, AllocError> {
+    let ran = run(alloc, &["t.asl"], &source(alloc, terms)?)?;
+    let is_table = ran.outs.bodies().get(0).is_some_and(|body| {
+        body.as_bytes().len() == HEADER + bytes.len() && body.as_bytes().ends_with(bytes)
+    });
+    Ok(ran.status == 0 && is_table)
+}
+
+// Whether this is told of these terms, which are refused.
+fn tells(alloc: Global, terms: &str, told: &[u8]) -> Result<bool, AllocError> {
+    let ran = run(alloc, &["t.asl"], &source(alloc, terms)?)?;
+    Ok(ran.status == 1 && ran.console.as_bytes() == told)
+}
+
+// Whether this is told of these terms, which have a table.
+fn notes(alloc: Global, terms: &str, told: &[u8]) -> Result<bool, AllocError> {
+    let ran = run(alloc, &["t.asl"], &source(alloc, terms)?)?;
+    Ok(ran.status == 0 && ran.console.as_bytes() == told)
+}

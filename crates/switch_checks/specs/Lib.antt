@@ -1,0 +1,4 @@
+pub mod Told
+pub mod Values
+pub mod Repeats
+pub mod Locals

@@ -1,0 +1,10 @@
+//! What is wrong with the Switches of a block.
+#![tactic(auto)]
+
+pub mod laws;
+pub mod locals;
+pub mod repeat;
+#[cfg(test)]
+mod tests;
+mod told;
+mod value;

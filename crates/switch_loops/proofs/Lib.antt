@@ -1,0 +1,15 @@
+pub mod KindRows
+pub mod LocalRows
+pub mod PutRows
+pub mod Alike
+pub mod Marks
+pub mod Measured
+pub mod Puts
+pub mod Splits
+pub mod Sizes
+pub mod LoopPlaces
+pub mod Wholes
+pub mod MadeRows
+pub mod Packs
+pub mod PutTurns
+pub mod NamedNodes

@@ -1,0 +1,224 @@
+-- The places of loops, by the nodes for which they are made.
+use Rattle.std.proofs.Common.{◌≡◌, ℕ, Bool, true, false, List, [], ◌∷◌, ◌++◌, length, reverse, Vec, Global, Option, Some, None, refl, sym, ap, ◌∙◌, arith, append_assoc}
+use Rattle.std.specs.Prelude.{not, if◌then◌else◌, filter}
+use Rattle.std.proofs.lemmas.List.{reverse-append, append-nil}
+use Rattle.iasl_messages.specs.declared.place.Place.{Place}
+use Rattle.asl_tree.specs.declared.term.Op.{Op}
+use Rattle.asl_tree.specs.declared.term.Control.TheVariants as Control
+use Rattle.asl_tree.specs.declared.term.Node.{Node}
+use Rattle.asl_tree.specs.declared.term.Term.{Term}
+use Rattle.asl_tree.specs.declared.term.Term as D
+use Rattle.asl_tree.specs.declared.term.Term.TheVariants as V
+use Rattle.asl_tree.specs.Tree.{Trees, no_trees}
+use Rattle.asl_tree.specs.View.{row_trees, trees_of}
+use Rattle.acpi_names.specs.Parts.{are, is_form}
+use Rattle.acpi_names.specs.Walked.{TermShape, OfForm, term_shape}
+use Rattle.acpi_names.proofs.Trees.{form_rows}
+use Rattle.asl_lower.specs.Places.{has_terms, lowered_at, lowered_places}
+use Rattle.asl_lower.specs.Places as lowered
+use Rattle.asl_lower.proofs.Places.{form_lowered}
+use Rattle.hidden_locals.specs.Crossing.{have_continue}
+use Rattle.term_places.specs.Places.{holds_terms}
+use Rattle.term_places.proofs.Places.{body_row}
+use Rattle.switch_loops.specs.Kinds.{form_kind, shape_kind, is_default, default_node}
+use Rattle.switch_loops.specs.Links.{first_default}
+use Rattle.switch_loops.specs.Places.{Following, body_inside, braces, case_places, cases_places, cases_row, chain_places, default_node_places, default_places, default_row, first_default_places, form_looped, form_places, looped_at, looped_places, looped_row}
+use Rattle.switch_loops.specs.declared.kind.Kind.{Kind}
+use Rattle.switch_loops.proofs.MadeRows.{lowered_none, pushed_places}
+
+-- ---- rows as their nodes
+
+looped_rows : (m : _) (inside : Bool) (row : D.Row_of-Node m) → looped_row inside row ≡ looped_places inside (D.items-the_row-Node m row)
+unfolding looped_row looped_places
+looped_rows m inside D.end_of-Node = refl
+looped_rows m inside (D.more_of-Node id place term rest) = ap (λ ps. looped_at inside place term ++ ps) (looped_rows _ inside rest)
+
+cases_rows : (m : _) (row : D.Row_of-Node m) (d : Following) → cases_row row d ≡ cases_places (D.items-the_row-Node m row) d
+unfolding cases_row cases_places
+cases_rows m D.end_of-Node d = refl
+cases_rows m (D.more_of-Node id place term rest) d = ap (case_places (shape_kind (term_shape term)) place (braces term)) (cases_rows _ rest d)
+
+default_rows : (m : _) (row : D.Row_of-Node m) → default_row row ≡ first_default_places (D.items-the_row-Node m row)
+unfolding default_row first_default_places
+default_rows m D.end_of-Node = refl
+default_rows m (D.more_of-Node id place term rest) = ap (default_places (shape_kind (term_shape term)) place (braces term)) (default_rows _ rest)
+
+abbrev kind_in : TermShape → Kind
+kind_in shape = shape_kind shape
+
+abbrev continue_in : TermShape → Bool
+continue_in (OfForm op args body) = have_continue body
+continue_in shape = false
+
+abbrev args_in : TermShape → Trees
+args_in (OfForm op args body) = args
+args_in shape = no_trees
+
+pub form_at : (inside : Bool) (place : Place) (op : Op) (args body : Vec Node Global) → looped_at inside place (D.Form op args body) ≡ form_looped inside place op args.items body.items
+unfolding looped_at
+form_at inside place op args body =
+    let b = body_row (D.Form op args body) in
+    ap (λ s. form_places (shape_kind s) op (args_in s) inside (continue_in s) place (looped_row (body_inside op inside) b.1) (chain_places (cases_row b.1 (default_row b.1)))) (form_rows op args body)
+    ∙ ap (λ ps. form_places (form_kind op (trees_of args.items) (trees_of body.items)) op (trees_of args.items) inside (have_continue (trees_of body.items)) place ps (chain_places (cases_row b.1 (default_row b.1))))
+    (looped_rows b.0 (body_inside op inside) b.1 ∙ ap (looped_places (body_inside op inside)) (D.items_hidden-the_row-Node-0 body))
+    ∙ ap (λ d. form_places (form_kind op (trees_of args.items) (trees_of body.items)) op (trees_of args.items) inside (have_continue (trees_of body.items)) place (looped_places (body_inside op inside) body.items) (chain_places d))
+    (cases_rows b.0 b.1 (default_row b.1) ∙ ap (λ ns. cases_places ns (default_row b.1)) (D.items_hidden-the_row-Node-0 body)
+    ∙ ap (cases_places body.items) (default_rows b.0 b.1 ∙ ap first_default_places (D.items_hidden-the_row-Node-0 body)))
+
+pub form_braces : (op : Op) (args body : Vec Node Global) → braces (D.Form op args body) ≡ looped_places true body.items
+unfolding braces
+form_braces op args body =
+    let b = body_row (D.Form op args body) in looped_rows b.0 true b.1 ∙ ap (looped_places true) (D.items_hidden-the_row-Node-0 body)
+
+pub not_formed : (t : Term) → ((o : Op) (v w : Vec Node Global) → t ≡ D.Form o v w → ⊥) → is_form t ≡ false
+not_formed t never = by_layer (D.out-Term t) (sym (D.roll-out-Term t))
+  where
+    by_layer : (f : D.Term-F Term Node) → t ≡ D.roll-Term f → is_form t ≡ false
+    by_layer (D.Term-F.Form o v w) e = absurd (never o v w (e ∙ V.rolls-Form o v w))
+    by_layer (D.Term-F.Call p v) e = ap is_form (e ∙ V.rolls-Call p v)
+    by_layer (D.Term-F.Name p) e = ap is_form (e ∙ V.rolls-Name p)
+    by_layer (D.Term-F.Integer n) e = ap is_form (e ∙ V.rolls-Integer n)
+    by_layer (D.Term-F.Text text) e = ap is_form (e ∙ V.rolls-Text text)
+    by_layer (D.Term-F.Fill bytes named) e = ap is_form (e ∙ V.rolls-Fill bytes named)
+    by_layer (D.Term-F.Word word) e = ap is_form (e ∙ V.rolls-Word word)
+    by_layer (D.Term-F.Local n) e = ap is_form (e ∙ V.rolls-Local n)
+    by_layer (D.Term-F.Arg n) e = ap is_form (e ∙ V.rolls-Arg n)
+    by_layer (D.Term-F.Debug) e = ap is_form (e ∙ V.rolls-Debug)
+    by_layer (D.Term-F.Omitted) e = ap is_form (e ∙ V.rolls-Omitted)
+    by_layer (D.Term-F.Unit segment bits) e = ap is_form (e ∙ V.rolls-Unit segment bits)
+    by_layer (D.Term-F.Skip n) e = ap is_form (e ∙ V.rolls-Skip n)
+    by_layer (D.Term-F.Offset n) e = ap is_form (e ∙ V.rolls-Offset n)
+
+flat_at : (inside : Bool) (place : Place) (t : Term) → is_form t ≡ false → looped_at inside place t ≡ place ∷ []
+unfolding looped_at
+flat_at inside place (D.Form' op shape args shape' body) e = absurd (grind arith)
+flat_at inside place t e = refl
+
+flat_lowered : (place : Place) (t : Term) → is_form t ≡ false → lowered_at place t ≡ place ∷ []
+unfolding lowered_at
+flat_lowered place (D.Form' op shape args shape' body) e = absurd (grind arith)
+flat_lowered place t e = refl
+
+flat_braces : (t : Term) → is_form t ≡ false → braces t ≡ []
+unfolding braces
+flat_braces (D.Form' op shape args shape' body) e = absurd (grind arith)
+flat_braces t e = refl
+
+pub other_braces : (t : Term) → ((o : Op) (v w : Vec Node Global) → t ≡ D.Form o v w → ⊥) → braces t ≡ []
+other_braces t never = flat_braces t (not_formed t never)
+
+-- ---- terms that are put before others
+
+pub flat_put : (inside : Bool) (old new : List Node) (node : Node) → ((o : Op) (v w : Vec Node Global) → node.term ≡ D.Form o v w → ⊥) → new ≡ old ++ node ∷ [] → lowered_places (reverse new) ≡ looped_at inside node.place node.term ++ lowered_places (reverse old)
+flat_put inside old new node never e =
+    pushed_places old new node e ∙ ap (λ ps. ps ++ lowered_places (reverse old)) (flat_lowered node.place node.term (not_formed node.term never) ∙ sym (flat_at inside node.place node.term (not_formed node.term never)))
+
+-- ---- the terms of a list, from the last on
+
+looped-append : (inside : Bool) (xs ys : List Node) → looped_places inside (xs ++ ys) ≡ looped_places inside xs ++ looped_places inside ys
+unfolding looped_places
+looped-append inside [] ys = refl
+looped-append inside (x ∷ xs) ys = ap (λ ps. looped_at inside x.place x.term ++ ps) (looped-append inside xs ys) ∙ sym (append_assoc (looped_at inside x.place x.term) (looped_places inside xs) (looped_places inside ys))
+
+looped_single : (inside : Bool) (node : Node) → looped_places inside (node ∷ []) ≡ looped_at inside node.place node.term
+unfolding looped_places
+looped_single inside node = append-nil (looped_at inside node.place node.term)
+
+pub places_none : (inside : Bool) (nodes made : List Node) → made ≡ [] → looped_places inside nodes ++ lowered_places (reverse made) ≡ looped_places inside nodes
+places_none inside nodes made e = ap (λ ns. looped_places inside nodes ++ lowered_places (reverse ns)) e ∙ ap (λ ps. looped_places inside nodes ++ ps) lowered_none ∙ append-nil (looped_places inside nodes)
+
+pub places_next : (inside : Bool) (left more made new : List Node) (node : Node) (whole : List Place) → left ≡ more ++ node ∷ [] → lowered_places (reverse new) ≡ looped_at inside node.place node.term ++ lowered_places (reverse made)
+    → looped_places inside left ++ lowered_places (reverse made) ≡ whole → looped_places inside more ++ lowered_places (reverse new) ≡ whole
+places_next inside left more made new node whole e f h =
+    ap (λ ps. looped_places inside more ++ ps) f ∙ sym (append_assoc (looped_places inside more) (looped_at inside node.place node.term) (lowered_places (reverse made)))
+    ∙ ap (λ ps. ps ++ lowered_places (reverse made)) (ap (λ ps. looped_places inside more ++ ps) (sym (looped_single inside node)) ∙ sym (looped-append inside more (node ∷ [])) ∙ ap (looped_places inside) (sym e)) ∙ h
+
+pub places_end : (inside : Bool) (left : List Node) (ps : List Place) → length left ≡ 0 → ps ≡ looped_places inside left ++ ps
+unfolding looped_places
+places_end inside [] ps e = refl
+places_end inside (node ∷ left) ps e = absurd (omega (arith, e))
+
+-- ---- the chain of a Switch
+
+cases_last : (nodes : List Node) (node : Node) (d : Following) → cases_places (nodes ++ node ∷ []) d ≡ cases_places nodes (case_places (shape_kind (term_shape node.term)) node.place (braces node.term) d)
+unfolding cases_places
+cases_last [] node d = refl
+cases_last (n ∷ nodes) node d = ap (case_places (shape_kind (term_shape n.term)) n.place (braces n.term)) (cases_last nodes node d)
+
+pub cases_next : (left more : List Node) (node : Node) (chain new whole : Following) → left ≡ more ++ node ∷ [] → new ≡ case_places (shape_kind (term_shape node.term)) node.place (braces node.term) chain → cases_places left chain ≡ whole → cases_places more new ≡ whole
+cases_next left more node chain new whole e f h = ap (cases_places more) f ∙ sym (cases_last more node chain) ∙ ap (λ ns. cases_places ns chain) (sym e) ∙ h
+
+pub cases_end : (left : List Node) (d : Following) → length left ≡ 0 → d ≡ cases_places left d
+unfolding cases_places
+cases_end [] d e = refl
+cases_end (node ∷ left) d e = absurd (omega (arith, e))
+
+no_case : (k : Kind) (place : Place) (ps : List Place) (d : Following) → is_default k ≡ true → d ≡ case_places k place ps d
+no_case Kind.Case place ps d e = absurd cc
+no_case k place ps d e = refl
+
+pub cases_kept : (nodes : List Node) (d : Following) → cases_places (filter (λ node. not (default_node node)) nodes) d ≡ cases_places nodes d
+unfolding cases_places
+cases_kept [] d = refl
+cases_kept (node ∷ nodes) d = by_default (default_node node) refl (cases_kept nodes d)
+  where
+    by_default : (c : Bool) → default_node node ≡ c → cases_places (filter (λ node. not (default_node node)) nodes) d ≡ cases_places nodes d → cases_places (if not c then node ∷ filter (λ node. not (default_node node)) nodes else filter (λ node. not (default_node node)) nodes) d ≡ case_places (shape_kind (term_shape node.term)) node.place (braces node.term) (cases_places nodes d)
+    by_default true e h = h ∙ no_case (shape_kind (term_shape node.term)) node.place (braces node.term) (cases_places nodes d) e
+    by_default false e h = ap (case_places (shape_kind (term_shape node.term)) node.place (braces node.term)) h
+
+one_default : (k : Kind) (node : Node) (ps : List Place) (d : Following) (first : Option Node) → d ≡ default_node_places first → ps ≡ braces node.term → default_places k node.place ps d ≡ default_node_places (if is_default k then Some node else first)
+one_default Kind.Default node ps d first e f = ap (λ ps. Some (node.place, ps)) f
+one_default k node ps d first e f = e
+
+pub first_places : (nodes : List Node) → first_default_places nodes ≡ default_node_places (first_default nodes)
+unfolding first_default_places
+first_places [] = refl
+first_places (node ∷ nodes) = one_default (shape_kind (term_shape node.term)) node (braces node.term) (first_default_places nodes) (first_default nodes) (first_places nodes) refl
+
+-- ---- forms
+
+pub flat_kind : (t : Term) → is_form t ≡ false → shape_kind (term_shape t) ≡ Kind.Other
+flat_kind (D.Form' op shape args shape' body) e = absurd (grind arith)
+flat_kind t e = refl
+
+pub not_case : (k : Kind) (place : Place) (ps : List Place) (d : Following) → (k ≡ Kind.Case → ⊥) → d ≡ case_places k place ps d
+not_case Kind.Case place ps d never = absurd (never refl)
+not_case k place ps d never = refl
+
+pub flat_case : (t : Term) (place : Place) (d : Following) → ((o : Op) (v w : Vec Node Global) → t ≡ D.Form o v w → ⊥) → d ≡ case_places (shape_kind (term_shape t)) place (braces t) d
+flat_case t place d never = not_case (shape_kind (term_shape t)) place (braces t) d (λ e. let k : Kind.Other ≡ Kind.Case = sym (flat_kind t (not_formed t never)) ∙ e in absurd cc)
+
+pub case_placed : (t : Term) (op : Op) (args body : Vec Node Global) (place : Place) (d : Following) → t ≡ D.Form op args body
+    → case_places (form_kind op (trees_of args.items) (trees_of body.items)) place (looped_places true body.items) d ≡ case_places (shape_kind (term_shape t)) place (braces t) d
+case_placed t op args body place d e =
+    sym (ap (λ t. case_places (shape_kind (term_shape t)) place (braces t) d) e ∙ ap (λ s. case_places (shape_kind s) place (braces (D.Form op args body)) d) (form_rows op args body)
+    ∙ ap (λ ps. case_places (form_kind op (trees_of args.items) (trees_of body.items)) place ps d) (form_braces op args body))
+
+pub form_placed : (inside : Bool) (place : Place) (t : Term) (op : Op) (args body : Vec Node Global) → t ≡ D.Form op args body → form_looped inside place op args.items body.items ≡ looped_at inside place t
+form_placed inside place t op args body e = sym (ap (looped_at inside place) e ∙ form_at inside place op args body)
+
+pub term_braces : (t : Term) (op : Op) (args body : Vec Node Global) → t ≡ D.Form op args body → looped_places true body.items ≡ braces t
+term_braces t op args body e = sym (ap braces e ∙ form_braces op args body)
+
+-- a form that stays
+kept_kind : (k : Kind) (op : Op) (args : Trees) (inside crossed : Bool) (place : Place) (inner chain : List Place) → (k ≡ Kind.Switch → ⊥) → (k ≡ Kind.Continue → ⊥) → form_places k op args inside crossed place inner chain ≡ lowered.form_places op args place inner
+kept_kind Kind.Switch op args inside crossed place inner chain no_switch no_continue = absurd (no_switch refl)
+kept_kind Kind.Continue op args inside crossed place inner chain no_switch no_continue = absurd (no_continue refl)
+kept_kind k op args inside crossed place inner chain no_switch no_continue = refl
+
+inner_if : (c : Bool) (place : Place) (xs ys : List Place) → (c ≡ true → xs ≡ ys) → place ∷ (if c then xs else []) ≡ place ∷ (if c then ys else [])
+inner_if true place xs ys h = ap (λ ps. place ∷ ps) (h refl)
+inner_if false place xs ys h = refl
+
+inner_same : (op : Op) (ts : Trees) (place : Place) (xs ys : List Place) → (has_terms op ≡ true → xs ≡ ys) → lowered.form_places op ts place xs ≡ lowered.form_places op ts place ys
+inner_same (Op.Control Control.ElseIf) ts place xs ys h = ap (λ ps. if are 1 ts then place ∷ place ∷ ps else place ∷ []) (h refl)
+inner_same op ts place xs ys h = inner_if (holds_terms op) place xs ys h
+
+pub kept_put : (inside : Bool) (op : Op) (args body made : Vec Node Global) (node : Node) (old new : List Node) → (form_kind op (trees_of args.items) (trees_of body.items) ≡ Kind.Switch → ⊥) → (form_kind op (trees_of args.items) (trees_of body.items) ≡ Kind.Continue → ⊥)
+    → node.term ≡ D.Form op args made → new ≡ old ++ node ∷ [] → (has_terms op ≡ true → lowered_places made.items ≡ looped_places (body_inside op inside) body.items)
+    → lowered_places (reverse new) ≡ form_looped inside node.place op args.items body.items ++ lowered_places (reverse old)
+kept_put inside op args body made node old new no_switch no_continue term e h =
+    pushed_places old new node e
+    ∙ ap (λ ps. ps ++ lowered_places (reverse old)) (ap (lowered_at node.place) term ∙ form_lowered node.place op args made
+    ∙ inner_same op (trees_of args.items) node.place (lowered_places made.items) (looped_places (body_inside op inside) body.items) h
+    ∙ sym (kept_kind (form_kind op (trees_of args.items) (trees_of body.items)) op (trees_of args.items) inside (have_continue (trees_of body.items)) node.place (looped_places (body_inside op inside) body.items) (chain_places (cases_places body.items (first_default_places body.items))) no_switch no_continue))

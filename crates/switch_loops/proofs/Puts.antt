@@ -1,0 +1,305 @@
+-- Lists of terms that loops are put into, from the last term on.
+use Rattle.std.proofs.Common.{◌≡◌, ◌≤◌, ◌<◌, ℕ, zero, suc, ◌+◌, Bool, true, false, List, [], ◌∷◌, ◌++◌, length, drop, Vec, Global, Option, Some, None, refl, sym, ap, subst, ◌∙◌, arith}
+use Rattle.std.specs.Prelude.{not, ◌&&◌, if◌then◌else◌, filter}
+use Rattle.asl_tree.specs.declared.term.Op.{Op}
+use Rattle.asl_tree.specs.declared.term.Control.TheVariants as Control
+use Rattle.asl_tree.specs.declared.term.Declaration.TheVariants as Declaration
+use Rattle.asl_tree.specs.declared.term.Node.{Node}
+use Rattle.asl_tree.specs.declared.term.Term.{Term}
+use Rattle.asl_tree.specs.declared.term.Term as D
+use Rattle.asl_tree.specs.Tree.{At, Tree, Integer, Use, If, Else, Switch, Case, Default, Continue, Trees, no_trees, tree}
+use Rattle.asl_tree.specs.View.{form, tree_of, row_trees, trees_of}
+use Rattle.acpi_names.specs.declared.part.Part.{Part}
+use Rattle.acpi_names.specs.declared.part.Part.TheVariants as P
+use Rattle.acpi_names.specs.declared.part.What.TheVariants as W
+use Rattle.acpi_names.specs.Parts.{are, is_form, part_of}
+use Rattle.acpi_names.specs.Walked.{OfForm, term_shape, node_tree}
+use Rattle.acpi_names.proofs.Trees.{are_long, form_tree, form_rows}
+use Rattle.std.proofs.lemmas.Bool.Decides.{nat_tests}
+use Rattle.std.specs.Prelude.{nat_eq}
+use Rattle.asl_lower.specs.Nests.{backwards}
+use Rattle.asl_lower.proofs.Backwards.{pushed}
+use Rattle.hidden_locals.specs.Switches.{case_test, unswitched_all, links, default_link}
+use Rattle.hidden_locals.specs.Turns.{local, nth, else_of}
+use Rattle.switch_loops.specs.Given.{HasValue, HasCaseValue, IsGiven, AreGiven}
+use Rattle.switch_loops.specs.Kinds.{flagged, part_kind, form_kind, shape_kind, is_default, default_node}
+use Rattle.switch_loops.specs.Links.{plan_as, looped_all, put, linked, in_braces, shape_body, given_default, default_looped, first_default}
+use Rattle.switch_loops.specs.declared.kind.Kind.{Kind}
+use Rattle.switch_loops.proofs.KindRows.{tree_kind, kind_form, kind_is}
+use Rattle.switch_loops.proofs.Alike.{same_terms, left_deeper}
+use Rattle.switch_loops.proofs.LoopPlaces.{flat_kind, not_formed}
+
+none : trees_of [] ≡ no_trees
+unfolding trees_of
+none = refl
+
+pub tree_cons : (node : Node) (nodes : List Node) → trees_of (node ∷ nodes) ≡ tree (node_tree node) (trees_of nodes)
+unfolding trees_of
+tree_cons node nodes = refl
+
+-- ---- the terms of a list
+
+abbrev pub put_all : ℕ → List ℕ → Bool → List Node → Trees → Trees
+put_all flag values inside [] ts = ts
+put_all flag values inside (node ∷ nodes) ts = put flag values inside (node_tree node) (put_all flag values inside nodes ts)
+
+put_step : (flag : ℕ) (values : List ℕ) (inside : Bool) (t : Tree) (ts : Trees) → put flag values inside t (looped_all flag values inside ts) ≡ looped_all flag values inside (tree t ts)
+put_step flag values inside (Switch value cases) ts = refl
+put_step flag values inside Continue ts = refl
+put_step flag values inside t ts = refl
+
+put_last : (flag : ℕ) (values : List ℕ) (inside : Bool) (nodes : List Node) (node : Node) (ts : Trees) → put_all flag values inside (nodes ++ node ∷ []) ts ≡ put_all flag values inside nodes (put flag values inside (node_tree node) ts)
+put_last flag values inside [] node ts = refl
+put_last flag values inside (n ∷ nodes) node ts = ap (put flag values inside (node_tree n)) (put_last flag values inside nodes node ts)
+
+put_whole : (flag : ℕ) (values : List ℕ) (inside : Bool) (nodes : List Node) → put_all flag values inside nodes no_trees ≡ looped_all flag values inside (trees_of nodes)
+unfolding trees_of
+put_whole flag values inside [] = refl
+put_whole flag values inside (node ∷ nodes) = ap (put flag values inside (node_tree node)) (put_whole flag values inside nodes) ∙ put_step flag values inside (node_tree node) (trees_of nodes)
+
+pub put_none : (flag : ℕ) (values : List ℕ) (inside : Bool) (nodes made : List Node) → made ≡ [] → put_all flag values inside nodes (backwards made) ≡ looped_all flag values inside (trees_of nodes)
+put_none flag values inside nodes made e = ap (λ ns. put_all flag values inside nodes (backwards ns)) e ∙ ap (put_all flag values inside nodes) none ∙ put_whole flag values inside nodes
+
+pub put_next : (flag : ℕ) (values : List ℕ) (inside : Bool) (left more made new : List Node) (node : Node) (whole : Trees) → left ≡ more ++ node ∷ [] → backwards new ≡ put flag values inside (node_tree node) (backwards made)
+    → put_all flag values inside left (backwards made) ≡ whole → put_all flag values inside more (backwards new) ≡ whole
+put_next flag values inside left more made new node whole e f h =
+    ap (put_all flag values inside more) f ∙ sym (put_last flag values inside more node (backwards made)) ∙ ap (λ ns. put_all flag values inside ns (backwards made)) (sym e) ∙ h
+
+pub put_end : (flag : ℕ) (values : List ℕ) (inside : Bool) (left : List Node) (ts : Trees) → length left ≡ 0 → ts ≡ put_all flag values inside left ts
+put_end flag values inside [] ts e = refl
+put_end flag values inside (node ∷ left) ts e = absurd (omega (arith, e))
+
+pub given_last : (nodes : List Node) (node : Node) → AreGiven (trees_of (nodes ++ node ∷ [])) → AreGiven (trees_of nodes) × IsGiven (node_tree node)
+unfolding trees_of
+given_last [] node g = (tt, g.0)
+given_last (n ∷ nodes) node g = let h = given_last nodes node g.1 in ((g.0, h.0), h.1)
+
+pub given_popped : (left more : List Node) (node : Node) → left ≡ more ++ node ∷ [] → AreGiven (trees_of left) → AreGiven (trees_of more) × IsGiven (node_tree node)
+given_popped left more node e g = given_last more node (subst (λ ns. AreGiven (trees_of ns)) e g)
+
+-- ---- forms by their kinds
+
+part_no_switch : (p : Part) → part_kind p ≡ Kind.Switch → ⊥
+part_no_switch (P.Declares n (W.Method flags) true) e = absurd cc
+part_no_switch (P.Declares n what true) e = absurd cc
+part_no_switch (P.Declares n what false) e = absurd cc
+part_no_switch p e = absurd cc
+
+part_no_case : (p : Part) → part_kind p ≡ Kind.Case → ⊥
+part_no_case (P.Declares n (W.Method flags) true) e = absurd cc
+part_no_case (P.Declares n what true) e = absurd cc
+part_no_case (P.Declares n what false) e = absurd cc
+part_no_case p e = absurd cc
+
+part_no_default : (p : Part) → part_kind p ≡ Kind.Default → ⊥
+part_no_default (P.Declares n (W.Method flags) true) e = absurd cc
+part_no_default (P.Declares n what true) e = absurd cc
+part_no_default (P.Declares n what false) e = absurd cc
+part_no_default p e = absurd cc
+
+one_of : (n : ℕ) (args : List Node) → are n (trees_of args) ≡ true → length args ≡ n
+one_of n args e = let k = are_long n args in grind (arith, nat_tests, k, e)
+
+flag_only : (c : Bool) (k l : Kind) → flagged c k ≡ l → (l ≡ Kind.Other → ⊥) → (c ≡ true) × (k ≡ l)
+flag_only true k l e never = (refl, e)
+flag_only false k l e never = absurd (never (sym e))
+
+pub switch_is : (op : Op) (args body : List Node) → form_kind op (trees_of args) (trees_of body) ≡ Kind.Switch → (op ≡ Op.Control Control.Switch) × (length args ≡ 1)
+switch_is (Op.Control Control.Switch) args body e = (refl, one_of 1 args (flag_only (are 1 (trees_of args)) Kind.Switch Kind.Switch e (λ x. absurd cc)).0)
+switch_is (Op.Control Control.While) args body e = let k : Kind.Loop ≡ Kind.Switch = (flag_only (are 1 (trees_of args)) Kind.Loop Kind.Switch e (λ x. absurd cc)).1 in absurd cc
+switch_is (Op.Control Control.Case) args body e = let k : Kind.Case ≡ Kind.Switch = (flag_only (are 1 (trees_of args)) Kind.Case Kind.Switch e (λ x. absurd cc)).1 in absurd cc
+switch_is (Op.Control Control.Default) args body e = let k : Kind.Default ≡ Kind.Switch = (flag_only (are 0 (trees_of args)) Kind.Default Kind.Switch e (λ x. absurd cc)).1 in absurd cc
+switch_is (Op.Control Control.Continue) args body e = let k : Kind.Continue ≡ Kind.Switch = (flag_only (are 0 (trees_of args) && are 0 (trees_of body)) Kind.Continue Kind.Switch e (λ x. absurd cc)).1 in absurd cc
+switch_is op args body e = absurd (part_no_switch (part_of op (trees_of args) (trees_of body)) e)
+
+pub case_is : (op : Op) (args body : List Node) → form_kind op (trees_of args) (trees_of body) ≡ Kind.Case → (op ≡ Op.Control Control.Case) × (length args ≡ 1)
+case_is (Op.Control Control.Case) args body e = (refl, one_of 1 args (flag_only (are 1 (trees_of args)) Kind.Case Kind.Case e (λ x. absurd cc)).0)
+case_is (Op.Control Control.While) args body e = let k : Kind.Loop ≡ Kind.Case = (flag_only (are 1 (trees_of args)) Kind.Loop Kind.Case e (λ x. absurd cc)).1 in absurd cc
+case_is (Op.Control Control.Switch) args body e = let k : Kind.Switch ≡ Kind.Case = (flag_only (are 1 (trees_of args)) Kind.Switch Kind.Case e (λ x. absurd cc)).1 in absurd cc
+case_is (Op.Control Control.Default) args body e = let k : Kind.Default ≡ Kind.Case = (flag_only (are 0 (trees_of args)) Kind.Default Kind.Case e (λ x. absurd cc)).1 in absurd cc
+case_is (Op.Control Control.Continue) args body e = let k : Kind.Continue ≡ Kind.Case = (flag_only (are 0 (trees_of args) && are 0 (trees_of body)) Kind.Continue Kind.Case e (λ x. absurd cc)).1 in absurd cc
+case_is op args body e = absurd (part_no_case (part_of op (trees_of args) (trees_of body)) e)
+
+pub switch_form : (at : At) (op : Op) (args body : List Node) (value : Node) → op ≡ Op.Control Control.Switch → args ≡ value ∷ [] → form at op (trees_of args) (trees_of body) ≡ Switch (node_tree value) (trees_of body)
+unfolding trees_of
+switch_form at op args body value e f = ap (λ o. form at o (trees_of args) (trees_of body)) e ∙ ap (λ ns. form at (Op.Control Control.Switch) (trees_of ns) (trees_of body)) f
+
+pub case_form : (at : At) (op : Op) (args body : List Node) (value : Node) → op ≡ Op.Control Control.Case → args ≡ value ∷ [] → form at op (trees_of args) (trees_of body) ≡ Case (node_tree value) (trees_of body)
+unfolding trees_of
+case_form at op args body value e f = ap (λ o. form at o (trees_of args) (trees_of body)) e ∙ ap (λ ns. form at (Op.Control Control.Case) (trees_of ns) (trees_of body)) f
+
+-- a Switch whose loop is put
+pub switch_put : (flag : ℕ) (values : List ℕ) (inside : Bool) (at : At) (op : Op) (args body : List Node) (value : Node) (new old : Trees) → form_kind op (trees_of args) (trees_of body) ≡ Kind.Switch → args ≡ value ∷ []
+    → (HasValue (node_tree value) → AreGiven (trees_of body) → new ≡ put flag values inside (Switch (node_tree value) (trees_of body)) old)
+    → IsGiven (form at op (trees_of args) (trees_of body)) → new ≡ put flag values inside (form at op (trees_of args) (trees_of body)) old
+switch_put flag values inside at op args body value new old k f h g =
+    let e = switch_form at op args body value (switch_is op args body k).0 f in
+    let given = subst IsGiven e g in
+    h given.0 given.1 ∙ ap (λ t. put flag values inside t old) (sym e)
+
+pub continue_form : (at : At) (op : Op) (args body : Trees) → form_kind op args body ≡ Kind.Continue → form at op args body ≡ Continue
+continue_form at op args body k = by_kind (form at op args body) (kind_form at op args body ∙ k)
+  where
+    by_kind : (t : Tree) → tree_kind t ≡ Kind.Continue → t ≡ Continue
+    by_kind Continue e = refl
+    by_kind t e = absurd cc
+
+-- ---- Cases
+
+other_linked : (flag : ℕ) (values : List ℕ) (t : Tree) (d : Option Trees) → (tree_kind t ≡ Kind.Case → ⊥) → linked flag values t d ≡ d
+other_linked flag values (Case value body) d never = absurd (never refl)
+other_linked flag values t d never = refl
+
+pub form_unlinked : (flag : ℕ) (values : List ℕ) (at : At) (op : Op) (args body : Trees) (d : Option Trees) → (form_kind op args body ≡ Kind.Case → ⊥) → d ≡ linked flag values (form at op args body) d
+form_unlinked flag values at op args body d never = sym (other_linked flag values (form at op args body) d (λ e. never (sym (kind_form at op args body) ∙ e)))
+
+-- the link of a Case
+pub case_linked : (flag : ℕ) (values : List ℕ) (at : At) (op : Op) (args body : List Node) (value : Node) (test made : Tree) (inner link : Trees) (f : Option Trees) → form_kind op (trees_of args) (trees_of body) ≡ Kind.Case → args ≡ value ∷ []
+    → (HasCaseValue (node_tree value) → test ≡ case_test (local (nth values 0)) (node_tree value)) → (AreGiven (trees_of body) → inner ≡ looped_all flag (drop 1 values) true (trees_of body)) → made ≡ If test inner → link ≡ tree made (else_of f)
+    → IsGiven (form at op (trees_of args) (trees_of body)) → Some link ≡ linked flag values (form at op (trees_of args) (trees_of body)) f
+case_linked flag values at op args body value test made inner link f k e ht hi hm hl g =
+    let is = case_form at op args body value (case_is op args body k).0 e in
+    let given = subst IsGiven is g in
+    ap Some (hl ∙ ap (λ t. tree t (else_of f)) (hm ∙ ap (λ t. If t inner) (ht given.0) ∙ ap (If (case_test (local (nth values 0)) (node_tree value))) (hi given.1)))
+    ∙ ap (λ t. linked flag values t f) (sym is)
+
+-- ---- the chain of a Switch
+
+abbrev pub link_all : ℕ → List ℕ → List Node → Option Trees → Option Trees
+link_all flag values [] d = d
+link_all flag values (node ∷ nodes) d = linked flag values (node_tree node) (link_all flag values nodes d)
+
+link_last : (flag : ℕ) (values : List ℕ) (nodes : List Node) (node : Node) (d : Option Trees) → link_all flag values (nodes ++ node ∷ []) d ≡ link_all flag values nodes (linked flag values (node_tree node) d)
+link_last flag values [] node d = refl
+link_last flag values (n ∷ nodes) node d = ap (linked flag values (node_tree n)) (link_last flag values nodes node d)
+
+pub link_next : (flag : ℕ) (values : List ℕ) (left more : List Node) (node : Node) (chain new whole : Option Trees) → left ≡ more ++ node ∷ [] → new ≡ linked flag values (node_tree node) chain → link_all flag values left chain ≡ whole → link_all flag values more new ≡ whole
+link_next flag values left more node chain new whole e f h = ap (link_all flag values more) f ∙ sym (link_last flag values more node chain) ∙ ap (λ ns. link_all flag values ns chain) (sym e) ∙ h
+
+pub link_end : (flag : ℕ) (values : List ℕ) (left : List Node) (d : Option Trees) → length left ≡ 0 → d ≡ link_all flag values left d
+link_end flag values [] d e = refl
+link_end flag values (node ∷ left) d e = absurd (omega (arith, e))
+
+links_step : (flag : ℕ) (values : List ℕ) (t : Tree) (ts : Trees) (d : Option Trees) → links (plan_as flag values) 1 (tree t ts) d ≡ linked flag values t (links (plan_as flag values) 1 ts d)
+links_step flag values (Case value body) ts d =
+    ap (λ b. Some (tree (If (case_test (local (nth values 0)) value) b) (else_of (links (plan_as flag values) 1 ts d)))) (same_terms (plan_as flag values) (plan_as flag (drop 1 values)) 2 1 (left_deeper flag values) true body)
+links_step flag values t ts d = refl
+
+default_step : (flag : ℕ) (values : List ℕ) (body ts : Trees) → default_link (plan_as flag values) 1 (tree (Default body) ts) ≡ Some (looped_all flag (drop 1 values) true body)
+default_step flag values body ts = ap Some (same_terms (plan_as flag values) (plan_as flag (drop 1 values)) 2 1 (left_deeper flag values) true body)
+
+no_default_step : (flag : ℕ) (values : List ℕ) (t : Tree) (ts : Trees) → is_default (tree_kind t) ≡ false → default_link (plan_as flag values) 1 (tree t ts) ≡ default_link (plan_as flag values) 1 ts
+no_default_step flag values (Default body) ts e = absurd cc
+no_default_step flag values t ts e = refl
+
+default_unlinked : (flag : ℕ) (values : List ℕ) (t : Tree) (d : Option Trees) → is_default (tree_kind t) ≡ true → linked flag values t d ≡ d
+default_unlinked flag values (Case value body) d e = absurd cc
+default_unlinked flag values t d e = refl
+
+node_kind : (node : Node) → tree_kind (node_tree node) ≡ shape_kind (term_shape node.term)
+node_kind node = kind_is (record { id = node.id; place = node.place }) node.term
+
+links_are : (flag : ℕ) (values : List ℕ) (nodes : List Node) (d : Option Trees) → link_all flag values (filter (λ node. not (default_node node)) nodes) d ≡ links (plan_as flag values) 1 (trees_of nodes) d
+unfolding trees_of
+links_are flag values [] d = refl
+links_are flag values (node ∷ nodes) d =
+    by_default (default_node node) refl (links_are flag values nodes d) ∙ sym (links_step flag values (node_tree node) (trees_of nodes) d)
+  where
+    by_default : (c : Bool) → default_node node ≡ c → link_all flag values (filter (λ node. not (default_node node)) nodes) d ≡ links (plan_as flag values) 1 (trees_of nodes) d → link_all flag values (if not c then node ∷ filter (λ node. not (default_node node)) nodes else filter (λ node. not (default_node node)) nodes) d ≡ linked flag values (node_tree node) (links (plan_as flag values) 1 (trees_of nodes) d)
+    by_default true e h = h ∙ sym (default_unlinked flag values (node_tree node) (links (plan_as flag values) 1 (trees_of nodes) d) (ap is_default (node_kind node) ∙ e))
+    by_default false e h = ap (linked flag values (node_tree node)) h
+
+part_unlike : (p : Part) → is_default (part_kind p) ≡ true → ⊥
+part_unlike (P.Declares n (W.Method flags) true) e = absurd cc
+part_unlike (P.Declares n what true) e = absurd cc
+part_unlike (P.Declares n what false) e = absurd cc
+part_unlike p e = absurd cc
+
+flag_unlike : (c : Bool) (k : Kind) → is_default k ≡ false → is_default (flagged c k) ≡ true → ⊥
+flag_unlike true k f e = absurd cc
+flag_unlike false k f e = absurd cc
+
+default_form : (at : At) (op : Op) (args body : Trees) → is_default (form_kind op args body) ≡ true → form at op args body ≡ Default body
+default_form at (Op.Control Control.Default) no_trees body e = refl
+default_form at (Op.Control Control.Default) (tree t ts) body e = absurd cc
+default_form at (Op.Control Control.While) args body e = absurd (flag_unlike (are 1 args) Kind.Loop refl e)
+default_form at (Op.Control Control.Switch) args body e = absurd (flag_unlike (are 1 args) Kind.Switch refl e)
+default_form at (Op.Control Control.Case) args body e = absurd (flag_unlike (are 1 args) Kind.Case refl e)
+default_form at (Op.Control Control.Continue) args body e = absurd (flag_unlike (are 0 args && are 0 body) Kind.Continue refl e)
+default_form at op args body e = absurd (part_unlike (part_of op args body) e)
+
+default_term : (at : At) (t : Term) → is_default (shape_kind (term_shape t)) ≡ true → tree_of at t ≡ Default (shape_body (term_shape t))
+unfolding tree_of
+default_term at (D.Form' op shape args shape' body) e = default_form at op (row_trees args) (row_trees body) e
+default_term at t e = absurd cc
+
+default_is : (node : Node) → default_node node ≡ true → node_tree node ≡ Default (shape_body (term_shape node.term))
+default_is node e = default_term (record { id = node.id; place = node.place }) node.term e
+
+defaults_are : (flag : ℕ) (values : List ℕ) (nodes : List Node) → default_link (plan_as flag values) 1 (trees_of nodes) ≡ default_looped flag values (first_default nodes)
+unfolding trees_of
+defaults_are flag values [] = refl
+defaults_are flag values (node ∷ nodes) = by_default (default_node node) refl (defaults_are flag values nodes)
+  where
+    by_default : (c : Bool) → default_node node ≡ c → default_link (plan_as flag values) 1 (trees_of nodes) ≡ default_looped flag values (first_default nodes) → default_link (plan_as flag values) 1 (tree (node_tree node) (trees_of nodes)) ≡ default_looped flag values (if c then Some node else first_default nodes)
+    by_default true e h = ap (λ t. default_link (plan_as flag values) 1 (tree t (trees_of nodes))) (default_is node e) ∙ default_step flag values (shape_body (term_shape node.term)) (trees_of nodes)
+    by_default false e h = no_default_step flag values (node_tree node) (trees_of nodes) (ap is_default (node_kind node) ∙ e) ∙ h
+
+pub chain_is : (flag : ℕ) (values : List ℕ) (nodes : List Node) (cases : List Node) (default : Option Node) (d : Option Trees) → cases ≡ filter (λ node. not (default_node node)) nodes → default ≡ first_default nodes → d ≡ default_looped flag values default
+    → link_all flag values cases d ≡ links (plan_as flag values) 1 (trees_of nodes) (default_link (plan_as flag values) 1 (trees_of nodes))
+chain_is flag values nodes cases default d ec ed e =
+    ap (λ ns. link_all flag values ns d) ec ∙ links_are flag values nodes d ∙ ap (links (plan_as flag values) 1 (trees_of nodes)) (e ∙ ap (default_looped flag values) ed ∙ sym (defaults_are flag values nodes))
+
+-- ---- what is given
+
+given_cases : (nodes : List Node) → AreGiven (trees_of nodes) → AreGiven (trees_of (filter (λ node. not (default_node node)) nodes))
+unfolding trees_of
+given_cases [] g = tt
+given_cases (node ∷ nodes) g = by_default (default_node node) (given_cases nodes g.1)
+  where
+    by_default : (c : Bool) → AreGiven (trees_of (filter (λ node. not (default_node node)) nodes)) → AreGiven (trees_of (if not c then node ∷ filter (λ node. not (default_node node)) nodes else filter (λ node. not (default_node node)) nodes))
+    by_default true h = h
+    by_default false h = (g.0, h)
+
+given_first : (nodes : List Node) → AreGiven (trees_of nodes) → given_default (first_default nodes)
+unfolding trees_of
+given_first [] g = tt
+given_first (node ∷ nodes) g = by_default (default_node node) refl (given_first nodes g.1)
+  where
+    by_default : (c : Bool) → default_node node ≡ c → given_default (first_default nodes) → given_default (if c then Some node else first_default nodes)
+    by_default true e h = subst IsGiven (default_is node e) g.0
+    by_default false e h = h
+
+pub cases_given : (nodes cases : List Node) → cases ≡ filter (λ node. not (default_node node)) nodes → AreGiven (trees_of nodes) → AreGiven (trees_of cases)
+cases_given nodes cases e g = subst (λ ns. AreGiven (trees_of ns)) (sym e) (given_cases nodes g)
+
+pub default_given : (nodes : List Node) (default : Option Node) → default ≡ first_default nodes → AreGiven (trees_of nodes) → given_default default
+default_given nodes default e g = subst given_default (sym e) (given_first nodes g)
+
+-- ---- nodes
+
+pub form_is : (at : At) (t : Term) (op : Op) (args body : Vec Node Global) → t ≡ D.Form op args body → tree_of at t ≡ form at op (trees_of args.items) (trees_of body.items)
+form_is at t op args body e = ap (tree_of at) e ∙ form_tree at op args body
+
+pub body_is : (t : Term) (op : Op) (args body : Vec Node Global) → t ≡ D.Form op args body → shape_body (term_shape t) ≡ trees_of body.items
+body_is t op args body e = ap (λ t. shape_body (term_shape t)) e ∙ ap shape_body (form_rows op args body)
+
+flat_shape : (t : Term) → is_form t ≡ false → shape_body (term_shape t) ≡ no_trees
+flat_shape (D.Form' op shape args shape' body) e = absurd (grind arith)
+flat_shape t e = refl
+
+pub flat_body : (flag : ℕ) (values : List ℕ) (t : Term) (made : List Node) → ((o : Op) (v w : Vec Node Global) → t ≡ D.Form o v w → ⊥) → made ≡ [] → trees_of made ≡ looped_all flag values true (shape_body (term_shape t))
+flat_body flag values t made never e = ap trees_of e ∙ none ∙ ap (looped_all flag values true) (sym (flat_shape t (not_formed t never)))
+
+pub flat_unlinked : (flag : ℕ) (values : List ℕ) (node : Node) (d : Option Trees) → ((o : Op) (v w : Vec Node Global) → node.term ≡ D.Form o v w → ⊥) → d ≡ linked flag values (node_tree node) d
+flat_unlinked flag values node d never =
+    sym (other_linked flag values (node_tree node) d (λ e. let k : Kind.Other ≡ Kind.Case = sym (flat_kind node.term (not_formed node.term never)) ∙ sym (node_kind node) ∙ e in absurd cc))
+
+flat_kept : (flag : ℕ) (values : List ℕ) (inside : Bool) (at : At) (t : Term) (rest : Trees) → is_form t ≡ false → put flag values inside (tree_of at t) rest ≡ tree (tree_of at t) rest
+unfolding tree_of
+flat_kept flag values inside at (D.Form' op shape args shape' body) rest e = absurd (grind arith)
+flat_kept flag values inside at t rest e = refl
+
+pub flat_pushed : (flag : ℕ) (values : List ℕ) (inside : Bool) (old new : List Node) (node : Node) → ((o : Op) (v w : Vec Node Global) → node.term ≡ D.Form o v w → ⊥) → new ≡ old ++ node ∷ [] → backwards new ≡ put flag values inside (node_tree node) (backwards old)
+flat_pushed flag values inside old new node never e =
+    pushed old new node e ∙ sym (flat_kept flag values inside (record { id = node.id; place = node.place }) node.term (backwards old) (not_formed node.term never))

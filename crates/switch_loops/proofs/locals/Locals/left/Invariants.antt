@@ -1,0 +1,7 @@
+use Rattle.std.proofs.Common.{◌≡◌, ◌+◌, length}
+use Rattle.switch_loops.specs.Reads.{others_of}
+use Rattle.switch_loops.proofs.Marks.{others_from}
+use Rattle.switch_loops.proofs.locals.Locals.left.Given as goal
+
+abbrev pub invariant-loop-index : goal.invariant-loop-index
+invariant-loop-index l = l.count + length (others_from l.self.named l.index) ≡ length (others_of l.self.named)

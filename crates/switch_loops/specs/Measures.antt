@@ -1,0 +1,35 @@
+-- How deep Switches nest in terms, and whether a Continue leaves one of them.
+use Rattle.std.specs.Prelude.{ℕ, min, max, ◌+◌, Bool, true, false, ◌||◌}
+use Rattle.asl_tree.specs.Tree.{Tree, Trees}
+use Rattle.hidden_locals.specs.Crossing.{has_continue, have_continue}
+use Rattle.hidden_locals.specs.Switches.{depth, depth_all, is_crossed, are_crossed}
+use Rattle.switch_loops.specs.declared.kind.Kind.{Kind}
+use Rattle.switch_loops.specs.declared.measure.Measure.{Measure}
+
+-- nine levels stand for all that are more, since there are eight Locals
+abbrev pub capped : ℕ → ℕ
+capped n = min n 9
+
+abbrev pub measured : Trees → Measure
+measured terms = record { levels = capped (depth_all terms); crossed = are_crossed terms; continues = have_continue terms }
+
+abbrev pub measured_one : Tree → Measure
+measured_one term = record { levels = capped (depth term); crossed = is_crossed term; continues = has_continue term }
+
+abbrev pub nothing : Measure
+nothing = record { levels = 0; crossed = false; continues = false }
+
+-- one term beside others
+abbrev pub both : Measure → Measure → Measure
+both m n = record { levels = max m.levels n.levels; crossed = m.crossed || n.crossed; continues = m.continues || n.continues }
+
+-- a term by what stands in its braces
+abbrev pub around : Kind → Measure → Measure
+around Kind.Block m = m
+around Kind.Loop m = record { levels = m.levels; crossed = m.crossed; continues = false }
+around Kind.Switch m = record { levels = min m.levels 8 + 1; crossed = m.continues || m.crossed; continues = m.continues }
+around Kind.Case m = m
+around Kind.Default m = m
+around Kind.Method m = nothing
+around Kind.Continue m = record { levels = 0; crossed = false; continues = true }
+around Kind.Other m = nothing

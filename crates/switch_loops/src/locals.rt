@@ -1,0 +1,217 @@
+//! The Locals that terms name.
+ghost use Rattle.std.specs.Prelude.{◌≡◌, ◌≤◌, ◌+◌, ◌++◌, [], ◌∷◌, if◌then◌else◌, slice_get, length, IfOk, OnOk};
+ghost use Rattle.acpi_names.specs.Parts.{is_item_list, is_item_term};
+ghost use Rattle.acpi_names.specs.Walked.{node_tree};
+ghost use Rattle.asl_operators.specs.Letters.{letters_as};
+ghost use Rattle.asl_tree.specs.View.{trees_of};
+ghost use Rattle.hidden_locals.specs.Locals.{locals, locals_all};
+ghost use Rattle.switch_loops.specs.Reads.{form_locals, letter_names, operand_locals, marked, marked_all, none_named, is_marked, others_of, is_constant as constant_letter, reads_of as form_reads, value_reads as reads_of_value};
+
+use acpi_names::part::{Part, ValueForm, part_for, value_form_for};
+use acpi_values::operator::Plain;
+use asl_operators::letter::Letter;
+use asl_operators::rows::letters;
+use asl_tree::term::{Node, Op, Term};
+use std::alloc::{AllocError, Global};
+
+/// Which of the eight Locals are named.
+#[derive(Clone, Copy, PartialEq, Eq, Debug)]
+pub struct Locals {
+    named: [bool; 8],
+}
+
+impl Locals {
+    fn none() -> Locals
+        ensures { result.named ≡ none_named }
+    {
+        Locals { named: [false; 8] }
+    }
+
+    // With one Local more.
+    fn with(self, index: u8) -> Locals
+        ensures { result.named ≡ marked self.named index }
+    {
+        let mut named = self.named;
+        let index = usize::from(index);
+        if index < 8 {
+            named[index] = true;
+        }
+        Locals { named }
+    }
+
+    fn names(self, index: u8) -> bool
+        ensures { result ≡ is_marked self.named index }
+    {
+        match self.named.get(usize::from(index)) {
+            Some(named) => *named,
+            None => false,
+        }
+    }
+
+    // Puts a Local behind others, if it is not named.
+    fn put_other(self, index: u8, free: &mut Vec<u8>) -> Result<(), AllocError>
+        ensures { OnOk result (free.new.items ≡ free.old.items ++ (if is_marked self.named index then [] else index ∷ [])) }
+    {
+        if self.names(index) {
+            return Ok(());
+        }
+        free.push(index)?;
+        Ok(())
+    }
+
+    // So many Locals, and one more if it is not named.
+    fn counted(self, index: u8, count: usize) -> usize
+        requires { count ≤ 8 }
+        ensures { result ≡ (if is_marked self.named index then count else count + 1) }
+    {
+        if self.names(index) { count } else { count + 1 }
+    }
+
+    /// The Locals that are not named, the lowest first.
+    pub(crate) fn others(self, alloc: Global) -> Result<Vec<u8>, AllocError>
+        ensures { IfOk result (λ free. free.items ≡ others_of self.named) }
+    {
+        let mut free = Vec::new(alloc);
+        for index in 0..8 {
+            self.put_other(index, &mut free)?;
+        }
+        Ok(free)
+    }
+
+    /// How many Locals are not named.
+    pub(crate) fn left(self) -> usize
+        ensures { result ≡ length (others_of self.named) }
+    {
+        let mut count: usize = 0;
+        for index in 0..8 {
+            count = self.counted(index, count);
+        }
+        count
+    }
+}
+
+/// What of a form may name Locals: nothing, its arguments, those of an operator but for the constants among them, or its arguments
+/// and what stands in its braces.
+#[derive(Clone, Copy, PartialEq, Eq, Debug)]
+pub enum Reads {
+    Nothing,
+    Arguments,
+    Operands(Plain),
+    All,
+}
+
+fn is_item(term: &Term) -> bool
+    ensures { result ≡ is_item_term term.now }
+{
+    matches!(term, Term::Unit { .. } | Term::Skip(_) | Term::Offset(_))
+}
+
+fn are_items(nodes: &[Node]) -> bool
+    ensures { result ≡ is_item_list (trees_of nodes.now) }
+{
+    for node in nodes {
+        if !is_item(&node.term) {
+            return false;
+        }
+    }
+    true
+}
+
+fn value_reads(form: ValueForm) -> Reads
+    ensures { result ≡ reads_of_value form }
+{
+    match form {
+        ValueForm::Nothing => Reads::Nothing,
+        ValueForm::Operator(op) => Reads::Operands(op),
+        ValueForm::Package => Reads::All,
+        ValueForm::Assign | ValueForm::AssignBy | ValueForm::CondRefOf | ValueForm::Buffer => {
+            Reads::Arguments
+        }
+    }
+}
+
+fn reads_of(op: Op, args: &[Node], body: &[Node]) -> Reads
+    ensures { result ≡ form_reads op (trees_of args.now) (trees_of body.now) }
+{
+    match part_for(op, args, body) {
+        Part::Nothing => value_reads(value_form_for(op, args, body)),
+        Part::Declares { opens: true, .. } | Part::Scope | Part::Within => Reads::All,
+        Part::Declares { .. } | Part::Returns => Reads::Arguments,
+        Part::Units(_) => if are_items(body) {
+            Reads::Arguments
+        } else {
+            Reads::Nothing
+        },
+        Part::Alias | Part::External { .. } => Reads::Nothing,
+    }
+}
+
+fn letter_at(letters: &[Letter], index: usize) -> Option<Letter>
+    ensures { result ≡ slice_get letters.now index }
+{
+    letters.get(index).copied()
+}
+
+fn is_constant(letter: Option<Letter>) -> bool
+    ensures { result ≡ constant_letter letter }
+{
+    matches!(
+        letter,
+        Some(Letter::Byte) | Some(Letter::Word) | Some(Letter::DWord)
+    )
+}
+
+#[cycle(named)]
+fn named_in_form(op: Op, args: &[Node], body: &[Node], found: Locals) -> Locals
+    ensures { result.named ≡ marked_all found.named (form_locals (form_reads op (trees_of args.now) (trees_of body.now)) (trees_of args.now) (trees_of body.now)) }
+{
+    match reads_of(op, args, body) {
+        Reads::Nothing => found,
+        Reads::Arguments => named_in_all(args, &[], found),
+        Reads::Operands(op) => named_in_all(args, letters(op), found),
+        Reads::All => named_in_all(body, &[], named_in_all(args, &[], found)),
+    }
+}
+
+#[cycle(named)]
+fn named_in_node(node: &Node, found: Locals) -> Locals
+    ensures { result.named ≡ marked_all found.named (locals (node_tree node.now)) }
+{
+    match &node.term {
+        Term::Local(index) => found.with(*index),
+        Term::Call { path: _, args } => named_in_all(args, &[], found),
+        Term::Form { op, args, body } => named_in_form(*op, args, body, found),
+        _ => found,
+    }
+}
+
+// A constant names no Local.
+#[cycle(named)]
+fn named_in_operand(node: &Node, letter: Option<Letter>, found: Locals) -> Locals
+    ensures { result.named ≡ marked_all found.named (letter_names (constant_letter letter) (node_tree node.now)) }
+{
+    if is_constant(letter) {
+        found
+    } else {
+        named_in_node(node, found)
+    }
+}
+
+// The Locals that are found, and those that nodes name but for the constants among them.
+#[cycle(named)]
+fn named_in_all(nodes: &[Node], letters: &[Letter], found: Locals) -> Locals
+    ensures { result.named ≡ marked_all found.named (operand_locals (letters_as letters.now) (trees_of nodes.now)) }
+{
+    let mut found = found;
+    for (index, node) in nodes.iter().enumerate() {
+        found = named_in_operand(node, letter_at(letters, index), found);
+    }
+    found
+}
+
+/// The Locals that the terms of a list name.
+pub fn named_in(nodes: &[Node]) -> Locals
+    ensures { result.named ≡ marked_all none_named (locals_all (trees_of nodes.now)) }
+{
+    named_in_all(nodes, &[], Locals::none())
+}

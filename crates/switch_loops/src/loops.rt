@@ -1,0 +1,297 @@
+//! A program whose Switches are loops: its Locals keep the values of Switches.
+ghost use Rattle.std.specs.Prelude.{◌≡◌, ◌++◌, ◌∷◌, [], false, true, length, reverse, drop, IfOk, OnOk};
+ghost use Rattle.acpi_names.specs.Walked.{node_tree, term_shape};
+ghost use Rattle.asl_lower.specs.Nests.{backwards};
+ghost use Rattle.asl_lower.specs.Places.{has_terms, lowered_places};
+ghost use Rattle.asl_tree.specs.Tree.{Switch};
+ghost use Rattle.asl_tree.specs.View.{form, trees_of};
+ghost use Rattle.hidden_locals.specs.Switches.{default_link, links, without_switches};
+ghost use Rattle.switch_loops.specs.Given.{AreGiven, IsGiven, HasValue};
+ghost use Rattle.switch_loops.specs.Kinds.{form_kind as form_kind_of, shape_kind};
+ghost use Rattle.switch_loops.specs.Links.{given_default, in_braces as trees_in_braces, link_places, link_trees, linked, looped_all, plan_as, put as put_tree, default_looped, shape_body};
+ghost use Rattle.switch_loops.specs.Places.{body_inside, cases_places, case_places, braces as braces_places, default_node_places, first_default_places, form_looped, looped_at, looped_places, switch_looped};
+
+use crate::kind::{Kind, form_kind};
+use crate::locals::named_in;
+use crate::made::{Link, Origin, case_test, choice, put_continue, put_turn, turn, when};
+use crate::measure::measure_all;
+use crate::spare::{later, local_at};
+use crate::split::split_cases;
+use asl_tree::term::{Control, Declaration, Node, Op, Term};
+use std::alloc::{AllocError, Global};
+
+// The node of a list of one.
+fn only(nodes: Vec<Node>) -> Node
+    requires { length nodes.items ≡ 1 }
+    ensures { nodes.items ≡ result ∷ [] }
+{
+    let mut nodes = nodes;
+    nodes.remove(0)
+}
+
+/// The terms of a method, or of a block, in which a loop of one turn stands for each Switch. The Locals for it are those that the
+/// terms do not name; each method has its own.
+#[cycle(loops)]
+pub fn loops(alloc: Global, terms: Vec<Node>) -> Result<Vec<Node>, AllocError>
+    ensures trees { IfOk result (λ made. AreGiven (trees_of terms.items) → trees_of made.items ≡ without_switches (trees_of terms.items)) }
+    ensures places { IfOk result (λ made. lowered_places made.items ≡ looped_places false terms.items) }
+{
+    let free = named_in(&terms).others(alloc)?;
+    let flag = local_at(&free, measure_all(&terms).levels);
+    let made = loops_in(alloc, flag, &free, false, terms)?;
+    Ok(made)
+}
+
+// The terms of a list; `inside` says whether a Switch is around them in the same loop.
+#[cycle(loops)]
+fn loops_in(
+    alloc: Global,
+    flag: u8,
+    values: &[u8],
+    inside: bool,
+    terms: Vec<Node>,
+) -> Result<Vec<Node>, AllocError>
+    ensures trees { IfOk result (λ made. AreGiven (trees_of terms.items) → trees_of made.items ≡ looped_all flag values.now inside (trees_of terms.items)) }
+    ensures places { IfOk result (λ made. lowered_places made.items ≡ looped_places inside terms.items) }
+{
+    let mut left = terms;
+    let mut made = Vec::new(alloc);
+    while let Some(node) = left.pop() {
+        put(alloc, flag, values, inside, &mut made, node)?;
+    }
+    made.reverse();
+    Ok(made)
+}
+
+// Puts what stands for a term before terms that stand backwards.
+#[cycle(loops)]
+fn put(
+    alloc: Global,
+    flag: u8,
+    values: &[u8],
+    inside: bool,
+    made: &mut Vec<Node>,
+    node: Node,
+) -> Result<(), AllocError>
+    ensures trees { OnOk result (IsGiven (node_tree node) → backwards made.new.items ≡ put_tree flag values.now inside (node_tree node) (backwards made.old.items)) }
+    ensures places { OnOk result (lowered_places (reverse made.new.items) ≡ looped_at inside node.place node.term ++ lowered_places (reverse made.old.items)) }
+{
+    let Node { id, place, term } = node;
+    match term {
+        Term::Form { op, args, body } => {
+            let origin = Origin { id, place };
+            put_form(alloc, flag, values, inside, made, origin, op, args, body)?;
+            Ok(())
+        }
+        term => {
+            made.push(Node { id, place, term })?;
+            Ok(())
+        }
+    }
+}
+
+#[cycle(loops)]
+fn put_form(
+    alloc: Global,
+    flag: u8,
+    values: &[u8],
+    inside: bool,
+    made: &mut Vec<Node>,
+    origin: Origin,
+    op: Op,
+    args: Vec<Node>,
+    body: Vec<Node>,
+) -> Result<(), AllocError>
+    ensures trees { OnOk result (IsGiven (form (record { id = origin.id; place = origin.place }) op (trees_of args.items) (trees_of body.items)) → backwards made.new.items ≡ put_tree flag values.now inside (form (record { id = origin.id; place = origin.place }) op (trees_of args.items) (trees_of body.items)) (backwards made.old.items)) }
+    ensures places { OnOk result (lowered_places (reverse made.new.items) ≡ form_looped inside origin.place op args.items body.items ++ lowered_places (reverse made.old.items)) }
+{
+    match form_kind(op, &args, &body) {
+        Kind::Switch => {
+            put_switch(alloc, flag, values, inside, made, origin, only(args), body)?;
+            Ok(())
+        }
+        Kind::Continue => {
+            put_continue(alloc, origin, flag, inside, made)?;
+            Ok(())
+        }
+        _ => {
+            let body = in_braces(alloc, flag, values, inside, op, body)?;
+            made.push(Node {
+                id: origin.id,
+                place: origin.place,
+                term: Term::Form { op, args, body },
+            })?;
+            Ok(())
+        }
+    }
+}
+
+// What stands in the braces of a form that stays.
+#[cycle(loops)]
+fn in_braces(
+    alloc: Global,
+    flag: u8,
+    values: &[u8],
+    inside: bool,
+    op: Op,
+    body: Vec<Node>,
+) -> Result<Vec<Node>, AllocError>
+    ensures trees { IfOk result (λ made. (has_terms op ≡ true → AreGiven (trees_of body.items)) → trees_of made.items ≡ trees_in_braces flag values.now inside op (trees_of body.items)) }
+    ensures places { IfOk result (λ made. has_terms op ≡ true → lowered_places made.items ≡ looped_places (body_inside op inside) body.items) }
+{
+    match op {
+        Op::Declaration(Declaration::Method) => {
+            let made = loops(alloc, body)?;
+            Ok(made)
+        }
+        Op::Control(Control::While) => {
+            let made = loops_in(alloc, flag, values, false, body)?;
+            Ok(made)
+        }
+        Op::Declaration(
+            Declaration::Device
+            | Declaration::ThermalZone
+            | Declaration::PowerResource
+            | Declaration::Processor
+            | Declaration::Scope,
+        )
+        | Op::Control(Control::If | Control::ElseIf | Control::Else) => {
+            let made = loops_in(alloc, flag, values, inside, body)?;
+            Ok(made)
+        }
+        _ => Ok(body),
+    }
+}
+
+// Puts the loop of a Switch before terms that stand backwards.
+#[cycle(loops)]
+fn put_switch(
+    alloc: Global,
+    flag: u8,
+    values: &[u8],
+    inside: bool,
+    made: &mut Vec<Node>,
+    origin: Origin,
+    value: Node,
+    cases: Vec<Node>,
+) -> Result<(), AllocError>
+    ensures trees { OnOk result (HasValue (node_tree value) → AreGiven (trees_of cases.items) → backwards made.new.items ≡ put_tree flag values.now inside (Switch (node_tree value) (trees_of cases.items)) (backwards made.old.items)) }
+    ensures places { OnOk result (lowered_places (reverse made.new.items) ≡ switch_looped inside origin.place cases.items ++ lowered_places (reverse made.old.items)) }
+{
+    let crossed = measure_all(&cases).continues;
+    let chain = chain(alloc, flag, values, cases)?;
+    let turn = turn(alloc, origin, local_at(values, 0), value, chain)?;
+    put_turn(alloc, origin, flag, crossed, inside, made, turn)?;
+    Ok(())
+}
+
+// The tests of the Cases of a Switch, each in the Else of the one before it, and last the Default.
+#[cycle(loops)]
+fn chain(
+    alloc: Global,
+    flag: u8,
+    values: &[u8],
+    nodes: Vec<Node>,
+) -> Result<Option<Link>, AllocError>
+    ensures trees { IfOk result (λ chain. AreGiven (trees_of nodes.items) → link_trees chain ≡ links (plan_as flag values.now) 1 (trees_of nodes.items) (default_link (plan_as flag values.now) 1 (trees_of nodes.items))) }
+    ensures places { IfOk result (λ chain. link_places chain ≡ cases_places nodes.items (first_default_places nodes.items)) }
+{
+    let split = split_cases(alloc, nodes)?;
+    let mut chain = default_of(alloc, flag, values, split.default)?;
+    let mut left = split.cases;
+    while let Some(node) = left.pop() {
+        chain = case_before(alloc, flag, values, node, chain)?;
+    }
+    Ok(chain)
+}
+
+// What a Default does.
+#[cycle(loops)]
+fn default_of(
+    alloc: Global,
+    flag: u8,
+    values: &[u8],
+    default: Option<Node>,
+) -> Result<Option<Link>, AllocError>
+    ensures trees { IfOk result (λ link. given_default default → link_trees link ≡ default_looped flag values.now default) }
+    ensures places { IfOk result (λ link. link_places link ≡ default_node_places default) }
+{
+    match default {
+        Some(Node { id, place, term }) => {
+            let terms = terms_of(alloc, flag, values, term)?;
+            Ok(Some(Link {
+                origin: Origin { id, place },
+                terms,
+            }))
+        }
+        None => Ok(None),
+    }
+}
+
+// The terms in the braces of a Default.
+#[cycle(loops)]
+fn terms_of(alloc: Global, flag: u8, values: &[u8], term: Term) -> Result<Vec<Node>, AllocError>
+    ensures trees { IfOk result (λ made. AreGiven (shape_body (term_shape term)) → trees_of made.items ≡ looped_all flag (drop 1 values.now) true (shape_body (term_shape term))) }
+    ensures places { IfOk result (λ made. lowered_places made.items ≡ braces_places term) }
+{
+    match term {
+        Term::Form {
+            op: _op,
+            args: _args,
+            body,
+        } => {
+            let made = loops_in(alloc, flag, later(values), true, body)?;
+            Ok(made)
+        }
+        _ => Ok(Vec::new(alloc)),
+    }
+}
+
+// A Case before what follows it. What is no Case is nothing.
+#[cycle(loops)]
+fn case_before(
+    alloc: Global,
+    flag: u8,
+    values: &[u8],
+    node: Node,
+    following: Option<Link>,
+) -> Result<Option<Link>, AllocError>
+    ensures trees { IfOk result (λ link. IsGiven (node_tree node) → link_trees link ≡ linked flag values.now (node_tree node) (link_trees following)) }
+    ensures places { IfOk result (λ link. link_places link ≡ case_places (shape_kind (term_shape node.term)) node.place (braces_places node.term) (link_places following)) }
+{
+    let Node { id, place, term } = node;
+    match term {
+        Term::Form { op, args, body } => {
+            let origin = Origin { id, place };
+            let link = form_before(alloc, flag, values, origin, op, args, body, following)?;
+            Ok(link)
+        }
+        _ => Ok(following),
+    }
+}
+
+#[cycle(loops)]
+fn form_before(
+    alloc: Global,
+    flag: u8,
+    values: &[u8],
+    origin: Origin,
+    op: Op,
+    args: Vec<Node>,
+    body: Vec<Node>,
+    following: Option<Link>,
+) -> Result<Option<Link>, AllocError>
+    ensures trees { IfOk result (λ link. IsGiven (form (record { id = origin.id; place = origin.place }) op (trees_of args.items) (trees_of body.items)) → link_trees link ≡ linked flag values.now (form (record { id = origin.id; place = origin.place }) op (trees_of args.items) (trees_of body.items)) (link_trees following)) }
+    ensures places { IfOk result (λ link. link_places link ≡ case_places (form_kind_of op (trees_of args.items) (trees_of body.items)) origin.place (looped_places true body.items) (link_places following)) }
+{
+    match form_kind(op, &args, &body) {
+        Kind::Case => {
+            let test = case_test(alloc, origin, local_at(values, 0), only(args))?;
+            let body = loops_in(alloc, flag, later(values), true, body)?;
+            let test = when(alloc, origin, test, body)?;
+            let terms = choice(alloc, test, following)?;
+            Ok(Some(Link { origin, terms }))
+        }
+        _ => Ok(following),
+    }
+}

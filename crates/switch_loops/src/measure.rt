@@ -1,0 +1,85 @@
+//! How deep Switches nest in terms, and whether a Continue leaves one of them.
+ghost use Rattle.std.specs.Prelude.{◌≡◌};
+ghost use Rattle.acpi_names.specs.Walked.{node_tree};
+ghost use Rattle.asl_tree.specs.View.{trees_of};
+ghost use Rattle.switch_loops.specs.Measures.{nothing as no_measure, both, around as measure_around, measured, measured_one};
+
+use crate::kind::{Kind, form_kind};
+use acpi_names::part::{Shape, shape_of};
+use asl_tree::term::Node;
+
+/// What is measured of terms: how many levels of Switches nest in them, methods aside; whether a Continue leaves a Switch in
+/// them, and whether one may leave the terms. There are eight Locals, so nine levels stand for all that are more.
+#[derive(Clone, Copy, PartialEq, Eq, Debug)]
+pub struct Measure {
+    pub levels: usize,
+    pub crossed: bool,
+    pub continues: bool,
+}
+
+fn nothing() -> Measure
+    ensures { result ≡ no_measure }
+{
+    Measure {
+        levels: 0,
+        crossed: false,
+        continues: false,
+    }
+}
+
+fn beside(first: Measure, second: Measure) -> Measure
+    ensures { result ≡ both first second }
+{
+    Measure {
+        levels: first.levels.max(second.levels),
+        crossed: first.crossed || second.crossed,
+        continues: first.continues || second.continues,
+    }
+}
+
+// The measure of a term by that of what stands in its braces.
+fn around(kind: Kind, inner: Measure) -> Measure
+    ensures { result ≡ measure_around kind inner }
+{
+    match kind {
+        Kind::Block | Kind::Case | Kind::Default => inner,
+        Kind::Loop => Measure {
+            levels: inner.levels,
+            crossed: inner.crossed,
+            continues: false,
+        },
+        Kind::Switch => Measure {
+            levels: inner.levels.min(8) + 1,
+            crossed: inner.continues || inner.crossed,
+            continues: inner.continues,
+        },
+        Kind::Continue => Measure {
+            levels: 0,
+            crossed: false,
+            continues: true,
+        },
+        Kind::Method | Kind::Other => nothing(),
+    }
+}
+
+#[cycle(measure)]
+fn measure_node(node: &Node) -> Measure
+    ensures { result ≡ measured_one (node_tree node.now) }
+{
+    match shape_of(&node.term) {
+        Shape::Form(op, args, body) => around(form_kind(op, args, body), measure_all(body)),
+        _ => nothing(),
+    }
+}
+
+/// What is measured of the terms of a list.
+#[cycle(measure)]
+pub(crate) fn measure_all(nodes: &[Node]) -> Measure
+    ensures { result ≡ measured (trees_of nodes.now) }
+{
+    let mut found = nothing();
+    for node in nodes {
+        found = beside(found, measure_node(node));
+    }
+    found
+}
