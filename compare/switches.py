@@ -6,9 +6,9 @@
 The two compilers make other loops of a Switch, so their bytes differ by right. ACPICA's interpreter, acpiexec, must give
 each call, on our table, what docs/DEFINITIONS.md says of the statements (`Method.call` of statements.py and `switch` below,
 written from the ACPI Specification's texts). On the table of ACPICA's compiler it is told how often it does so too, where no
-Continue leaves a Switch, which begins the Switch again there, no call divides by 0, which that compiler refuses where it is
-constant, and it does not write more bytes than its table's length, as it does for some Cases with a Package. It needs
-acpica-tools, and is no part of the tests.
+Continue leaves a Switch, which begins the Switch again there, no Default stands before a Case, where that compiler leaves the
+Cases out, no call divides by 0, which it refuses where it is constant, and it does not write more bytes than its table's
+length, as it does for some Cases with a Package. It needs acpica-tools, and is no part of the tests.
 """
 
 import random
@@ -28,7 +28,7 @@ class SwitchMethod(Method):
     begun, kept = 5, 3
 
     def __init__(self, written, world, names):
-        self.nested, self.crossed = 0, False
+        self.nested, self.crossed, self.led = 0, False, False
         super().__init__(written, world, names)
 
     def constant(self):
@@ -57,7 +57,9 @@ class SwitchMethod(Method):
             choices.append(({value for _, value in members}, run))
         if random.random() < 0.6:
             body, other = self.statements(depth - 1, loops, inside)
-            lines.insert(random.choice([0, len(lines), len(lines)]), ("Default", body))
+            at = random.choice([0, len(lines), len(lines)])
+            self.led = self.led or at < len(lines)
+            lines.insert(at, ("Default", body))
         return lines, choices, other
 
     def switch(self, depth, loops, inside):
@@ -100,7 +102,7 @@ class SwitchMethod(Method):
 
 
 def source():
-    """A source, the calls with what they are to give, and whether a Continue leaves a Switch."""
+    """A source, the calls with what they are to give, and whether ACPICA's compiler does otherwise for a Switch in it."""
     used, terms, names, world = {"PKGX", "BUFX", "STOR"}, [], [], World()
     world.package = [random.choice(EDGES) for _ in range(3)]
     world.buffer = [random.randrange(256) for _ in range(4)]
@@ -126,7 +128,7 @@ def source():
     for _, seg in names:
         calls.append(((seg, []), world.integers[seg]))
     head = 'DefinitionBlock ("", "SSDT", 2, "OEMX00", "TABLE001", 1)'
-    return head + "\n{\n" + "".join(terms) + "}\n", calls, any(method.crossed for _, method in methods)
+    return head + "\n{\n" + "".join(terms) + "}\n", calls, any(method.crossed or method.led for _, method in methods)
 
 
 def main():
@@ -136,13 +138,13 @@ def main():
     with tempfile.TemporaryDirectory() as name:
         folder = Path(name)
         for run in range(count):
-            text, calls, crossed = source()
+            text, calls, otherwise_there = source()
             asked, wanted = [call for call, _ in calls], [value for _, value in calls]
             compiled(folder / "ours", [iasl], text)
             given = evaluated(folder / "ours", asked)
             if given != wanted:
                 sys.exit(f"source {run}: {given} for {calls}:\n{text}")
-            if crossed or "AE_AML_DIVIDE_BY_ZERO" in wanted:
+            if otherwise_there or "AE_AML_DIVIDE_BY_ZERO" in wanted:
                 continue
             theirs = compiled(folder / "theirs", ["iasl", "-f", "-vs"], text)
             if len(theirs) == int.from_bytes(theirs[4:8], "little"):

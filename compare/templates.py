@@ -187,4 +187,5 @@ def main():
     print(f"{len(fixed)} sources of single arguments and {count} random ones: the same bytes")
 
 
-main()
+if __name__ == "__main__":
+    main()

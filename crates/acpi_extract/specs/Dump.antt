@@ -1,9 +1,10 @@
 -- The tables of a dump, or its first fault.
-use Rattle.std.specs.Prelude.{ℕ, ◌+◌, ◌*◌, ◌==◌, ◌&&◌, ◌||◌, Bool, cond, nat_le, List, [], ◌∷◌, ◌++◌, length, map, slice_index, codes, Some, None, Ok, Err}
+use Rattle.std.specs.Prelude.{ℕ, ◌+◌, ◌==◌, ◌&&◌, ◌||◌, Bool, cond, nat_le, List, [], ◌∷◌, ◌++◌, length, drop, map, codes, Some, None, Ok, Err}
 use Rattle.std.specs.declared.option.Option.{Option}
 use Rattle.std.specs.declared.result.Result.{Result}
 use Rattle.std.specs.Char.{to_ascii_lowercase}
 use Rattle.std.specs.Str.{bytes_eq}
+use Rattle.byteorder.specs.Endian.{little_number}
 use Rattle.iasl_messages.specs.Cut.{lines_of}
 use Rattle.hex_text.specs.Blanks.{has_blanks_alone}
 use Rattle.acpi_extract.specs.Lines.{signature_of}
@@ -79,7 +80,7 @@ stem_of signature = cond (bytes_eq (lower signature) (codes "rsd ptr")) (codes "
 
 -- the 32-bit number at byte 4, the lowest byte first
 abbrev pub told_length : List ℕ → ℕ
-told_length bytes = slice_index bytes 4 + slice_index bytes 5 * 256 + slice_index bytes 6 * 65536 + slice_index bytes 7 * 16777216
+told_length bytes = little_number 4 (drop 4 bytes)
 
 -- the length that a table tells is the number of its bytes; the pointer RSDP tells none
 abbrev pub tells_length : List ℕ → List ℕ → Bool

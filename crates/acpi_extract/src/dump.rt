@@ -11,6 +11,7 @@ use crate::line::signature_in;
 use crate::row::{add_pairs, row_start};
 use crate::signature::is_pointer;
 use crate::table::{Table, Tables, Unfinished, begin_table};
+use byteorder::{ByteOrder, LittleEndian};
 use hex_text::blanks::has_blanks_alone;
 use iasl_messages::cut::cut_line;
 use iasl_messages::message::{Message, Messages, Stage};
@@ -64,7 +65,7 @@ fn told_length(bytes: &[u8]) -> u32
     requires { 8 ≤ length bytes.now }
     ensures { result ≡ told_length bytes.now }
 {
-    u32::from_le_bytes([bytes[4], bytes[5], bytes[6], bytes[7]])
+    LittleEndian::read_u32(&bytes[4..])
 }
 
 // What has been read of a dump: the tables so far, the table whose lines are being read, if there is one,

@@ -7,9 +7,7 @@ ghost use Rattle.asl_parser.specs.Written.{written, writtens, written_in};
 
 use crate::around::Around;
 use asl_parser::{Raw, Raws};
-use asl_words::meaning::{
-    Meaning, is_descriptor_name, is_same, is_unknown, may_be, may_end, wants_braces,
-};
+use asl_words::meaning::{Meaning, is_same, is_unknown, may_be, may_end, wants_braces};
 use asl_words::operator::{Parameter, Slot};
 use asl_words::parameters::{macro_parameters, offset_parameters, parameters_of};
 use asl_words::paths::parts;
@@ -98,7 +96,7 @@ pub fn item_fault(
 ) -> Option<u16>
     ensures { result ≡ words.item_fault slot inside.method meaning (at.has_arguments_at meaning args.now) has_body }
 {
-    if is_unknown(meaning) || is_descriptor_name(slot, meaning) {
+    if is_unknown(meaning) {
         return Some(6020);
     }
     if !may_be(slot, inside.method, meaning) {

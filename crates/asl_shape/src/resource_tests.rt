@@ -645,10 +645,10 @@ fn tells_errors_of_templates(rt: HostRuntime) -> Result<(), Fail> {
         ),
         ("OPERATIONREGION ( R , FFIXEDHW , 0 , 1 )", "6022@19 "),
         ("SHARED", "6025@15 "),
-        // The name of a descriptor is not built.
+        // The name of a descriptor is a segment.
         (
             "NAME ( A , RESOURCETEMPLATE ( ) { IRQNOFLAGS ( ABCD ) { } } )",
-            "6020@25 ",
+            "none",
         ),
         (
             "NAME ( A , RESOURCETEMPLATE ( ) { IRQNOFLAGS ( \\ABCD ) { } } )",

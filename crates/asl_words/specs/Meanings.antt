@@ -171,19 +171,14 @@ abbrev pub is_unknown : Meaning → Bool
 is_unknown is.Unknown = true
 is_unknown _ = false
 
--- a name for a descriptor is read, but not built
-abbrev pub is_descriptor_name : Slot → Meaning → Bool
-is_descriptor_name slot.DescriptorName is.Name = true
-is_descriptor_name _ _ = false
-
 abbrev pub is_same : Bool → Bool → Bool
 is_same true b = b
 is_same false b = not b
 
--- the first of an item's errors: an operator that is unknown, or what is not built, one that may not stand here, its arguments, its body
+-- the first of an item's errors: an operator that is unknown, one that may not stand here, its arguments, its body
 abbrev pub item_fault : Slot → Bool → Meaning → Bool → Bool → Option ℕ
 item_fault s inside meaning has has_body =
-    if is_unknown meaning || is_descriptor_name s meaning then Some 6020 else (
+    if is_unknown meaning then Some 6020 else (
     if not (may_be s inside meaning) then Some 6025 else (
     if not has then Some 6021 else (
     if not (is_same (wants_braces meaning) has_body) then Some 6023 else None)))

@@ -352,16 +352,6 @@ pub fn is_unknown(meaning: Meaning) -> bool
     }
 }
 
-/// Whether a word is the name of a descriptor, which is read, but not built.
-pub fn is_descriptor_name(slot: Slot, meaning: Meaning) -> bool
-    ensures { result ≡ spec.is_descriptor_name slot meaning }
-{
-    match (slot, meaning) {
-        (Slot::DescriptorName, Meaning::Name) => true,
-        _ => false,
-    }
-}
-
 /// Whether both are so, or neither.
 pub fn is_same(a: bool, b: bool) -> bool
     ensures { result ≡ spec.is_same a b }

@@ -1,34 +1,56 @@
 -- Numbers as bytes, the lowest first.
-use Rattle.std.proofs.Common.{◌≡◌, ◌+◌, ◌-◌, ◌*◌, ◌/◌, ◌%◌, ◌^◌, ◌<◌, ℕ, zero, suc, List, [], ◌∷◌, ◌++◌, length, refl, sym, ap, ◌∙◌, append_assoc, append-nil, arith}
-use Rattle.std.proofs.Math.Nat.{div-div-eq-div-mul, div-one, pow-succ'}
+use Rattle.std.proofs.Common.{◌≡◌, ◌+◌, ◌-◌, ◌*◌, ◌/◌, ◌%◌, ◌^◌, ◌<◌, ℕ, zero, suc, List, [], ◌∷◌, ◌++◌, length, take, replicate, inl, inr, refl, sym, ap, subst, ◌∙◌, append-nil, zero-add, arith}
+use Rattle.std.proofs.Math.Nat.{div-eq_of_lt, div-one, pow-suc}
+use Rattle.std.proofs.lemmas.Bool.{cases_lt}
+use Rattle.std.proofs.lemmas.List.{take_all}
 use Rattle.std.specs.Int.{byte_at, bytes_low_first}
 use Rattle.byteorder.specs.Endian.{little_bytes, little_number}
 use Rattle.byteorder.specs.Numbers.{length-bytes_low_first, little_number-reads_back}
-use Rattle.byteorder.proofs.Bytes.{pow256}
+use Rattle.byteorder.proofs.Bytes.{pow256, take-bytes_low_first}
+use Rattle.aml_code.specs.Header.{filled}
 use Rattle.data_tables.specs.Reading.{number_of}
 
 byte_by_power : (i n : ℕ) → byte_at i n ≡ n / 256 ^ i % 256
 byte_by_power zero n = ap (λ (q : ℕ). q % 256) (sym (div-one n))
 byte_by_power (suc i) n = refl
 
--- what stands behind the lowest byte is the number without it
-byte_behind : (i n : ℕ) → byte_at (suc i) n ≡ byte_at i (n / 256)
-byte_behind i n =
-    ap (λ (p : ℕ). n / p % 256) (pow-succ' 256 i) ∙ ap (λ (q : ℕ). q % 256) (sym (div-div-eq-div-mul n 256 (256 ^ i))) ∙ sym (byte_by_power i (n / 256))
+-- the bytes above a number are 0
+byte_above : (i n : ℕ) → n < 256 ^ i → byte_at i n ≡ 0
+byte_above i n h = byte_by_power i n ∙ ap (λ (q : ℕ). q % 256) (div-eq_of_lt h)
 
-bytes_behind : (i k n : ℕ) → bytes_low_first (suc i) k n ≡ bytes_low_first i k (n / 256)
-bytes_behind i zero n = refl
-bytes_behind i (suc k) n =
-    ap (λ (b : ℕ). b ∷ bytes_low_first (suc (suc i)) k n) (byte_behind i n) ∙ ap (λ (bs : List ℕ). byte_at i (n / 256) ∷ bs) (bytes_behind (suc i) k n)
+bytes_above : (i k n : ℕ) → n < 256 ^ i → bytes_low_first i k n ≡ replicate k 0
+bytes_above i zero n h = refl
+bytes_above i (suc k) n h =
+    let power : 256 ^ suc i ≡ 256 ^ i * 256 = pow-suc 256 i in
+    let more : n < 256 ^ suc i = omega (arith, power, h) in
+    ap (λ (b : ℕ). b ∷ bytes_low_first (suc i) k n) (byte_above i n h) ∙ ap (λ (bs : List ℕ). 0 ∷ bs) (bytes_above (suc i) k n more)
 
--- one more byte of a number
-pub next_byte : (out more all : List ℕ) (width done number byte : ℕ) → done < width → byte ≡ number % 256 → more ≡ out ++ byte ∷ [] → out ++ little_bytes (width - done) number ≡ all → more ++ little_bytes (width - (done + 1)) (number / 256) ≡ all
-next_byte out more all width done number byte h e f inv =
-    let n : width - done ≡ suc (width - (done + 1)) = omega arith in
-    let step : little_bytes (width - done) number ≡ byte ∷ little_bytes (width - (done + 1)) (number / 256) =
-    ap (λ (k : ℕ). little_bytes k number) n ∙ ap (λ (bs : List ℕ). number % 256 ∷ bs) (bytes_behind 0 (width - (done + 1)) number)
-    ∙ ap (λ (b : ℕ). b ∷ little_bytes (width - (done + 1)) (number / 256)) (sym e) in
-    ap (λ (bs : List ℕ). bs ++ little_bytes (width - (done + 1)) (number / 256)) f ∙ append_assoc out (byte ∷ []) (little_bytes (width - (done + 1)) (number / 256)) ∙ ap (λ (bs : List ℕ). out ++ bs) (sym step) ∙ inv
+-- so a number of m bytes has zeros behind them
+filled_from : (i m k n : ℕ) → n < 256 ^ (i + m) → bytes_low_first i m n ++ replicate k 0 ≡ bytes_low_first i (m + k) n
+filled_from i zero k n h =
+    let small : n < 256 ^ i = subst (λ (j : ℕ). n < 256 ^ j) (omega arith) h in
+    sym (bytes_above i k n small) ∙ ap (λ (j : ℕ). bytes_low_first i j n) (sym (zero-add k))
+filled_from i (suc m) k n h =
+    let small : n < 256 ^ (suc i + m) = subst (λ (j : ℕ). n < 256 ^ j) (omega arith) h in
+    let count : suc (m + k) ≡ suc m + k = omega arith in
+    ap (λ (bs : List ℕ). byte_at i n ∷ bs) (filled_from (suc i) m k n small) ∙ ap (λ (j : ℕ). bytes_low_first i j n) count
+
+-- the first bytes of a number of 8 bytes, filled with zeros, are its lowest
+pub filled_bytes : (width n : ℕ) (bytes : List ℕ) → n < 2 ^ 64 → bytes ≡ little_bytes 8 n ++ [] → filled width bytes ≡ little_bytes width n
+filled_bytes width n bytes h e =
+    let is : bytes ≡ little_bytes 8 n = e ∙ append-nil (little_bytes 8 n) in
+    let eight : length bytes ≡ 8 = ap length is ∙ length-bytes_low_first 0 8 n in
+    elim (cases_lt 8 width) [
+      | inl more ↦
+          let count : width - length bytes ≡ width - 8 = ap (λ (k : ℕ). width - k) eight in
+          let all : take width bytes ≡ bytes = take_all width bytes (omega (arith, eight, more)) in
+          let whole : 8 + (width - 8) ≡ width = omega (arith, more) in
+          ap (λ (bs : List ℕ). bs ++ replicate (width - length bytes) 0) all ∙ ap (λ (bs : List ℕ). bs ++ replicate (width - length bytes) 0) is ∙ ap (λ (k : ℕ). little_bytes 8 n ++ replicate k 0) count
+          ∙ filled_from 0 8 (width - 8) n h ∙ ap (λ (k : ℕ). little_bytes k n) whole
+      | inr few ↦
+          let none : width - length bytes ≡ 0 = omega (arith, eight, few) in
+          ap (λ (k : ℕ). take width bytes ++ replicate k 0) none ∙ append-nil (take width bytes) ∙ ap (take width) is ∙ take-bytes_low_first 0 8 width n few
+    ]
 
 pub little_length : (w n : ℕ) → length (little_bytes w n) ≡ w
 little_length w n = length-bytes_low_first 0 w n

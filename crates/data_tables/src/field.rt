@@ -7,6 +7,7 @@ ghost use Rattle.data_tables.specs.Fields as spec;
 ghost use Rattle.data_tables.specs.Fields.{value_of, value_by, form_of, number_fault};
 ghost use Rattle.data_tables.specs.Views.{IsValue};
 
+use byteorder::{ByteOrder, LittleEndian};
 use data_layout::row::{Kind, Row};
 use data_layout::table::{Table, fadt_bytes, structure_rows};
 use data_text::values::{Number, bytes_in, number_in, text_in};
@@ -192,9 +193,8 @@ fn number_value(table: Table, row: &Row, text: &[u8]) -> Value
     }
 }
 
-// A text filled with zeros.
+// The first bytes of a text, filled with zeros.
 fn filled(alloc: Global, width: usize, text: &[u8]) -> Result<Vec<u8>, AllocError>
-    requires { length text.now ≤ width }
     ensures { IfOk result (λ bytes. bytes.items ≡ filled width text.now) }
 {
     let mut bytes = text.to_vec(alloc)?;
@@ -248,14 +248,11 @@ pub(crate) fn value_of(
 }
 
 /// The lowest bytes of a number, the lowest first.
+#[tactic(auto, using(crate::proofs::Numbers::filled_bytes))]
 pub(crate) fn little_bytes(alloc: Global, width: u64, number: u64) -> Result<Vec<u8>, AllocError>
     ensures { IfOk result (λ bytes. bytes.items ≡ little_bytes width number) }
 {
-    let mut bytes = Vec::new(alloc);
-    let mut rest = number;
-    for _place in 0..width {
-        bytes.push((rest % 256) as u8)?;
-        rest /= 256;
-    }
-    Ok(bytes)
+    let mut bytes = [0u8; 8];
+    LittleEndian::write_u64(&mut bytes, number);
+    filled(alloc, width as usize, &bytes)
 }

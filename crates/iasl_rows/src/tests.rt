@@ -1,6 +1,7 @@
 mod controller;
 mod data;
 mod data_rows;
+mod descriptors;
 mod folding;
 mod kinds;
 mod rows;

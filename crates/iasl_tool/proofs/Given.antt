@@ -1,6 +1,5 @@
 -- No value is left out of a formed program of which a Switch chooses.
-use Rattle.std.proofs.Common.{List}
-use Rattle.asl_tree.specs.Tree.{Tree, Integer, String, Buffer, Omitted, Package, VarPackage, Method, Container', Scope, If, ElseIf, Else, While, Switch, Case, Default, Trees, no_trees, tree}
+use Rattle.asl_tree.specs.Tree.{Tree, Omitted, Package, VarPackage, Method, Container', Scope, If, ElseIf, Else, While, Switch, Case, Default, Trees, no_trees, tree}
 use Rattle.named_sessions.specs.Shaped.{AreNamed, IsCaseMember, AreCaseMembers, HaveCaseMembers, IsCaseValue, IsFormed, AreFormed, AreFormedCases}
 use Rattle.switch_loops.specs.Given.{HasValue, HaveValues, HasCaseValue, IsGiven, AreGiven}
 

@@ -19,7 +19,7 @@ use Rattle.asl_parser.specs.Parse.{Outcome, outcome, read, stopped, sunk, tall}
 use Rattle.asl_parser.proofs.Told.{is_spelled, is_not_deep}
 use Rattle.iasl_tool.proofs.Readings.{spelled_is_outcome}
 use Rattle.asl_parser.specs.Written.{writtens}
-use Rattle.asl_shape.specs.Forms.{errors_at, block_place, terms_of}
+use Rattle.asl_shape.specs.Forms.{errors_at, block_place}
 use Rattle.source_pieces.specs.Places.{core_places}
 use Rattle.source_pieces.proofs.Joined.{joined_is_table}
 use Rattle.iasl_backends.specs.Table.{table_bytes}
@@ -38,7 +38,7 @@ use Rattle.iasl_options.proofs.Tasks.{task_from, task_to}
 use Rattle.generated_lines.specs.Generated.{generated_lines}
 use Rattle.iasl_messages.specs.Console.{devices_line}
 use Rattle.program_shapes.specs.Kept.{IsKeptSource}
-use Rattle.program_shapes.specs.Sources.{terms_in, locals_in, fields_in, IsRight}
+use Rattle.program_shapes.specs.Sources.{source_in, names_in, uses_in, plans_in, terms_in, locals_in, fields_in, IsRight}
 use Rattle.program_shapes.proofs.Kept.{is_kept}
 use Rattle.program_shapes.proofs.Lexed.{lexed_short}
 use Rattle.program_shapes.proofs.Few.{few_tokens}
@@ -47,26 +47,31 @@ use Rattle.aml_writer.specs.Written.{most_table_bytes}
 use Rattle.iasl_tool.specs.declared.compile.Compiled.{Compiled}
 use Rattle.iasl_tool.specs.declared.compile.Compiled.TheVariants.{Table, Refused}
 use Rattle.iasl_tool.specs.declared.compile.Style.{Style}
-use Rattle.iasl_tool.specs.Compiled.{own_in, noted_in, with_notes, others_in, of_data, of_source, of_lines, of_items, of_terms, of_table, unless_wrong, with_others, of_outcome, of_tokens, written_in, cut_in, too_long}
+use Rattle.iasl_tool.specs.Compiled.{own_in, noted_in, with_notes, first_told, told_of_names, told_in, others_in, of_data, of_source, of_lines, of_items, of_terms, of_table, unless_wrong, with_others, of_outcome, of_tokens, written_in, cut_in, too_long}
 use Rattle.table_outputs.specs.Files.{table_name, table_files, name_in_use}
 use Rattle.table_outputs.specs.Decision.{only_by, asks_for_text}
 use Rattle.iasl_tool.specs.Due.{style_of, unless_in_use, made_files, refusal, made_or_in_use, has_warning, answer_to_text, answer_to_compiled, answer_to_preprocessed, answer_to_file, answer_to_task, answer_for}
 use Rattle.iasl_tool.specs.Headline.{Request, ComeFrom, a_file, devices, more_of, generated_request, table_of, table_for, data_file_of, further_of, further_data, files_of, data_files_of, LetsPass, NamesLines, NamesSource, NamesData, PutsFaithfulTable, PutsDataTable, AreItsFiles, WritesItsTable, WritesItsDataTable}
 use Rattle.iasl_tool.proofs.Bytes.{as_joined_pieces, as_joined}
-use Rattle.iasl_tool.proofs.Programs.{none_told, none_behind, none_of_others, both_right, some_behind}
+use Rattle.iasl_tool.proofs.Programs.{none_told, none_first, none_behind, none_of_others, both_right, some_behind}
 use Rattle.iasl_tool.proofs.Sizes.{come_sizes}
 use Rattle.iasl_tool.proofs.Strict.{is_passed, lets_pass}
 
 abbrev signature_of : List Raw → List ℕ
 signature_of items = (fields_in items).signature
 
+-- nothing is told of its names
+nothing_told : (items : List Raw) → IsRight items → told_in items ≡ []
+nothing_told items right =
+    none_first (told_of_names (source_in items)) (told_errors (terms_in items)) (none_first (names_in items) (uses_in items) right.declared right.uses) (none_told (terms_in items) right.names right.counts)
+
 -- what the tree of a right source comes to
 items_are : (style : Style) (lines : List Line) (items : List Raw) → IsRight items → length (written_in style items) ≤ most_table_bytes → of_items style lines items ≡ Table (signature_of items) (own_in items) (cut_in style lines items) (noted_in items)
 items_are style lines items right within =
     let place = block_place (writtens items) in
     let le : nat_le (length (written_in style items)) most_table_bytes ≡ true = le-leb (length (written_in style items)) most_table_bytes within in
-    ap (λ es. unless_wrong es (with_notes (noted_in items) (of_terms style lines place (core_places (terms_of (writtens items))) (own_in items) (fields_in items) (others_in items) (locals_in items) (terms_in items)))) right.form
-    ∙ ap (λ es. with_notes (noted_in items) (unless_wrong es (unless_wrong (locals_in items) (of_table place (signature_of items) (own_in items) (written_in style items) (cut_in style lines items))))) (none_behind (told_errors (terms_in items)) (others_in items) (none_told (terms_in items) right.names right.counts) (both_right items right))
+    ap (λ es. unless_wrong es (with_notes (noted_in items) (of_terms style lines place (core_places (plans_in items)) (own_in items) (fields_in items) (told_in items) (others_in items) (locals_in items) (terms_in items)))) right.form
+    ∙ ap (λ es. with_notes (noted_in items) (unless_wrong es (unless_wrong (locals_in items) (of_table place (signature_of items) (own_in items) (written_in style items) (cut_in style lines items))))) (none_behind (told_in items) (others_in items) (nothing_told items right) (both_right items right))
     ∙ ap (λ es. with_notes (noted_in items) (unless_wrong es (of_table place (signature_of items) (own_in items) (written_in style items) (cut_in style lines items)))) right.locals
     ∙ ap (λ c. with_notes (noted_in items) (if c then Table (signature_of items) (own_in items) (cut_in style lines items) [] else Refused (too_long place ∷ []))) le
 
@@ -195,6 +200,11 @@ right_names terms e = by (name_errors terms) (type_errors terms) e
     by [] (t ∷ ts) e = absurd cc
     by (n ∷ ns) ts e = absurd cc
 
+-- nothing is told where there is none of either
+both_first : (messages others : List Message) → first_told messages others ≡ [] → (messages ≡ []) × (others ≡ [])
+both_first [] others e = (refl, e)
+both_first (m ∷ ms) others e = absurd cc
+
 both_none : (errors statements : List Message) → with_others errors statements ≡ [] → (errors ≡ []) × (statements ≡ [])
 both_none [] statements e = (refl, e)
 both_none (m ∷ ms) statements e = absurd (some_behind (m ∷ ms) statements (λ f. absurd cc) e)
@@ -249,18 +259,20 @@ module _ (words : List (List ℕ)) (told : List Named) where
   by_locals k asl tokens items [] et eo el right h = by_table k asl tokens items (nat_le (length (table_for k.request items)) most_table_bytes) et eo (right el) refl h
   by_locals k asl tokens items (m ∷ ms) et eo el right h = absurd (omega (arith, h))
 
-  by_names : (k : Known words told) (asl : is_data_table k.named.lines ≡ false) (tokens : List Token) (items : List Raw) (ms : List Message) → tokens_of k.named.lines ≡ Ok tokens → outcome tokens ≡ read items → errors_at items ≡ [] → with_others (told_errors (terms_in items)) (others_in items) ≡ ms
+  by_names : (k : Known words told) (asl : is_data_table k.named.lines ≡ false) (tokens : List Token) (items : List Raw) (ms : List Message) → tokens_of k.named.lines ≡ Ok tokens → outcome tokens ≡ read items → errors_at items ≡ [] → with_others (told_in items) (others_in items) ≡ ms
       → status_with words told k (with_notes (noted_in items) (unless_wrong ms (unless_wrong (locals_in items) (of_table (block_place (writtens items)) (signature_of items) (own_in items) (table_for k.request items) (cut_in (style_of k.request.asked) k.named.lines items))))) ≡ 0 → Found words told
   by_names k asl tokens items [] et eo form en h =
-      let none = both_none (told_errors (terms_in items)) (others_in items) en in
-      let names = right_names (terms_in items) none.0 in
+      let none = both_none (told_in items) (others_in items) en in
+      let told = both_first (told_of_names (source_in items)) (told_errors (terms_in items)) none.0 in
+      let written = both_first (names_in items) (uses_in items) told.0 in
+      let names = right_names (terms_in items) told.1 in
       let others = none_of_others items none.1 in
-      by_locals k asl tokens items (locals_in items) et eo refl (λ locals. record { form = form; names = names.0; counts = names.1; statements = others.statements; layouts = others.layouts; regions = others.regions; types = others.types; sizes = others.sizes; values = others.values; locals = locals }) h
+      by_locals k asl tokens items (locals_in items) et eo refl (λ locals. record { form = form; declared = written.0; uses = written.1; names = names.0; counts = names.1; statements = others.statements; layouts = others.layouts; regions = others.regions; types = others.types; sizes = others.sizes; values = others.values; locals = locals }) h
   by_names k asl tokens items (m ∷ ms) et eo form en h = absurd (omega (arith, h))
 
   by_items : (k : Known words told) (asl : is_data_table k.named.lines ≡ false) (tokens : List Token) (items : List Raw) (ms : List Message) → tokens_of k.named.lines ≡ Ok tokens → outcome tokens ≡ read items → errors_at items ≡ ms
-      → status_with words told k (unless_wrong ms (with_notes (noted_in items) (of_terms (style_of k.request.asked) k.named.lines (block_place (writtens items)) (core_places (terms_of (writtens items))) (own_in items) (fields_in items) (others_in items) (locals_in items) (terms_in items)))) ≡ 0 → Found words told
-  by_items k asl tokens items [] et eo form h = by_names k asl tokens items (with_others (told_errors (terms_in items)) (others_in items)) et eo form refl h
+      → status_with words told k (unless_wrong ms (with_notes (noted_in items) (of_terms (style_of k.request.asked) k.named.lines (block_place (writtens items)) (core_places (plans_in items)) (own_in items) (fields_in items) (told_in items) (others_in items) (locals_in items) (terms_in items)))) ≡ 0 → Found words told
+  by_items k asl tokens items [] et eo form h = by_names k asl tokens items (with_others (told_in items) (others_in items)) et eo form refl h
   by_items k asl tokens items (m ∷ ms) et eo form h = absurd (omega (arith, h))
 
   by_outcome : (k : Known words told) (asl : is_data_table k.named.lines ≡ false) (tokens : List Token) (o : Outcome) → tokens_of k.named.lines ≡ Ok tokens → outcome tokens ≡ o → status_with words told k (of_outcome (style_of k.request.asked) k.named.lines tokens o) ≡ 0 → Found words told

@@ -20,10 +20,10 @@ use Rattle.named_sessions.specs.Places.{at_of, AreWithin as TreesWithin}
 use Rattle.named_sessions.proofs.Places.{errors_within as names_within}
 use Rattle.asl_parser.specs.Written.{Writtens, item, none, more, writtens}
 use Rattle.asl_parser.specs.Within.{AreWithin as PartsWithin}
-use Rattle.asl_shape.specs.Forms.{errors_at, block_place, terms_of}
+use Rattle.asl_shape.specs.Forms.{errors_at, block_place}
 use Rattle.asl_shape.proofs.Places.{errors_within}
 use Rattle.literal_checks.proofs.Places.{literals_within}
-use Rattle.program_shapes.specs.Sources.{terms_in, statements_in, layouts_in, regions_in, types_in, sizes_in, values_in, locals_in, notes_in, fields_in, width_in}
+use Rattle.program_shapes.specs.Sources.{source_in, names_in, uses_in, plans_in, terms_in, statements_in, layouts_in, regions_in, types_in, sizes_in, values_in, locals_in, notes_in, fields_in, width_in}
 use Rattle.program_shapes.proofs.Places.{terms_within}
 use Rattle.program_shapes.proofs.StatementPlaces.{statement_errors_within}
 use Rattle.program_shapes.proofs.ListPlaces.{list_errors_within}
@@ -31,14 +31,15 @@ use Rattle.program_shapes.proofs.RegionPlaces.{access_errors_within}
 use Rattle.program_shapes.proofs.TypePlaces.{types_within, sizes_within}
 use Rattle.program_shapes.proofs.SwitchPlaces.{repeats_within, locals_within}
 use Rattle.program_shapes.proofs.NotePlaces.{source_notes_within}
-use Rattle.program_shapes.proofs.TreePlaces.{source_within}
+use Rattle.program_shapes.proofs.TreePlaces.{plans_within, source_within}
+use Rattle.descriptor_shapes.proofs.Places.{names_told_within, kinds_told_within}
 use Rattle.aml_writer.specs.Written.{most_table_bytes}
 use Rattle.source_pieces.specs.Places.{core_places}
 use Rattle.iasl_tool.specs.declared.compile.Compiled.{Compiled}
 use Rattle.iasl_tool.specs.declared.compile.Compiled.TheVariants.{Table, Refused}
 use Rattle.iasl_tool.specs.Syntax.{at_token}
 use Rattle.iasl_tool.specs.declared.compile.Style.{Style}
-use Rattle.iasl_tool.specs.Compiled.{own_in, literals_in, noted_in, is_of_names, with_notes, others_in, AreWithin, too_long, of_table, unless_wrong, is_of_kinds, with_others, of_terms, of_items, written_in, cut_in, TellsWithin}
+use Rattle.iasl_tool.specs.Compiled.{own_in, literals_in, noted_in, first_told, told_of_names, told_in, is_of_names, with_notes, others_in, AreWithin, too_long, of_table, unless_wrong, is_of_kinds, with_others, of_terms, of_items, written_in, cut_in, TellsWithin}
 
 module _ (files : ℕ) where
   abbrev TokenHome : Token → Type 0
@@ -96,6 +97,10 @@ module _ (files : ℕ) where
       by [] ts hn ht = messages_home ts ht
       by (n ∷ ns) ts hn ht = messages_home (n ∷ ns) hn
 
+  first_home : (messages others : List Message) → AreWithin files messages → AreWithin files others → AreWithin files (first_told messages others)
+  first_home [] others h k = k
+  first_home (m ∷ ms) others h k = h
+
   statements_home : (errors statements : List Message) → AreWithin files errors → AreWithin files statements → AreWithin files (with_others errors statements)
   statements_home [] statements h k = k
   statements_home (m ∷ ms) statements h k = by (is_of_kinds m.number)
@@ -111,21 +116,23 @@ module _ (files : ℕ) where
   -- a tree whose parts stand in the files tells nothing outside them
   pub items_home : (style : Style) (lines : List Line) (items : List Raw) → PartsWithin files (writtens items) → 0 < files → TellsWithin files (of_items style lines items)
   items_home style lines items parts main =
-      let names = told_home (terms_in items) (source_within files 0 (writtens items) parts) in
-      let plans = terms_within files (writtens items) parts in
-      let lists = All-append (λ (m : Message). m.place.file < files) (statements_in items) (layouts_in items) (statement_errors_within files (terms_of (writtens items)) plans) (list_errors_within files (terms_of (writtens items)) plans) in
+      let written = terms_within files (writtens items) parts in
+      let before = first_home (names_in items) (uses_in items) (names_told_within files (source_in items) written) (kinds_told_within files (source_in items) written) in
+      let names = first_home (told_of_names (source_in items)) (told_errors (terms_in items)) before (told_home (terms_in items) (source_within files 0 (writtens items) parts)) in
+      let plans = plans_within files (writtens items) parts in
+      let lists = All-append (λ (m : Message). m.place.file < files) (statements_in items) (layouts_in items) (statement_errors_within files (plans_in items) plans) (list_errors_within files (plans_in items) plans) in
       let accesses = All-append (λ (m : Message). m.place.file < files) (statements_in items ++ layouts_in items) (regions_in items) lists
-      (access_errors_within files (width_in items) (terms_in items) (terms_of (writtens items)) (source_within files 0 (writtens items) parts)) in
-      let types = All-append (λ (m : Message). m.place.file < files) (statements_in items ++ layouts_in items ++ regions_in items) (types_in items) accesses (types_within files (terms_in items) (terms_of (writtens items)) plans) in
-      let sizes = All-append (λ (m : Message). m.place.file < files) (statements_in items ++ layouts_in items ++ regions_in items ++ types_in items) (sizes_in items) types (sizes_within files (width_in items) (terms_of (writtens items)) plans) in
-      let others = All-append (λ (m : Message). m.place.file < files) (statements_in items ++ layouts_in items ++ regions_in items ++ types_in items ++ sizes_in items) (values_in items) sizes (repeats_within files (width_in items) (terms_of (writtens items)) plans) in
+      (access_errors_within files (width_in items) (terms_in items) (plans_in items) (source_within files 0 (writtens items) parts)) in
+      let types = All-append (λ (m : Message). m.place.file < files) (statements_in items ++ layouts_in items ++ regions_in items) (types_in items) accesses (types_within files (terms_in items) (plans_in items) plans) in
+      let sizes = All-append (λ (m : Message). m.place.file < files) (statements_in items ++ layouts_in items ++ regions_in items ++ types_in items) (sizes_in items) types (sizes_within files (width_in items) (plans_in items) plans) in
+      let others = All-append (λ (m : Message). m.place.file < files) (statements_in items ++ layouts_in items ++ regions_in items ++ types_in items ++ sizes_in items) (values_in items) sizes (repeats_within files (width_in items) (plans_in items) plans) in
       let notes = All-append (λ (m : Message). m.place.file < files) (literals_in items) (notes_in items) (literals_within files (width_in items) items parts) (source_notes_within files 0 (writtens items) parts) in
-      let told = of_terms style lines (block_place (writtens items)) (core_places (terms_of (writtens items))) (own_in items) (fields_in items) (others_in items) (locals_in items) (terms_in items) in
+      let told = of_terms style lines (block_place (writtens items)) (core_places (plans_in items)) (own_in items) (fields_in items) (told_in items) (others_in items) (locals_in items) (terms_in items) in
       let table = of_table (block_place (writtens items)) (fields_in items).signature (own_in items) (written_in style items) (cut_in style lines items) in
       wrong_home (errors_at items) (with_notes (noted_in items) told) (errors_within files main items parts)
       (notes_home (noted_in items) told notes
-      (wrong_home (with_others (told_errors (terms_in items)) (others_in items)) (unless_wrong (locals_in items) table) (statements_home (told_errors (terms_in items)) (others_in items) names others)
-      (wrong_home (locals_in items) table (locals_within files (terms_in items) (terms_of (writtens items)) main plans)
+      (wrong_home (with_others (told_in items) (others_in items)) (unless_wrong (locals_in items) table) (statements_home (told_in items) (others_in items) names others)
+      (wrong_home (locals_in items) table (locals_within files (terms_in items) (plans_in items) main plans)
       (of_table_home (block_place (writtens items)) (fields_in items).signature (own_in items) (written_in style items) (cut_in style lines items) (block_home (writtens items) parts main)))))
 
   -- ---- tokens that are no source

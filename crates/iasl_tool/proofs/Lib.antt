@@ -4,6 +4,8 @@ pub mod Written
 pub mod Outcomes
 pub mod Homes
 pub mod Given
+pub mod Classes
+pub mod Resolving
 pub mod Sorting
 pub mod Texts
 pub mod Sizes

@@ -19,11 +19,11 @@ use Rattle.hidden_locals.specs.Switches.{without_switches}
 use Rattle.asl_parser.specs.declared.raw.Raw.{Raw}
 use Rattle.asl_parser.specs.Written.{writtens}
 use Rattle.asl_shape.specs.Plans.{Plans, plans_of, plan_at, number_of}
-use Rattle.asl_shape.specs.Forms.{IsBlockOf, errors_at, args_of, block_place, terms_of}
+use Rattle.asl_shape.specs.Forms.{IsBlock, IsBlockOf, errors_at, args_of, block_place}
 use Rattle.asl_numbers.specs.Numbers.{numbered_all}
 use Rattle.name_checks.specs.Messages.{message_of, first_errors, told_errors}
 use Rattle.program_shapes.specs.Kept.{IsKeptSource}
-use Rattle.program_shapes.specs.Sources.{terms_in, statements_in, layouts_in, regions_in, types_in, sizes_in, values_in, locals_in, fields_in, width_in, IsRight}
+use Rattle.program_shapes.specs.Sources.{plans_in, terms_in, statements_in, layouts_in, regions_in, types_in, sizes_in, values_in, locals_in, fields_in, width_in, IsRight}
 use Rattle.type_checks.specs.Types.{wrong_types}
 use Rattle.type_checks.specs.Sizes.{long_lists}
 use Rattle.switch_checks.specs.Repeats.{repeated_values}
@@ -35,7 +35,8 @@ use Rattle.iasl_messages.specs.declared.place.Line.{Line}
 use Rattle.aml_writer.specs.Written.{most_table_bytes}
 use Rattle.source_pieces.specs.Places.{core_places}
 use Rattle.program_shapes.proofs.OwnNames.{own_is_ascii}
-use Rattle.program_shapes.proofs.Blocks.{room_in}
+use Rattle.program_shapes.proofs.Blocks.{terms_as, room_in}
+use Rattle.descriptor_names.specs.Resolved.{resolved_terms}
 use Rattle.program_shapes.proofs.Headers.{HaveRoom}
 use Rattle.field_checks.specs.Lists.{all_errors}
 use Rattle.region_checks.specs.Regions.{region_errors}
@@ -46,7 +47,7 @@ use Rattle.literal_checks.specs.Literals.{cut_literals_at}
 use Rattle.iasl_tool.specs.declared.compile.Compiled.{Compiled}
 use Rattle.iasl_tool.specs.declared.compile.Compiled.TheVariants.{Table, Refused}
 use Rattle.iasl_tool.specs.declared.compile.Style.{Style}
-use Rattle.iasl_tool.specs.Compiled.{table_with, its_pieces, with_notes, noted_in, unless_wrong, is_of_kinds, others_in, with_others, own_in, of_table, of_terms, of_items, written_in, cut_in, too_long, HasAsciiName}
+use Rattle.iasl_tool.specs.Compiled.{table_with, its_pieces, with_notes, noted_in, unless_wrong, first_told, told_of_names, told_in, is_of_kinds, others_in, with_others, own_in, of_table, of_terms, of_items, written_in, cut_in, too_long, HasAsciiName}
 use Rattle.iasl_tool.specs.Ready.{HasRoom}
 
 abbrev pub ok_block : Block → Result Block AllocError
@@ -74,6 +75,10 @@ none_told terms names types = by (name_errors terms) (type_errors terms) names t
     by [] (t ∷ ts) en et = absurd cc
     by (n ∷ ns) ts en et = absurd cc
 
+-- nothing is told first, nor else
+pub none_first : (messages others : List Message) → messages ≡ [] → others ≡ [] → first_told messages others ≡ []
+none_first messages others e f = ap (λ ms. first_told ms others) e ∙ f
+
 -- nor of statements
 pub none_behind : (errors statements : List Message) → errors ≡ [] → statements ≡ [] → with_others errors statements ≡ []
 none_behind errors statements e s = ap (λ es. with_others es statements) e ∙ s
@@ -91,9 +96,41 @@ some_behind (m ∷ ms) statements h e = by (is_of_kinds m.number) e
     by true e = absurd cc
     by false e = absurd cc
 
--- the header of a block has room
-pub block_room : (items : List Raw) (block : Block) → errors_at items ≡ [] → IsBlockOf items block → IsKeptSource (writtens items) → HasRoom (fields_of block)
+-- messages that come first, with errors of statements behind them
+pub told_comes : (told errors statements all : List Message) (it : Compiled) → (length told ≡ 0 → ⊥) → all ≡ with_others told statements → Refused all ≡ unless_wrong (with_others (first_told told errors) statements) it
+told_comes [] errors statements all it h is = absurd (h refl)
+told_comes (m ∷ ms) errors statements all it h is = refused_is all (with_others (m ∷ ms) statements) it (is, some_behind (m ∷ ms) statements (λ e. absurd cc))
+
+-- a block as it is compiled: its source's, with the fields of its descriptors as constants
+abbrev pub IsResolvedOf : List Raw → Block → Type 0
+IsResolvedOf items block = IsBlock (block_place (writtens items)) (args_of (writtens items)) (plans_in items) block
+
+pub resolved_block : (items : List Raw) (block made : Block) → IsBlockOf items block → made.place ≡ block.place → made.file ≡ block.file → fields_of made ≡ fields_of block → plans_of made.terms.items ≡ resolved_terms (plans_of block.terms.items) → IsResolvedOf items made
+unfolding IsBlockOf
+resolved_block items block made h place file fields terms = record {
+  place = place ∙ h.place;
+  file = file ∙ h.file;
+  signature = ap (λ (f : HeaderFields). f.signature) fields ∙ h.signature;
+  revision = ap (λ (f : HeaderFields). f.revision) fields ∙ h.revision;
+  oem_id = ap (λ (f : HeaderFields). f.oem_id) fields ∙ h.oem_id;
+  table_id = ap (λ (f : HeaderFields). f.table_id) fields ∙ h.table_id;
+  oem_revision = ap (λ (f : HeaderFields). f.oem_revision) fields ∙ h.oem_revision;
+  terms = terms ∙ ap resolved_terms h.terms;
+}
+
+-- the terms of a source's block are formed as they are written
+pub written_formed : (items : List Raw) (block : Block) → errors_at items ≡ [] → IsBlockOf items block → IsKeptSource (writtens items) → AreFormed AreNamed (Unit {0}) (Unit {0}) (numbered_all 0 (plans_of block.terms.items))
 unfolding errors_at IsBlockOf
+written_formed items block e h k = subst (λ ps. AreFormed AreNamed (Unit {0}) (Unit {0}) (numbered_all 0 ps)) (sym h.terms) (terms_as (writtens items) e k 0)
+
+-- what is told of the names of a block's terms is what is told of those of its source
+pub same_told : (items : List Raw) (block : Block) (names : List Message) → IsBlockOf items block → names ≡ first_told (told_of_names (plans_of block.terms.items)) (told_errors (numbered_all 0 (resolved_terms (plans_of block.terms.items)))) → names ≡ told_in items
+unfolding IsBlockOf
+same_told items block names h e = e ∙ ap (λ ps. first_told (told_of_names ps) (told_errors (numbered_all 0 (resolved_terms ps)))) h.terms
+
+-- the header of a block has room
+pub block_room : (items : List Raw) (block : Block) → errors_at items ≡ [] → IsResolvedOf items block → IsKeptSource (writtens items) → HasRoom (fields_of block)
+unfolding errors_at
 block_room items block e h k =
     let room : HaveRoom (args_of (writtens items)) = room_in (writtens items) e k in
     record {
@@ -103,8 +140,7 @@ block_room items block e h k =
       oem_revision = subst (λ n. n < 2 ^ 32) (sym h.oem_revision) (mod_below (number_of (plan_at (args_of (writtens items)) 5)) 4294967296 (omega arith));
     }
 
-same_terms : (items : List Raw) (block : Block) (terms : Trees) → IsBlockOf items block → terms ≡ numbered_all 0 (plans_of block.terms.items) → terms ≡ terms_in items
-unfolding IsBlockOf
+same_terms : (items : List Raw) (block : Block) (terms : Trees) → IsResolvedOf items block → terms ≡ numbered_all 0 (plans_of block.terms.items) → terms ≡ terms_in items
 same_terms items block terms h e = e ∙ ap (numbered_all 0) h.terms
 
 -- what is wrong with the statements of some plans, then with their lists of fields and the accesses of these, and then with the kinds of
@@ -112,14 +148,13 @@ same_terms items block terms h e = e ∙ ap (numbered_all 0) h.terms
 abbrev pub others_of : Width → Trees → Plans → List Message
 others_of width terms ps = errors_of_statements ps ++ all_errors ps ++ region_errors width terms ps ++ wrong_types terms ps ++ long_lists width ps ++ repeated_values width ps
 
-same_others : (items : List Raw) (block : Block) (terms : Trees) → IsBlockOf items block → terms ≡ numbered_all 0 (plans_of block.terms.items) → others_of (width_of block.revision) terms (plans_of block.terms.items) ≡ others_in items
-unfolding IsBlockOf
+same_others : (items : List Raw) (block : Block) (terms : Trees) → IsResolvedOf items block → terms ≡ numbered_all 0 (plans_of block.terms.items) → others_of (width_of block.revision) terms (plans_of block.terms.items) ≡ others_in items
 same_others items block terms h is =
     ap (λ n. others_of (width_of n) terms (plans_of block.terms.items)) h.revision ∙ ap (λ ts. others_of (width_in items) ts (plans_of block.terms.items)) (same_terms items block terms h is)
     ∙ ap (others_of (width_in items) (terms_in items)) h.terms
 
 -- its terms, numbered, are formed
-pub block_formed : (items : List Raw) (block : Block) (terms : Trees) → errors_at items ≡ [] → IsBlockOf items block → IsKeptSource (writtens items) → terms ≡ numbered_all 0 (plans_of block.terms.items) → AreFormed AreNamed (Unit {0}) (Unit {0}) terms
+pub block_formed : (items : List Raw) (block : Block) (terms : Trees) → errors_at items ≡ [] → IsResolvedOf items block → IsKeptSource (writtens items) → terms ≡ numbered_all 0 (plans_of block.terms.items) → AreFormed AreNamed (Unit {0}) (Unit {0}) terms
 block_formed items block terms e h k is = subst (AreFormed AreNamed (Unit {0}) (Unit {0})) (sym (same_terms items block terms h is)) (terms_are_formed items e k)
 
 both_nil : (xs ys : List Message) → xs ++ ys ≡ [] → (xs ≡ []) × (ys ≡ [])
@@ -154,31 +189,26 @@ both_right items right =
     ∙ right.values
 
 -- and shaped, where nothing else is wrong
-pub block_shaped : (items : List Raw) (block : Block) (terms : Trees) (others : List Message) → errors_at items ≡ [] → IsBlockOf items block → IsKeptSource (writtens items) → terms ≡ numbered_all 0 (plans_of block.terms.items) → others ≡ others_of (width_of block.revision) terms (plans_of block.terms.items) → others ≡ [] → AreShaped (named_all (without_switches terms))
+pub block_shaped : (items : List Raw) (block : Block) (terms : Trees) (others : List Message) → errors_at items ≡ [] → IsResolvedOf items block → IsKeptSource (writtens items) → terms ≡ numbered_all 0 (plans_of block.terms.items) → others ≡ others_of (width_of block.revision) terms (plans_of block.terms.items) → others ≡ [] → AreShaped (named_all (without_switches terms))
 block_shaped items block terms others e h k is are none =
     let nothing : others_in items ≡ [] = sym (same_others items block terms h is) ∙ sym are ∙ none in
     subst (λ ts. AreShaped (named_all (without_switches ts))) (sym (same_terms items block terms h is)) (core_is_shaped items e (none_of_others items nothing).layouts k)
 
-same_fields : (items : List Raw) (block : Block) → IsBlockOf items block → fields_of block ≡ fields_in items
-unfolding IsBlockOf
+same_fields : (items : List Raw) (block : Block) → IsResolvedOf items block → fields_of block ≡ fields_in items
 same_fields items block h = cc (h.signature, h.revision, h.oem_id, h.table_id, h.oem_revision)
 
-same_own : (items : List Raw) (block : Block) → IsBlockOf items block → block.file ≡ own_in items
-unfolding IsBlockOf
+same_own : (items : List Raw) (block : Block) → IsResolvedOf items block → block.file ≡ own_in items
 same_own items block h = h.file
 
-same_place : (items : List Raw) (block : Block) → IsBlockOf items block → block.place ≡ block_place (writtens items)
-unfolding IsBlockOf
+same_place : (items : List Raw) (block : Block) → IsResolvedOf items block → block.place ≡ block_place (writtens items)
 same_place items block h = h.place
 
 -- the places of its core's terms
-same_places : (items : List Raw) (block : Block) → IsBlockOf items block → core_places (plans_of block.terms.items) ≡ core_places (terms_of (writtens items))
-unfolding IsBlockOf
+same_places : (items : List Raw) (block : Block) → IsResolvedOf items block → core_places (plans_of block.terms.items) ≡ core_places (plans_in items)
 same_places items block h = ap core_places h.terms
 
 -- its Switches for which too few Locals are free are those of its source
-same_locals : (items : List Raw) (block : Block) (terms : Trees) → IsBlockOf items block → terms ≡ numbered_all 0 (plans_of block.terms.items) → few_locals terms (plans_of block.terms.items) ≡ locals_in items
-unfolding IsBlockOf
+same_locals : (items : List Raw) (block : Block) (terms : Trees) → IsResolvedOf items block → terms ≡ numbered_all 0 (plans_of block.terms.items) → few_locals terms (plans_of block.terms.items) ≡ locals_in items
 same_locals items block terms h is = ap (λ ts. few_locals ts (plans_of block.terms.items)) (same_terms items block terms h is) ∙ ap (few_locals (terms_in items)) h.terms
 
 -- the notes on its literals and on its names
@@ -186,28 +216,28 @@ abbrev pub noted_at : Width → List Raw → Trees → List Message
 noted_at width items terms = cut_literals_at width items ++ name_notes terms
 
 -- are those of its source
-same_notes : (items : List Raw) (block : Block) (terms : Trees) → IsBlockOf items block → terms ≡ numbered_all 0 (plans_of block.terms.items) → noted_at (width_of block.revision) items terms ≡ noted_in items
-unfolding IsBlockOf
+same_notes : (items : List Raw) (block : Block) (terms : Trees) → IsResolvedOf items block → terms ≡ numbered_all 0 (plans_of block.terms.items) → noted_at (width_of block.revision) items terms ≡ noted_in items
 same_notes items block terms h is = ap (λ n. noted_at (width_of n) items terms) h.revision ∙ ap (noted_at (width_in items) items) (same_terms items block terms h is)
 
 -- and it comes to what its source comes to
-pub block_comes : (style : Style) (lines : List Line) (items : List Raw) (block : Block) (terms : Trees) (inner : List Place) (statements few : List Message) (it : Compiled) → errors_at items ≡ [] → IsBlockOf items block → terms ≡ numbered_all 0 (plans_of block.terms.items)
-    → inner ≡ core_places (plans_of block.terms.items) → statements ≡ others_of (width_of block.revision) terms (plans_of block.terms.items) → few ≡ few_locals terms (plans_of block.terms.items)
-    → it ≡ with_notes (noted_at (width_of block.revision) items terms) (of_terms style lines block.place inner block.file (fields_of block) statements few terms) → it ≡ of_items style lines items
-block_comes style lines items block terms inner statements few it e h is places are lacks comes =
+pub block_comes : (style : Style) (lines : List Line) (items : List Raw) (block : Block) (terms : Trees) (inner : List Place) (names statements few : List Message) (it : Compiled) → errors_at items ≡ [] → IsResolvedOf items block → terms ≡ numbered_all 0 (plans_of block.terms.items)
+    → inner ≡ core_places (plans_of block.terms.items) → names ≡ told_in items → statements ≡ others_of (width_of block.revision) terms (plans_of block.terms.items) → few ≡ few_locals terms (plans_of block.terms.items)
+    → it ≡ with_notes (noted_at (width_of block.revision) items terms) (of_terms style lines block.place inner block.file (fields_of block) names statements few terms) → it ≡ of_items style lines items
+block_comes style lines items block terms inner names statements few it e h is places told are lacks comes =
     let at = block_place (writtens items) in
-    let core = core_places (terms_of (writtens items)) in
-    let told = of_terms style lines at core (own_in items) (fields_in items) (others_in items) (locals_in items) (terms_in items) in
-    let same : of_terms style lines block.place inner block.file (fields_of block) statements few terms ≡ told =
-    ap (λ p. of_terms style lines p inner block.file (fields_of block) statements few terms) (same_place items block h)
-    ∙ ap (λ ps. of_terms style lines at ps block.file (fields_of block) statements few terms) (places ∙ same_places items block h)
-    ∙ ap (λ own. of_terms style lines at core own (fields_of block) statements few terms) (same_own items block h)
-    ∙ ap (λ f. of_terms style lines at core (own_in items) f statements few terms) (same_fields items block h)
-    ∙ ap (λ ss. of_terms style lines at core (own_in items) (fields_in items) ss few terms) (are ∙ same_others items block terms h is)
-    ∙ ap (λ fs. of_terms style lines at core (own_in items) (fields_in items) (others_in items) fs terms) (lacks ∙ same_locals items block terms h is)
-    ∙ ap (of_terms style lines at core (own_in items) (fields_in items) (others_in items) (locals_in items)) (same_terms items block terms h is) in
-    right_is (errors_at items) it (with_notes (noted_in items) told) e
-    (comes ∙ ap (λ it. with_notes (noted_at (width_of block.revision) items terms) it) same ∙ ap (λ ns. with_notes ns told) (same_notes items block terms h is))
+    let core = core_places (plans_in items) in
+    let whole = of_terms style lines at core (own_in items) (fields_in items) (told_in items) (others_in items) (locals_in items) (terms_in items) in
+    let same : of_terms style lines block.place inner block.file (fields_of block) names statements few terms ≡ whole =
+    ap (λ p. of_terms style lines p inner block.file (fields_of block) names statements few terms) (same_place items block h)
+    ∙ ap (λ ps. of_terms style lines at ps block.file (fields_of block) names statements few terms) (places ∙ same_places items block h)
+    ∙ ap (λ own. of_terms style lines at core own (fields_of block) names statements few terms) (same_own items block h)
+    ∙ ap (λ f. of_terms style lines at core (own_in items) f names statements few terms) (same_fields items block h)
+    ∙ ap (λ ns. of_terms style lines at core (own_in items) (fields_in items) ns statements few terms) told
+    ∙ ap (λ ss. of_terms style lines at core (own_in items) (fields_in items) (told_in items) ss few terms) (are ∙ same_others items block terms h is)
+    ∙ ap (λ fs. of_terms style lines at core (own_in items) (fields_in items) (told_in items) (others_in items) fs terms) (lacks ∙ same_locals items block terms h is)
+    ∙ ap (of_terms style lines at core (own_in items) (fields_in items) (told_in items) (others_in items) (locals_in items)) (same_terms items block terms h is) in
+    right_is (errors_at items) it (with_notes (noted_in items) whole) e
+    (comes ∙ ap (λ it. with_notes (noted_at (width_of block.revision) items terms) it) same ∙ ap (λ ns. with_notes ns whole) (same_notes items block terms h is))
 
 -- a block in whose names nothing is wrong
 pub right_comes : (r : Result Compiled AllocError) (errors : List Message) (it : Compiled) → errors ≡ [] → IfOk r (λ made. made ≡ it) → IfOk r (λ made. made ≡ unless_wrong errors it)
@@ -238,11 +268,11 @@ pub shape_comes : (stage : Stage) (messages errors : List Message) (it : Compile
 shape_comes stage messages errors it h e = refused_is messages errors it (subst (λ (s : Stage). ShapeRefuses s errors) e h)
 
 -- what a block that is compiled comes to is what its source comes to
-pub program_comes : (style : Style) (lines : List Line) (r : Result Compiled AllocError) (items : List Raw) (block : Block) (terms : Trees) (inner : List Place) (statements few : List Message) → errors_at items ≡ [] → IsBlockOf items block → terms ≡ numbered_all 0 (plans_of block.terms.items)
-    → inner ≡ core_places (plans_of block.terms.items) → statements ≡ others_of (width_of block.revision) terms (plans_of block.terms.items) → few ≡ few_locals terms (plans_of block.terms.items)
-    → IfOk r (λ it. it ≡ with_notes (noted_at (width_of block.revision) items terms) (of_terms style lines block.place inner block.file (fields_of block) statements few terms)) → IfOk r (λ it. it ≡ of_items style lines items)
-program_comes style lines (Ok it) items block terms inner statements few e h is places are lacks comes = block_comes style lines items block terms inner statements few it e h is places are lacks comes
-program_comes style lines (Err error) items block terms inner statements few e h is places are lacks comes = tt
+pub program_comes : (style : Style) (lines : List Line) (r : Result Compiled AllocError) (items : List Raw) (block : Block) (terms : Trees) (inner : List Place) (names statements few : List Message) → errors_at items ≡ [] → IsResolvedOf items block → terms ≡ numbered_all 0 (plans_of block.terms.items)
+    → inner ≡ core_places (plans_of block.terms.items) → names ≡ told_in items → statements ≡ others_of (width_of block.revision) terms (plans_of block.terms.items) → few ≡ few_locals terms (plans_of block.terms.items)
+    → IfOk r (λ it. it ≡ with_notes (noted_at (width_of block.revision) items terms) (of_terms style lines block.place inner block.file (fields_of block) names statements few terms)) → IfOk r (λ it. it ≡ of_items style lines items)
+program_comes style lines (Ok it) items block terms inner names statements few e h is places told are lacks comes = block_comes style lines items block terms inner names statements few it e h is places told are lacks comes
+program_comes style lines (Err error) items block terms inner names statements few e h is places told are lacks comes = tt
 
 -- lists that are empty, and others
 pub no_length : (messages : List Message) → length messages ≡ 0 → messages ≡ []
@@ -276,8 +306,8 @@ named_in_ascii style lines items kept = by (errors_at items) refl
     noted (Table signature own pieces notes) h = h
     noted (Refused messages) h = tt
 
-    by : (ms : List Message) → errors_at items ≡ ms → HasAsciiName (unless_wrong ms (with_notes (noted_in items) (of_terms style lines place (core_places (terms_of (writtens items))) (own_in items) (fields_in items) (others_in items) (locals_in items) (terms_in items))))
-    by [] e = noted (of_terms style lines place (core_places (terms_of (writtens items))) (own_in items) (fields_in items) (others_in items) (locals_in items) (terms_in items)) (by_names (with_others (told_errors (terms_in items)) (others_in items)) (own_is_ascii items e kept))
+    by : (ms : List Message) → errors_at items ≡ ms → HasAsciiName (unless_wrong ms (with_notes (noted_in items) (of_terms style lines place (core_places (plans_in items)) (own_in items) (fields_in items) (told_in items) (others_in items) (locals_in items) (terms_in items))))
+    by [] e = noted (of_terms style lines place (core_places (plans_in items)) (own_in items) (fields_in items) (told_in items) (others_in items) (locals_in items) (terms_in items)) (by_names (with_others (told_in items) (others_in items)) (own_is_ascii items e kept))
     by (m ∷ ms) e = tt
 
 pub ascii_comes : (r : Result Compiled AllocError) (it : Compiled) → HasAsciiName it → IfOk r (λ made. made ≡ it) → IfOk r HasAsciiName

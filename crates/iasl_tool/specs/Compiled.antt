@@ -1,5 +1,5 @@
 -- What a source comes to: its table, or its errors.
-use Rattle.std.specs.Prelude.{ℕ, suc, ◌-◌, nat_le, nat_eq, Bool, ◌||◌, ◌&&◌, if◌then◌else◌, List, [], ◌∷◌, ◌++◌, length, All, ◌<◌, ⊤, Result, Ok, Err, cond}
+use Rattle.std.specs.Prelude.{ℕ, suc, ◌-◌, nat_le, nat_eq, Bool, false, ◌||◌, ◌&&◌, if◌then◌else◌, List, [], ◌∷◌, ◌++◌, length, All, ◌<◌, ⊤, Result, Ok, Err, cond}
 use Rattle.iasl_messages.specs.declared.place.Place.{Place}
 use Rattle.iasl_messages.specs.declared.place.Line.{Line}
 use Rattle.iasl_messages.specs.declared.place.Piece.{Piece}
@@ -19,13 +19,14 @@ use Rattle.asl_lower.specs.Nodes.{named_all}
 use Rattle.asl_fold.specs.Folds.{folded_where}
 use Rattle.hidden_locals.specs.Switches.{without_switches}
 use Rattle.name_checks.specs.Messages.{told_errors}
+use Rattle.descriptor_names.specs.Told.{names_told, kinds_told}
 use Rattle.asl_parser.specs.declared.raw.Raw.{Raw}
 use Rattle.asl_parser.specs.Parse.{Outcome, outcome, read, stopped, sunk, tall}
 use Rattle.asl_parser.specs.Written.{writtens}
 use Rattle.std.specs.Str.{IsAscii}
-use Rattle.asl_shape.specs.Plans.{plan_at, text_of}
-use Rattle.asl_shape.specs.Forms.{errors_at, block_place, args_of, terms_of}
-use Rattle.program_shapes.specs.Sources.{terms_in, statements_in, layouts_in, regions_in, types_in, sizes_in, values_in, locals_in, notes_in, fields_in, width_in, table_in}
+use Rattle.asl_shape.specs.Plans.{Plans, plan_at, text_of}
+use Rattle.asl_shape.specs.Forms.{errors_at, block_place, args_of}
+use Rattle.program_shapes.specs.Sources.{source_in, plans_in, terms_in, statements_in, layouts_in, regions_in, types_in, sizes_in, values_in, locals_in, notes_in, fields_in, width_in, table_in}
 use Rattle.source_pieces.specs.Places.{core_places}
 use Rattle.source_pieces.specs.Pieces.{pieces_in}
 use Rattle.literal_checks.specs.Literals.{cut_literals_at}
@@ -65,9 +66,18 @@ abbrev pub unless_wrong : List Message → Compiled → Compiled
 unless_wrong [] it = it
 unless_wrong (m ∷ ms) it = Refused (m ∷ ms)
 
+-- messages, or others where there are none
+abbrev pub first_told : List Message → List Message → List Message
+first_told [] others = others
+first_told (m ∷ ms) others = m ∷ ms
+
+-- what is told of the names of terms as they are written, those of resource descriptors among these, or where nothing is, of what names stand for
+abbrev pub told_of_names : Plans → List Message
+told_of_names written = first_told (names_told written) (kinds_told written)
+
 -- the numbers of the errors of names that are of the class of kinds
 abbrev pub is_of_kinds : ℕ → Bool
-is_of_kinds number = nat_eq number 6051 || (nat_eq number 6054 || nat_eq number 6020)
+is_of_kinds number = nat_eq number 6051 || (nat_eq number 6054 || (nat_eq number 6050 || (nat_eq number 6056 || nat_eq number 6020)))
 
 -- the errors of statements and of the lists of fields are of the class of kinds: they come behind these, and not where names are
 -- wrong
@@ -77,14 +87,19 @@ with_others (m ∷ ms) others = if is_of_kinds m.number then (m ∷ ms) ++ other
 
 -- a block of this form, whose core's terms stand at these places, that is refused with what is wrong with its names, its statements or the lists
 -- of its fields, and where nothing is, with its Switches for which too few Locals are free
-abbrev pub of_terms : Style → List Line → Place → List Place → List ℕ → HeaderFields → (others few : List Message) → Trees → Compiled
-of_terms style lines place inner own fields others few terms =
+abbrev pub of_terms : Style → List Line → Place → List Place → List ℕ → HeaderFields → (names others few : List Message) → Trees → Compiled
+of_terms style lines place inner own fields names others few terms =
     let lowered = lowered_as style fields terms in
-    unless_wrong (with_others (told_errors terms) others) (unless_wrong few (of_table place fields.signature own (table_with style fields lowered) (its_pieces style lines (place ∷ inner) fields lowered)))
+    unless_wrong (with_others names others) (unless_wrong few (of_table place fields.signature own (table_with style fields lowered) (its_pieces style lines (place ∷ inner) fields lowered)))
 
 -- the numbers of the errors of the class of names
 abbrev pub is_of_names : ℕ → Bool
 is_of_names number = nat_le 6040 number && nat_le number 6046
+
+-- whether errors are of the class of names, of which the first then is
+abbrev pub are_of_names : List Message → Bool
+are_of_names [] = false
+are_of_names (m ∷ ms) = is_of_names m.number
 
 -- notes are told behind errors of a later class than that of names
 abbrev pub with_notes_behind : List Message → List Message → List Message
@@ -121,11 +136,16 @@ own_in items = text_of (plan_at (args_of (writtens items)) 0)
 abbrev pub others_in : List Raw → List Message
 others_in items = statements_in items ++ layouts_in items ++ regions_in items ++ types_in items ++ sizes_in items ++ values_in items
 
+-- what is told of its names: as they are written, or where nothing is, as they are left where its descriptors are resolved
+abbrev pub told_in : List Raw → List Message
+told_in items = first_told (told_of_names (source_in items)) (told_errors (terms_in items))
+
 -- the tree of a source's syntax, that is refused with what is wrong with its form
 abbrev pub of_items : Style → List Line → List Raw → Compiled
 of_items style lines items =
-    let ws = writtens items in
-    unless_wrong (errors_at items) (with_notes (noted_in items) (of_terms style lines (block_place ws) (core_places (terms_of ws)) (own_in items) (fields_in items) (others_in items) (locals_in items) (terms_in items)))
+    let place = block_place (writtens items) in
+    let told = of_terms style lines place (core_places (plans_in items)) (own_in items) (fields_in items) (told_in items) (others_in items) (locals_in items) (terms_in items) in
+    unless_wrong (errors_at items) (with_notes (noted_in items) told)
 
 -- tokens that are a source, or the place where they stop being one or nest too deep
 abbrev pub of_outcome : Style → List Line → List Token → Outcome → Compiled

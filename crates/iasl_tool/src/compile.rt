@@ -32,8 +32,10 @@ ghost use Rattle.iasl_messages.specs.declared.message.Stage.TheVariants as stage
 ghost use Rattle.iasl_tool.specs.Syntax.{at_token};
 ghost use Rattle.iasl_tool.specs.Ready.{HasRoom, IsCoreOf};
 ghost use Rattle.iasl_tool.specs.declared.compile.Compiled.TheVariants.{Refused};
-ghost use Rattle.iasl_tool.specs.Compiled.{its_table, its_pieces, of_table, of_terms, is_of_kinds as of_kinds, is_of_names as of_names, with_notes, with_notes_behind, with_others, of_items, of_lines, of_outcome, HasAsciiName, TellsWithin};
+ghost use Rattle.name_checks.specs.Messages.{told_errors};
+ghost use Rattle.iasl_tool.specs.Compiled.{first_told, are_of_names as are_names, its_table, its_pieces, of_table, of_terms, is_of_kinds as of_kinds, is_of_names as of_names, with_notes, with_notes_behind, with_others, of_items, of_lines, of_outcome, HasAsciiName, TellsWithin};
 
+use crate::resolved::{Resolved, resolve_block};
 use acpi_values::width::Width;
 use aml_writer::stop::WriteStop;
 use aml_writer::write::write;
@@ -41,7 +43,6 @@ use asl_fold::fold::fold_where;
 use asl_lexer::token::Tokens;
 use asl_lexer::tokens;
 use asl_lower::lower::lower;
-use asl_numbers::number::number_nodes;
 use asl_parser::{RawUnit, Syntax, parse, place_at};
 use asl_shape::shape;
 use asl_tree::program::{Block, Blocks, Core, Program};
@@ -49,8 +50,8 @@ use asl_tree::term::Node;
 use field_checks::check::list_faults;
 use iasl_messages::message::{Message, Messages, Stage};
 use iasl_messages::number::{
-    NAME_DECLARED_TWICE, NESTING_TOO_DEEP, PATH_IS_TOO_LONG, SYNTAX, UNKNOWN_OPERATOR,
-    WRONG_CALL_ARGUMENT_COUNT, WRONG_OBJECT_KIND,
+    FIELD_NOT_WHOLE_BYTES, NAME_DECLARED_TWICE, NESTING_TOO_DEEP, PATH_IS_TOO_LONG, SYNTAX,
+    UNKNOWN_OPERATOR, WRONG_CALL_ARGUMENT_COUNT, WRONG_OBJECT_KIND, WRONG_TYPE,
 };
 use iasl_messages::place::{Lines, Pieces};
 use iasl_ports::list::{List, Text};
@@ -162,7 +163,11 @@ pub(crate) fn both(first: Messages, second: Messages) -> Result<Messages, AllocE
 fn is_of_kinds(number: u16) -> bool
     ensures { result ≡ of_kinds number }
 {
-    number == WRONG_CALL_ARGUMENT_COUNT || number == WRONG_OBJECT_KIND || number == UNKNOWN_OPERATOR
+    number == WRONG_CALL_ARGUMENT_COUNT
+        || number == WRONG_OBJECT_KIND
+        || number == WRONG_TYPE
+        || number == FIELD_NOT_WHOLE_BYTES
+        || number == UNKNOWN_OPERATOR
 }
 
 // The errors of statements, of the lists of fields and of their accesses behind those of kinds.
@@ -216,19 +221,24 @@ fn lowered(alloc: Global, style: Style, block: Block) -> Result<Block, AllocErro
 }
 
 // A block whose nodes have their numbers: its table, with loops for its Switches, its symbols named and its names spelled, or what is wrong
-// with its names, its statements and the lists of its fields, or else the Switches for which too few Locals are free.
+// with its names, some of which may be told of before, its statements and the lists of its fields, or else the Switches for which too few Locals
+// are free.
 fn compile_block(
     alloc: Global,
     style: Style,
     lines: &Lines,
     block: Block,
+    told: Messages,
     others: Messages,
 ) -> Result<Compiled, AllocError>
     requires room { HasRoom (fields_of block) }
     requires formed { AreFormed AreNamed (Unit {0}) (Unit {0}) (trees_of block.terms.items) }
     requires shaped { others ≡ [] → AreShaped (named_all (without_switches (trees_of block.terms.items))) }
-    ensures { IfOk result (λ it. it ≡ of_terms style lines.now.list block.place (core_places (plans_of block.terms.items)) block.file (fields_of block) others (few_locals (trees_of block.terms.items) (plans_of block.terms.items)) (trees_of block.terms.items)) }
+    ensures { IfOk result (λ it. it ≡ of_terms style lines.now.list block.place (core_places (plans_of block.terms.items)) block.file (fields_of block) (first_told told (told_errors (trees_of block.terms.items))) others (few_locals (trees_of block.terms.items) (plans_of block.terms.items)) (trees_of block.terms.items)) }
 {
+    if !told.is_empty() {
+        return Ok(Compiled::Refused(with_others(told, others)?));
+    }
     match check(alloc, block.terms.as_slice()) {
         Ok(mut names) => {
             if !others.is_empty() {
@@ -257,6 +267,16 @@ fn is_of_names(number: u16) -> bool
     ensures { result ≡ of_names number }
 {
     NAME_DECLARED_TWICE <= number && number <= PATH_IS_TOO_LONG
+}
+
+/// Whether errors are of the class of names, of which the first then is.
+pub(crate) fn are_of_names(errors: &Messages) -> bool
+    ensures { result ≡ are_names errors.now }
+{
+    match errors.get(0) {
+        Some(first) => is_of_names(first.number),
+        None => false,
+    }
 }
 
 // Notes behind errors of a later class than that of names.
@@ -301,16 +321,18 @@ fn compile_noted(
     lines: &Lines,
     unit: &RawUnit,
     block: Block,
+    told: Messages,
     others: Messages,
 ) -> Result<Compiled, AllocError>
     requires room { HasRoom (fields_of block) }
     requires formed { AreFormed AreNamed (Unit {0}) (Unit {0}) (trees_of block.terms.items) }
     requires shaped { others ≡ [] → AreShaped (named_all (without_switches (trees_of block.terms.items))) }
-    ensures { IfOk result (λ it. it ≡ with_notes (cut_literals_at (width_of block.revision) unit.now.items ++ name_notes (trees_of block.terms.items)) (of_terms style lines.now.list block.place (core_places (plans_of block.terms.items)) block.file (fields_of block) others (few_locals (trees_of block.terms.items) (plans_of block.terms.items)) (trees_of block.terms.items))) }
+    ensures { IfOk result (λ it. it ≡ with_notes (cut_literals_at (width_of block.revision) unit.now.items ++ name_notes (trees_of block.terms.items)) (of_terms style lines.now.list block.place (core_places (plans_of block.terms.items)) block.file (fields_of block) (first_told told (told_errors (trees_of block.terms.items))) others (few_locals (trees_of block.terms.items) (plans_of block.terms.items)) (trees_of block.terms.items))) }
 {
     let literals = cut_literals(alloc, Width::of_revision(block.revision), unit)?;
     let notes = both(literals, notes_on_names(alloc, block.terms.as_slice())?)?;
-    with_notes(notes, compile_block(alloc, style, lines, block, others)?)
+    let it = compile_block(alloc, style, lines, block, told, others)?;
+    with_notes(notes, it)
 }
 
 // The one block of a program.
@@ -349,15 +371,10 @@ fn compile_unit(
 {
     match shape(alloc, unit) {
         Ok(program) => {
-            let mut block = block_of(program)?;
-            match number_nodes(&mut block.terms, 0) {
-                Some(_) => {
-                    let width = Width::of_revision(block.revision);
-                    let others = other_errors(alloc, width, block.terms.as_slice())?;
-                    compile_noted(alloc, style, lines, unit, block, others)
-                }
-                None => Err(AllocError),
-            }
+            let Resolved { block, told } = resolve_block(alloc, block_of(program)?)?;
+            let width = Width::of_revision(block.revision);
+            let others = other_errors(alloc, width, block.terms.as_slice())?;
+            compile_noted(alloc, style, lines, unit, block, told, others)
         }
         Err(stage) => Ok(Compiled::Refused(refusal(stage)?)),
     }

@@ -4,6 +4,7 @@
 mod compile;
 mod due;
 mod generated;
+mod resolved;
 pub mod run;
 mod source;
 #[cfg(test)]

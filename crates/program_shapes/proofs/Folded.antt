@@ -1,5 +1,5 @@
 -- What does as a program with its constants folded, where that is asked for, does as the program.
-use Rattle.std.proofs.Common.{◌≡◌, Bool, List, sym, ◌∙◌, subst}
+use Rattle.std.proofs.Common.{Bool, List, sym, ◌∙◌, subst}
 use Rattle.acpi_values.specs.declared.width.Width.{Width}
 use Rattle.asl_tree.specs.Tree.{Trees}
 use Rattle.asl_meaning.specs.Declarations.{known_of, externals}

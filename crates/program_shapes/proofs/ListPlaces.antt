@@ -12,7 +12,7 @@ use Rattle.asl_shape.specs.Shapes.{fault_at}
 use Rattle.asl_shape.specs.Places.{AreTold}
 use Rattle.field_layout.specs.Layout.{item_fault}
 use Rattle.field_checks.specs.Lists.{item_in, list_errors, field_errors, term_errors, all_errors}
-use Rattle.program_shapes.specs.Places.{PlanWithin, PlansWithin}
+use Rattle.descriptor_shapes.specs.Places.{PlanWithin, PlansWithin}
 
 module _ (files : ℕ) where
   both : (xs ys : List Message) → AreTold files xs → AreTold files ys → AreTold files (xs ++ ys)

@@ -1,6 +1,6 @@
 -- The parts of a source, without those inside them.
 use Rattle.std.proofs.Common.{◌≡◌, ℕ, zero, suc, ◌≤◌, Bool, true, false, List, [], ◌∷◌, ◌++◌, Option, Some, None, refl, sym, subst, arith}
-use Rattle.std.specs.Prelude.{nat_le, nat_eq, not, ◌&&◌, if◌then◌else◌, ◌||◌}
+use Rattle.std.specs.Prelude.{nat_le, nat_eq, not, ◌&&◌, if◌then◌else◌}
 use Rattle.std.specs.Option.{IfSome}
 use Rattle.std.proofs.lemmas.Grind.{common_steps}
 use Rattle.iasl_messages.specs.declared.place.Place.{Place}
@@ -42,7 +42,7 @@ use Rattle.asl_parser.specs.Written.{Writtens}
 use Rattle.acpi_values.specs.declared.width.Width.{Width}
 use Rattle.asl_shape.specs.Plans.{Plan, an_integer, a_text, a_form, Plans, no_plans, how_many}
 use Rattle.asl_shape.specs.Shapes.{Shaped, fine, refused, number_shape, text_shape, string_shape, listed_shape, types_shape, are_all_types, known_plan, path_shape, call_shape, form_shape, symbol_shape, settled, package_settled, arranged, item_shape, read_shape}
-use Rattle.asl_words.specs.Meanings.{takes_role, takes_known, takes_expression, takes_path, takes_segment, is_value, is_place, item_fault, reading_of, name_reading, unless_wrong, may_be, is_unknown, wants_braces, is_same, is_field_element, takes_macro, takes_descriptor, unfit, default_before, takes_branch, is_branch_role, is_of_kind, may_stand, is_descriptor_name}
+use Rattle.asl_words.specs.Meanings.{takes_role, takes_known, takes_expression, takes_path, takes_segment, is_value, is_place, item_fault, reading_of, name_reading, unless_wrong, may_be, is_unknown, wants_braces, is_same, is_field_element, takes_macro, takes_descriptor, unfit, default_before, takes_branch, is_branch_role, is_of_kind, may_stand}
 use Rattle.asl_words.specs.Texts.{has_form, is_all_text, is_text_byte}
 use Rattle.asl_shape.specs.Shapes as shapes
 use Rattle.program_shapes.proofs.Fits.{IsThere, Fits, IsAtMost, IsElement, IsFill, Formed, FormedValues}
@@ -538,7 +538,7 @@ read_fit s at text is.Unknown called calls offset expanded template described fo
 
 pub item_fit : (P : Plan → Type 0) (s : Slot) (inside : Bool) (m : Meaning) (has has_body : Bool) (at : Place) (shape : Shaped Plan) → (may_be s inside m ≡ true → has ≡ true → shape.faults ≡ [] → P shape.made)
     → (item_shape at (item_fault s inside m has has_body) shape).faults ≡ [] → P (item_shape at (item_fault s inside m has has_body) shape).made
-item_fit P s inside m has has_body at shape h e = by (is_unknown m || is_descriptor_name s m) (may_be s inside m) has (is_same (wants_braces m) has_body) h e
+item_fit P s inside m has has_body at shape h e = by (is_unknown m) (may_be s inside m) has (is_same (wants_braces m) has_body) h e
   where
     by : (a b c d : Bool) → (b ≡ true → c ≡ true → shape.faults ≡ [] → P shape.made)
         → (item_shape at (if a then Some 6020 else (if not b then Some 6025 else (if not c then Some 6021 else (if not d then Some 6023 else None)))) shape).faults ≡ []

@@ -1,6 +1,6 @@
 -- The plans that a source makes stand in the files in which its parts stand.
-use Rattle.std.proofs.Common.{ℕ, zero, suc, ◌<◌, Bool, true, false, List, [], ◌∷◌, Option, Some, None, Result, Ok, Err, sym, subst, arith}
-use Rattle.std.specs.Prelude.{if◌then◌else◌, nat_le, ◌&&◌, ◌%◌}
+use Rattle.std.proofs.Common.{ℕ, zero, suc, ◌+◌, ◌<◌, Bool, true, false, List, [], ◌∷◌, ◌++◌, length, Option, Some, None, Result, Ok, Err, sym, subst, arith}
+use Rattle.std.specs.Prelude.{if◌then◌else◌, nat_le, ◌&&◌, ◌%◌, map}
 use Rattle.iasl_messages.specs.declared.place.Place.{Place}
 use Rattle.iasl_messages.specs.declared.message.Message.{Message}
 use Rattle.acpi_values.specs.Integers.{wrapped}
@@ -24,6 +24,10 @@ use Rattle.asl_words.specs.declared.operator.Known.{Known}
 use Rattle.asl_words.specs.declared.operator.Known.TheVariants as known
 use Rattle.asl_words.specs.declared.operator.TextMacro.{TextMacro}
 use Rattle.resource_layout.specs.declared.descriptor.Descriptor.{Descriptor}
+use Rattle.resource_layout.specs.declared.descriptor.Field.{Field}
+use Rattle.resource_layout.specs.Layout.{fields_of}
+use Rattle.asl_tree.specs.declared.term.NamedDescriptor.{NamedDescriptor}
+use Rattle.asl_shape.specs.Descriptors.{own_bytes, fill_of, is_name, segment_of, named_as, own_name, named_of, moved, names_from}
 use Rattle.asl_words.specs.declared.meaning.Reading.{Reading}
 use Rattle.asl_words.specs.declared.meaning.Reading.TheVariants as read
 use Rattle.asl_parser.specs.Written as piece
@@ -37,7 +41,7 @@ use Rattle.asl_shape.specs.declared.around.Around.{Around}
 use Rattle.asl_shape.specs.Around.{outside}
 use Rattle.asl_shape.specs.declared.fields.Due.{Due}
 use Rattle.asl_shape.specs.declared.fields.UnitName.{UnitName}
-use Rattle.asl_shape.specs.Plans.{Plan, an_integer, a_text, a_name, Plans, no_plans, plan, plan_at, join, first_plans, first_alone, number_of, is_omitted, constant_of, plans_of}
+use Rattle.asl_shape.specs.Plans.{Plan, an_integer, a_text, a_fill, a_name, Plans, no_plans, plan, plan_at, join, first_plans, first_alone, number_of, is_omitted, constant_of, plans_of}
 use Rattle.asl_words.specs.Paths.{path_of}
 use Rattle.asl_words.specs.Operators.{parameters_of, parameters_as, body_as, role_of, offset_parameters, macro_parameters}
 use Rattle.asl_words.specs.Resources.{descriptor_parameters, descriptor_body}
@@ -48,7 +52,7 @@ use Rattle.asl_words.specs.Texts.{is_all_text, has_form}
 use Rattle.resource_macros.specs.Identifiers.{eisaid_of, uuid_of, utf16_of}
 use Rattle.asl_shape.specs.Forms.{terms_of, IsBlockOf, block_args, revision_in}
 use Rattle.asl_parser.specs.Within.{IsIn, IsWithin, AreWithin, IsGroupWithin}
-use Rattle.program_shapes.specs.Places.{PlanWithin, PlansWithin}
+use Rattle.descriptor_shapes.specs.Places.{NamesWithin, PlanWithin, PlansWithin}
 
 module _ (files : ℕ) where
   -- one choice or the other
@@ -239,6 +243,37 @@ module _ (files : ℕ) where
   list_in place true all h = h
   list_in place false all h = tt
 
+  -- ---- the names of descriptors
+
+  both_in : (ns ms : List NamedDescriptor) → NamesWithin files ns → NamesWithin files ms → NamesWithin files (ns ++ ms)
+  both_in [] ms h k = k
+  both_in (n ∷ ns) ms h k = (h.0, both_in ns ms h.1 k)
+
+  moved_in : (n : ℕ) (ns : List NamedDescriptor) → NamesWithin files ns → NamesWithin files (map (moved n) ns)
+  moved_in n [] h = tt
+  moved_in n (named ∷ ns) h = (h.0, moved_in n ns h.1)
+
+  named_of_in : (p : Plan) → PlanWithin files p → NamesWithin files (named_of p)
+  named_of_in (a_fill bytes named) h = h
+  named_of_in _ h = tt
+
+  names_from_in : (n : ℕ) (ps : Plans) → PlansWithin files ps → NamesWithin files (names_from n ps)
+  names_from_in n no_plans h = tt
+  names_from_in n (plan place p ps) h = both_in (map (moved n) (named_of p)) (names_from (n + length (fill_of p)) ps) (moved_in n (named_of p) (named_of_in p h.1)) (names_from_in (n + length (fill_of p)) ps h.2)
+
+  own_name_in : (d : Descriptor) (fields : List Field) (ps : Plans) → PlansWithin files ps → NamesWithin files (own_name d fields ps)
+  own_name_in d [] ps h = tt
+  own_name_in d (field ∷ fields) no_plans h = tt
+  own_name_in d (field ∷ fields) (plan place p ps) h = by_giver (is_name field.giver) (own_name_in d fields ps h.2)
+    where
+      by_segment : (o : Option NameSeg) → NamesWithin files (named_as d place o)
+      by_segment None = tt
+      by_segment (Some segment) = (h.0, tt)
+
+      by_giver : (b : Bool) → NamesWithin files (own_name d fields ps) → NamesWithin files (if b then named_as d place (segment_of p) else own_name d fields ps)
+      by_giver true k = by_segment (segment_of p)
+      by_giver false k = k
+
   -- ---- the list of a field
 
   abbrev UnitIn : Option UnitName → Type 0
@@ -301,7 +336,10 @@ module _ (files : ℕ) where
           item_in place (item_fault s inside.method meaning (has_arguments meaning (inside_of args)) (is_given body)) (read_shape s place w (reading_of s meaning (is_given args)) (call_args inside args) offset expanded template described form)
           (read_in s place w (reading_of s meaning (is_given args)) (call_args inside args) offset expanded template described form (call_args_in inside args h.1) tt
           (λ m. head_in (arguments (macro_parameters m) place inside args).made (arguments_within (macro_parameters m) place inside args h.0 h.1))
-          ((h.0, tt, tt), (h.0, tt, tt)) (λ d. tt)
+          ((h.0, tt, tt), (h.0, names_from_in 0 (contents braces.Descriptors inside place body).made (contents_in braces.Descriptors inside place body h.2), tt))
+          (λ d. both_in (own_name d (fields_of d) (arguments (descriptor_parameters d) place inside args).made) (names_from (length (own_bytes d (arguments (descriptor_parameters d) place inside args).made (contents (descriptor_body d) inside place body).made)) (contents (descriptor_body d) inside place body).made)
+          (own_name_in d (fields_of d) (arguments (descriptor_parameters d) place inside args).made (arguments_within (descriptor_parameters d) place inside args h.0 h.1))
+          (names_from_in (length (own_bytes d (arguments (descriptor_parameters d) place inside args).made (contents (descriptor_body d) inside place body).made)) (contents (descriptor_body d) inside place body).made (contents_in (descriptor_body d) inside place body h.2)))
           (λ o. (
             settled_in inside.width o place (arguments (parameters_as o s) place inside args).made h.0 (arguments_within (parameters_as o s) place inside args h.0 h.1),
             arranged_in o (contents (body_as o s) (within o inside) place body).made (contents_in (body_as o s) (within o inside) place body h.2),

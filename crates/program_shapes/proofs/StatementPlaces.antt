@@ -10,7 +10,7 @@ use Rattle.asl_parser.specs.Within.{IsIn}
 use Rattle.asl_shape.specs.Places.{AreTold}
 use Rattle.statement_checks.specs.declared.check.Around.{Around}
 use Rattle.statement_checks.specs.Statements.{around_body, misses_loop, told, term_errors, statement_errors, outside, errors_of_statements}
-use Rattle.program_shapes.specs.Places.{PlanWithin, PlansWithin}
+use Rattle.descriptor_shapes.specs.Places.{PlanWithin, PlansWithin}
 
 module _ (files : ℕ) where
   both : (xs ys : List Message) → AreTold files xs → AreTold files ys → AreTold files (xs ++ ys)

@@ -21,7 +21,6 @@ use Rattle.loop_shapes.proofs.Formed.{loops_formed}
 use Rattle.loop_shapes.proofs.Names.{same_name_errors, same_type_errors}
 use Rattle.loop_shapes.proofs.Faithful.{does_unswitched}
 use Rattle.switch_checks.proofs.Silent.{have_locals}
-use Rattle.asl_fold.specs.Folds.{folded_where}
 use Rattle.asl_fold.proofs.Asked.{where_shaped, where_name_errors, where_type_errors}
 use Rattle.asl_lower.proofs.Named.{same_named}
 use Rattle.asl_lower.proofs.Declared.{same_known, same_externals}
@@ -31,11 +30,12 @@ use Rattle.program_shapes.proofs.Lowered.{all_named}
 use Rattle.asl_parser.specs.declared.raw.Raw.{Raw}
 use Rattle.asl_parser.specs.Written.{writtens}
 use Rattle.asl_shape.specs.Plans.{plan_at, number_of}
-use Rattle.asl_shape.specs.Forms.{errors_at, args_of, terms_of}
+use Rattle.asl_shape.specs.Forms.{errors_at, args_of}
 use Rattle.program_shapes.specs.Kept.{IsKeptSource}
 use Rattle.program_shapes.proofs.Lists.{plans_laid}
 use Rattle.program_shapes.proofs.Laid.{terms_laid}
-use Rattle.program_shapes.specs.Sources.{terms_in, layouts_in, fields_in, width_in, lowered_in, table_in, IsRight, IsTableOf}
+use Rattle.descriptor_shapes.proofs.Resolved.{resolved_formed}
+use Rattle.program_shapes.specs.Sources.{source_in, plans_in, terms_in, layouts_in, fields_in, width_in, lowered_in, table_in, IsRight, IsTableOf}
 use Rattle.program_shapes.proofs.Folded.{does_unfolded}
 use Rattle.program_shapes.proofs.Blocks.{terms_as, room_in}
 use Rattle.program_shapes.proofs.Headers.{HaveRoom}
@@ -43,12 +43,11 @@ use Rattle.program_shapes.proofs.Headers.{HaveRoom}
 -- its terms are formed
 pub terms_are_formed : (items : List Raw) → errors_at items ≡ [] → IsKeptSource (writtens items) → AreFormed AreNamed (Unit {0}) (Unit {0}) (terms_in items)
 unfolding errors_at
-terms_are_formed items e k = terms_as (writtens items) e k 0
+terms_are_formed items e k = resolved_formed 0 (source_in items) (terms_as (writtens items) e k 0)
 
 -- and laid, where nothing is wrong with the lists of fields
 terms_are_laid : (items : List Raw) → errors_at items ≡ [] → layouts_in items ≡ [] → IsKeptSource (writtens items) → AreFormed (AreItems 0) (Unit {0}) (Unit {0}) (terms_in items)
-unfolding errors_at
-terms_are_laid items e l k = terms_laid (Unit {0}) (Unit {0}) (terms_in items) (terms_as (writtens items) e k 0) (plans_laid 0 (terms_of (writtens items)) l)
+terms_are_laid items e l k = terms_laid (Unit {0}) (Unit {0}) (terms_in items) (terms_are_formed items e k) (plans_laid 0 (plans_in items) l)
 
 -- and with loops for its Switches and its symbols named, shaped
 pub core_is_shaped : (items : List Raw) → errors_at items ≡ [] → layouts_in items ≡ [] → IsKeptSource (writtens items) → AreShaped (named_all (without_switches (terms_in items)))
@@ -81,7 +80,7 @@ does_as fold short shorten items right kept within =
     let small : length content ≤ 16777216 = omega (arith, within, length-append header content) in
     let formed : AreFormed AreNamed (Unit {0}) (Unit {0}) program = terms_are_formed items right.form kept in
     let terms : are_terms loops ≡ true = formed_terms AreNamed (Unit {0}) ⊥ loops (loops_formed AreNamed (Unit {0}) (Unit {0}) program formed) in
-    let locals : HaveLocals program = have_locals program (terms_of (writtens items)) right.locals in
+    let locals : HaveLocals program = have_locals program (plans_in items) right.locals in
     let names : name_errors loops ≡ [] = same_name_errors AreNamed (Unit {0}) (Unit {0}) program formed ∙ right.names in
     let counts : type_errors loops ≡ [] = same_type_errors AreNamed (Unit {0}) (Unit {0}) program formed ∙ right.counts in
     let room : HaveRoom (args_of (writtens items)) = room_in (writtens items) right.form kept in

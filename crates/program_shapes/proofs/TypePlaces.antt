@@ -15,7 +15,7 @@ use Rattle.type_checks.specs.Kinds.{is_place, wanted_of, kinds_of}
 use Rattle.type_checks.specs.Names.{named}
 use Rattle.type_checks.specs.Sizes.{is_below, list_length, told, size_errors, term_errors, long_lists}
 use Rattle.type_checks.specs.Types.{fits, unless, argument_errors, errors_inside, errors_of, wrong_types}
-use Rattle.program_shapes.specs.Places.{PlanWithin, PlansWithin}
+use Rattle.descriptor_shapes.specs.Places.{PlanWithin, PlansWithin}
 use Rattle.program_shapes.proofs.ListPlaces.{as_all}
 
 module _ (files : ℕ) where

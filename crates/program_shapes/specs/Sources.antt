@@ -17,6 +17,8 @@ use Rattle.asl_parser.specs.Written.{writtens}
 use Rattle.asl_shape.specs.Plans.{Plans, plan_at, text_of, number_of}
 use Rattle.asl_shape.specs.Forms.{errors_at, args_of, terms_of}
 use Rattle.asl_numbers.specs.Numbers.{numbered_all}
+use Rattle.descriptor_names.specs.Resolved.{resolved_terms}
+use Rattle.descriptor_names.specs.Told.{names_told, kinds_told}
 use Rattle.iasl_messages.specs.declared.message.Message.{Message}
 use Rattle.statement_checks.specs.Statements.{errors_of_statements}
 use Rattle.field_checks.specs.Lists.{all_errors}
@@ -27,17 +29,33 @@ use Rattle.switch_checks.specs.Repeats.{repeated_values}
 use Rattle.switch_checks.specs.Locals.{few_locals}
 use Rattle.name_notes.specs.Notes.{name_notes}
 
--- its terms, each node with its number
+-- its terms as they are written
+abbrev pub source_in : List Raw → Plans
+source_in items = terms_of (writtens items)
+
+-- what is wrong with the names in them, those of its resource descriptors among these
+abbrev pub names_in : List Raw → List Message
+names_in items = names_told (source_in items)
+
+-- and with the kinds of what its names stand for
+abbrev pub uses_in : List Raw → List Message
+uses_in items = kinds_told (source_in items)
+
+-- its terms with the fields of its descriptors as constants
+abbrev pub plans_in : List Raw → Plans
+plans_in items = resolved_terms (source_in items)
+
+-- these, each node with its number
 abbrev pub terms_in : List Raw → Trees
-terms_in items = numbered_all 0 (terms_of (writtens items))
+terms_in items = numbered_all 0 (plans_in items)
 
 -- what is wrong with its statements
 abbrev pub statements_in : List Raw → List Message
-statements_in items = errors_of_statements (terms_of (writtens items))
+statements_in items = errors_of_statements (plans_in items)
 
 -- what is wrong with the lists of its fields
 abbrev pub layouts_in : List Raw → List Message
-layouts_in items = all_errors (terms_of (writtens items))
+layouts_in items = all_errors (plans_in items)
 
 -- what the arguments of a definition block say of the table's header (ACPI Specification 6.4, 19.6.29)
 abbrev pub stated_by : Plans → HeaderFields
@@ -58,23 +76,23 @@ width_in items = width_of (fields_in items).revision
 
 -- what is wrong with the accesses of its fields to their regions
 abbrev pub regions_in : List Raw → List Message
-regions_in items = region_errors (width_in items) (terms_in items) (terms_of (writtens items))
+regions_in items = region_errors (width_in items) (terms_in items) (plans_in items)
 
 -- what is wrong with the kinds of its arguments
 abbrev pub types_in : List Raw → List Message
-types_in items = wrong_types (terms_in items) (terms_of (writtens items))
+types_in items = wrong_types (terms_in items) (plans_in items)
 
 -- its lists that are longer than their sizes
 abbrev pub sizes_in : List Raw → List Message
-sizes_in items = long_lists (width_in items) (terms_of (writtens items))
+sizes_in items = long_lists (width_in items) (plans_in items)
 
 -- the values of its Cases that an earlier one of their Switch has
 abbrev pub values_in : List Raw → List Message
-values_in items = repeated_values (width_in items) (terms_of (writtens items))
+values_in items = repeated_values (width_in items) (plans_in items)
 
 -- its Switches for which too few Locals are free
 abbrev pub locals_in : List Raw → List Message
-locals_in items = few_locals (terms_in items) (terms_of (writtens items))
+locals_in items = few_locals (terms_in items) (plans_in items)
 
 -- the notes on its names
 abbrev pub notes_in : List Raw → List Message
@@ -89,10 +107,13 @@ lowered_in fold items = folded_where fold (width_in items) (named_all (without_s
 abbrev pub table_in : Bool → Bool → Bool → List Raw → List ℕ
 table_in fold short shorten items = table_bytes (fields_in items) (encoded_all (width_in items) short (core_of shorten (lowered_in fold items)))
 
--- nothing is wrong with its form, its names, how many arguments its calls have, its statements, the lists of its fields and their accesses,
--- the kinds of its arguments, the lengths of its lists, the values of its Cases, and the Locals that are free for its Switches
+-- nothing is wrong with its form, its names, those of its resource descriptors among these, how many arguments its calls have, its statements, the
+-- lists of its fields and their accesses, the kinds of its arguments, the lengths of its lists, the values of its Cases, and the Locals that are
+-- free for its Switches
 pub record IsRight (items : List Raw) : Type 0 where
   pub form : errors_at items ≡ []
+  pub declared : names_in items ≡ []
+  pub uses : uses_in items ≡ []
   pub names : name_errors (terms_in items) ≡ []
   pub counts : type_errors (terms_in items) ≡ []
   pub statements : statements_in items ≡ []

@@ -7,9 +7,9 @@ use Rattle.iasl_messages.specs.declared.place.Piece.{Piece}
 use Rattle.named_sessions.specs.Core.{core_of}
 use Rattle.asl_parser.specs.declared.raw.Raw.{Raw}
 use Rattle.asl_parser.specs.Written.{writtens}
-use Rattle.asl_shape.specs.Forms.{errors_at, terms_of}
+use Rattle.asl_shape.specs.Forms.{errors_at}
 use Rattle.program_shapes.specs.Kept.{IsKeptSource}
-use Rattle.program_shapes.specs.Sources.{fields_in, width_in, lowered_in, table_in}
+use Rattle.program_shapes.specs.Sources.{plans_in, fields_in, width_in, lowered_in, table_in}
 use Rattle.program_shapes.proofs.Tables.{terms_are_formed}
 use Rattle.aml_writer.specs.Pieces.{joined_pieces}
 use Rattle.aml_writer.specs.Cuts.{pieces_with, ArePieces}
@@ -40,7 +40,7 @@ are_pieces_of lines fold short shorten items pieces h = record {
 as_many : (fold short shorten : Bool) (items : List Raw) → errors_at items ≡ [] → IsKeptSource (writtens items) → length (places_in items) ≡ length (parts_in fold short shorten items)
 as_many fold short shorten items e kept =
     let width = width_in items in
-    ap suc (sym (cut_counts width short (core_of shorten (lowered_in fold items)) ∙ core_count shorten fold width (terms_of (writtens items)) (terms_are_formed items e kept)))
+    ap suc (sym (cut_counts width short (core_of shorten (lowered_in fold items)) ∙ core_count shorten fold width (plans_in items) (terms_are_formed items e kept)))
 
 -- the pieces of a source with whose form nothing is wrong, one after another, are its table
 pub joined_is_table : (lines : List Line) (fold short shorten : Bool) (items : List Raw) → errors_at items ≡ [] → IsKeptSource (writtens items) → joined_pieces (pieces_in lines fold short shorten items) ≡ table_in fold short shorten items

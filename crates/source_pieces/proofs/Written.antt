@@ -13,8 +13,8 @@ use Rattle.named_sessions.specs.Core.{core_of}
 use Rattle.asl_parser.specs.declared.raw.Raw.{Raw}
 use Rattle.asl_parser.specs.Written.{writtens}
 use Rattle.asl_shape.specs.Plans.{plans_of}
-use Rattle.asl_shape.specs.Forms.{block_place, terms_of}
-use Rattle.program_shapes.specs.Sources.{fields_in, lowered_in}
+use Rattle.asl_shape.specs.Forms.{block_place}
+use Rattle.program_shapes.specs.Sources.{plans_in, fields_in, lowered_in}
 use Rattle.aml_writer.specs.Cuts.{table_parts, ArePieces, IsCut}
 use Rattle.source_pieces.specs.Places.{core_places}
 use Rattle.source_pieces.specs.Pieces.{places_in, parts_in}
@@ -26,7 +26,7 @@ same_pieces lines places places' parts parts' pieces e f h = subst (λ ps. ArePi
 -- what is written of a core: a block in which loops stand for Switches, that was lowered, and whose names were spelled, stands where the source's block stands and has its
 -- header, and its terms are ready
 pub pieces_of_source : (known : Known) (fold short shorten : Bool) (lines : List Line) (items : List Raw) (block core : Block) (pieces : List Piece) → IsCut lines core short pieces → AreReady known (trees_of core.terms.items) []
-    → block.place ≡ block_place (writtens items) → core.place ≡ block.place → fields_of core ≡ fields_in items → plans_of block.terms.items ≡ terms_of (writtens items) → places_of core.terms.items ≡ core_places (plans_of block.terms.items)
+    → block.place ≡ block_place (writtens items) → core.place ≡ block.place → fields_of core ≡ fields_in items → plans_of block.terms.items ≡ plans_in items → places_of core.terms.items ≡ core_places (plans_of block.terms.items)
     → trees_of core.terms.items ≡ core_of shorten (lowered_in fold items) → ArePieces lines (places_in items) (parts_in fold short shorten items) pieces
 pieces_of_source known fold short shorten lines items block core pieces cut ready at place fields plans places terms =
     same_pieces lines (core.place ∷ places_of core.terms.items) (places_in items) (table_parts (fields_of core) short (trees_of core.terms.items)) (parts_in fold short shorten items) pieces

@@ -7,15 +7,15 @@ use Rattle.iasl_messages.specs.declared.place.Piece.{Piece}
 use Rattle.named_sessions.specs.Core.{core_of}
 use Rattle.asl_parser.specs.declared.raw.Raw.{Raw}
 use Rattle.asl_parser.specs.Written.{writtens}
-use Rattle.asl_shape.specs.Forms.{block_place, terms_of}
-use Rattle.program_shapes.specs.Sources.{fields_in, lowered_in, table_in}
+use Rattle.asl_shape.specs.Forms.{block_place}
+use Rattle.program_shapes.specs.Sources.{plans_in, fields_in, lowered_in, table_in}
 use Rattle.aml_writer.specs.Pieces.{joined_pieces}
 use Rattle.aml_writer.specs.Cuts.{table_parts, pieces_with}
 use Rattle.source_pieces.specs.Places.{core_places}
 
 -- where they stand
 abbrev pub places_in : List Raw → List Place
-places_in items = block_place (writtens items) ∷ core_places (terms_of (writtens items))
+places_in items = block_place (writtens items) ∷ core_places (plans_in items)
 
 -- their bytes; whether constants are folded, whether 0, 1 and all ones have a byte of their own, and whether names are shortened, is the caller's choice
 abbrev pub parts_in : Bool → Bool → Bool → List Raw → List (List ℕ)

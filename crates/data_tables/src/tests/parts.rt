@@ -303,7 +303,7 @@ const ENTRY_BYTES: &[u8] = &[
 ];
 
 /// The lines.
-pub fn lines(part: Part) -> &'static [u8] {
+pub(super) fn lines(part: Part) -> &'static [u8] {
     match part {
         Part::Nothing => b"",
         Part::Hpet => HPET,
@@ -323,7 +323,7 @@ pub fn lines(part: Part) -> &'static [u8] {
 }
 
 /// Their bytes in a table, where they stand for some.
-pub fn bytes(part: Part) -> &'static [u8] {
+pub(super) fn bytes(part: Part) -> &'static [u8] {
     match part {
         Part::Hpet => HPET_BYTES,
         Part::Mcfg => MCFG_BYTES,

@@ -61,6 +61,9 @@ const ROWS: &[Row] = &[
         "Name (P, Package () { ToUUID (\"e5c937d0-3553-4d7a-9117-ea4d19c3434d\"), EisaId (\"PNP0A03\") })",
         b"\x08P___\x12\x1B\x02\x11\x13\x0A\x10\xD0\x37\xC9\xE5\x53\x35\x7A\x4D\x91\x17\xEA\x4D\x19\xC3\x43\x4D\x0C\x41\xD0\x0A\x03"
     ),
+    // A string has its escapes as bytes; a Package may be empty.
+    row!("Name (S, \"A\\x42\")", b"\x08S___\x0DAB\x00"),
+    row!("Name (P, Package () {})", b"\x08P___\x12\x02\x00"),
     // A constant number of elements is a byte.
     row!(
         "Name (P, Package (One) {5}) Name (Q, Package (1 + 1) {})",
@@ -99,6 +102,10 @@ const TOLD: &[Told] = &[
     Told {
         terms: "Name (_HID, EisaId (\"PnP0C09\"))",
         told: b"t.asl:3:25: error 6026: bad EISA identifier\n1 errors, 0 warnings, 0 remarks\n",
+    },
+    Told {
+        terms: "Name (S, \"\\x80\")",
+        told: b"t.asl:3:15: error 6013: bad escape\n1 errors, 0 warnings, 0 remarks\n",
     },
     Told {
         terms: "Method (M) { Add (Package () { 1 }, 1) Name (B, Buffer (1) { 1, 2 }) }",

@@ -34,8 +34,8 @@ use Rattle.program_shapes.proofs.Cores.{core_looped}
 use Rattle.asl_fold.proofs.Asked.{where_shaped, where_name_errors, where_type_errors}
 use Rattle.named_sessions.specs.Shaped.{AreNamed}
 use Rattle.named_sessions.proofs.Terms.{formed_terms}
-use Rattle.iasl_tool.specs.Compiled.{its_table, its_pieces, lowered_as, of_table, unless_wrong, with_others}
-use Rattle.iasl_tool.proofs.Programs.{refused_is, right_is, none_told, none_behind, no_length, some_length, right_comes, like_another, stage_comes}
+use Rattle.iasl_tool.specs.Compiled.{first_told, its_table, its_pieces, lowered_as, of_table, unless_wrong, with_others}
+use Rattle.iasl_tool.proofs.Programs.{refused_is, right_is, none_told, none_first, none_behind, told_comes, no_length, some_length, right_comes, like_another, stage_comes}
 use Rattle.iasl_tool.proofs.compile.compile_block.Goals as goal
 
 -- the table of a block in which nothing is wrong
@@ -55,6 +55,9 @@ returns-in_ok-spell-in-Ok c =
     let same : trees_of c.as_slice.result.now ≡ terms = ap trees_of c.as_slice.ensures.value in
     let names : name_errors terms ≡ [] = sym (ap name_errors same) ∙ c.in-Ok.ensures.right.0 in
     let counts : type_errors terms ≡ [] = sym (ap type_errors same) ∙ c.in-Ok.ensures.right.1 in
+    let nothing : c.args.told ≡ [] = no_length c.args.told (let zero : length c.args.told ≡ 0 = grind (arith, c.is_empty.ensures, c.if-not-is_empty.false, c.told.view_is) in zero) in
+    let wrong : List Message = first_told c.args.told (told_errors terms) in
+    let right : wrong ≡ [] = none_first c.args.told (told_errors terms) nothing (none_told terms names counts) in
     let agrees = subst (λ ts. Agrees c.in-Ok.names.index.paths c.in-Ok.names.index.named.items (declarations ts)) same c.in-Ok.ensures.names in
     let tabled = subst (λ ts. Tabled c.in-Ok.names.index.paths c.in-Ok.names.calls.items (lookup (whole_of ts).calls)) same c.in-Ok.ensures.calls in
     let program : Trees = without_switches terms in
@@ -71,11 +74,11 @@ returns-in_ok-spell-in-Ok c =
     (λ ts. (d : Declarations) (counts : List (AbsolutePath × ℕ)) → Agrees index.paths index.named.items d → Tabled index.paths c.as_slice-in-Ok-2.result.now (lookup counts) → trees_of c.spell.new.terms.items ≡ spelled_all c.args.style.shorten (is_named d) (written_external counts) ts [])
     lowered.ensures.terms c.in_ok-spell-in-Ok.ensures.trees)
     agrees (subst (λ table. Tabled index.paths table (lookup (whole_of terms).calls)) (sym c.as_slice-in-Ok-2.ensures.value) tabled) in
-    let none : c.args.others ≡ [] = no_length c.args.others (let zero : length c.args.others ≡ 0 = grind (arith, c.is_empty.ensures, c.if-not-is_empty.false, c.others.view_is) in zero) in
+    let none : c.args.others ≡ [] = no_length c.args.others (let zero : length c.args.others ≡ 0 = grind (arith, c.is_empty-in-Ok.ensures, c.if-not-is_empty-2.false, c.others.view_is) in zero) in
     let room : HasRoom (fields_of lowered.core) = subst HasRoom (sym lowered.ensures.fields) c.requires.room in
     let few : List Message = few_locals terms (plans_of block.terms.items) in
-    let enough : few ≡ [] = sym (c.in_ok-few-in-Ok.ensures ∙ ap (λ ns. few_locals (trees_of ns) (plans_of ns)) c.as_slice-in-Ok.ensures.value) ∙ no_length c.in_ok-few-in-Ok.few (let zero : length c.in_ok-few-in-Ok.few ≡ 0 = grind (arith, c.is_empty-in-Ok.ensures, c.if-not-is_empty-2.false, c.few.view_is) in zero) in
-    right_comes c.write_block.result (with_others (told_errors terms) c.args.others) (unless_wrong few (whole c.args.style c.args.lines.now.list block)) (none_behind (told_errors terms) c.args.others (none_told terms names counts) none)
+    let enough : few ≡ [] = sym (c.in_ok-few-in-Ok.ensures ∙ ap (λ ns. few_locals (trees_of ns) (plans_of ns)) c.as_slice-in-Ok.ensures.value) ∙ no_length c.in_ok-few-in-Ok.few (let zero : length c.in_ok-few-in-Ok.few ≡ 0 = grind (arith, c.is_empty-in-Ok-2.ensures, c.if-not-is_empty-3.false, c.few.view_is) in zero) in
+    right_comes c.write_block.result (with_others wrong c.args.others) (unless_wrong few (whole c.args.style c.args.lines.now.list block)) (none_behind wrong c.args.others right none)
     (right_comes c.write_block.result few (whole c.args.style c.args.lines.now.list block) enough
     (like_another c.args.style c.args.lines.now.list c.write_block.result lowered.core.place block.place (places_of c.spell.new.terms.items) (core_places (plans_of block.terms.items)) lowered.core.file block.file (fields_of lowered.core) (fields_of block) made
     lowered.ensures.place (c.in_ok-spell-in-Ok.ensures.places ∙ lowered.ensures.places) lowered.ensures.file lowered.ensures.fields
@@ -85,11 +88,8 @@ pub returns-then-not-is_empty : goal.returns-then-not-is_empty
 returns-then-not-is_empty c =
     let block = c.args.block in
     let terms : Trees = trees_of block.terms.items in
-    let same : trees_of c.as_slice.result.now ≡ terms = ap trees_of c.as_slice.ensures.value in
-    let names : name_errors terms ≡ [] = sym (ap name_errors same) ∙ c.in-Ok.ensures.right.0 in
-    let counts : type_errors terms ≡ [] = sym (ap type_errors same) ∙ c.in-Ok.ensures.right.1 in
-    some_length c.args.others (unless_wrong (few_locals terms (plans_of block.terms.items)) (whole c.args.style c.args.lines.now.list block)) (told_errors terms) (none_told terms names counts)
-    (λ e. let never : ⊥ = grind (arith, e, c.is_empty.ensures, c.if-not-is_empty.true, c.others.view_is) in never)
+    told_comes c.args.told (told_errors terms) c.args.others c.in_ok-with_others.field-0 (unless_wrong (few_locals terms (plans_of block.terms.items)) (whole c.args.style c.args.lines.now.list block))
+    (λ e. let never : ⊥ = grind (arith, e, c.is_empty.ensures, c.if-not-is_empty.true, c.told.view_is) in never) c.in_ok-with_others.ensures
 
 pub returns-then-not-is_empty-2 : goal.returns-then-not-is_empty-2
 returns-then-not-is_empty-2 c =
@@ -98,17 +98,36 @@ returns-then-not-is_empty-2 c =
     let same : trees_of c.as_slice.result.now ≡ terms = ap trees_of c.as_slice.ensures.value in
     let names : name_errors terms ≡ [] = sym (ap name_errors same) ∙ c.in-Ok.ensures.right.0 in
     let counts : type_errors terms ≡ [] = sym (ap type_errors same) ∙ c.in-Ok.ensures.right.1 in
-    let none : c.args.others ≡ [] = no_length c.args.others (let zero : length c.args.others ≡ 0 = grind (arith, c.is_empty.ensures, c.if-not-is_empty.false, c.others.view_is) in zero) in
+    let nothing : c.args.told ≡ [] = no_length c.args.told (let zero : length c.args.told ≡ 0 = grind (arith, c.is_empty.ensures, c.if-not-is_empty.false, c.told.view_is) in zero) in
+    let wrong : List Message = first_told c.args.told (told_errors terms) in
+    let right : wrong ≡ [] = none_first c.args.told (told_errors terms) nothing (none_told terms names counts) in
+    some_length c.args.others (unless_wrong (few_locals terms (plans_of block.terms.items)) (whole c.args.style c.args.lines.now.list block)) wrong right
+    (λ e. let never : ⊥ = grind (arith, e, c.is_empty-in-Ok.ensures, c.if-not-is_empty-2.true, c.others.view_is) in never)
+
+pub returns-then-not-is_empty-3 : goal.returns-then-not-is_empty-3
+returns-then-not-is_empty-3 c =
+    let block = c.args.block in
+    let terms : Trees = trees_of block.terms.items in
+    let same : trees_of c.as_slice.result.now ≡ terms = ap trees_of c.as_slice.ensures.value in
+    let names : name_errors terms ≡ [] = sym (ap name_errors same) ∙ c.in-Ok.ensures.right.0 in
+    let counts : type_errors terms ≡ [] = sym (ap type_errors same) ∙ c.in-Ok.ensures.right.1 in
+    let nothing : c.args.told ≡ [] = no_length c.args.told (let zero : length c.args.told ≡ 0 = grind (arith, c.is_empty.ensures, c.if-not-is_empty.false, c.told.view_is) in zero) in
+    let wrong : List Message = first_told c.args.told (told_errors terms) in
+    let right : wrong ≡ [] = none_first c.args.told (told_errors terms) nothing (none_told terms names counts) in
+    let none : c.args.others ≡ [] = no_length c.args.others (let zero : length c.args.others ≡ 0 = grind (arith, c.is_empty-in-Ok.ensures, c.if-not-is_empty-2.false, c.others.view_is) in zero) in
     let few : List Message = few_locals terms (plans_of block.terms.items) in
     let told : c.in_ok-few-in-Ok.few ≡ few = c.in_ok-few-in-Ok.ensures ∙ ap (λ ns. few_locals (trees_of ns) (plans_of ns)) c.as_slice-in-Ok.ensures.value in
     let table : Compiled = whole c.args.style c.args.lines.now.list block in
-    right_is (with_others (told_errors terms) c.args.others) (Refused c.in_ok-few-in-Ok.few) (unless_wrong few table) (none_behind (told_errors terms) c.args.others (none_told terms names counts) none)
-    (refused_is c.in_ok-few-in-Ok.few few table (told, (λ e. let zero : length c.in_ok-few-in-Ok.few ≡ 0 = ap length (told ∙ e) in let never : ⊥ = grind (arith, zero, c.is_empty-in-Ok.ensures, c.if-not-is_empty-2.true, c.few.view_is) in never)))
+    right_is (with_others wrong c.args.others) (Refused c.in_ok-few-in-Ok.few) (unless_wrong few table) (none_behind wrong c.args.others right none)
+    (refused_is c.in_ok-few-in-Ok.few few table (told, (λ e. let zero : length c.in_ok-few-in-Ok.few ≡ 0 = ap length (told ∙ e) in let never : ⊥ = grind (arith, zero, c.is_empty-in-Ok-2.ensures, c.if-not-is_empty-3.true, c.few.view_is) in never)))
 
 pub returns-in_ok-with_others-in-Err : goal.returns-in_ok-with_others-in-Err
 returns-in_ok-with_others-in-Err c =
     let block = c.args.block in
     let terms : Trees = trees_of block.terms.items in
     let same : trees_of c.as_slice.result.now ≡ terms = ap trees_of c.as_slice.ensures.value in
-    stage_comes c.in-Err.stage c.in_ok-refusal-in-Err.field-0 (told_errors terms) c.args.others c.in_ok-with_others-in-Err.field-0 (unless_wrong (few_locals terms (plans_of block.terms.items)) (whole c.args.style c.args.lines.now.list block))
-    (subst (λ ts. Refuses c.in-Err.stage (told_errors ts)) same c.in-Err.ensures.refused) c.in_ok-refusal-in-Err.ensures c.in_ok-with_others-in-Err.ensures
+    let nothing : c.args.told ≡ [] = no_length c.args.told (let zero : length c.args.told ≡ 0 = grind (arith, c.is_empty.ensures, c.if-not-is_empty.false, c.told.view_is) in zero) in
+    let table : Compiled = unless_wrong (few_locals terms (plans_of block.terms.items)) (whole c.args.style c.args.lines.now.list block) in
+    let all = c.in_ok-with_others-in-Err.field-0 in
+    subst (λ told. Refused all ≡ unless_wrong (with_others (first_told told (told_errors terms)) c.args.others) table) (sym nothing)
+    (stage_comes c.in-Err.stage c.in_ok-refusal-in-Err.field-0 (told_errors terms) c.args.others all table (subst (λ ts. Refuses c.in-Err.stage (told_errors ts)) same c.in-Err.ensures.refused) c.in_ok-refusal-in-Err.ensures c.in_ok-with_others-in-Err.ensures)

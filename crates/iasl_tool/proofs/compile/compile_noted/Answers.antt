@@ -14,5 +14,5 @@ returns c =
     let names : c.in_ok-notes.field-0 ≡ name_notes (trees_of c.args.block.terms.items) = c.in_ok-notes.ensures ∙ ap (λ terms. name_notes (trees_of terms)) c.as_slice.ensures.value in
     let both : c.in_ok-notes-2.notes ≡ cut_literals_at (width_of c.args.block.revision) items ++ name_notes (trees_of c.args.block.terms.items)
     = c.in_ok-notes-2.ensures ∙ ap (λ (ms : List Message). ms ++ c.in_ok-notes.field-0) literals ∙ ap (λ (ms : List Message). cut_literals_at (width_of c.args.block.revision) items ++ ms) names in
-    subst (λ it. IfOk c.with_notes.result (λ noted. noted ≡ with_notes (cut_literals_at (width_of c.args.block.revision) items ++ name_notes (trees_of c.args.block.terms.items)) it)) c.in_ok-compile_block.ensures
-    (subst (λ notes. IfOk c.with_notes.result (λ noted. noted ≡ with_notes notes c.in_ok-compile_block.field-0)) both c.with_notes.ensures)
+    subst (λ it. IfOk c.with_notes.result (λ noted. noted ≡ with_notes (cut_literals_at (width_of c.args.block.revision) items ++ name_notes (trees_of c.args.block.terms.items)) it)) c.in_ok-it.ensures
+    (subst (λ notes. IfOk c.with_notes.result (λ noted. noted ≡ with_notes notes c.in_ok-it.it)) both c.with_notes.ensures)

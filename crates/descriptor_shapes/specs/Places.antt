@@ -1,11 +1,18 @@
 -- Where the parts of a plan stand.
-use Rattle.std.specs.Prelude.{ℕ}
-use Rattle.asl_shape.specs.Plans.{Plan, a_call, a_form, Plans, no_plans, plan}
+use Rattle.std.specs.Prelude.{ℕ, List, [], ◌∷◌}
+use Rattle.asl_tree.specs.declared.term.NamedDescriptor.{NamedDescriptor}
+use Rattle.asl_shape.specs.Plans.{Plan, a_fill, a_call, a_form, Plans, no_plans, plan}
 use Rattle.asl_parser.specs.Within.{IsIn}
+
+-- the names of descriptors stand in some of so many files
+abbrev pub NamesWithin : ℕ → List NamedDescriptor → Type 0
+NamesWithin files [] = Unit {0}
+NamesWithin files (named ∷ others) = IsIn files named.place × NamesWithin files others
 
 -- each part of the plan, at any depth, stands in one of so many files
 abbrev mutual
   pub PlanWithin : ℕ → Plan → Type 0
+  PlanWithin files (a_fill bytes named) = NamesWithin files named
   PlanWithin files (a_call name args) = PlansWithin files args
   PlanWithin files (a_form op args body) = PlansWithin files args × PlansWithin files body
   PlanWithin files _ = Unit {0}

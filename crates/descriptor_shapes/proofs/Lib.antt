@@ -1,0 +1,12 @@
+pub mod Like
+pub mod Formed
+pub mod Forms
+pub mod Uses
+pub mod Again
+pub mod Own
+pub mod Resolved
+pub mod Unnamed
+pub mod Terms
+pub mod TreePlaces
+pub mod MentionPlaces
+pub mod Places

@@ -1,0 +1,289 @@
+// The names of resource descriptors: the constants that their fields are, and what is told of them.
+use super::{comes_to, run, tells};
+use std::alloc::{AllocError, Global};
+
+// A template with a descriptor, on a line of its own.
+const BEFORE: &str = "Name (B, ResourceTemplate () { FixedIO (1, 2, D) })";
+
+// Terms, and their bytes.
+#[derive(Drop)]
+struct Made {
+    terms: &'static str,
+    bytes: &'static [u8],
+}
+
+macro_rules! made {
+    ($terms:expr, $bytes:expr) => {
+        Made {
+            terms: $terms,
+            bytes: $bytes,
+        }
+    };
+}
+
+const MADE: &[Made] = &[
+    // A template, whose descriptor has a name or none.
+    made!(
+        "Name (V, ResourceTemplate () { IRQ (Edge, ActiveHigh, Exclusive) {3} })",
+        b"\x08V___\x11\x09\x0A\x06\x23\x08\x00\x01\x79\x00"
+    ),
+    made!(
+        "Name (V, ResourceTemplate () { IRQ (Edge, ActiveHigh, Exclusive, D) {3} })",
+        b"\x08V___\x11\x09\x0A\x06\x23\x08\x00\x01\x79\x00"
+    ),
+    // A field by the number of its byte.
+    made!(
+        "Name (BUF0, ResourceTemplate () { QWordMemory (ResourceProducer, PosDecode, MinFixed, MaxFixed, Cacheable, ReadWrite, 0, 0x100000000, 0x1FFFFFFFF, 0, 0x100000000, , , RNG0, AddressRangeMemory, TypeStatic) }) CreateQWordField (BUF0, RNG0._MIN, MINV)",
+        b"\x08BUF0\x11\x33\x0A\x30\x8A\x2B\x00\x00\x0C\x03\0\0\0\0\0\0\0\0\x00\x00\x00\x00\x01\x00\x00\x00\xFF\xFF\xFF\xFF\x01\x00\x00\x00\0\0\0\0\0\0\0\0\x00\x00\x00\x00\x01\x00\x00\x00\x79\x00\x8F\x42\x55\x46\x30\x0A\x0E\x4D\x49\x4E\x56"
+    ),
+    // And of its bit, where buffer fields are counted in bits.
+    made!(
+        "Name (B, ResourceTemplate () { IRQNoFlags () {1} IRQ (Edge, ActiveHigh, Exclusive, D) {3} }) CreateBitField (B, D._HE, H) CreateField (B, D._LL + 1, D._INT, F) CreateByteField (B, D._INT, G)",
+        b"\x08B___\x11\x0C\x0A\x09\x22\x02\x00\x23\x08\x00\x01\x79\x00\x8DB___\x0A\x30H___\x5B\x13B___\x0A\x34\x0A\x20F___\x8CB___\x0A\x04G___"
+    ),
+    // In a method, from the root and from the scope around, and as a member of a Package.
+    made!(
+        "Name (B, ResourceTemplate () { FixedIO (1, 2, D) }) Name (P, Package () { D._LEN }) Device (V) { Name (N, ^D._BAS) Method (M) { Return (\\D._LEN) } }",
+        b"\x08B___\x11\x09\x0A\x06\x4B\x01\x00\x02\x79\x00\x08P___\x12\x04\x01\x0A\x03\x5B\x82\x15V___\x08N___\x01\x14\x09M___\x00\xA4\x0A\x03"
+    ),
+    // A name of the same segment that is nearer is another.
+    made!(
+        "Name (B, ResourceTemplate () { FixedIO (1, 2, D) }) Device (V) { Name (D, 5) Name (N, D) }",
+        b"\x08B___\x11\x09\x0A\x06\x4B\x01\x00\x02\x79\x00\x5B\x82\x15V___\x08D___\x0A\x05\x08N___D___"
+    ),
+];
+
+#[test]
+fn fields_come_to_their_places(rt: HostRuntime) -> Result<(), AllocError> {
+    for row in MADE {
+        assert!(rt; comes_to(rt.alloc(), row.terms, row.bytes)?);
+    }
+    Ok(())
+}
+
+// Terms behind that template, and the messages on them.
+#[derive(Drop)]
+struct Told {
+    terms: &'static str,
+    told: &'static [u8],
+}
+
+macro_rules! row {
+    ($terms:expr, $told:expr) => {
+        Told {
+            terms: $terms,
+            told: $told,
+        }
+    };
+}
+
+const TOLD: &[Told] = &[
+    // A name is one segment without a prefix.
+    row!(
+        "Name (C, ResourceTemplate () { FixedIO (1, 2, \\E) })",
+        b"t.asl:4:47: error 6022: wrong form of argument\n1 errors, 0 warnings, 0 remarks\n"
+    ),
+    row!(
+        "Name (C, ResourceTemplate () { FixedIO (1, 2, ^E) })",
+        b"t.asl:4:47: error 6022: wrong form of argument\n1 errors, 0 warnings, 0 remarks\n"
+    ),
+    row!(
+        "Name (C, ResourceTemplate () { FixedIO (1, 2, E.F) })",
+        b"t.asl:4:47: error 6022: wrong form of argument\n1 errors, 0 warnings, 0 remarks\n"
+    ),
+    row!(
+        "Name (C, ResourceTemplate () { FixedIO (1, 2, 1) })",
+        b"t.asl:4:47: error 6022: wrong form of argument\n1 errors, 0 warnings, 0 remarks\n"
+    ),
+    // It is declared where its template stands: twice at the later one, in the order of the names.
+    row!(
+        "Name (C, ResourceTemplate () { FixedIO (1, 2, D) })",
+        b"t.asl:4:47: error 6040: name is declared twice: \\D___\n1 errors, 0 warnings, 0 remarks\n"
+    ),
+    row!(
+        "Name (C, ResourceTemplate () { FixedIO (1, 2, E) FixedIO (1, 2, E) })",
+        b"t.asl:4:65: error 6040: name is declared twice: \\E___\n1 errors, 0 warnings, 0 remarks\n"
+    ),
+    row!(
+        "Name (D, 1)",
+        b"t.asl:4:7: error 6040: name is declared twice: \\D___\n1 errors, 0 warnings, 0 remarks\n"
+    ),
+    row!(
+        "Name (E, 1) Name (C, ResourceTemplate () { FixedIO (1, 2, E) })",
+        b"t.asl:4:59: error 6040: name is declared twice: \\E___\n1 errors, 0 warnings, 0 remarks\n"
+    ),
+    row!(
+        "Name (E, ResourceTemplate () { FixedIO (1, 2, E) })",
+        b"t.asl:4:47: error 6040: name is declared twice: \\E___\n1 errors, 0 warnings, 0 remarks\n"
+    ),
+    row!(
+        "CreateByteField (ResourceTemplate () { FixedIO (1, 2, E) }, 0, E)",
+        b"t.asl:4:64: error 6040: name is declared twice: \\E___\n1 errors, 0 warnings, 0 remarks\n"
+    ),
+    row!(
+        "Device (V) { Name (C, ResourceTemplate () { FixedIO (1, 2, E) }) Name (E, 1) }",
+        b"t.asl:4:72: error 6040: name is declared twice: \\V___.E___\n1 errors, 0 warnings, 0 remarks\n"
+    ),
+    row!(
+        "Name (C, ResourceTemplate () { FixedIO (1, 2, _OS) })",
+        b"t.asl:4:47: error 6040: name is declared twice: \\_OS_\n1 errors, 0 warnings, 0 remarks\n"
+    ),
+    row!(
+        "External (D)",
+        b"t.asl:4:11: error 6044: external is declared here: \\D___\n1 errors, 0 warnings, 0 remarks\n"
+    ),
+    // A field that the descriptor has not, one of another scope, and one of a field.
+    row!(
+        "Name (N, D._MIN)",
+        b"t.asl:4:10: error 6041: name is not found: D___._MIN\n1 errors, 0 warnings, 0 remarks\n"
+    ),
+    row!(
+        "Name (N, D._LEN._LEN)",
+        b"t.asl:4:10: error 6041: name is not found: D___._LEN._LEN\n1 errors, 0 warnings, 0 remarks\n"
+    ),
+    row!(
+        "Name (N, _LEN)",
+        b"t.asl:4:10: error 6041: name is not found: _LEN\n1 errors, 0 warnings, 0 remarks\n"
+    ),
+    row!(
+        "Method (M) { Return (D._LEN) }",
+        b"t.asl:4:22: error 6041: name is not found: D___._LEN\n1 errors, 0 warnings, 0 remarks\n"
+    ),
+    row!(
+        "Method (M) { Name (C, ResourceTemplate () { FixedIO (1, 2, E) }) } Name (N, E._LEN)",
+        b"t.asl:4:77: error 6041: name is not found: E___._LEN\n1 errors, 0 warnings, 0 remarks\n"
+    ),
+    // Nothing is declared below a descriptor, and it is no scope.
+    row!(
+        "Name (D.X, 1)",
+        b"t.asl:4:7: error 6041: name is not found: D___.X___\n1 errors, 0 warnings, 0 remarks\n"
+    ),
+    row!(
+        "Scope (D) { Name (X, 1) }",
+        b"t.asl:4:1: error 6042: scope is not a container: D___\nt.asl:4:19: error 6041: name is not found: X___\n2 errors, 0 warnings, 0 remarks\n"
+    ),
+    // A descriptor has no value: it is no expression, no term and no member of a Package.
+    row!(
+        "Name (N, D)",
+        b"t.asl:4:10: error 6050: wrong type\n1 errors, 0 warnings, 0 remarks\n"
+    ),
+    row!(
+        "Method (M) { Return (D) }",
+        b"t.asl:4:22: error 6050: wrong type\n1 errors, 0 warnings, 0 remarks\n"
+    ),
+    row!(
+        "Method (M) { Local0 = D + 1 }",
+        b"t.asl:4:23: error 6050: wrong type\n1 errors, 0 warnings, 0 remarks\n"
+    ),
+    row!(
+        "Method (M) { D }",
+        b"t.asl:4:14: error 6050: wrong type\n1 errors, 0 warnings, 0 remarks\n"
+    ),
+    row!(
+        "Method (M) { Switch (D) { Case (1) { } } }",
+        b"t.asl:4:22: error 6050: wrong type\n1 errors, 0 warnings, 0 remarks\n"
+    ),
+    row!(
+        "Name (N, Package () { 1, D })",
+        b"t.asl:4:26: error 6050: wrong type\n1 errors, 0 warnings, 0 remarks\n"
+    ),
+    // Neither it nor its field is a place.
+    row!(
+        "Method (M) { Store (1, D) }",
+        b"t.asl:4:24: error 6050: wrong type\n1 errors, 0 warnings, 0 remarks\n"
+    ),
+    row!(
+        "Method (M) { \\D._LEN = 1 }",
+        b"t.asl:4:14: error 6050: wrong type\n1 errors, 0 warnings, 0 remarks\n"
+    ),
+    row!(
+        "Method (M) { SizeOf (D) SizeOf (\\D._LEN) }",
+        b"t.asl:4:22: error 6050: wrong type\nt.asl:4:33: error 6050: wrong type\n2 errors, 0 warnings, 0 remarks\n"
+    ),
+    row!(
+        "Method (M) { CondRefOf (\\D._LEN) }",
+        b"t.asl:4:25: error 6050: wrong type\n1 errors, 0 warnings, 0 remarks\n"
+    ),
+    row!(
+        "Method (M) { CopyObject (1, D) }",
+        b"t.asl:4:29: error 6050: wrong type\n1 errors, 0 warnings, 0 remarks\n"
+    ),
+    // Neither is an object of another kind, nor a method.
+    row!(
+        "Alias (D, N)",
+        b"t.asl:4:8: error 6054: wrong kind of object: D___\n1 errors, 0 warnings, 0 remarks\n"
+    ),
+    row!(
+        "Alias (D._LEN, N)",
+        b"t.asl:4:8: error 6054: wrong kind of object: D___._LEN\n1 errors, 0 warnings, 0 remarks\n"
+    ),
+    row!(
+        "Method (M) { Acquire (D, 1) Acquire (\\D._LEN, 1) }",
+        b"t.asl:4:23: error 6054: wrong kind of object: D___\nt.asl:4:38: error 6054: wrong kind of object: \\D___._LEN\n2 errors, 0 warnings, 0 remarks\n"
+    ),
+    row!(
+        "Field (D, ByteAcc, NoLock, Preserve) { F, 8 }",
+        b"t.asl:4:8: error 6054: wrong kind of object: D___\n1 errors, 0 warnings, 0 remarks\n"
+    ),
+    row!(
+        "Method (M) { D (1) }",
+        b"t.asl:4:14: error 6051: wrong number of call arguments: D___\n1 errors, 0 warnings, 0 remarks\n"
+    ),
+    row!(
+        "Method (M) { \\D._LEN (1) }",
+        b"t.asl:4:14: error 6051: wrong number of call arguments: \\D___._LEN\n1 errors, 0 warnings, 0 remarks\n"
+    ),
+    // A field that does not begin with a byte is none in bytes.
+    row!(
+        "Name (C, ResourceTemplate () { IRQ (Edge, ActiveHigh, Exclusive, E) {3} }) Name (N, E._SHR)",
+        b"t.asl:4:85: error 6056: field is not whole bytes\n1 errors, 0 warnings, 0 remarks\n"
+    ),
+    row!(
+        "Name (C, ResourceTemplate () { IRQ (Edge, ActiveHigh, Exclusive, E) {3} }) CreateByteField (C, E._LL, N)",
+        b"t.asl:4:96: error 6056: field is not whole bytes\n1 errors, 0 warnings, 0 remarks\n"
+    ),
+    // Errors of names hide those of kinds; what is told of statements stands beside these.
+    row!(
+        "Name (N, D) Name (D, 1)",
+        b"t.asl:4:19: error 6040: name is declared twice: \\D___\n1 errors, 0 warnings, 0 remarks\n"
+    ),
+    row!(
+        "Method (M) { Add (Package () { 1 }, 1) Return (D) }",
+        b"t.asl:4:19: error 6050: wrong type\nt.asl:4:48: error 6050: wrong type\n2 errors, 0 warnings, 0 remarks\n"
+    ),
+];
+
+// A source of one block with that template and these terms.
+fn source(alloc: Global, terms: &str) -> Result<Vec<u8>, AllocError> {
+    let mut text = Vec::new(alloc);
+    text.extend_from_slice(
+        b"DefinitionBlock (\"\", \"SSDT\", 2, \"OEMX00\", \"TABLE001\", 1)\n{\n",
+    )?;
+    text.extend_from_slice(BEFORE.as_bytes())?;
+    text.extend_from_slice(b"\n")?;
+    text.extend_from_slice(terms.as_bytes())?;
+    text.extend_from_slice(b"\n}\n")?;
+    Ok(text)
+}
+
+#[test]
+fn errors_of_descriptors(rt: HostRuntime) -> Result<(), AllocError> {
+    for row in TOLD {
+        let text = source(rt.alloc(), row.terms)?;
+        let ran = run(rt.alloc(), &["t.asl"], &text)?;
+        assert_eq!(rt; ran.status, 1);
+        assert!(rt; ran.console.as_bytes() == row.told);
+    }
+    Ok(())
+}
+
+#[test]
+fn a_list_out_of_range(rt: HostRuntime) -> Result<(), AllocError> {
+    let told = tells(
+        rt.alloc(),
+        "Name (V, ResourceTemplate () { IRQ (Edge, ActiveHigh, Exclusive) {16} })",
+        b"t.asl:3:71: error 6024: value is out of range\n1 errors, 0 warnings, 0 remarks\n",
+    )?;
+    assert!(rt; told);
+    Ok(())
+}

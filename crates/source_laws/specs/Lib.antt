@@ -1,0 +1,4 @@
+pub mod Conditionals
+pub mod Parts
+pub mod Sights
+pub mod Opens
