@@ -15,10 +15,12 @@ use crate::table::{Table, Tables};
 use crate::words::{Choice, Wish, is_asked, wish_of};
 use iasl_messages::console::{listed_line, render, summary, table_line};
 use iasl_messages::message::{Messages, Stage};
+use iasl_messages::number::TEXT_IS_TOO_LARGE;
 use iasl_ports::delivery::{Due, OutFile, Stop};
 use iasl_ports::files::{FetchFault, Files};
 use iasl_ports::list::{Text, Texts};
 use std::alloc::{AllocError, Global};
+use std::borrow::CowSlice;
 
 // Adds a line to the text.
 fn push_text(text: &mut Vec<u8>, line: &Text) -> Result<(), AllocError>
@@ -28,17 +30,24 @@ fn push_text(text: &mut Vec<u8>, line: &Text) -> Result<(), AllocError>
 }
 
 // Adds a file after the others.
-fn push_file(files: &mut Vec<OutFile>, name: String, bytes: Vec<u8>) -> Result<(), AllocError>
+fn push_file(
+    files: &mut Vec<OutFile<'static>>,
+    name: String,
+    bytes: Vec<u8>,
+) -> Result<(), AllocError>
     ensures { OnOk result (map name_and_bytes files.new.items ≡ map name_and_bytes files.old.items ++ (string_bytes name, bytes.items) ∷ []) }
 {
-    files.push(OutFile { name, bytes })?;
+    files.push(OutFile {
+        name,
+        bytes: CowSlice::Owned(bytes),
+    })?;
     Ok(())
 }
 
 // Adds a table's file and its line, where both are due.
 fn push_table(
     alloc: Global,
-    files: &mut Vec<OutFile>,
+    files: &mut Vec<OutFile<'static>>,
     text: &mut Vec<u8>,
     name: String,
     table: Table,
@@ -59,7 +68,7 @@ fn push_table(
 // Adds what is due of a table: its file and its line, or its line in a list, or nothing.
 fn push_due(
     alloc: Global,
-    files: &mut Vec<OutFile>,
+    files: &mut Vec<OutFile<'static>>,
     text: &mut Vec<u8>,
     choice: Choice<'_>,
     number: u64,
@@ -81,7 +90,7 @@ fn push_due(
 }
 
 // What is due of a dump without fault.
-fn succeed(alloc: Global, choice: Choice<'_>, tables: Tables) -> Result<Due, AllocError>
+fn succeed(alloc: Global, choice: Choice<'_>, tables: Tables) -> Result<Due<'static>, AllocError>
     ensures due { IfOk result (λ due. answer_of due ≡ success (asked_by choice.entry) (map dumped tables)) }
     ensures settled { IfOk result IsSettled }
 {
@@ -102,7 +111,11 @@ fn succeed(alloc: Global, choice: Choice<'_>, tables: Tables) -> Result<Due, All
 }
 
 // What is due of a dump with these faults.
-pub(crate) fn refuse(alloc: Global, file: &str, messages: &Messages) -> Result<Due, AllocError>
+pub(crate) fn refuse(
+    alloc: Global,
+    file: &str,
+    messages: &Messages,
+) -> Result<Due<'static>, AllocError>
     requires { All (λ m. m.place.file ≡ 0) messages.now }
     ensures due { IfOk result (λ due. answer_of due ≡ refusal file.now messages.now) }
     ensures settled { IfOk result IsSettled }
@@ -120,7 +133,7 @@ pub(crate) fn refuse(alloc: Global, file: &str, messages: &Messages) -> Result<D
 }
 
 // What is due where the words are not good.
-pub(crate) fn usage(alloc: Global) -> Result<Due, AllocError>
+pub(crate) fn usage(alloc: Global) -> Result<Due<'static>, AllocError>
     ensures due { IfOk result (λ due. answer_of due ≡ usage) }
     ensures settled { IfOk result IsSettled }
 {
@@ -132,7 +145,7 @@ pub(crate) fn usage(alloc: Global) -> Result<Due, AllocError>
 }
 
 // What is due where the file has this text.
-fn answer(alloc: Global, wish: Wish<'_>, text: &[u8]) -> Result<Due, AllocError>
+fn answer(alloc: Global, wish: Wish<'_>, text: &[u8]) -> Result<Due<'static>, AllocError>
     requires { length text.now ≤ most_bytes }
     ensures due { IfOk result (λ due. answer_of due ≡ answer_to_dump (request_by wish.entry) (dump_of text.now)) }
     ensures settled { IfOk result IsSettled }
@@ -145,16 +158,20 @@ fn answer(alloc: Global, wish: Wish<'_>, text: &[u8]) -> Result<Due, AllocError>
 }
 
 // What is due where the file is too large.
-fn too_large(alloc: Global, file: &str) -> Result<Due, AllocError>
+fn too_large(alloc: Global, file: &str) -> Result<Due<'static>, AllocError>
     ensures due { IfOk result (λ due. answer_of due ≡ refusal file.now (message_of (6007, 1) ∷ [])) }
     ensures settled { IfOk result IsSettled }
 {
-    refuse(alloc, file, &one_message(alloc, 6007, 1)?)
+    refuse(alloc, file, &one_message(alloc, TEXT_IS_TOO_LARGE, 1)?)
 }
 
 /// What is due for these words, where the file that they name is fetched. It ends without an answer only where the
 /// file is absent, a fetch failed, or memory is wanted.
-pub(crate) fn decide<F: Files>(alloc: Global, words: &[String], files: &mut F) -> Result<Due, Stop>
+pub(crate) fn decide<F: Files>(
+    alloc: Global,
+    words: &[String],
+    files: &mut F,
+) -> Result<Due<'static>, Stop>
     ensures { Decides (answer_for (map string_bytes words.now)) result (files_seen (F.contents files.old) (F.faults files.old) (F.absents files.old)) (files_seen (F.contents files.new) (F.faults files.new) (F.absents files.new)) }
 {
     let Some(wish) = wish_of(words) else {

@@ -15,6 +15,7 @@ use byteorder::{ByteOrder, LittleEndian};
 use hex_text::blanks::has_blanks_alone;
 use iasl_messages::cut::cut_line;
 use iasl_messages::message::{Message, Messages, Stage};
+use iasl_messages::number::{BAD_HEADER_LINE, BAD_PAIR, LENGTH_DISAGREES, OFFSET_OUT_OF_ORDER};
 use iasl_messages::place::Place;
 use iasl_ports::list::{List, Text};
 use std::alloc::{AllocError, Global};
@@ -43,13 +44,13 @@ fn add_row(bytes: &mut Vec<u8>, number: u32, line: &[u8]) -> Result<(), Halt>
 {
     let before = bytes.len();
     let Some((offset, pairs)) = row_start(line) else {
-        return Err(Halt::At(6101, number));
+        return Err(Halt::At(BAD_PAIR, number));
     };
     if !add_pairs(bytes, pairs)? {
-        return Err(Halt::At(6101, number));
+        return Err(Halt::At(BAD_PAIR, number));
     }
     if offset != before as u128 {
-        return Err(Halt::At(6102, number));
+        return Err(Halt::At(OFFSET_OUT_OF_ORDER, number));
     }
     Ok(())
 }
@@ -104,7 +105,7 @@ impl Reader {
             return Ok(());
         };
         if !has_told_length(table.signature.as_bytes(), &table.bytes) {
-            return Err(Halt::At(6103, table.number));
+            return Err(Halt::At(LENGTH_DISAGREES, table.number));
         }
         self.done.push(Table {
             signature: table.signature,
@@ -133,7 +134,7 @@ impl Reader {
         ensures refused { IfErr result (λ halt. (rows : List Numbered) (blocks : List Block) → Halts halt (answer_from self.old.unfinished ((self.old.number, line.now) ∷ rows, blocks))) }
     {
         let Some(mut table) = self.unfinished.take() else {
-            return Err(Halt::At(6100, self.number));
+            return Err(Halt::At(BAD_HEADER_LINE, self.number));
         };
         add_row(&mut table.bytes, self.number, line)?;
         self.unfinished = Some(table);

@@ -9,6 +9,4 @@ mod row;
 pub mod run;
 mod signature;
 pub mod table;
-#[cfg(test)]
-mod tests;
 mod words;

@@ -3,12 +3,13 @@ use Rattle.std.proofs.Common.{◌≡◌, ℕ, zero, suc, ◌-◌, ◌<◌, ◌�
 use Rattle.std.specs.Prelude.{if◌then◌else◌, is_some}
 use Rattle.std.specs.Option.{option_and_then}
 use Rattle.std.proofs.lemmas.Bool.{lt-ltb, le-ltb}
+use Rattle.iasl_ports.specs.Fetched.{most_bytes}
 use Rattle.asl_macros.specs.declared.spot.Within.TheVariants.{InCondition}
 use Rattle.asl_macros.specs.declared.table.Macros.{Macros}
 use Rattle.asl_macros.specs.History.{History}
 use Rattle.asl_macros.specs.Table.{Tells, text_at}
 use Rattle.asl_macros.specs.Replacement.{replaced}
-use Rattle.asl_conditions.specs.Condition.{size_limit, is_known, text_value, condition_of}
+use Rattle.asl_conditions.specs.Condition.{is_known, text_value, condition_of}
 use Rattle.asl_conditions.specs.declared.tokens.Token.{Token}
 use Rattle.asl_conditions.specs.declared.tokens.Cut.{Cut}
 use Rattle.asl_conditions.specs.declared.tokens.Lexeme.{Lexeme}
@@ -67,14 +68,14 @@ fails_along stop.Memory x y f e = tt
 
 -- ---- the whole
 
-pub condition_short : (macros : Macros) (history : History) (text front : List ℕ) → Tells macros history → front ≡ replaced InCondition history false text → length front ≤ size_limit
+pub condition_short : (macros : Macros) (history : History) (text front : List ℕ) → Tells macros history → front ≡ replaced InCondition history false text → length front ≤ most_bytes
     → text_value (λ name. is_some (text_at macros name)) front ≡ condition_of history text
 unfolding condition_of
 condition_short macros history text front tells e h =
-    let fits : length (replaced InCondition history false text) ≤ size_limit = subst (λ t. length t ≤ size_limit) e h in
+    let fits : length (replaced InCondition history false text) ≤ most_bytes = subst (λ t. length t ≤ most_bytes) e h in
     ap (λ (known : List ℕ → Bool). text_value known front) (λ i name. is_some (tells.text name i)) ∙ ap (text_value (is_known history)) e
-    ∙ sym (ap (λ b. if b then None else text_value (is_known history) (replaced InCondition history false text)) (le-ltb size_limit (length (replaced InCondition history false text)) fits))
+    ∙ sym (ap (λ b. if b then None else text_value (is_known history) (replaced InCondition history false text)) (le-ltb most_bytes (length (replaced InCondition history false text)) fits))
 
-pub condition_long : (history : History) (text : List ℕ) → size_limit < length (replaced InCondition history false text) → condition_of history text ≡ None
+pub condition_long : (history : History) (text : List ℕ) → most_bytes < length (replaced InCondition history false text) → condition_of history text ≡ None
 unfolding condition_of
-condition_long history text h = ap (λ b. if b then None else text_value (is_known history) (replaced InCondition history false text)) (lt-ltb size_limit (length (replaced InCondition history false text)) h)
+condition_long history text h = ap (λ b. if b then None else text_value (is_known history) (replaced InCondition history false text)) (lt-ltb most_bytes (length (replaced InCondition history false text)) h)

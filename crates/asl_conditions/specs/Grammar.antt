@@ -1,5 +1,6 @@
 -- What a condition's tokens spell, and what that is worth.
 use Rattle.std.specs.Prelude.{◌≡◌, ℕ, suc, ◌≤◌, Bool, false, List, [], ◌∷◌, ◌++◌, length, Some}
+use Rattle.iasl_ports.specs.Fetched.{most_bytes}
 use Rattle.asl_macros.specs.declared.spot.Within.TheVariants.{InCondition}
 use Rattle.asl_macros.specs.History.{History}
 use Rattle.asl_macros.specs.Replacement.{replaced}
@@ -11,7 +12,7 @@ use Rattle.asl_conditions.specs.declared.tokens.Token.TheVariants as t
 use Rattle.asl_conditions.specs.Operators.{truth, apply_prefix, operand}
 use Rattle.asl_conditions.specs.Worth.{IsWorth}
 use Rattle.asl_conditions.specs.Tokens.{tokens_of}
-use Rattle.asl_conditions.specs.Condition.{size_limit, is_known}
+use Rattle.asl_conditions.specs.Condition.{is_known}
 
 -- what has a rule
 pub data Phrase : Type 0 where
@@ -53,7 +54,7 @@ pub record IsValue (tokens : List Token) (value : ℕ) : Type 0 where
 -- The text is a condition of this value: once its names are replaced it is not too long, and its tokens are an
 -- expression of the value.
 pub record IsCondition (history : History) (text : List ℕ) (value : ℕ) : Type 0 where
-  pub short : length (replaced InCondition history false text) ≤ size_limit
+  pub short : length (replaced InCondition history false text) ≤ most_bytes
   pub tokens : List Token
   pub cut : tokens_of (is_known history) (replaced InCondition history false text) ≡ Some tokens
   pub is : IsValue tokens value

@@ -1,7 +1,8 @@
 -- The tokens of a condition.
-use Rattle.std.specs.Prelude.{ℕ, zero, suc, ◌-◌, ◌==◌, ◌||◌, Bool, if◌then◌else◌, List, [], ◌∷◌, take, codes, Option, Some, None}
+use Rattle.std.specs.Prelude.{ℕ, zero, suc, ◌-◌, ◌==◌, Bool, if◌then◌else◌, List, [], ◌∷◌, take, codes, Option, Some, None}
 use Rattle.std.specs.Option.{option_map}
 use Rattle.std.specs.Str.{bytes_eq}
+use Rattle.asl_fragments.specs.Bytes.{is_blank}
 use Rattle.asl_fragments.specs.declared.fragment.Fragment.{Fragment}
 use Rattle.asl_fragments.specs.declared.fragment.FragmentKind.{FragmentKind}
 use Rattle.asl_fragments.specs.declared.fragment.FragmentKind.TheVariants as k
@@ -22,7 +23,7 @@ infix_of operator = Whole (t.Infix operator)
 -- what a byte outside identifiers, numbers, strings and comments is, alone
 unfoldable pub one_byte : ℕ → Lexeme
 one_byte b =
-    if b == 32 || b == 9 then Blank else (
+    if is_blank b then Blank else (
     if b == 40 then Whole t.Open else (
     if b == 41 then Whole t.Close else (
     if b == 33 then Whole (t.Prefix Not) else (

@@ -6,8 +6,6 @@ mod opened;
 mod operators;
 mod reader;
 mod row;
-#[cfg(test)]
-mod tests;
 mod tokens;
 mod value;
 

@@ -8,12 +8,7 @@ ghost use Rattle.asl_conditions.specs.Numbers as spec;
 fn value_of_digit(byte: u8) -> u8
     ensures { result ≡ digit_value byte }
 {
-    match byte {
-        b'0'..=b'9' => byte - b'0',
-        b'A'..=b'Z' => byte - b'A' + 10,
-        b'a'..=b'z' => byte - b'a' + 10,
-        _ => 36,
-    }
+    char::from(byte).to_digit(36).unwrap_or(36) as u8
 }
 
 fn is_digit_in(base: u8, byte: u8) -> bool

@@ -10,11 +10,9 @@ use crate::opened::Stack;
 use crate::reader::{ConditionStop, Phase, Reader, finish, read};
 use crate::tokens::front_of;
 use asl_macros::{Macros, ReplaceStop, Within, replace};
+use iasl_ports::files::MOST_BYTES;
 use iasl_ports::list::List;
 use std::alloc::Global;
-
-// How many bytes a condition may have once its names are replaced.
-const SIZE_LIMIT: usize = 16 * 1024 * 1024;
 
 fn value_of(alloc: Global, macros: &Macros, text: &[u8]) -> Result<u64, ConditionStop>
     ensures { Gives result (spec.text_value (λ name. is_some (text_at macros.now name)) text.now) }
@@ -37,7 +35,7 @@ fn value_of(alloc: Global, macros: &Macros, text: &[u8]) -> Result<u64, Conditio
 fn replaced_value(alloc: Global, macros: &Macros, text: &[u8]) -> Result<u64, ConditionStop>
     ensures { (history : History) → Tells macros.now history → Gives result (spec.condition_of history text.now) }
 {
-    match replace(alloc, macros, Within::InCondition, text, false, SIZE_LIMIT) {
+    match replace(alloc, macros, Within::InCondition, text, false, MOST_BYTES) {
         Ok(replaced) => value_of(alloc, macros, &replaced),
         Err(ReplaceStop::TooLong) => Err(ConditionStop::Bad),
         Err(ReplaceStop::Memory) => Err(ConditionStop::Memory),
@@ -45,7 +43,8 @@ fn replaced_value(alloc: Global, macros: &Macros, text: &[u8]) -> Result<u64, Co
 }
 
 /// The value of the condition of an `#if` or `#elif`: an unsigned number of 64 bits, on which operators wrap.
-/// Its defined names are replaced first; a name that is left is 0. Both sides of `&&` and `||` are evaluated.
+/// Its defined names are replaced first, and it then has at most 16 MiB; a name that is left is 0. Both sides of
+/// `&&` and `||` are evaluated.
 pub fn condition(alloc: Global, macros: &Macros, text: &[u8]) -> Result<u64, ConditionStop>
     // The answer is that of a function on lists.
     ensures exact { (history : History) → Tells macros.now history → Gives result (spec.condition_of history text.now) }

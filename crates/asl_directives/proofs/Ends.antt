@@ -2,7 +2,8 @@
 use Rattle.std.proofs.Common.{◌≡◌, ℕ, suc, ◌+◌, true, false, not, List, [], ◌∷◌, ◌++◌, ◌-◌, ◌<◌, take, get_or, length, reverse, refl, ap, sym, ◌∙◌, arith}
 use Rattle.std.proofs.lemmas.List.{reverse-append, reverse-reverse, take_more}
 use Rattle.std.proofs.Math.Seq.{take-length}
-use Rattle.asl_directives.specs.Words.{is_blank, is_no_blank, past_blanks, blanks_before, without_blanks_behind}
+use Rattle.asl_fragments.specs.Bytes.{is_blank}
+use Rattle.asl_directives.specs.Words.{is_no_blank, past_blanks, blanks_before, without_blanks_behind}
 
 -- a blank in front counts for nothing
 past_blank : (c : ℕ) (cs : List ℕ) → is_blank c ≡ true → past_blanks (c ∷ cs) ≡ past_blanks cs

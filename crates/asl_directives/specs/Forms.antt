@@ -4,8 +4,9 @@ use Rattle.std.specs.declared.option.Option.{Option}
 use Rattle.std.specs.Option.{option_map, option_and_then}
 use Rattle.std.specs.Char.{to_ascii_lowercase}
 use Rattle.std.specs.Str.{bytes_eq, is_utf8}
+use Rattle.asl_fragments.specs.Bytes.{is_blank, is_blank_text}
 use Rattle.asl_directives.specs.declared.forms.Asked.{Asked as AskedByCode}
-use Rattle.asl_directives.specs.Words.{is_blank, is_blank_text, past_blanks, trimmed, word_of, behind_word, is_identifier, behind_mark, split_at_mark}
+use Rattle.asl_directives.specs.Words.{past_blanks, trimmed, word_of, behind_word, is_identifier, behind_mark, split_at_mark}
 
 -- what stands between this mark and the next of that one, where nothing but blanks stands around
 abbrev pub with_nothing_behind : List ℕ × List ℕ → Option (List ℕ)

@@ -1,32 +1,15 @@
 -- Blanks, words and marks in a line.
-use Rattle.std.specs.Prelude.{ℕ, ◌+◌, ◌==◌, ◌&&◌, ◌||◌, Bool, false, not, nat_le, cond, List, [], ◌∷◌, take, drop, position, reverse, Some, None}
+use Rattle.std.specs.Prelude.{ℕ, ◌+◌, ◌==◌, Bool, false, not, cond, List, [], ◌∷◌, take, drop, position, reverse, Some, None}
 use Rattle.std.specs.declared.option.Option.{Option}
 use Rattle.std.specs.Option.{option_map}
-use Rattle.std.specs.List.{list_all, position_or_len, before_first}
-
--- a blank is a space or a tab
-abbrev pub is_blank : ℕ → Bool
-is_blank c = c == 32 || c == 9
+use Rattle.std.specs.List.{position_or_len, before_first}
+use Rattle.asl_fragments.specs.Bytes.{is_blank, begins_identifier, in_identifier}
 
 abbrev pub is_no_blank : ℕ → Bool
 is_no_blank c = not (is_blank c)
 
-abbrev pub is_between : ℕ → ℕ → ℕ → Bool
-is_between low high c = nat_le low c && nat_le c high
-
-abbrev pub is_digit : ℕ → Bool
-is_digit c = is_between 48 57 c
-
--- a letter, a digit or `_`
-abbrev pub is_word_byte : ℕ → Bool
-is_word_byte c = is_between 65 90 c || (is_between 97 122 c || (is_digit c || c == 95))
-
 abbrev pub ends_word : ℕ → Bool
-ends_word c = not (is_word_byte c)
-
--- nothing but blanks
-abbrev pub is_blank_text : List ℕ → Bool
-is_blank_text text = list_all is_blank text
+ends_word c = not (in_identifier c)
 
 -- how many blanks stand at the front
 abbrev pub blanks_before : List ℕ → ℕ
@@ -50,10 +33,10 @@ word_of text = before_first ends_word text
 abbrev pub behind_word : List ℕ → List ℕ
 behind_word text = drop (position_or_len ends_word text) text
 
--- a word that does not begin with a digit
+-- a word that begins as an identifier does
 abbrev pub is_identifier : List ℕ → Bool
 is_identifier [] = false
-is_identifier (c ∷ cs) = not (is_digit c)
+is_identifier (c ∷ cs) = begins_identifier c
 
 -- what stands behind this mark, where the text begins with it
 abbrev pub behind_first : ℕ → List ℕ → Option (List ℕ)

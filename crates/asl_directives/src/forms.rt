@@ -5,10 +5,8 @@ ghost use Rattle.std.specs.Option.{option_map, option_copied};
 ghost use Rattle.std.specs.Str.{bytes_eq, is_utf8};
 ghost use Rattle.asl_directives.specs.Forms as spec;
 
-use crate::words::{
-    behind_mark, is_blank, is_blank_text, is_identifier, past_blanks, split_at_mark, split_word,
-    trimmed,
-};
+use crate::words::{behind_mark, is_identifier, past_blanks, split_at_mark, split_word, trimmed};
+use asl_fragments::bytes::{is_blank, is_blank_text};
 use std::str::from_utf8;
 
 // What stands between this mark and the next of that one, where nothing but blanks stands around.

@@ -4,6 +4,4 @@
 pub mod branches;
 pub mod forms;
 pub mod kind;
-#[cfg(test)]
-mod tests;
 pub mod words;

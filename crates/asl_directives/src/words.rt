@@ -4,12 +4,7 @@ ghost use Rattle.std.specs.Option.{option_map, option_copied};
 ghost use Rattle.std.specs.List.{position_or_len};
 ghost use Rattle.asl_directives.specs.Words as spec;
 
-/// Whether a byte is a space or a tab.
-pub fn is_blank(byte: u8) -> bool
-    ensures { result ≡ spec.is_blank byte }
-{
-    byte == b' ' || byte == b'\t'
-}
+use asl_fragments::bytes::{begins_identifier, in_identifier, is_blank};
 
 fn is_no_blank(byte: u8) -> bool
     ensures { result ≡ spec.is_no_blank byte }
@@ -17,34 +12,10 @@ fn is_no_blank(byte: u8) -> bool
     !is_blank(byte)
 }
 
-fn is_between(low: u8, high: u8, byte: u8) -> bool
-    ensures { result ≡ spec.is_between low high byte }
-{
-    low <= byte && byte <= high
-}
-
-pub(crate) fn is_digit(byte: u8) -> bool
-    ensures { result ≡ spec.is_digit byte }
-{
-    is_between(b'0', b'9', byte)
-}
-
-fn is_word_byte(byte: u8) -> bool
-    ensures { result ≡ spec.is_word_byte byte }
-{
-    is_between(b'A', b'Z', byte) || is_between(b'a', b'z', byte) || is_digit(byte) || byte == b'_'
-}
-
 fn ends_word(byte: u8) -> bool
     ensures { result ≡ spec.ends_word byte }
 {
-    !is_word_byte(byte)
-}
-
-pub(crate) fn is_blank_text(text: &[u8]) -> bool
-    ensures { result ≡ spec.is_blank_text text.now }
-{
-    text.iter().all(|byte| is_blank(*byte))
+    !in_identifier(byte)
 }
 
 fn first_no_blank(text: &[u8]) -> Option<usize>
@@ -123,7 +94,7 @@ pub(crate) fn is_identifier(word: &[u8]) -> bool
 {
     match word {
         [] => false,
-        [first, ..] => !is_digit(*first),
+        [first, ..] => begins_identifier(*first),
     }
 }
 

@@ -6,5 +6,3 @@ pub mod fold;
 pub mod laws;
 pub mod part;
 pub mod seen;
-#[cfg(test)]
-mod tests;

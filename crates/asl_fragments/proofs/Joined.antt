@@ -6,7 +6,8 @@ use Rattle.std.specs.Char.{is_ascii_digit}
 use Rattle.std.proofs.lemmas.List.{length-replicate, length-drop, take-append-drop}
 use Rattle.asl_fragments.specs.declared.fragment.FragmentKind.{FragmentKind}
 use Rattle.asl_fragments.specs.declared.fragment.FragmentKind.TheVariants.{Identifier, Number, Quoted, Comment, Other}
-use Rattle.asl_fragments.specs.Fragments.{begins_identifier, in_identifier, quoted_length, block_length, block_is_open, made, fragment_of_slash, fragment_of, first_fragment, Piece, fragments, blanked_by, blanked, without_comments}
+use Rattle.asl_fragments.specs.Bytes.{begins_identifier, in_identifier}
+use Rattle.asl_fragments.specs.Fragments.{quoted_length, block_length, block_is_open, made, fragment_of_slash, fragment_of, first_fragment, Piece, fragments, blanked_by, blanked, without_comments}
 use Rattle.asl_fragments.proofs.FragmentLaws.{fragments_step, no_fragments}
 
 slash_forward : (bs : List ℕ) → 0 < (fragment_of_slash bs).length

@@ -5,7 +5,8 @@ use Rattle.std.specs.List.{prefix_len}
 use Rattle.std.specs.Char.{is_ascii_digit}
 use Rattle.asl_fragments.specs.declared.fragment.Fragment.{Fragment}
 use Rattle.asl_fragments.specs.declared.fragment.FragmentKind.TheVariants.{Identifier, Number, Quoted, Other}
-use Rattle.asl_fragments.specs.Fragments.{begins_identifier, in_identifier, quoted_length, made, fragment_of_slash, fragment_of, first_fragment, piece_of, fragments, open_behind, identifiers, identifier_by, stands_alone, is_plain}
+use Rattle.asl_fragments.specs.Bytes.{begins_identifier, in_identifier}
+use Rattle.asl_fragments.specs.Fragments.{quoted_length, made, fragment_of_slash, fragment_of, first_fragment, piece_of, fragments, open_behind, identifiers, identifier_by, stands_alone, is_plain}
 use Rattle.asl_fragments.proofs.FragmentLaws.{fragments_step, no_fragments}
 use Rattle.asl_fragments.proofs.Joined.{first_forward}
 

@@ -1,18 +1,11 @@
 -- A line in fragments: identifiers, numbers, strings, comments, and the bytes that stand outside these.
-use Rattle.std.specs.Prelude.{ℕ, zero, suc, ◌+◌, ◌-◌, ◌==◌, ◌&&◌, ◌||◌, Bool, true, false, not, if◌then◌else◌, List, [], ◌∷◌, length, take, replicate}
+use Rattle.std.specs.Prelude.{ℕ, zero, suc, ◌+◌, ◌-◌, ◌==◌, ◌&&◌, Bool, true, false, not, if◌then◌else◌, List, [], ◌∷◌, length, take, replicate}
 use Rattle.std.specs.List.{prefix_len, flat_map}
-use Rattle.std.specs.Char.{is_ascii_alphabetic, is_ascii_digit}
+use Rattle.std.specs.Char.{is_ascii_digit}
+use Rattle.asl_fragments.specs.Bytes.{begins_identifier, in_identifier}
 use Rattle.asl_fragments.specs.declared.fragment.Fragment.{Fragment}
 use Rattle.asl_fragments.specs.declared.fragment.FragmentKind.{FragmentKind}
 use Rattle.asl_fragments.specs.declared.fragment.FragmentKind.TheVariants.{Identifier, Number, Quoted, Comment, Other}
-
--- a letter or `_`
-abbrev pub begins_identifier : ℕ → Bool
-begins_identifier b = is_ascii_alphabetic b || b == 95
-
--- a letter, a digit or `_`
-abbrev pub in_identifier : ℕ → Bool
-in_identifier b = begins_identifier b || is_ascii_digit b
 
 -- How many bytes behind an opening `"` are the string's: those through the closing `"`, or all of them. The
 -- first argument says whether the first byte is protected by a `\` before it.

@@ -1,7 +1,10 @@
 //! The fragments that a line is made of.
 ghost use Rattle.std.specs.Prelude.{◌≡◌, ◌+◌, ◌<◌, ◌≤◌, ◌==◌, ◌&&◌, false, not, length};
 ghost use Rattle.std.specs.List.{prefix_len};
+ghost use Rattle.asl_fragments.specs.Bytes.{in_identifier as in_identifier_by};
 ghost use Rattle.asl_fragments.specs.Fragments as spec;
+
+use crate::bytes::{begins_identifier, in_identifier};
 
 /// What a fragment is.
 #[derive(Clone, Copy, Debug)]
@@ -30,20 +33,8 @@ pub struct Fragment {
     pub left_open: bool,
 }
 
-fn begins_identifier(byte: u8) -> bool
-    ensures { result ≡ spec.begins_identifier byte }
-{
-    byte.is_ascii_alphabetic() || byte == b'_'
-}
-
-pub(crate) fn in_identifier(byte: u8) -> bool
-    ensures { result ≡ spec.in_identifier byte }
-{
-    begins_identifier(byte) || byte.is_ascii_digit()
-}
-
 fn identifier_length(text: &[u8]) -> usize
-    ensures count { result ≡ prefix_len spec.in_identifier text.now }
+    ensures count { result ≡ prefix_len in_identifier_by text.now }
     ensures within { result ≤ length text.now }
 {
     text.iter().take_while(|byte| in_identifier(**byte)).count()

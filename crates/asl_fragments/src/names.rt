@@ -3,7 +3,8 @@ ghost use Rattle.std.specs.Prelude.{◌≡◌, ◌∷◌, ◌≤◌, ◌<◌, []
 ghost use Rattle.std.specs.List.{prefix_len};
 ghost use Rattle.asl_fragments.specs.Fragments as spec;
 
-use crate::fragment::{FragmentKind, first_fragment, in_identifier};
+use crate::bytes::in_identifier;
+use crate::fragment::{FragmentKind, first_fragment};
 
 // Whether a byte outside words stands alone: no word, string or comment begins with it.
 fn stands_alone(byte: u8) -> bool

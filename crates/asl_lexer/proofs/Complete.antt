@@ -14,7 +14,7 @@ use Rattle.asl_lexer.specs.declared.mode.Mode.{Mode}
 use Rattle.asl_lexer.specs.declared.mode.Mode.TheVariants as m
 use Rattle.asl_lexer.specs.Class.{base_of, takes_equals, doubles, shifts}
 use Rattle.asl_lexer.specs.Scan.{Mark, end_at, bad_character, open_string, open_comment, bad_escape, large_number, with_name, with_number, with_string, with_symbol, begin_by, begin, name_by, dot_by, root_by, caret_text, first_of, carets_by, behind_by, digit_by, more, number_by, zero_by, prefix_by, broken_by, broken_escape_by, is_plain, plain_by, text_by, escaped, digits_by, escaped_by, escape_by, coded_by, value_by, escape_digit_by, slash_by, line_by, block_by, star_by, doubled_by, sign_by, shift_by, step, finish, scan}
-use Rattle.asl_lexer.specs.Cut.{Each, Stops, class, end_of, in_name_class, begins_name_class, behind_number_class, in_line_class, is_blank_class, in_text_class, behind_slash_class, begins_none_class, begins_sign_class, is_caret_class, is_equals_class, in_line, in_text, in_name, begins_name, behind_number, behind_slash, is_caret, is_equals, is_x, upper, digit_in, places, IsName, EndsName, no_name_by, no_name_behind, IsNumeral, IsCode, Content, Breaks, Inside, are_two, are_three, Cut, Bad, FailsWith}
+use Rattle.asl_lexer.specs.Cut.{Each, Stops, class, end_of, in_name_class, begins_name_class, behind_number_class, in_line_class, is_whitespace_class, in_text_class, behind_slash_class, begins_none_class, begins_sign_class, is_caret_class, is_equals_class, in_line, in_text, in_name, begins_name, behind_number, behind_slash, is_caret, is_equals, is_x, upper, digit_in, places, IsName, EndsName, no_name_by, no_name_behind, IsNumeral, IsCode, Content, Breaks, Inside, are_two, are_three, Cut, Bad, FailsWith}
 use Rattle.asl_lexer.specs.Cut as g
 use Rattle.asl_lexer.proofs.Steps.{then_scan, scan_steps, scan_goes}
 use Rattle.asl_lexer.proofs.Bits.{both, both_true, value_small, value_min, more_min, more_grows, plain_min, plain_is, x_no_digit, end_of-snoc, left_false, neither, shift_doubles, shift_no_equals}
@@ -525,10 +525,10 @@ three_run b n o rest done is =
 
 -- ---- all
 
-pub blank_by : (k : Class) (at : Place) (b : ℕ) (done : List Token) → is_blank_class k ≡ true → begin_by k at b done ≡ Ok (m.Between, done)
-blank_by c.Blank at b done h = refl
-blank_by c.Break at b done h = refl
-blank_by _ at b done h = absurd cc
+pub whitespace_by : (k : Class) (at : Place) (b : ℕ) (done : List Token) → is_whitespace_class k ≡ true → begin_by k at b done ≡ Ok (m.Between, done)
+whitespace_by c.Blank at b done h = refl
+whitespace_by c.Break at b done h = refl
+whitespace_by _ at b done h = absurd cc
 
 none_by : (k : Class) (at : Place) (b : ℕ) (done : List Token) → begins_none_class k ≡ true → begin_by k at b done ≡ Err (bad_character at)
 none_by c.Dot at b done h = refl
@@ -541,7 +541,7 @@ module _ (text : List Mark) where
 
   pub cuts : {done : List Token} {rest : List Mark} → Cut text done rest → All ≡ scan rest m.Between done
   cuts g.begun = refl
-  cuts (g.a_blank {done = done} {m = b} {rest = rest} cut is) = cuts cut ∙ begins_by m.Between b rest done done (blank_by (class b) b.place b.byte done is)
+  cuts (g.a_blank {done = done} {m = b} {rest = rest} cut is) = cuts cut ∙ begins_by m.Between b rest done done (whitespace_by (class b) b.place b.byte done is)
   cuts (g.a_line {done = done} {a = a} {b = b} {rest = rest} w cut first second each s) =
       cuts cut ∙ to_slash a (b ∷ w ++ rest) done first ∙ scan_goes b (w ++ rest) (m.Slash a.place) m.Line done done (ap (λ k. slash_by k a.place b.place b.byte done) second) ∙ line_run w rest done each ∙ line_ends rest done s
   cuts (g.a_block {done = done} {a = a} {b = b} {e = e} {bytes = bytes} {rest = rest} cut first second inside slash) =

@@ -1,5 +1,5 @@
 -- A run of bytes that a line is read over at once comes to what its bytes come to one after another.
-use Rattle.std.proofs.Common.{◌≡◌, ℕ, suc, ◌+◌, ◌*◌, ◌-◌, ◌^◌, ◌<◌, ◌≤◌, min, Bool, true, false, cond, List, [], ◌∷◌, ◌++◌, Ok, length, map, take, drop, get_or, refl, sym, ap, subst, ◌∙◌, ◌⊎◌, inl, inr, append_assoc, arith}
+use Rattle.std.proofs.Common.{◌≡◌, ℕ, suc, ◌+◌, ◌*◌, ◌-◌, ◌^◌, ◌<◌, ◌≤◌, min, Bool, true, false, cond, List, [], ◌∷◌, ◌++◌, Ok, length, map, take, drop, drop-drop, get_or, refl, sym, ap, subst, ◌∙◌, inl, inr, append_assoc, arith}
 use Rattle.std.specs.Prelude.{◌&&◌, ◌||◌, ◌==◌, not}
 use Rattle.std.specs.List.{prefix_len, take_while}
 use Rattle.std.specs.Char.{digit_value, is_digit, to_ascii_uppercase}
@@ -20,11 +20,11 @@ use Rattle.asl_lexer.specs.declared.mode.Mode.TheVariants as m
 use Rattle.asl_lexer.specs.Class.{class_of, base_of, takes_equals, doubles, shifts}
 use Rattle.asl_lexer.specs.Scan.{Mark, end_at, column_after, with_name, with_number, with_string, with_symbol, begin, step, scan, is_plain, more, plain_by, text_by, zero_by, prefix_by}
 use Rattle.asl_lexer.specs.Marks.{mark_at, marks_from}
-use Rattle.asl_lexer.specs.Cut.{in_name_class, begins_name_class, begins_sign_class, behind_number_class, are_two, are_three, Stops, EndsName, digit_in, behind_number, begins_name}
-use Rattle.asl_lexer.specs.Runs.{is_blank, in_word, begins_word, in_string, adjoins_number, in_comment, in_block, in_block_class, is_alone, is_dot, is_dot_class, number_of, AtBreak, Passes}
+use Rattle.asl_lexer.specs.Cut.{in_name_class, begins_name_class, begins_sign_class, behind_number_class, are_two, are_three, Stops, EndsName, digit_in, behind_number}
+use Rattle.asl_lexer.specs.Runs.{is_whitespace, in_word, begins_word, in_string, adjoins_number, in_comment, in_block, in_block_class, is_alone, is_dot, is_dot_class, number_of, AtBreak, Passes}
 use Rattle.asl_lexer.proofs.Steps.{scan_goes}
 use Rattle.asl_lexer.proofs.Bits.{both, Stops-all, more_grows, x_no_digit}
-use Rattle.asl_lexer.proofs.Complete.{two_by, begin_is, begins, begins_by, begin_name, name_in, names_end, number_small, number_ends, text_in, line_in, block_out, to_sign, sign_ends, blank_by}
+use Rattle.asl_lexer.proofs.Complete.{two_by, begin_is, begins, begins_by, begin_name, name_in, names_end, number_small, number_ends, text_in, line_in, block_out, to_sign, sign_ends, whitespace_by}
 
 abbrev pub Every : (ℕ → Bool) → List ℕ → Type 0
 Every p [] = Unit {0}
@@ -234,12 +234,21 @@ passes_stays p mode done goes at bs = λ rest ends.
 pub passes_none : (at : Place) (bs : List ℕ) (mode : Mode) (done : List Token) → Passes at bs 0 mode done mode done
 passes_none at bs mode done = λ rest ends. ap (λ n. scan (marks_from at.file at.line n bs ++ rest) mode done) (let e : at.column ≡ at.column + 0 = omega arith in e)
 
-blank_goes : (at : Place) (b : ℕ) (done : List Token) → is_blank b ≡ true → step m.Between at b done ≡ Ok (m.Between, done)
-unfolding begin
-blank_goes at b done is = blank_by (class_of b) at b done is
+-- a run behind a run
+pub passes_on : (at here : Place) (bs : List ℕ) (i n : ℕ) (mode : Mode) (first mid last : List Token) → here ≡ record { file = at.file; line = at.line; column = at.column + i }
+    → Passes at bs i mode first mode mid → Passes here (drop i bs) n mode mid mode last → Passes at bs (i + n) mode first mode last
+passes_on at here bs i n mode first mid last is before after = λ rest ends.
+    before rest ends
+    ∙ subst (λ p. scan (marks_from p.file p.line p.column (drop i bs) ++ rest) mode mid ≡ scan (marks_from p.file p.line (p.column + n) (drop n (drop i bs)) ++ rest) mode last) is (after rest ends)
+    ∙ ap (λ us. scan (marks_from at.file at.line (at.column + i + n) us ++ rest) mode last) (drop-drop n i bs)
+    ∙ ap (λ k. scan (marks_from at.file at.line k (drop (i + n) bs) ++ rest) mode last) (let e : at.column + i + n ≡ at.column + (i + n) = omega arith in e)
 
-pub passes_blanks : (at : Place) (bs : List ℕ) (done : List Token) → Passes at bs (prefix_len is_blank bs) m.Between done m.Between done
-passes_blanks at bs done = passes_stays is_blank m.Between done (λ at b is. blank_goes at b done is) at bs
+whitespace_goes : (at : Place) (b : ℕ) (done : List Token) → is_whitespace b ≡ true → step m.Between at b done ≡ Ok (m.Between, done)
+unfolding begin
+whitespace_goes at b done is = whitespace_by (class_of b) at b done is
+
+pub passes_whitespace : (at : Place) (bs : List ℕ) (done : List Token) → Passes at bs (prefix_len is_whitespace bs) m.Between done m.Between done
+passes_whitespace at bs done = passes_stays is_whitespace m.Between done (λ at b is. whitespace_goes at b done is) at bs
 
 pub passes_comment : (at : Place) (bs : List ℕ) (done : List Token) → Passes at bs (prefix_len in_comment bs) m.Line done m.Line done
 passes_comment at bs done = passes_stays in_comment m.Line done (λ at b is. line_in (class_of b) done is) at bs
@@ -277,6 +286,20 @@ in_begins _ h = absurd cc
 
 prefix_cons : (p : ℕ → Bool) (b : ℕ) (bs : List ℕ) → p b ≡ true → prefix_len p (b ∷ bs) ≡ suc (prefix_len p bs)
 prefix_cons p b bs is = ap (λ t. cond t (1 + prefix_len p bs) 0) is ∙ (let e : 1 + prefix_len p bs ≡ suc (prefix_len p bs) = omega arith in e)
+
+is_space : is_whitespace 32 ≡ true
+unfolding class_of
+is_space = refl
+
+four_more : (bs : List ℕ) → prefix_len is_whitespace (32 ∷ 32 ∷ 32 ∷ 32 ∷ bs) ≡ 4 + prefix_len is_whitespace bs
+four_more bs =
+    omega (arith, prefix_cons is_whitespace 32 (32 ∷ 32 ∷ 32 ∷ bs) is_space, prefix_cons is_whitespace 32 (32 ∷ 32 ∷ bs) is_space, prefix_cons is_whitespace 32 (32 ∷ bs) is_space, prefix_cons is_whitespace 32 bs is_space)
+
+-- four spaces before other bytes
+pub spaces_more : (bs : List ℕ) (i : ℕ) → take 4 (drop i bs) ≡ 32 ∷ 32 ∷ 32 ∷ 32 ∷ [] → prefix_len is_whitespace (drop i bs) ≡ 4 + prefix_len is_whitespace (drop (i + 4) bs)
+spaces_more bs i are =
+    ap (prefix_len is_whitespace) (parts 4 (drop i bs) ∙ ap (λ us. us ++ drop 4 (drop i bs)) are)
+    ∙ four_more (drop 4 (drop i bs)) ∙ ap (λ us. 4 + prefix_len is_whitespace us) (drop-drop 4 i bs)
 
 pub passes_word : (at : Place) (bs : List ℕ) (n : ℕ) (done : List Token) → 0 < length bs → begins_word (get_or bs 0 0) ≡ true → n ≡ prefix_len in_word bs → n < length bs → is_dot (get_or bs n 0) ≡ false
     → Passes at bs n m.Between done m.Between (with_name done false at (map to_ascii_uppercase (take n bs)))

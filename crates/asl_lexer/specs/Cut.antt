@@ -58,10 +58,11 @@ abbrev pub in_line_class : Class → Bool
 in_line_class c.Break = false
 in_line_class _ = true
 
-abbrev pub is_blank_class : Class → Bool
-is_blank_class c.Blank = true
-is_blank_class c.Break = true
-is_blank_class _ = false
+-- a blank, or the end of a line
+abbrev pub is_whitespace_class : Class → Bool
+is_whitespace_class c.Blank = true
+is_whitespace_class c.Break = true
+is_whitespace_class _ = false
 
 abbrev pub in_text_class : Class → Bool
 in_text_class c.Break = false
@@ -231,7 +232,7 @@ are_three first second third = third == 61 && (second == first && shifts first)
 -- These tokens were cut from the front of the text; the bytes of the last list are left.
 pub data Cut (text : List Mark) : List Token → List Mark → Type 0 where
   begun : Cut text [] text
-  a_blank : {done : List Token} {m : Mark} {rest : List Mark} → Cut text done (m ∷ rest) → is_blank_class (class m) ≡ true → Cut text done rest
+  a_blank : {done : List Token} {m : Mark} {rest : List Mark} → Cut text done (m ∷ rest) → is_whitespace_class (class m) ≡ true → Cut text done rest
   a_line : {done : List Token} {a b : Mark} {rest : List Mark} (w : List Mark) → Cut text done (a ∷ b ∷ w ++ rest) → class a ≡ c.Slash → class b ≡ c.Slash → Each in_line w → Stops in_line rest
       → Cut text done rest
   a_block : {done : List Token} {a b e : Mark} {bytes rest : List Mark} → Cut text done (a ∷ b ∷ bytes) → class a ≡ c.Slash → class b ≡ c.Star → Inside true bytes (e ∷ rest) → class e ≡ c.Slash

@@ -2,17 +2,19 @@
 use Rattle.std.specs.Prelude.{◌≡◌, ℕ, ◌+◌, ◌*◌, Bool, true, false, ◌&&◌, not, List, [], ◌∷◌, ◌++◌, drop, fold}
 use Rattle.std.specs.Char.{digit_value}
 use Rattle.iasl_messages.specs.declared.place.Place.{Place}
+use Rattle.iasl_messages.specs.declared.place.Line.{Line}
 use Rattle.asl_lexer.specs.declared.class.Class.{Class}
 use Rattle.asl_lexer.specs.declared.class.Class.TheVariants as c
 use Rattle.asl_lexer.specs.declared.token.Token.{Token}
 use Rattle.asl_lexer.specs.declared.mode.Mode.{Mode}
 use Rattle.asl_lexer.specs.Class.{class_of, takes_equals, doubles}
-use Rattle.asl_lexer.specs.Cut.{in_name_class, begins_name_class, behind_number_class, is_blank_class, in_text_class, in_line_class}
+use Rattle.asl_lexer.specs.Cut.{in_name_class, begins_name_class, behind_number_class, is_whitespace_class, in_text_class, in_line_class}
 use Rattle.asl_lexer.specs.Scan.{Mark, scan, is_plain}
 use Rattle.asl_lexer.specs.Marks.{marks_from}
 
-abbrev pub is_blank : ℕ → Bool
-is_blank b = is_blank_class (class_of b)
+-- a blank, or the end of a line
+abbrev pub is_whitespace : ℕ → Bool
+is_whitespace b = is_whitespace_class (class_of b)
 
 -- a letter, a digit or `_`
 abbrev pub in_word : ℕ → Bool
@@ -61,6 +63,10 @@ number_of base value digits = fold (λ v b. v * base + digit_value b) value digi
 abbrev pub AtBreak : List Mark → Type 0
 AtBreak [] = Unit {0}
 AtBreak (m ∷ ms) = m.byte ≡ 10
+
+-- what is left of a line behind so many of its bytes
+abbrev pub marks_behind : Line → ℕ → List Mark
+marks_behind l i = marks_from l.file l.number (i + 1) (drop i l.text)
 
 -- Whatever lines stand behind the line, the reading comes over so many of these bytes of it to this mode and these tokens.
 abbrev pub Passes : Place → List ℕ → ℕ → Mode → List Token → Mode → List Token → Type 0

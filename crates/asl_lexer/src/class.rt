@@ -3,6 +3,11 @@ ghost use Rattle.std.specs.Prelude.{◌≡◌, Bool};
 ghost use Rattle.std.specs.Char.{digit_value};
 ghost use Rattle.asl_lexer.specs.Class as spec;
 
+use crate::class::Class::{
+    Backslash, Blank, Break, Caret, Digit, Dot, Equals, Letter, Other, Quote, Sign, Slash, Star,
+    Underscore, Zero,
+};
+
 /// The kind of a byte.
 #[derive(Clone, Copy, Debug)]
 pub enum Class {
@@ -36,44 +41,48 @@ pub enum Radix {
     Hexadecimal,
 }
 
+// The kind of each byte, eight in a row.
+#[rattlefmt::skip]
+static CLASSES: [Class; 256] = [
+    Other, Other, Other, Other, Other, Other, Other, Other,
+    Other, Blank, Break, Other, Other, Other, Other, Other,
+    Other, Other, Other, Other, Other, Other, Other, Other,
+    Other, Other, Other, Other, Other, Other, Other, Other,
+    Blank, Sign, Quote, Other, Other, Sign, Sign, Other,
+    Sign, Sign, Star, Sign, Sign, Sign, Dot, Slash,
+    Zero, Digit, Digit, Digit, Digit, Digit, Digit, Digit,
+    Digit, Digit, Other, Sign, Sign, Equals, Sign, Other,
+    Other, Letter, Letter, Letter, Letter, Letter, Letter, Letter,
+    Letter, Letter, Letter, Letter, Letter, Letter, Letter, Letter,
+    Letter, Letter, Letter, Letter, Letter, Letter, Letter, Letter,
+    Letter, Letter, Letter, Sign, Backslash, Sign, Caret, Underscore,
+    Other, Letter, Letter, Letter, Letter, Letter, Letter, Letter,
+    Letter, Letter, Letter, Letter, Letter, Letter, Letter, Letter,
+    Letter, Letter, Letter, Letter, Letter, Letter, Letter, Letter,
+    Letter, Letter, Letter, Sign, Sign, Sign, Sign, Other,
+    Other, Other, Other, Other, Other, Other, Other, Other,
+    Other, Other, Other, Other, Other, Other, Other, Other,
+    Other, Other, Other, Other, Other, Other, Other, Other,
+    Other, Other, Other, Other, Other, Other, Other, Other,
+    Other, Other, Other, Other, Other, Other, Other, Other,
+    Other, Other, Other, Other, Other, Other, Other, Other,
+    Other, Other, Other, Other, Other, Other, Other, Other,
+    Other, Other, Other, Other, Other, Other, Other, Other,
+    Other, Other, Other, Other, Other, Other, Other, Other,
+    Other, Other, Other, Other, Other, Other, Other, Other,
+    Other, Other, Other, Other, Other, Other, Other, Other,
+    Other, Other, Other, Other, Other, Other, Other, Other,
+    Other, Other, Other, Other, Other, Other, Other, Other,
+    Other, Other, Other, Other, Other, Other, Other, Other,
+    Other, Other, Other, Other, Other, Other, Other, Other,
+    Other, Other, Other, Other, Other, Other, Other, Other,
+];
+
 /// The kind of a byte.
-#[tactic(auto, unfolding(crate::specs::Class::class_of))]
 pub fn class_of(byte: u8) -> Class
     ensures { result ≡ spec.class_of byte }
 {
-    match byte {
-        b' ' | b'\t' => Class::Blank,
-        b'\n' => Class::Break,
-        b'A'..=b'Z' | b'a'..=b'z' => Class::Letter,
-        b'_' => Class::Underscore,
-        b'0' => Class::Zero,
-        b'1'..=b'9' => Class::Digit,
-        b'.' => Class::Dot,
-        b'\\' => Class::Backslash,
-        b'^' => Class::Caret,
-        b'"' => Class::Quote,
-        b'/' => Class::Slash,
-        b'*' => Class::Star,
-        b'=' => Class::Equals,
-        b'('
-        | b')'
-        | b'{'
-        | b'}'
-        | b'['
-        | b']'
-        | b','
-        | b';'
-        | b'!'
-        | b'~'
-        | b'%'
-        | b'+'
-        | b'-'
-        | b'<'
-        | b'>'
-        | b'&'
-        | b'|' => Class::Sign,
-        _ => Class::Other,
-    }
+    CLASSES[byte as usize]
 }
 
 /// The number that a base stands for.
@@ -87,16 +96,32 @@ pub fn base_of(radix: Radix) -> u64
     }
 }
 
+// The value of each byte as a digit, sixteen in a row.
+#[rattlefmt::skip]
+static VALUES: [u8; 256] = [
+    36, 36, 36, 36, 36, 36, 36, 36, 36, 36, 36, 36, 36, 36, 36, 36,
+    36, 36, 36, 36, 36, 36, 36, 36, 36, 36, 36, 36, 36, 36, 36, 36,
+    36, 36, 36, 36, 36, 36, 36, 36, 36, 36, 36, 36, 36, 36, 36, 36,
+    0, 1, 2, 3, 4, 5, 6, 7, 8, 9, 36, 36, 36, 36, 36, 36,
+    36, 10, 11, 12, 13, 14, 15, 16, 17, 18, 19, 20, 21, 22, 23, 24,
+    25, 26, 27, 28, 29, 30, 31, 32, 33, 34, 35, 36, 36, 36, 36, 36,
+    36, 10, 11, 12, 13, 14, 15, 16, 17, 18, 19, 20, 21, 22, 23, 24,
+    25, 26, 27, 28, 29, 30, 31, 32, 33, 34, 35, 36, 36, 36, 36, 36,
+    36, 36, 36, 36, 36, 36, 36, 36, 36, 36, 36, 36, 36, 36, 36, 36,
+    36, 36, 36, 36, 36, 36, 36, 36, 36, 36, 36, 36, 36, 36, 36, 36,
+    36, 36, 36, 36, 36, 36, 36, 36, 36, 36, 36, 36, 36, 36, 36, 36,
+    36, 36, 36, 36, 36, 36, 36, 36, 36, 36, 36, 36, 36, 36, 36, 36,
+    36, 36, 36, 36, 36, 36, 36, 36, 36, 36, 36, 36, 36, 36, 36, 36,
+    36, 36, 36, 36, 36, 36, 36, 36, 36, 36, 36, 36, 36, 36, 36, 36,
+    36, 36, 36, 36, 36, 36, 36, 36, 36, 36, 36, 36, 36, 36, 36, 36,
+    36, 36, 36, 36, 36, 36, 36, 36, 36, 36, 36, 36, 36, 36, 36, 36,
+];
+
 /// The value of a digit or letter as a digit, from 0 to 35, and 36 for any other byte.
 pub fn value_of(byte: u8) -> u64
     ensures { result ≡ digit_value byte }
 {
-    match byte {
-        b'0'..=b'9' => u64::from(byte - b'0'),
-        b'A'..=b'Z' => u64::from(byte - b'A') + 10,
-        b'a'..=b'z' => u64::from(byte - b'a') + 10,
-        _ => 36,
-    }
+    u64::from(VALUES[byte as usize])
 }
 
 /// Whether an operator may have `=` behind this character.

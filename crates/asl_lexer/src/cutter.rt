@@ -1,17 +1,19 @@
 //! Lines to tokens.
-ghost use Rattle.std.specs.Prelude.{◌≡◌, ℕ, ◌++◌, ◌∷◌, ◌<◌, ◌^◌, [], List as AList, length, All, OnOk, IfOk, IfErr, Ok, Err};
+ghost use Rattle.std.specs.Prelude.{◌≡◌, ℕ, ◌++◌, ◌∷◌, ◌<◌, ◌≤◌, ◌^◌, [], List as AList, length, All, OnOk, IfOk, IfErr, Ok, Err};
 ghost use Rattle.asl_lexer.specs.declared.token.Token.{Token};
 ghost use Rattle.asl_lexer.specs.Scan as spec;
 ghost use Rattle.asl_lexer.specs.Scan.{Mark, Moves, Gives};
 ghost use Rattle.asl_lexer.specs.Cut.{IsCut, HasFault, Explains};
 ghost use Rattle.asl_lexer.specs.Fine.{IsFine};
 ghost use Rattle.asl_lexer.specs.Within.{IsWithin};
-ghost use Rattle.asl_lexer.specs.Runs.{AtBreak};
+ghost use Rattle.asl_lexer.specs.Runs.{AtBreak, marks_behind};
 ghost use Rattle.asl_lexer.specs.Marks.{line_marks, break_mark, following, tokens_of, Leads, Answers};
 
 use crate::mode::{Fault, Mode, Stop};
-use crate::run::run;
+use crate::numbers::Numeral;
+use crate::run::runs;
 use crate::start::{add_name, add_number, add_symbol, begin, end_at, refuse};
+use crate::strings::{Code, Front};
 use crate::token::Tokens;
 use crate::{names, numbers, strings, symbols};
 use iasl_messages::message::{Message, Stage};
@@ -41,7 +43,15 @@ fn step(alloc: Global, tokens: &mut Tokens, mode: Mode, at: Place, byte: u8) -> 
             radix,
             value,
             end,
-        } => numbers::number(alloc, tokens, from, radix, value, end, at, byte),
+        } => {
+            let numeral = Numeral {
+                from,
+                radix,
+                value,
+                end,
+            };
+            numbers::number(alloc, tokens, numeral, at, byte)
+        }
         Mode::Text { from, text } => strings::text(alloc, tokens, from, text, at, byte),
         Mode::Escape { from, text, slash } => strings::escape(from, text, slash, byte),
         Mode::Coded { from, text, slash } => strings::coded(from, text, slash, byte),
@@ -52,9 +62,11 @@ fn step(alloc: Global, tokens: &mut Tokens, mode: Mode, at: Place, byte: u8) -> 
             radix,
             value,
             left,
-        } => strings::escape_digit(
-            alloc, tokens, from, text, slash, radix, value, left, at, byte,
-        ),
+        } => {
+            let front = Front { from, text, slash };
+            let code = Code { radix, value, left };
+            strings::escape_digit(alloc, tokens, front, code, at, byte)
+        }
         Mode::Broken { from, fault } => strings::broken(from, fault, byte),
         Mode::BrokenEscape { from, fault } => strings::broken_escape(from, fault, byte),
         Mode::Slash { from } => symbols::slash(alloc, tokens, from, at, byte),
@@ -104,30 +116,84 @@ fn finish(alloc: Global, mut tokens: Tokens, mode: Mode) -> Result<Tokens, Stop>
     Ok(tokens)
 }
 
-fn scan_line(alloc: Global, tokens: &mut Tokens, mut mode: Mode, line: &Line) -> Result<Mode, Stop>
+// Reads over the runs of a line from this byte of it on. Answers the byte behind them, which is to be read by itself.
+#[inline(always)]
+fn over_runs(
+    alloc: Global,
+    tokens: &mut Tokens,
+    mode: &Mode,
+    line: &Line,
+    from: usize,
+) -> Result<usize, AllocError>
     requires { length line.now.text < 2 ^ 32 }
-    ensures { (rest : AList Mark) → AtBreak rest → Leads result tokens.new rest (spec.scan (line_marks line.now ++ rest) mode tokens.old) }
+    ensures within { IfOk result (λ index. from ≤ index) }
+    ensures passes { IfOk result (λ index. (rest : AList Mark) → AtBreak rest → spec.scan (marks_behind line.now from ++ rest) mode.now tokens.old ≡ spec.scan (marks_behind line.now index ++ rest) mode.now tokens.new) }
 {
     let bytes = line.text.as_bytes();
-    let mut index = 0;
+    if from >= bytes.len() {
+        return Ok(from);
+    }
+    let at = Place {
+        file: line.file,
+        line: line.number,
+        column: from as u32 + 1,
+    };
+    let width = runs(alloc, tokens, mode, at, behind(bytes, from))?;
+    Ok(from + width)
+}
+
+// A line from this byte of it on.
+#[inline(never)]
+fn scan_behind(
+    alloc: Global,
+    tokens: &mut Tokens,
+    mut mode: Mode,
+    line: &Line,
+    from: usize,
+) -> Result<Mode, Stop>
+    requires { length line.now.text < 2 ^ 32 }
+    ensures { (rest : AList Mark) → AtBreak rest → Leads result tokens.new rest (spec.scan (marks_behind line.now from ++ rest) mode tokens.old) }
+{
+    let bytes = line.text.as_bytes();
+    let mut index = from;
     while index < bytes.len() {
         let at = Place {
             file: line.file,
             line: line.number,
             column: index as u32 + 1,
         };
-        let width = run(alloc, tokens, &mode, at, behind(bytes, index))?;
-        if width > 0 {
-            index += width;
-        } else {
-            mode = step(alloc, tokens, mode, at, bytes[index])?;
-            index += 1;
-        }
+        mode = step(alloc, tokens, mode, at, bytes[index])?;
+        index = over_runs(alloc, tokens, &mode, line, index + 1)?;
     }
     Ok(mode)
 }
 
+#[inline(always)]
+fn scan_line(alloc: Global, tokens: &mut Tokens, mode: Mode, line: &Line) -> Result<Mode, Stop>
+    requires { length line.now.text < 2 ^ 32 }
+    ensures { (rest : AList Mark) → AtBreak rest → Leads result tokens.new rest (spec.scan (line_marks line.now ++ rest) mode tokens.old) }
+{
+    let index = over_runs(alloc, tokens, &mode, line, 0)?;
+    if index >= line.text.as_bytes().len() {
+        return Ok(mode);
+    }
+    scan_behind(alloc, tokens, mode, line, index)
+}
+
+// What stands open behind the end of a line.
+#[inline(always)]
+#[tactic(auto, unfolding(crate::specs::Scan::begin, crate::specs::Class::class_of))]
+fn at_break(alloc: Global, tokens: &mut Tokens, mode: Mode, at: Place) -> Result<Mode, Stop>
+    ensures { Moves result tokens.new (spec.step mode at 10 tokens.old) }
+{
+    if let Mode::Between = mode {
+        return Ok(mode);
+    }
+    step(alloc, tokens, mode, at, b'\n')
+}
+
 // The end of the line before, and a line.
+#[inline(always)]
 fn next_line(alloc: Global, tokens: &mut Tokens, mode: Mode, line: &Line) -> Result<Mode, Stop>
     requires { length line.now.text < 2 ^ 32 }
     ensures { (rest : AList Mark) → AtBreak rest → Leads result tokens.new rest (spec.scan (break_mark line.now ∷ line_marks line.now ++ rest) mode tokens.old) }
@@ -137,7 +203,7 @@ fn next_line(alloc: Global, tokens: &mut Tokens, mode: Mode, line: &Line) -> Res
         line: line.number,
         column: 0,
     };
-    let mode = step(alloc, tokens, mode, at, b'\n')?;
+    let mode = at_break(alloc, tokens, mode, at)?;
     scan_line(alloc, tokens, mode, line)
 }
 

@@ -10,8 +10,6 @@ mod run;
 mod start;
 mod strings;
 mod symbols;
-#[cfg(test)]
-mod tests;
 pub mod token;
 
 pub use cutter::tokens;

@@ -14,6 +14,15 @@ use iasl_messages::number::{BAD_CHARACTER, NUMBER_IS_TOO_LARGE};
 use iasl_messages::place::Place;
 use std::alloc::Global;
 
+/// A number so far: its place, its base, its value, and the column behind it.
+#[derive(Clone, Copy, Debug)]
+pub struct Numeral {
+    pub from: Place,
+    pub radix: Radix,
+    pub value: u64,
+    pub end: u32,
+}
+
 // A byte behind a number that it does not go on.
 fn behind(
     alloc: Global,
@@ -39,15 +48,18 @@ fn behind(
 pub fn number(
     alloc: Global,
     tokens: &mut Tokens,
-    from: Place,
-    radix: Radix,
-    value: u64,
-    end: u32,
+    numeral: Numeral,
     at: Place,
     byte: u8,
 ) -> Result<Mode, Stop>
-    ensures { Moves result tokens.new (spec.number_by (is_digit byte (base_by radix)) from radix value end at byte tokens.old) }
+    ensures { Moves result tokens.new (spec.number_by (is_digit byte (base_by numeral.radix)) numeral.from numeral.radix numeral.value numeral.end at byte tokens.old) }
 {
+    let Numeral {
+        from,
+        radix,
+        value,
+        end,
+    } = numeral;
     let digit = value_of(byte);
     let base = base_of(radix);
     if digit < base {

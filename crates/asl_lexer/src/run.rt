@@ -1,5 +1,5 @@
 //! Runs of bytes of a line, read at once.
-ghost use Rattle.std.specs.Prelude.{◌≡◌, ◌<◌, ◌≤◌, ◌==◌, ◌&&◌, length, take, IfOk, IfSome, slice_index, true, false};
+ghost use Rattle.std.specs.Prelude.{◌≡◌, ◌+◌, ◌^◌, ◌<◌, ◌≤◌, ◌==◌, ◌&&◌, length, take, codes, IfOk, IfSome, slice_index, true, false};
 ghost use Rattle.std.specs.List.{take_while};
 ghost use Rattle.std.specs.Char.{is_digit as is_digit_by};
 ghost use Rattle.asl_lexer.specs.Class.{class_of as class_by, shifts as shifts_by};
@@ -17,16 +17,42 @@ use iasl_messages::place::Place;
 use iasl_ports::list::{behind, front};
 use std::alloc::{AllocError, Global};
 
-fn is_blank(byte: u8) -> bool
-    ensures { result ≡ spec.is_blank byte }
+fn is_whitespace(byte: u8) -> bool
+    ensures { result ≡ spec.is_whitespace byte }
 {
     matches!(class_of(byte), Class::Blank | Class::Break)
 }
 
-fn blank_width(bytes: &[u8]) -> usize
-    ensures { result ≡ length (take_while spec.is_blank bytes.now) }
+// Four spaces as a number.
+const SPACES: u32 = 0x2020_2020;
+
+// Whether the first four bytes are spaces.
+fn are_spaces(bytes: &[u8]) -> bool
+    ensures { result ≡ true → take 4 bytes.now ≡ codes "    " }
 {
-    bytes.iter().take_while(|byte| is_blank(**byte)).count()
+    match bytes.first_chunk::<4>() {
+        Some(four) => u32::from_le_bytes(*four) == SPACES,
+        None => false,
+    }
+}
+
+fn few_whitespaces(bytes: &[u8]) -> usize
+    ensures { result ≡ length (take_while spec.is_whitespace bytes.now) }
+{
+    bytes
+        .iter()
+        .take_while(|byte| is_whitespace(**byte))
+        .count()
+}
+
+fn whitespace_width(bytes: &[u8]) -> usize
+    ensures { result ≡ length (take_while spec.is_whitespace bytes.now) }
+{
+    let mut width = 0;
+    while are_spaces(&bytes[width..]) {
+        width += 4;
+    }
+    width + few_whitespaces(&bytes[width..])
 }
 
 fn in_word(byte: u8) -> bool
@@ -99,10 +125,21 @@ fn adjoins_number(byte: u8) -> bool
     matches!(class_of(byte), Class::Letter | Class::Zero | Class::Digit)
 }
 
+// Each character that may be the front of a longer symbol stands at its own place, and a dot at any other.
+static FRONTS: [u8; 256] = *b"\
+    ................................\
+    .!...%&...*+.-..............<=>.\
+    ................................\
+    ............................|...\
+    ................................\
+    ................................\
+    ................................\
+    ................................";
+
 fn is_alone(byte: u8) -> bool
     ensures { result ≡ spec.is_alone byte }
 {
-    !takes_equals(byte) && !doubles(byte)
+    FRONTS[byte as usize] == b'.'
 }
 
 fn is_dot(byte: u8) -> bool
@@ -227,18 +264,15 @@ fn are_shift(first: u8, second: u8) -> bool
     second == first && shifts(first)
 }
 
-// A symbol of one character or of two that goes on with no other one.
-fn symbol(alloc: Global, tokens: &mut Tokens, at: Place, bytes: &[u8]) -> Result<usize, AllocError>
+// A symbol of one character or of two that goes on with no other one, where the first may be the front of a longer one.
+#[inline(never)]
+fn joined(alloc: Global, tokens: &mut Tokens, at: Place, bytes: &[u8]) -> Result<usize, AllocError>
     requires some { 0 < length bytes.now }
     requires begins { begins_sign_class (class_by (slice_index bytes.now 0)) ≡ true }
     ensures within { IfOk result (λ width. width ≤ length bytes.now) }
     ensures passes { IfOk result (λ width. Passes at bytes.now width modes.Between tokens.old modes.Between tokens.new) }
 {
     let first = bytes[0];
-    if is_alone(first) {
-        add_symbol(alloc, tokens, at, &[first])?;
-        return Ok(1);
-    }
     if bytes.len() < 2 {
         return Ok(0);
     }
@@ -254,6 +288,21 @@ fn symbol(alloc: Global, tokens: &mut Tokens, at: Place, bytes: &[u8]) -> Result
     Ok(2)
 }
 
+// A symbol of one character or of two that goes on with no other one.
+fn symbol(alloc: Global, tokens: &mut Tokens, at: Place, bytes: &[u8]) -> Result<usize, AllocError>
+    requires some { 0 < length bytes.now }
+    requires begins { begins_sign_class (class_by (slice_index bytes.now 0)) ≡ true }
+    ensures within { IfOk result (λ width. width ≤ length bytes.now) }
+    ensures passes { IfOk result (λ width. Passes at bytes.now width modes.Between tokens.old modes.Between tokens.new) }
+{
+    let first = bytes[0];
+    if !is_alone(first) {
+        return joined(alloc, tokens, at, bytes);
+    }
+    add_symbol(alloc, tokens, at, &[first])?;
+    Ok(1)
+}
+
 // Where no token is open: blanks, or a plain token.
 fn between(alloc: Global, tokens: &mut Tokens, at: Place, bytes: &[u8]) -> Result<usize, AllocError>
     requires { 0 < length bytes.now }
@@ -261,7 +310,7 @@ fn between(alloc: Global, tokens: &mut Tokens, at: Place, bytes: &[u8]) -> Resul
     ensures passes { IfOk result (λ width. Passes at bytes.now width modes.Between tokens.old modes.Between tokens.new) }
 {
     match class_of(bytes[0]) {
-        Class::Blank => Ok(blank_width(bytes)),
+        Class::Blank => Ok(whitespace_width(bytes)),
         Class::Letter | Class::Underscore => word(alloc, tokens, at, bytes),
         Class::Zero => hexadecimal(alloc, tokens, at, bytes),
         Class::Digit => decimal(alloc, tokens, at, bytes),
@@ -273,21 +322,49 @@ fn between(alloc: Global, tokens: &mut Tokens, at: Place, bytes: &[u8]) -> Resul
     }
 }
 
-/// Reads over a run of these bytes of a line, the first of which has this place. Answers how many they are: 0 where the
-/// first is to be read by itself.
-pub fn run(
+// Where no token is open: blanks and plain tokens, as far as they come one behind another.
+#[inline(never)]
+fn all_between(
+    alloc: Global,
+    tokens: &mut Tokens,
+    at: Place,
+    bytes: &[u8],
+) -> Result<usize, AllocError>
+    requires { at.column + length bytes.now ≤ 2 ^ 32 }
+    ensures within { IfOk result (λ width. width ≤ length bytes.now) }
+    ensures passes { IfOk result (λ width. Passes at bytes.now width modes.Between tokens.old modes.Between tokens.new) }
+{
+    let mut index = 0;
+    while index < bytes.len() {
+        let here = Place {
+            file: at.file,
+            line: at.line,
+            column: at.column + index as u32,
+        };
+        let width = between(alloc, tokens, here, behind(bytes, index))?;
+        if width == 0 {
+            return Ok(index);
+        }
+        index += width;
+    }
+    Ok(index)
+}
+
+/// Reads over runs of these bytes of a line, the first of which has this place, as far as runs come one behind another.
+/// Answers how many bytes they are: 0 where the first is to be read by itself.
+pub fn runs(
     alloc: Global,
     tokens: &mut Tokens,
     mode: &Mode,
     at: Place,
     bytes: &[u8],
 ) -> Result<usize, AllocError>
-    requires { 0 < length bytes.now }
+    requires { at.column + length bytes.now ≤ 2 ^ 32 }
     ensures within { IfOk result (λ width. width ≤ length bytes.now) }
     ensures passes { IfOk result (λ width. Passes at bytes.now width mode.now tokens.old mode.now tokens.new) }
 {
     match mode {
-        Mode::Between => between(alloc, tokens, at, bytes),
+        Mode::Between => all_between(alloc, tokens, at, bytes),
         Mode::Line => Ok(comment_width(bytes)),
         Mode::Block { .. } => Ok(block_width(bytes)),
         _ => Ok(0),

@@ -164,24 +164,38 @@ pub fn coded(from: Place, text: List<u8>, slash: Place, byte: u8) -> Result<Mode
     }
 }
 
+/// A string up to the backslash of an escape: its place, its bytes so far, and the backslash's place.
+#[derive(Drop)]
+pub struct Front {
+    pub from: Place,
+    pub text: List<u8>,
+    pub slash: Place,
+}
+
+/// An escape of digits so far: their base, their value, or 255 where it is more, and how many may follow.
+#[derive(Clone, Copy, Debug)]
+pub struct Code {
+    pub radix: Radix,
+    pub value: u8,
+    pub left: u8,
+}
+
 // A byte behind the digits of an escape.
 fn behind_digits(
     alloc: Global,
     tokens: &mut Tokens,
-    from: Place,
-    front: List<u8>,
-    slash: Place,
+    front: Front,
     value: u8,
     at: Place,
     byte: u8,
 ) -> Result<Mode, Stop>
-    ensures { Moves result tokens.new (spec.value_by (spec.is_plain value) from front slash value at byte tokens.old) }
+    ensures { Moves result tokens.new (spec.value_by (spec.is_plain value) front.from front.text front.slash value at byte tokens.old) }
 {
     if is_plain(value) {
-        let front = longer(front, value)?;
-        text(alloc, tokens, from, front, at, byte)
+        let string = longer(front.text, value)?;
+        text(alloc, tokens, front.from, string, at, byte)
     } else {
-        broken(from, bad_escape(slash), byte)
+        broken(front.from, bad_escape(front.slash), byte)
     }
 }
 
@@ -189,30 +203,26 @@ fn behind_digits(
 pub fn escape_digit(
     alloc: Global,
     tokens: &mut Tokens,
-    from: Place,
-    text: List<u8>,
-    slash: Place,
-    radix: Radix,
-    value: u8,
-    left: u8,
+    front: Front,
+    code: Code,
     at: Place,
     byte: u8,
 ) -> Result<Mode, Stop>
-    ensures { Moves result tokens.new (spec.escape_digit_by (nat_lt 0 left && is_digit byte (base_by radix)) from text slash radix value left at byte tokens.old) }
+    ensures { Moves result tokens.new (spec.escape_digit_by (nat_lt 0 code.left && is_digit byte (base_by code.radix)) front.from front.text front.slash code.radix code.value code.left at byte tokens.old) }
 {
     let digit = value_of(byte);
-    let base = base_of(radix);
-    if left > 0 && digit < base {
-        let value = (u64::from(value) * base + digit).min(255) as u8;
+    let base = base_of(code.radix);
+    if code.left > 0 && digit < base {
+        let value = (u64::from(code.value) * base + digit).min(255) as u8;
         Ok(Mode::Digits {
-            from,
-            text,
-            slash,
-            radix,
+            from: front.from,
+            text: front.text,
+            slash: front.slash,
+            radix: code.radix,
             value,
-            left: left - 1,
+            left: code.left - 1,
         })
     } else {
-        behind_digits(alloc, tokens, from, text, slash, value, at, byte)
+        behind_digits(alloc, tokens, front, code.value, at, byte)
     }
 }

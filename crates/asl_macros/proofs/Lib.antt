@@ -1,4 +1,6 @@
-mod TableLaws
+pub mod TableLaws
 mod Values
 mod Worked
 pub mod Undefined
+pub mod Clear
+pub mod Marking

@@ -17,7 +17,7 @@ unfolding KeepsOthers
 other_entries eq test old new h = h
 
 -- the value at a name
-value_at : {X S : Type 0} → HashMap (Vec ℕ Global) X S → List ℕ → Option X
+unfoldable pub value_at : {X S : Type 0} → HashMap (Vec ℕ Global) X S → List ℕ → Option X
 value_at m name = get_by (λ key. bytes_eq name key.items) m
 
 by_cases : {X S : Type 0} (b : Bool) (bs cs : List ℕ) (m n : HashMap (Vec ℕ Global) X S) (w : Option X) → bytes_eq bs cs ≡ b
@@ -27,7 +27,7 @@ by_cases true bs cs m n w e h = subst (λ l. get_by (λ key. bytes_eq l key.item
 by_cases false bs cs m n w e h =
     other_entries (λ x y. bytes_eq x.items y.items) (λ key. bytes_eq bs key.items) m.entries n.entries h.3 (λ key. bytes_eq cs key.items) (λ x y. nat_list_eq_equiv.congr cs x.items y.items) (λ key. apart bs cs key.items e)
 
-updates : {X S : Type 0} (bs : List ℕ) (m n : HashMap (Vec ℕ Global) X S) (w : Option X)
+pub updates : {X S : Type 0} (bs : List ℕ) (m n : HashMap (Vec ℕ Global) X S) (w : Option X)
     → UpdatesBy (λ x y. bytes_eq x.items y.items) (λ key. bytes_eq bs key.items) m n w → (cs : List ℕ) → value_at n cs ≡ cond (bytes_eq bs cs) w (value_at m cs)
 updates bs m n w h cs = by_cases (bytes_eq bs cs) bs cs m n w refl h
 

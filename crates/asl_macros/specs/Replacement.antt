@@ -1,11 +1,12 @@
 -- The replacement of defined names by their texts.
-use Rattle.std.specs.Prelude.{◌≡◌, ℕ, zero, suc, ◌<◌, ◌≤◌, ◌&&◌, ◌||◌, Bool, true, false, not, if◌then◌else◌, List, [], ◌∷◌, ◌++◌, length, codes, Option, Result, Ok, Err, Vec}
+use Rattle.std.specs.Prelude.{◌≡◌, ℕ, zero, suc, ◌<◌, ◌≤◌, ◌&&◌, Bool, true, false, not, if◌then◌else◌, List, [], ◌∷◌, ◌++◌, length, codes, Option, Result, Ok, Err, Vec}
 use Rattle.std.specs.declared.alloc.Global.{Global}
 use Rattle.std.specs.Option.{option_map_or}
 use Rattle.std.specs.List.{list_any}
 use Rattle.std.specs.Str.{bytes_eq}
 use Rattle.asl_fragments.specs.declared.fragment.FragmentKind.{FragmentKind}
 use Rattle.asl_fragments.specs.declared.fragment.FragmentKind.TheVariants.{Identifier, Comment}
+use Rattle.asl_fragments.specs.Bytes.{is_blank_text}
 use Rattle.asl_fragments.specs.Fragments.{Piece, fragments}
 use Rattle.asl_macros.specs.declared.spot.Within.{Within}
 use Rattle.asl_macros.specs.declared.spot.Within.TheVariants.{InLine, InCondition}
@@ -21,14 +22,10 @@ use Rattle.asl_macros.specs.History.{History, text_in}
 abbrev pub is_defined : List ℕ → Bool
 is_defined text = bytes_eq text (codes "defined")
 
--- a space or a tab
-abbrev pub is_blank_text : List ℕ → Bool
-is_blank_text text = bytes_eq text (32 ∷ []) || bytes_eq text (9 ∷ [])
-
--- a fragment that stands for blanks
-abbrev pub is_blank_by : FragmentKind → List ℕ → Bool
-is_blank_by Comment text = true
-is_blank_by _ text = is_blank_text text
+-- a fragment that stands for blanks: it is blank, or a comment
+abbrev pub stands_for_blanks : FragmentKind → List ℕ → Bool
+stands_for_blanks Comment text = true
+stands_for_blanks _ text = is_blank_text text
 
 abbrev pub is_parenthesis : List ℕ → Bool
 is_parenthesis text = bytes_eq text (40 ∷ [])
@@ -52,8 +49,8 @@ is_name within spot kind text = is_identifier kind && is_name_at within spot tex
 -- anywhere else.
 abbrev pub spot_behind : Spot → FragmentKind → List ℕ → Spot
 spot_behind Anywhere kind text = if is_identifier kind && is_defined text then BehindDefined else Anywhere
-spot_behind BehindDefined kind text = if is_blank_by kind text then BehindDefined else (if is_parenthesis text then BehindParenthesis else Anywhere)
-spot_behind BehindParenthesis kind text = if is_blank_by kind text then BehindParenthesis else Anywhere
+spot_behind BehindDefined kind text = if stands_for_blanks kind text then BehindDefined else (if is_parenthesis text then BehindParenthesis else Anywhere)
+spot_behind BehindParenthesis kind text = if stands_for_blanks kind text then BehindParenthesis else Anywhere
 
 -- ---- replacement
 

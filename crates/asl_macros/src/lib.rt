@@ -4,9 +4,7 @@
 mod names;
 mod spot;
 mod table;
-#[cfg(test)]
-mod tests;
 
-pub use names::{ReplaceStop, replace};
+pub use names::{ReplaceStop, replace, replace_names, stays};
 pub use spot::Within;
 pub use table::Macros;

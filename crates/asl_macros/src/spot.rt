@@ -2,6 +2,7 @@
 ghost use Rattle.std.specs.Prelude.{◌≡◌, ◌&&◌};
 ghost use Rattle.asl_macros.specs.Replacement as spec;
 
+use asl_fragments::bytes::is_blank_text;
 use asl_fragments::fragment::FragmentKind;
 
 /// Where names are replaced.
@@ -35,14 +36,9 @@ fn is_defined(text: &[u8]) -> bool
     text == b"defined".as_slice()
 }
 
-fn is_blank_text(text: &[u8]) -> bool
-    ensures { result ≡ spec.is_blank_text text.now }
-{
-    text == b" ".as_slice() || text == b"\t".as_slice()
-}
-
-fn is_blank(kind: FragmentKind, text: &[u8]) -> bool
-    ensures { result ≡ spec.is_blank_by kind text.now }
+// Whether a fragment stands for blanks: it is blank, or a comment.
+fn stands_for_blanks(kind: FragmentKind, text: &[u8]) -> bool
+    ensures { result ≡ spec.stands_for_blanks kind text.now }
 {
     match kind {
         FragmentKind::Comment => true,
@@ -94,7 +90,7 @@ pub fn spot_behind(spot: Spot, kind: FragmentKind, text: &[u8]) -> Spot
             }
         }
         Spot::BehindDefined => {
-            if is_blank(kind, text) {
+            if stands_for_blanks(kind, text) {
                 Spot::BehindDefined
             } else if is_parenthesis(text) {
                 Spot::BehindParenthesis
@@ -103,7 +99,7 @@ pub fn spot_behind(spot: Spot, kind: FragmentKind, text: &[u8]) -> Spot
             }
         }
         Spot::BehindParenthesis => {
-            if is_blank(kind, text) {
+            if stands_for_blanks(kind, text) {
                 Spot::BehindParenthesis
             } else {
                 Spot::Anywhere

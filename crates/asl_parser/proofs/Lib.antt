@@ -7,6 +7,9 @@ pub mod Deep
 pub mod Walks
 pub mod Outcomes
 pub mod Heights
+pub mod Merged
+pub mod Nests
+pub mod Settled
 pub mod Told
 pub mod Views
 pub mod Homes

@@ -4,12 +4,14 @@ use Rattle.std.proofs.lemmas.List.{drop_all}
 use Rattle.std.proofs.lemmas.Bool.{le-leb, lt-leb}
 use Rattle.asl_lexer.specs.declared.token.Token.{Token}
 use Rattle.asl_parser.specs.declared.mark.Mark.{Mark}
+use Rattle.asl_parser.specs.declared.branch.Branches.{Branches}
 use Rattle.asl_parser.specs.declared.frame.Frame.{Frame}
 use Rattle.asl_parser.specs.declared.frame.State.{State}
 use Rattle.asl_parser.specs.declared.frame.Refusal.{Refusal}
 use Rattle.asl_parser.specs.declared.frame.Refusal.TheVariants as r
 use Rattle.asl_parser.specs.Marks.{mark, marks}
-use Rattle.asl_parser.specs.Machine.{Moves, Finishes, Answer, stop, deep, Config, step, walk, within, depth, finish}
+use Rattle.asl_parser.specs.Stages.{Moves}
+use Rattle.asl_parser.specs.Machine.{Finishes, Answer, stop, deep, Config, step, walk, within, depth, finish}
 
 -- ---- tokens and their marks
 
@@ -54,7 +56,7 @@ pub walk_ends : (bound : ℕ) (ms : List Mark) (i : ℕ) (a : State) (fs : List 
 unfolding walk
 walk_ends bound ms i a fs h low = ap (λ (us : List Mark). walk (within bound) us a fs) (drop_all i ms h) ∙ rw (le-leb (depth fs) bound low) refl
 
-pub moves_refused : (x : Refusal) (new : List Frame) (m : Option Config) → x ≡ r.Refused → Moves (Err x) new m → m ≡ None
+pub moves_refused : (x : Refusal) (new : Branches × List Frame) (m : Option Config) → x ≡ r.Refused → Moves (Err x) new m → m ≡ None
 moves_refused x new m e h = subst (λ (y : Refusal). Moves (Err y) new m) e h
 
 pub finishes_refused : (x : Refusal) (m : Answer) → x ≡ r.Refused → Finishes (Err x) m → m ≡ stop []

@@ -1,8 +1,13 @@
 pub mod Signs
 pub mod Marks
+pub mod Looks
 pub mod Trees
+pub mod Levels
+pub mod Opens
 pub mod Grow
 pub mod Machine
+pub mod Stages
+pub mod Steps
 pub mod Grammar
 pub mod Front
 pub mod Depth

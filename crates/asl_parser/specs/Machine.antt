@@ -63,11 +63,21 @@ settle pull e (frame ∷ fs) = (e, frame ∷ fs)
 abbrev pub operator : Spot → Infix → Strength → Branch × List Frame → Option Config
 operator p i o r = allow (nat_le o.level (room r.1)) (st.Operand, f.Pending o.level o.room p i (joined no_branches r.0) ∷ r.1)
 
+-- a comma or semicolon of a body
+abbrev pub separated : Branch → List Frame → Option Config
+separated e (f.Body q w args done ∷ fs) = Some (st.Sequence, f.Body q w args (joined done e) ∷ fs)
+separated e _ = None
+
+-- the end of a body
+abbrev pub close_body : List Frame → Option Config
+close_body (f.Body q w args done ∷ fs) = Some (st.Whole (item q w args (Some done)), fs)
+close_body _ = None
+
 -- where an expression of a body or an item of the source may begin
 abbrev pub sequence_sign : Spot → Sign → List Frame → Option Config
-sequence_sign p s.RightBrace (f.Body q w args done ∷ fs) = Some (st.Whole (item q w args (Some done)), fs)
-sequence_sign p s.Comma (f.Body q w args done ∷ fs) = Some (st.Sequence, f.Body q w args (joined done (leaf p.token raw.Comma)) ∷ fs)
-sequence_sign p s.Semicolon (f.Body q w args done ∷ fs) = Some (st.Sequence, f.Body q w args (joined done (leaf p.token raw.Semicolon)) ∷ fs)
+sequence_sign p s.RightBrace fs = close_body fs
+sequence_sign p s.Comma fs = separated (leaf p.token raw.Comma) fs
+sequence_sign p s.Semicolon fs = separated (leaf p.token raw.Semicolon) fs
 sequence_sign p x fs = begin_sign p x fs
 
 abbrev pub sequence_by : Spot → Lexeme → List Frame → Option Config
@@ -193,12 +203,6 @@ step_by q x (st.Listed e) fs = listed e x fs
 
 abbrev pub step : Mark → State → List Frame → Option Config
 step t a fs = step_by t.spot t.lexeme a fs
-
--- what a step of the code ensures
-abbrev pub Moves : Result State Refusal → List Frame → Option Config → Type 0
-Moves (Ok s) new move = move ≡ Some (s, new)
-Moves (Err r.Memory) new move = Unit {0}
-Moves (Err r.Refused) new move = move ≡ None
 
 -- ---- whole runs
 

@@ -8,6 +8,9 @@ use crate::raw::Infix;
 use iasl_ports::list::Text;
 use std::alloc::AllocError;
 
+/// The level of assignments, the loosest operators.
+pub const LOOSEST: u8 = 13;
+
 /// What stands open around the place where the reader is, and what was read of it.
 #[derive(Drop)]
 pub enum Frame {

@@ -1,22 +1,86 @@
 //! The levels of trees.
-ghost use Rattle.std.specs.Prelude.{◌≡◌, ◌∷◌, [], ◌++◌, length, OnOk, OnErr, IfOk};
+ghost use Rattle.std.specs.Prelude.{◌≡◌, ◌∷◌, [], ◌++◌, ◌+◌, ◌≤◌, take, length, IfOk, OnOk};
+ghost use Rattle.asl_parser.specs.Levels.{firsts_of};
 ghost use Rattle.asl_parser.specs.Grow as spec;
 
 use std::alloc::{AllocError, Global};
 use std::marker::Model;
+use std::mem::replace;
 
-/// For each level of some trees, the lowest first, the number of the first token of its leftmost node.
+/// The most levels that take no memory.
+const FEW: usize = 5;
+
+/// Where the first tokens are.
+#[derive(Drop)]
+enum Firsts {
+    /// In the levels themselves: the first of these, so many.
+    Few {
+        count: u8,
+        firsts: [u32; FEW],
+        alloc: Global,
+    },
+    /// In a vector of their own.
+    Many(Box<Vec<u32>>),
+}
+
+/// For each level of some trees, the lowest first, the number of the first token of its leftmost node. They are 24 bytes, and
+/// at most 5 levels take no memory beside these.
 #[derive(Drop)]
 pub struct Levels {
-    firsts: Vec<u32>,
+    firsts: Firsts,
 }
 
 impl Model for Levels {
     ghost use Rattle.std.specs.Prelude.{List, ℕ};
+    ghost use Rattle.asl_parser.specs.Levels.{firsts_of};
 
     ghost Value = { List ℕ };
 
-    ghost view = { λ levels. levels.firsts.items };
+    ghost view = { λ levels. firsts_of levels.firsts };
+}
+
+// The first so many numbers, or all where there are no more.
+fn front(firsts: &[u32], count: usize) -> &[u32]
+    ensures { result.now ≡ take count firsts.now }
+{
+    if count < firsts.len() {
+        firsts.split_at(count).0
+    } else {
+        firsts
+    }
+}
+
+// Few numbers, and others behind them.
+fn few(alloc: Global, front: &[u32], back: &[u32]) -> Firsts
+    requires { length front.now + length back.now ≤ 5 }
+    ensures { firsts_of result ≡ front.now ++ back.now }
+{
+    let mut firsts = [0; FEW];
+    let (own, rest) = firsts.split_at_mut(front.len());
+    own.copy_from_slice(front);
+    rest.split_at_mut(back.len()).0.copy_from_slice(back);
+    Firsts::Few {
+        firsts,
+        count: (front.len() + back.len()) as u8,
+        alloc,
+    }
+}
+
+// Numbers, and others behind them.
+fn both(alloc: Global, front: &[u32], back: &[u32]) -> Result<Levels, AllocError>
+    ensures { IfOk result (λ levels. levels ≡ front.now ++ back.now) }
+{
+    if back.len() <= FEW && front.len() <= FEW - back.len() {
+        return Ok(Levels {
+            firsts: few(alloc, front, back),
+        });
+    }
+    let mut firsts = Vec::new(alloc);
+    firsts.extend_from_slice(front)?;
+    firsts.extend_from_slice(back)?;
+    Ok(Levels {
+        firsts: Firsts::Many(Box::new(alloc, firsts)?),
+    })
 }
 
 impl Levels {
@@ -25,7 +89,33 @@ impl Levels {
         ensures { result ≡ [] }
     {
         Levels {
-            firsts: Vec::new(alloc),
+            firsts: Firsts::Few {
+                firsts: [0; FEW],
+                count: 0,
+                alloc,
+            },
+        }
+    }
+
+    /// Of a tree of one node, with this first token.
+    pub fn of_one(alloc: Global, first: u32) -> Levels
+        ensures { result ≡ first ∷ [] }
+    {
+        Levels {
+            firsts: Firsts::Few {
+                firsts: [first, 0, 0, 0, 0],
+                count: 1,
+                alloc,
+            },
+        }
+    }
+
+    fn as_slice(&self) -> &[u32]
+        ensures { result.now ≡ self.now }
+    {
+        match &self.firsts {
+            Firsts::Few { firsts, count, .. } => front(firsts, *count as usize),
+            Firsts::Many(firsts) => firsts,
         }
     }
 
@@ -33,31 +123,102 @@ impl Levels {
     pub fn len(&self) -> usize
         ensures { result ≡ length self.now }
     {
-        self.firsts.len()
+        self.as_slice().len()
     }
 
-    /// A node above all, with this first token.
-    pub fn push(&mut self, first: u32) -> Result<(), AllocError>
-        ensures ok { OnOk result (self.new ≡ self.old ++ first ∷ []) }
-        ensures err { OnErr result (self.new ≡ self.old) }
+    /// Puts a node above all, with this first token.
+    pub fn cover(&mut self, alloc: Global, first: u32) -> Result<(), AllocError>
+        ensures { OnOk result (self.new ≡ self.old ++ first ∷ []) }
     {
-        self.firsts.push(first)?;
+        let levels = replace(self, Levels::new(alloc));
+        *self = levels.under(first)?;
         Ok(())
     }
 
-    /// With trees behind these. The time is that of the fewer levels.
-    #[tactic(auto, unfolding(crate::specs::Grow::merged), using(crate::proofs::Heights::merged_same))]
-    pub fn beside(self, later: Levels) -> Result<Levels, AllocError>
-        ensures { IfOk result (λ all. all ≡ spec.merged self later) }
+    /// Puts trees behind these.
+    #[tactic(auto, using(crate::proofs::Heights::merged_same))]
+    pub fn join(&mut self, alloc: Global, later: Levels) -> Result<(), AllocError>
+        ensures { OnOk result (self.new ≡ spec.merged self.old later) }
+    {
+        if later.len() <= self.len() {
+            return Ok(());
+        }
+        self.lift(alloc, later)
+    }
+
+    // Puts trees of more levels behind these.
+    fn lift(&mut self, alloc: Global, later: Levels) -> Result<(), AllocError>
+        ensures { OnOk result (self.new ≡ spec.merged self.old later) }
+    {
+        let levels = replace(self, Levels::new(alloc));
+        *self = levels.beside(later)?;
+        Ok(())
+    }
+
+    // With a node above all, with this first token.
+    fn under(self, first: u32) -> Result<Levels, AllocError>
+        ensures { IfOk result (λ levels. levels ≡ self ++ first ∷ []) }
     {
         let Levels { firsts } = self;
-        let Levels { firsts: mut all } = later;
-        if all.len() <= firsts.len() {
-            return Ok(Levels { firsts });
+        match firsts {
+            Firsts::Few {
+                mut firsts,
+                count,
+                alloc,
+            } => {
+                if count as usize >= FEW {
+                    return both(alloc, front(&firsts, count as usize), &[first]);
+                }
+                firsts[count as usize] = first;
+                Ok(Levels {
+                    firsts: Firsts::Few {
+                        firsts,
+                        count: count + 1,
+                        alloc,
+                    },
+                })
+            }
+            Firsts::Many(mut firsts) => {
+                firsts.push(first)?;
+                Ok(Levels {
+                    firsts: Firsts::Many(firsts),
+                })
+            }
         }
-        all.truncate(all.len() - firsts.len());
-        all.extend_from_slice(&firsts)?;
-        Ok(Levels { firsts: all })
+    }
+
+    // With trees behind these. The time is that of the fewer levels.
+    #[tactic(auto, unfolding(crate::specs::Grow::merged), using(crate::proofs::Heights::merged_same, crate::proofs::Merged::merged_none))]
+    fn beside(self, later: Levels) -> Result<Levels, AllocError>
+        ensures { IfOk result (λ all. all ≡ spec.merged self later) }
+    {
+        let few = self.len();
+        let many = later.len();
+        if many <= few {
+            return Ok(self);
+        }
+        if few == 0 {
+            return Ok(later);
+        }
+        let Levels { firsts } = later;
+        match firsts {
+            Firsts::Few {
+                firsts,
+                count,
+                alloc,
+            } => both(
+                alloc,
+                front(front(&firsts, count as usize), many - few),
+                self.as_slice(),
+            ),
+            Firsts::Many(mut firsts) => {
+                firsts.truncate(many - few);
+                firsts.extend_from_slice(self.as_slice())?;
+                Ok(Levels {
+                    firsts: Firsts::Many(firsts),
+                })
+            }
+        }
     }
 
     /// The first token of the leftmost tree, or another one where there is no tree.
@@ -73,8 +234,9 @@ impl Levels {
     pub fn at_depth(&self, depth: usize) -> Option<u32>
         ensures { result ≡ spec.at_depth depth self.now }
     {
-        if depth < self.firsts.len() {
-            Some(self.firsts[self.firsts.len() - 1 - depth])
+        let firsts = self.as_slice();
+        if depth < firsts.len() {
+            Some(firsts[firsts.len() - 1 - depth])
         } else {
             None
         }

@@ -7,15 +7,13 @@ mod levels;
 mod machine;
 mod mark;
 mod nest;
+mod open;
 mod place;
 mod raw;
 mod reader;
 mod sign;
-mod stack;
+mod stage;
 
 pub use place::place_at;
 pub use raw::{Infix, Raw, RawUnit, Raws};
 pub use reader::{Syntax, parse};
-
-#[cfg(test)]
-mod tests;

@@ -1,5 +1,6 @@
 //! A token as the machine reads it.
 ghost use Rattle.std.specs.Prelude.{◌≡◌, IfOk};
+ghost use Rattle.asl_parser.specs.Looks.{lexeme_of};
 ghost use Rattle.asl_parser.specs.Marks as spec;
 
 use crate::sign::{Sign, sign_of};
@@ -33,42 +34,36 @@ pub struct Mark {
     pub lexeme: Lexeme,
 }
 
-fn copy(alloc: Global, text: &Text) -> Result<Text, AllocError>
+/// What a token is to the grammar, but for its text and its value.
+#[derive(Clone, Copy)]
+pub enum Look {
+    Word,
+    Path,
+    Number,
+    Text,
+    Sign(Sign),
+    Other,
+}
+
+/// A text of its own.
+pub fn copy(alloc: Global, text: &Text) -> Result<Text, AllocError>
     ensures { IfOk result (λ copied. copied ≡ text.now) }
 {
     Text::from_bytes(alloc, text.as_bytes())
 }
 
-fn lexeme_of(alloc: Global, token: &Token) -> Result<Lexeme, AllocError>
-    ensures { IfOk result (λ made. made ≡ spec.lexeme token.now) }
+/// What the token is.
+pub fn look_of(token: &Token) -> Look
+    ensures { lexeme_of result token.now ≡ spec.lexeme token.now }
 {
-    Ok(match token.kind {
-        TokenKind::Word => Lexeme::Word {
-            path: false,
-            word: copy(alloc, &token.text)?,
-        },
-        TokenKind::Path => Lexeme::Word {
-            path: true,
-            word: copy(alloc, &token.text)?,
-        },
-        TokenKind::Number => Lexeme::Number(token.number),
-        TokenKind::Text => Lexeme::Text(copy(alloc, &token.text)?),
+    match token.kind {
+        TokenKind::Word => Look::Word,
+        TokenKind::Path => Look::Path,
+        TokenKind::Number => Look::Number,
+        TokenKind::Text => Look::Text,
         TokenKind::Symbol => match sign_of(token.text.as_bytes()) {
-            Some(sign) => Lexeme::Sign(sign),
-            None => Lexeme::Other,
+            Some(sign) => Look::Sign(sign),
+            None => Look::Other,
         },
-    })
-}
-
-/// The token with this number.
-pub fn mark_of(alloc: Global, number: u32, token: &Token) -> Result<Mark, AllocError>
-    ensures { IfOk result (λ made. made ≡ spec.mark number token.now) }
-{
-    Ok(Mark {
-        spot: Spot {
-            token: number,
-            place: token.place,
-        },
-        lexeme: lexeme_of(alloc, token)?,
-    })
+    }
 }

@@ -1,76 +1,398 @@
-//! The frames that stand open.
-ghost use Rattle.std.specs.Prelude.{◌≡◌, ◌∷◌, [], MatchOption, OnOk};
+//! What stands open, and the trees that were read last.
+ghost use Rattle.std.specs.Prelude.{◌≡◌, ◌&&◌, ◌+◌, ◌∷◌, [], ◌<◌, ◌++◌, Some, None, true, IfOk, OnOk, OnErr, length, is_some, reverse};
+ghost use Rattle.std.specs.Option.{option_to_list};
+ghost use Rattle.std.specs.Vec.{vec_len, vec_capacity};
+ghost use Rattle.asl_parser.specs.declared.frame.Frame.TheVariants as frames;
+ghost use Rattle.asl_parser.specs.declared.open.Kind.TheVariants as kinds;
+ghost use Rattle.asl_parser.specs.Grow as grow;
+ghost use Rattle.asl_parser.specs.Grow.{no_branches, joined, merged};
 ghost use Rattle.asl_parser.specs.Machine as spec;
+ghost use Rattle.asl_parser.specs.Opens.{IsOne, Begins, tree_of, single, cleared, frame_on, kind_of, done_of, around, added, lists, has_trees, remaining};
 
-use crate::frame::Frame;
-use crate::stack::Stack;
+use crate::branch::{Branches, TALLEST, apply_raw, given, item_raw, list_raw};
+use crate::levels::Levels;
+use crate::mark::Spot;
+use crate::open::{Group, Kind, Open, room, weight};
+use crate::raw::{Infix, Raw, Raws};
+use iasl_ports::list::Text;
 use std::alloc::{AllocError, Global};
 use std::marker::Model;
+use std::mem::replace;
 
-/// The frames that stand open, the innermost first, and how many of them count.
+/// The trees that were read last, which are held, and the frames that stand open around them, the innermost first. The nodes
+/// of all of them lie on one vector.
 #[derive(Drop)]
 pub struct Nest {
-    frames: Stack<Frame>,
+    alloc: Global,
+    nodes: Vec<Raw>,
+    outer: Vec<Open>,
+    innermost: Open,
+    hand: Group,
     depth: usize,
 }
 
 impl Model for Nest {
-    ghost use Rattle.std.specs.Prelude.{List, ◌≡◌};
-    ghost use Rattle.std.specs.Coded.{coded_list};
+    ghost use Rattle.std.specs.Prelude.{List, ◌≡◌, ◌∷◌, reverse, take};
+    ghost use Rattle.std.specs.Coded.{coded_list, coded×};
+    ghost use Rattle.asl_parser.specs.contracts.branch.Branches as branches_row;
     ghost use Rattle.asl_parser.specs.contracts.frame.Frame as frame_row;
+    ghost use Rattle.asl_parser.specs.declared.branch.Branches.{Branches};
     ghost use Rattle.asl_parser.specs.declared.frame.Frame.{Frame};
-    ghost use Rattle.asl_parser.specs.Machine.{depth as depth_of};
+    ghost use Rattle.asl_parser.specs.Opens.{trees_of, frames_of, IsNest};
 
-    ghost Value = { List Frame };
+    ghost Value = { Branches × List Frame };
 
-    ghost coded = { coded_list frame_row.the_row.coded };
+    ghost coded = { coded× branches_row.the_row.coded (coded_list frame_row.the_row.coded) };
 
-    ghost view = { λ nest. nest.frames };
+    ghost view = { λ nest. (trees_of nest.hand nest.nodes.items, frames_of (nest.innermost ∷ reverse nest.outer.items) (take nest.hand.start nest.nodes.items)) };
 
-    ghost invariant = { λ nest. nest.depth ≡ depth_of nest.frames };
+    ghost invariant = { λ nest. IsNest nest.nodes.items nest.hand (nest.innermost ∷ reverse nest.outer.items) nest.depth };
 }
 
-fn weight(frame: &Frame) -> usize
-    ensures { result ≡ spec.weight frame.now }
+fn both(earlier: bool, later: bool) -> bool
+    ensures { result ≡ (earlier && later) }
 {
-    match frame {
-        Frame::Unit { .. } => 0,
-        Frame::Pending { level, room, .. } => { if *level == *room { 1 } else { 0 } }
-        _ => 1,
+    earlier && later
+}
+
+fn count(nodes: &Vec<Raw>) -> usize
+    ensures { result ≡ length nodes.now.items }
+{
+    nodes.as_slice().len()
+}
+
+// Adds a node, unless it would be too tall. Answers whether it is kept.
+fn keep(nodes: &mut Vec<Raw>, low: bool, raw: Option<Raw>) -> Result<bool, AllocError>
+    ensures nodes { OnOk result (nodes.new.items ≡ nodes.old.items ++ option_to_list (grow.cut low raw)) }
+    ensures kept { IfOk result (λ is_kept. is_kept ≡ is_some (grow.cut low raw)) }
+    ensures err { OnErr result (nodes.new.items ≡ nodes.old.items) }
+{
+    if !low {
+        return Ok(false);
+    }
+    match raw {
+        Some(raw) => {
+            nodes.push(raw)?;
+            Ok(true)
+        }
+        None => Ok(false),
     }
 }
 
+// So much more is open. No memory holds as many frames as have no number.
+fn deeper(depth: usize, weight: usize) -> Result<usize, AllocError>
+    ensures { IfOk result (λ all. all ≡ depth + weight) }
+{
+    match depth.checked_add(weight) {
+        Some(all) => Ok(all),
+        None => Err(AllocError),
+    }
+}
+
+// Puts a frame on the others.
+fn put_on(outer: &mut Vec<Open>, innermost: &mut Open, next: Open)
+    requires { vec_len outer.old < vec_capacity outer.old }
+    ensures innermost { innermost.new ≡ next }
+    ensures outer { reverse outer.new.items ≡ innermost.old ∷ reverse outer.old.items }
+{
+    outer.push_reserved(replace(innermost, next));
+}
+
+// Takes the innermost frame off.
+fn take_off(alloc: Global, outer: &mut Vec<Open>, innermost: &mut Open) -> Open
+    ensures taken { result ≡ innermost.old }
+    ensures rest { innermost.new ∷ reverse outer.new.items ≡ remaining (reverse outer.old.items) }
+{
+    let next = match outer.pop() {
+        Some(open) => open,
+        None => Open {
+            kind: Kind::Nothing,
+            group: Group::new(alloc, 0),
+        },
+    };
+    replace(innermost, next)
+}
+
 impl Nest {
+    /// A source of which nothing was read.
     pub fn new(alloc: Global) -> Nest
-        ensures { result ≡ [] }
+        ensures { result ≡ (no_branches, spec.start) }
     {
         Nest {
-            frames: Stack::new(alloc),
+            alloc,
+            nodes: Vec::new(alloc),
+            outer: Vec::new(alloc),
+            innermost: Open {
+                kind: Kind::Unit,
+                group: Group::new(alloc, 0),
+            },
+            hand: Group::new(alloc, 0),
             depth: 0,
         }
     }
 
+    /// Where memory comes from.
+    pub fn alloc(&self) -> Global {
+        self.alloc
+    }
+
     /// How many brackets, prefix operators and assignments stand open.
+    #[tactic(auto, using(crate::proofs::Nests::depth_frames))]
     pub fn depth(&self) -> usize
-        ensures { result ≡ spec.depth self.now }
+        ensures { result ≡ spec.depth self.now.1 }
     {
         self.depth
     }
 
-    pub fn push(&mut self, frame: Frame) -> Result<(), AllocError>
-        ensures { OnOk result (self.new ≡ frame ∷ self.old) }
+    /// The level of the expressions that may stand next.
+    pub fn room(&self) -> u8
+        ensures { result ≡ spec.room self.now.1 }
     {
-        let weight = weight(&frame);
-        self.frames.push(frame)?;
-        self.depth += weight;
+        room(&self.innermost.kind)
+    }
+
+    /// What the innermost frame is.
+    pub fn kind(&self) -> &Kind
+        ensures { result.now ≡ kind_of self.now.1 }
+    {
+        &self.innermost.kind
+    }
+
+    /// The first token of what was read of the innermost frame, or another one where that is nothing.
+    pub fn leading(&self, other: u32) -> u32
+        requires { has_trees (kind_of self.now.1) ≡ true }
+        ensures { result ≡ grow.leading other (done_of self.now.1).levels }
+    {
+        self.innermost.group.levels.leading(other)
+    }
+
+    /// The first token of what is held, or another one where that is nothing.
+    pub fn leading_held(&self, other: u32) -> u32
+        ensures { result ≡ grow.leading other self.now.0.levels }
+    {
+        self.hand.levels.leading(other)
+    }
+
+    /// Holds a tree of one node.
+    pub fn hold(&mut self, first: u32, raw: Raw) -> Result<(), AllocError>
+        requires { self.old.0 ≡ no_branches }
+        ensures tree { OnOk result (tree_of self.new.0 ≡ grow.leaf first raw) }
+        ensures one { OnOk result (IsOne self.new.0) }
+        ensures frames { OnOk result (self.new.1 ≡ self.old.1) }
+    {
+        self.nodes.push(raw)?;
+        self.hand.levels = Levels::of_one(self.alloc, first);
         Ok(())
     }
 
-    pub fn pop(&mut self) -> Option<Frame>
-        ensures { MatchOption result ((self.old ≡ []) × (self.new ≡ [])) (λ top. self.old ≡ top ∷ self.new) }
+    /// Opens a frame of this kind behind what is held, which becomes the first of its trees.
+    pub fn open(&mut self, kind: Kind) -> Result<(), AllocError>
+        requires { Begins kind self.old.0 }
+        ensures { OnOk result (self.new ≡ (no_branches, frame_on kind self.old.0 self.old.1)) }
     {
-        let frame = self.frames.pop()?;
-        self.depth -= weight(&frame);
-        Some(frame)
+        let depth = deeper(self.depth, weight(&kind))?;
+        self.outer.reserve(1)?;
+        let hand = Group::new(self.alloc, count(&self.nodes));
+        let group = replace(&mut self.hand, hand);
+        put_on(&mut self.outer, &mut self.innermost, Open { kind, group });
+        self.depth = depth;
+        Ok(())
+    }
+
+    /// Opens a bracket.
+    pub fn open_bracket(&mut self) -> Result<(), AllocError>
+        ensures { OnOk result (self.new ≡ (self.old.0, frames.Bracket ∷ self.old.1)) }
+    {
+        let depth = deeper(self.depth, 1)?;
+        self.outer.reserve(1)?;
+        let group = Group::new(self.alloc, self.hand.start);
+        let kind = Kind::Bracket;
+        put_on(&mut self.outer, &mut self.innermost, Open { kind, group });
+        self.depth = depth;
+        Ok(())
+    }
+
+    /// Ends a bracket.
+    pub fn close_bracket(&mut self)
+        requires { kind_of self.old.1 ≡ kinds.Bracket }
+        ensures { self.new ≡ (self.old.0, around self.old.1) }
+    {
+        take_off(self.alloc, &mut self.outer, &mut self.innermost);
+        self.depth -= 1;
+    }
+
+    /// Adds the tree that is held to the innermost frame.
+    pub fn add(&mut self) -> Result<(), AllocError>
+        requires one { IsOne self.old.0 }
+        requires lists { lists (kind_of self.old.1) ≡ true }
+        ensures { OnOk result (self.new ≡ (no_branches, added (tree_of self.old.0) self.old.1)) }
+    {
+        let start = count(&self.nodes);
+        let Group { kept, levels, .. } = replace(&mut self.hand, Group::new(self.alloc, start));
+        let group = &mut self.innermost.group;
+        group.kept = both(group.kept, kept);
+        group.levels.join(self.alloc, levels)?;
+        Ok(())
+    }
+
+    /// Ends the innermost frame, whose trees are held.
+    pub fn end(&mut self) -> Kind
+        requires none { self.old.0 ≡ no_branches }
+        requires trees { has_trees (kind_of self.old.1) ≡ true }
+        ensures kind { result ≡ kind_of self.old.1 }
+        ensures nest { self.new ≡ (done_of self.old.1, around self.old.1) }
+    {
+        let Open { kind, group } = take_off(self.alloc, &mut self.outer, &mut self.innermost);
+        self.depth -= weight(&kind);
+        self.hand = group;
+        kind
+    }
+
+    /// Ends the innermost frame, whose trees are held with the one that was held behind them.
+    pub fn end_with(&mut self) -> Result<Kind, AllocError>
+        requires one { IsOne self.old.0 }
+        requires trees { has_trees (kind_of self.old.1) ≡ true }
+        ensures kind { IfOk result (λ kind. kind ≡ kind_of self.old.1) }
+        ensures nest { OnOk result (self.new ≡ (joined (done_of self.old.1) (tree_of self.old.0), around self.old.1)) }
+    {
+        let Open { kind, mut group } = take_off(self.alloc, &mut self.outer, &mut self.innermost);
+        self.depth -= weight(&kind);
+        group.kept = both(group.kept, self.hand.kept);
+        let last = replace(&mut self.hand, group);
+        self.hand.levels.join(self.alloc, last.levels)?;
+        Ok(kind)
+    }
+
+    // The nodes that are held, taken off.
+    fn take_raws(&mut self) -> Result<Option<Raws>, AllocError>
+        ensures raws { IfOk result (λ raws. raws ≡ self.old.0.raws) }
+        ensures rest { OnOk result (self.new ≡ (cleared self.old.0, self.old.1)) }
+    {
+        if !self.hand.kept {
+            return Ok(None);
+        }
+        let raws = self.nodes.split_off(self.hand.start)?;
+        Ok(Some(Raws::from_vec(raws)))
+    }
+
+    // Holds a node over what is held.
+    fn put(&mut self, first: u32, raw: Option<Raw>) -> Result<(), AllocError>
+        ensures tree { OnOk result (tree_of self.new.0 ≡ grow.node_over first raw self.old.0.levels) }
+        ensures one { OnOk result (IsOne self.new.0) }
+        ensures frames { OnOk result (self.new.1 ≡ self.old.1) }
+    {
+        let low = self.hand.levels.len() <= TALLEST;
+        self.nodes.truncate(self.hand.start);
+        self.hand.kept = keep(&mut self.nodes, low, raw)?;
+        self.hand.levels.cover(self.alloc, first)?;
+        Ok(())
+    }
+
+    // Puts these levels before those of what is held.
+    fn go_before(&mut self, levels: Levels) -> Result<(), AllocError>
+        ensures raws { OnOk result (self.new.0.raws ≡ self.old.0.raws) }
+        ensures levels { OnOk result (self.new.0.levels ≡ merged levels self.old.0.levels) }
+        ensures frames { OnOk result (self.new.1 ≡ self.old.1) }
+    {
+        let later = replace(&mut self.hand.levels, levels);
+        self.hand.levels.join(self.alloc, later)?;
+        Ok(())
+    }
+
+    // The nodes of a part of an item, whose levels go before those of what is held.
+    #[tactic(auto, using(crate::proofs::Merged::merged_none))]
+    fn go_behind(&mut self, part: Option<Branches>) -> Result<Option<Option<Raws>>, AllocError>
+        ensures raws { IfOk result (λ raws. raws ≡ grow.raws_given part) }
+        ensures levels { OnOk result (self.new.0.levels ≡ merged (grow.levels_given part) self.old.0.levels) }
+        ensures frames { OnOk result (self.new.1 ≡ self.old.1) }
+    {
+        match part {
+            Some(Branches { raws, levels }) => {
+                self.go_before(levels)?;
+                Ok(given(raws))
+            }
+            None => Ok(Some(None)),
+        }
+    }
+
+    /// Takes what is held away.
+    pub fn take(&mut self) -> Result<Branches, AllocError>
+        ensures trees { IfOk result (λ trees. trees ≡ self.old.0) }
+        ensures rest { OnOk result (self.new ≡ (no_branches, self.old.1)) }
+    {
+        let raws = self.take_raws()?;
+        self.nodes.truncate(self.hand.start);
+        let start = self.hand.start;
+        let Group { levels, .. } = replace(&mut self.hand, Group::new(self.alloc, start));
+        Ok(Branches { raws, levels })
+    }
+
+    /// Holds an operator over what was held, its operands.
+    pub fn apply(&mut self, first: u32, spot: Spot, op: Infix) -> Result<(), AllocError>
+        ensures tree { OnOk result (tree_of self.new.0 ≡ grow.node_over first (grow.apply_raw spot op self.old.0.raws) self.old.0.levels) }
+        ensures one { OnOk result (IsOne self.new.0) }
+        ensures frames { OnOk result (self.new.1 ≡ self.old.1) }
+    {
+        let raws = self.take_raws()?;
+        self.put(first, apply_raw(spot, op, raws))?;
+        Ok(())
+    }
+
+    /// Holds a list of what was held.
+    #[tactic(auto, unfolding(crate::specs::Grow::listing))]
+    pub fn list(&mut self, spot: Spot) -> Result<(), AllocError>
+        ensures tree { OnOk result (tree_of self.new.0 ≡ grow.listing spot self.old.0) }
+        ensures one { OnOk result (IsOne self.new.0) }
+        ensures frames { OnOk result (self.new.1 ≡ self.old.1) }
+    {
+        let raws = self.take_raws()?;
+        self.put(spot.token, list_raw(spot, raws))?;
+        Ok(())
+    }
+
+    /// Holds a word with neither arguments nor a body.
+    #[tactic(auto, unfolding(crate::specs::Grow::item, crate::specs::Grow::node_over, crate::specs::Grow::merged))]
+    pub fn name(&mut self, spot: Spot, word: Text) -> Result<(), AllocError>
+        requires { self.old.0 ≡ no_branches }
+        ensures tree { OnOk result (tree_of self.new.0 ≡ grow.item spot word None None) }
+        ensures one { OnOk result (IsOne self.new.0) }
+        ensures frames { OnOk result (self.new.1 ≡ self.old.1) }
+    {
+        let raw = Raw::Item {
+            place: spot.place,
+            word,
+            args: None,
+            body: None,
+        };
+        self.hold(spot.token, raw)?;
+        Ok(())
+    }
+
+    /// Holds a word with what was held as its arguments.
+    pub fn call(&mut self, spot: Spot, word: Text) -> Result<(), AllocError>
+        ensures tree { OnOk result (tree_of self.new.0 ≡ grow.item spot word (Some self.old.0) None) }
+        ensures one { OnOk result (IsOne self.new.0) }
+        ensures frames { OnOk result (self.new.1 ≡ self.old.1) }
+    {
+        let args = self.take_raws()?;
+        self.put(spot.token, item_raw(spot, word, given(args), Some(None)))?;
+        Ok(())
+    }
+
+    /// Holds a word with arguments, where there are any, and with what was held as its body.
+    pub fn block(
+        &mut self,
+        spot: Spot,
+        word: Text,
+        args: Option<Branches>,
+    ) -> Result<(), AllocError>
+        ensures tree { OnOk result (tree_of self.new.0 ≡ grow.item spot word args (Some self.old.0)) }
+        ensures one { OnOk result (IsOne self.new.0) }
+        ensures frames { OnOk result (self.new.1 ≡ self.old.1) }
+    {
+        let body = self.take_raws()?;
+        let args = self.go_behind(args)?;
+        self.put(spot.token, item_raw(spot, word, args, given(body)))?;
+        Ok(())
     }
 }

@@ -11,11 +11,11 @@ ghost use Rattle.asl_parser.specs.Written.{writtens};
 ghost use Rattle.asl_parser.specs.declared.raw.Raw.{Raw};
 
 use crate::branch::{Branches, TALLEST};
-use crate::frame::{Frame, Refusal, State};
+use crate::frame::Refusal;
 use crate::machine::{finish, step};
-use crate::mark::mark_of;
 use crate::nest::Nest;
 use crate::raw::RawUnit;
+use crate::stage::Stage;
 use asl_lexer::token::{Token, Tokens};
 use std::alloc::{AllocError, Global};
 
@@ -49,23 +49,19 @@ fn read(alloc: Global, tokens: &[Token]) -> Result<Branches, Syntax>
     requires { length tokens.now < 2 ^ 32 }
     ensures { Reaches result (marks 0 tokens.now) (spec.reading (marks 0 tokens.now)) }
 {
-    let mut frames = Nest::new(alloc);
-    frames.push(Frame::Unit {
-        done: Branches::new(alloc),
-    })?;
-    let mut state = State::Sequence;
+    let mut nest = Nest::new(alloc);
+    let mut stage = Stage::Sequence;
     for (at, token) in tokens.iter().enumerate() {
-        let mark = mark_of(alloc, at as u32, token)?;
-        state = match step(alloc, &mut frames, state, mark) {
+        stage = match step(&mut nest, stage, at as u32, token) {
             Ok(next) => next,
             Err(Refusal::Refused) => return Err(Syntax::Stop { token: at as u32 }),
             Err(Refusal::Memory) => return Err(Syntax::Memory),
         };
-        if frames.depth() > DEEPEST {
+        if nest.depth() > DEEPEST {
             return Err(Syntax::TooDeep { token: at as u32 });
         }
     }
-    match finish(alloc, &mut frames, state) {
+    match finish(&mut nest, stage) {
         Ok(items) => Ok(items),
         Err(Refusal::Refused) => Err(Syntax::Stop {
             token: tokens.len() as u32,

@@ -1,4 +1,6 @@
 pub mod FileLines
+pub mod Cuts
+pub mod Quotes
 pub mod Slashes
 pub mod Names
 pub mod Joined

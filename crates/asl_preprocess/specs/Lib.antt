@@ -1,7 +1,9 @@
 pub mod Rows
+pub mod Cuts
 pub mod Search
 pub mod State
 pub mod Lines
+pub mod Left
 pub mod Directives
 pub mod RowsByCode
 pub mod Preprocess

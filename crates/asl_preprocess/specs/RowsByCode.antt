@@ -8,7 +8,7 @@ use Rattle.asl_preprocess.specs.Rows.{Row, Directive, Ordinary, Between, file_li
 
 abbrev pub row_by : RowOfCode → Row
 row_by (by.Directive line text) = Directive line text.items
-row_by (by.Ordinary line in_comment text) = Ordinary line in_comment text.now
+row_by (by.Ordinary line in_comment text) = Ordinary line in_comment text.whole.now
 
 abbrev pub lines_left : Rows → ℕ
 lines_left rows = length (file_lines rows.rest.now)

@@ -2,6 +2,7 @@
 use Rattle.std.specs.Prelude.{◌≡◌, ℕ, ◌+◌, ◌≤◌, Bool, true, List, [], ⊤, Option, Some, None, Result, Ok, Err}
 use Rattle.std.specs.Result.{IsOkAnd}
 use Rattle.iasl_ports.specs.Fetched.{most_bytes}
+use Rattle.iasl_ports.specs.Gained.{Named}
 use Rattle.iasl_messages.specs.declared.place.Place.{Place}
 use Rattle.iasl_messages.specs.declared.message.Message.{Message}
 use Rattle.asl_macros.specs.Table.{Tells}
@@ -11,8 +12,10 @@ use Rattle.asl_preprocess.specs.declared.work.Work.{Work}
 use Rattle.asl_preprocess.specs.declared.halt.Halt.{Halt}
 use Rattle.asl_preprocess.specs.declared.halt.Halt.TheVariants.{At, ReadFault, Memory}
 use Rattle.asl_preprocess.specs.declared.directives.Wanted.{Wanted}
+use Rattle.asl_preprocess.specs.declared.reading.Setting.{Setting as SettingOfCode}
 use Rattle.asl_preprocess.specs.State.{State, Outcome, message_at, total_size}
 use Rattle.asl_preprocess.specs.Lines.{Deed, Goes, Asks}
+use Rattle.asl_preprocess.specs.Preprocess.{Setting, setting_of}
 
 -- the code's state is the definition's
 pub record Shows (work : Work) (state : State) : Type 0 where
@@ -22,6 +25,10 @@ pub record Shows (work : Work) (state : State) : Type 0 where
   pub files : work.files ≡ state.files
   pub size : work.size ≡ total_size state.lines
   pub room : work.size ≤ most_bytes + 1
+
+-- the code's setting, where these are the files that there are
+abbrev pub setting_by : List Named → SettingOfCode → Setting
+setting_by told setting = setting_of told setting.directories.now setting.enabled
 
 -- a refusal with this message, or want of memory
 abbrev pub Refuses : Halt → Message → Type 0

@@ -15,23 +15,13 @@ use asl_directives::forms::{definition_of, include_of, message_of, name_alone};
 use asl_directives::kind::{Kind, is_conditional, kind_of};
 use asl_directives::words::{behind_mark, blanks_before, past_blanks, split_word, trimmed};
 use asl_fragments::{ends_in_comment, without_comments};
+use iasl_messages::number::{
+    BAD_CONDITION, BAD_DIRECTIVE, ERROR_DIRECTIVE, MESSAGE_PRAGMA, UNBALANCED_CONDITIONALS,
+    WARNING_DIRECTIVE,
+};
 use iasl_messages::place::Place;
 use iasl_ports::list::Text;
 use std::alloc::{AllocError, Global};
-
-/// A wrong form of a directive.
-pub(crate) const WRONG_FORM: u16 = 6003;
-
-/// Conditionals that do not balance.
-pub(crate) const UNBALANCED: u16 = 6004;
-
-const ERROR: u16 = 6005;
-
-const BAD_CONDITION: u16 = 6006;
-
-const MESSAGE: u16 = 2001;
-
-const WARNING: u16 = 3004;
 
 /// A file that is asked for: its name as written, whether that stands in quotes, and the place of what asks.
 #[derive(Drop)]
@@ -44,13 +34,13 @@ pub(crate) struct Wanted {
 fn wrong(alloc: Global, place: Place) -> Halt
     ensures { Refuses result (message_at 6003 place []) }
 {
-    refusal(alloc, WRONG_FORM, place, b"")
+    refusal(alloc, BAD_DIRECTIVE, place, b"")
 }
 
 fn unbalanced(alloc: Global, place: Place) -> Halt
     ensures { Refuses result (message_at 6004 place []) }
 {
-    refusal(alloc, UNBALANCED, place, b"")
+    refusal(alloc, UNBALANCED_CONDITIONALS, place, b"")
 }
 
 fn define(alloc: Global, work: &mut Work, place: Place, rest: &[u8]) -> Result<(), Halt>
@@ -199,7 +189,7 @@ fn end_if(alloc: Global, work: &Work, branches: &mut Branches, place: Place) -> 
 fn warn(alloc: Global, work: &mut Work, place: Place, rest: &[u8]) -> Result<(), Halt>
     ensures { (state : State) (branches : List Branch) → Shows work.old state → Steps result work.new branches (spec.obeyed Kind.Warning place rest.now (record { state = state; branches = branches })) }
 {
-    work.note(alloc, WARNING, place, trimmed(rest))?;
+    work.note(alloc, WARNING_DIRECTIVE, place, trimmed(rest))?;
     Ok(())
 }
 
@@ -208,7 +198,7 @@ fn pragma(alloc: Global, work: &mut Work, place: Place, rest: &[u8]) -> Result<(
 {
     match message_of(rest) {
         Some(text) => {
-            work.note(alloc, MESSAGE, place, text)?;
+            work.note(alloc, MESSAGE_PRAGMA, place, text)?;
             Ok(())
         }
         None => Err(wrong(alloc, place)),
@@ -249,7 +239,7 @@ fn step(
         Kind::ElseIf => else_if(alloc, work, branches, place, rest),
         Kind::Else => else_(alloc, work, branches, place),
         Kind::EndIf => end_if(alloc, work, branches, place),
-        Kind::Error => Err(refusal(alloc, ERROR, place, trimmed(rest))),
+        Kind::Error => Err(refusal(alloc, ERROR_DIRECTIVE, place, trimmed(rest))),
         Kind::Warning => warn(alloc, work, place, rest),
         Kind::Pragma => pragma(alloc, work, place, rest),
         Kind::Include => unreachable!(),

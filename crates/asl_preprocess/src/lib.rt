@@ -5,13 +5,12 @@ mod define;
 mod directives;
 mod files;
 mod halt;
+mod line_text;
 mod lines;
 mod main_file;
 mod reading;
 mod rows;
 mod search;
-#[cfg(test)]
-mod tests;
 mod work;
 
 pub use define::{Define, Defines};

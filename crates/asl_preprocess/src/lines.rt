@@ -7,16 +7,27 @@ ghost use Rattle.asl_fragments.specs.Fragments.{without_comments as without_comm
 ghost use Rattle.asl_directives.specs.Forms.{file_name_of, include_line as include_line_of};
 ghost use Rattle.asl_preprocess.specs.Told.{Shows, Does, IncludesName};
 
-use crate::directives::{WRONG_FORM, Wanted, column_behind};
+use crate::directives::{Wanted, column_behind};
 use crate::halt::{Halt, refusal};
+use crate::line_text::LineText;
 use crate::work::Work;
 use asl_directives::branches::Branches;
 use asl_directives::forms::{file_name, include_line};
 use asl_directives::words::{blanks_before, past_blanks};
 use asl_fragments::{ends_in_comment, without_comments};
+use iasl_messages::number::BAD_DIRECTIVE;
 use iasl_messages::place::Place;
 use iasl_ports::list::Text;
 use std::alloc::{AllocError, Global};
+
+/// A line that is no directive: its file, its number there, whether it begins inside a block comment, and its text.
+#[derive(Clone, Copy)]
+pub(crate) struct OrdinaryLine<'a> {
+    pub(crate) file: u32,
+    pub(crate) number: u32,
+    pub(crate) in_comment: bool,
+    pub(crate) text: LineText<'a>,
+}
 
 // The file that a line of its own `Include ("f")` asks for.
 fn wanted(alloc: Global, place: Place, name: &[u8]) -> Result<Wanted, Halt>
@@ -28,7 +39,7 @@ fn wanted(alloc: Global, place: Place, name: &[u8]) -> Result<Wanted, Halt>
             name: Text::from_bytes(alloc, name.as_bytes())?,
             place,
         }),
-        None => Err(refusal(alloc, WRONG_FORM, place, b"")),
+        None => Err(refusal(alloc, BAD_DIRECTIVE, place, b"")),
     }
 }
 
@@ -43,14 +54,14 @@ fn may_include(text: &[u8]) -> bool
 }
 
 // Whether a line may be an `Include ("f")` of its own.
-fn may_ask(in_comment: bool, text: &[u8]) -> bool
-    ensures no { result ≡ false → spec.asked_by_line in_comment text.now ≡ None }
-    ensures yes { result ≡ true → spec.asked_by_line in_comment text.now ≡ include_line_of (without_comments_of false text.now) }
+fn may_ask(in_comment: bool, text: &LineText<'_>) -> bool
+    ensures no { result ≡ false → spec.asked_by_line in_comment text.now.whole.now ≡ None }
+    ensures yes { result ≡ true → spec.asked_by_line in_comment text.now.whole.now ≡ include_line_of (without_comments_of false text.now.whole.now) }
 {
-    if !may_include(text) {
+    if text.plain || !may_include(text.whole) {
         return false;
     }
-    !in_comment && !ends_in_comment(text, in_comment)
+    !in_comment && !ends_in_comment(text.whole, in_comment)
 }
 
 // What a line that stands outside block comments asks for, comments aside, and the column of its word.
@@ -67,28 +78,29 @@ fn asked(alloc: Global, text: &[u8]) -> Result<Option<(u32, Text)>, AllocError>
     }
 }
 
-/// A line of the file of this number.
+/// What becomes of such a line.
 pub(crate) fn line(
     alloc: Global,
     enabled: bool,
     work: &mut Work,
     branches: &Branches,
-    file: u32,
-    line: u32,
-    in_comment: bool,
-    text: &[u8],
+    line: &OrdinaryLine<'_>,
 ) -> Result<Option<Wanted>, Halt>
-    ensures { (state : State) → Shows work.old state → Does result work.new branches.now (spec.of_line enabled file line in_comment text.now (record { state = state; branches = branches.now })) }
+    ensures { (state : State) → Shows work.old state → Does result work.new branches.now (spec.of_line enabled line.now.file line.now.number line.now.in_comment line.now.text.whole.now (record { state = state; branches = branches.now })) }
 {
     if !branches.is_read() {
         return Ok(None);
     }
-    if may_ask(in_comment, text) {
-        if let Some((column, name)) = asked(alloc, text)? {
-            let place = Place { file, line, column };
+    if may_ask(line.in_comment, &line.text) {
+        if let Some((column, name)) = asked(alloc, line.text.whole)? {
+            let place = Place {
+                file: line.file,
+                line: line.number,
+                column,
+            };
             return Ok(Some(wanted(alloc, place, name.as_bytes())?));
         }
     }
-    work.keep(alloc, enabled, file, line, in_comment, text)?;
+    work.keep(alloc, enabled, line)?;
     Ok(None)
 }

@@ -9,16 +9,14 @@ ghost use Rattle.asl_preprocess.specs.Stops.{IsStop, HasPlace, Causes, MainCause
 
 use crate::define::Defines;
 use crate::halt::Halt;
-use crate::reading::read_file;
+use crate::reading::{OpenFile, Setting, read_file};
 use crate::work::Work;
 use iasl_messages::message::{Message, Messages};
+use iasl_messages::number::TEXT_IS_TOO_LARGE;
 use iasl_messages::place::{Lines, Place};
 use iasl_ports::files::{FetchFault, Files};
 use iasl_ports::list::{Text, Texts};
 use std::alloc::{AllocError, Global};
-
-/// The number of the message that a text is too large.
-const TOO_LARGE: u16 = 6007;
 
 /// How many levels of included files there may be below the main file.
 const MOST_LEVELS: u32 = 32;
@@ -116,17 +114,16 @@ fn read_main<F: Files>(
     ensures later { F.faults files.old ≤ F.faults files.new }
 {
     let mut work = first_work(alloc, name, defines)?;
-    match read_file(
-        alloc,
-        files,
-        dirs,
+    let setting = Setting {
+        directories: dirs,
         enabled,
-        MOST_LEVELS,
-        0,
-        name.as_bytes(),
-        bytes,
-        &mut work,
-    ) {
+    };
+    let main = OpenFile {
+        number: 0,
+        name: name.as_bytes(),
+        levels: MOST_LEVELS,
+    };
+    match read_file(alloc, files, &setting, &main, bytes, &mut work) {
         Ok(()) => Ok(last_work(alloc, work)?),
         Err(Halt::At(message)) => Err(refused(alloc, message, &work)),
         Err(Halt::ReadFault) => Err(PreStop::ReadFault),
@@ -149,7 +146,7 @@ fn too_large(alloc: Global, name: &str) -> PreStop
     match one_name(alloc, name) {
         Ok(files) => PreStop::Refused {
             message: Message {
-                number: TOO_LARGE,
+                number: TEXT_IS_TOO_LARGE,
                 place: Place {
                     file: 0,
                     line: 1,

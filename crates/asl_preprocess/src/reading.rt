@@ -7,28 +7,40 @@ ghost use Rattle.asl_preprocess.specs.RowsByCode.{row_by};
 ghost use Rattle.asl_preprocess.specs.Search.{Whole, names_for as names_of, search as searched};
 ghost use Rattle.asl_preprocess.specs.State.{State, Pass, number_of, with_file, with_files, then as and_then};
 ghost use Rattle.asl_preprocess.specs.Preprocess as spec;
-ghost use Rattle.asl_preprocess.specs.Told.{Shows, Does, asked_for};
+ghost use Rattle.asl_preprocess.specs.Told.{Shows, Does, asked_for, setting_by};
 ghost use Rattle.asl_preprocess.specs.Sound.{IsSound};
 ghost use Rattle.asl_preprocess.specs.Reached.{Stands, StandsIn, Reaches, Counts, Ends};
 ghost use Rattle.asl_preprocess.specs.Searching.{SeekStops};
 
-use crate::directives::{UNBALANCED, Wanted, directive};
+use crate::directives::{Wanted, directive};
 use crate::halt::{Halt, refusal};
-use crate::lines::line as ordinary;
+use crate::lines::{OrdinaryLine, line as ordinary};
 use crate::rows::{Row, Rows};
 use crate::search::{Found, names_for, search};
 use crate::work::Work;
 use asl_directives::branches::Branches;
+use iasl_messages::number::{
+    INCLUDE_IS_ABSENT, INCLUDES_TOO_DEEP, TEXT_IS_TOO_LARGE, UNBALANCED_CONDITIONALS,
+};
 use iasl_messages::place::Place;
 use iasl_ports::files::Files;
 use iasl_ports::list::{Text, Texts};
 use std::alloc::{AllocError, Global};
 
-const ABSENT: u16 = 6001;
+/// What holds for all files: the further directories, and whether the preprocessor is enabled.
+#[derive(Clone, Copy)]
+pub(crate) struct Setting<'a> {
+    pub(crate) directories: &'a Texts,
+    pub(crate) enabled: bool,
+}
 
-const TOO_DEEP: u16 = 6002;
-
-const TOO_LARGE: u16 = 6007;
+/// A file that is read: its number, its name, and how many levels of files there may be below it.
+#[derive(Clone, Copy)]
+pub(crate) struct OpenFile<'a> {
+    pub(crate) number: u32,
+    pub(crate) name: &'a [u8],
+    pub(crate) levels: u32,
+}
 
 fn take_row(
     alloc: Global,
@@ -46,7 +58,15 @@ fn take_row(
             line,
             in_comment,
             text,
-        } => ordinary(alloc, enabled, work, branches, file, line, in_comment, text),
+        } => {
+            let line = OrdinaryLine {
+                file,
+                number: line,
+                in_comment,
+                text,
+            };
+            ordinary(alloc, enabled, work, branches, &line)
+        }
     }
 }
 
@@ -88,91 +108,84 @@ fn seek<F: Files>(
                 bytes,
             })
         }
-        Ok(Found::Missing) => Err(refusal(alloc, ABSENT, wanted.place, wanted.name.as_bytes())),
+        Ok(Found::Missing) => Err(refusal(
+            alloc,
+            INCLUDE_IS_ABSENT,
+            wanted.place,
+            wanted.name.as_bytes(),
+        )),
         Ok(Found::Large) => {
             let place = Place {
                 file: wanted.place.file,
                 line: wanted.place.line,
                 column: 1,
             };
-            Err(refusal(alloc, TOO_LARGE, place, b""))
+            Err(refusal(alloc, TEXT_IS_TOO_LARGE, place, b""))
         }
         Err(halt) => Err(halt),
     }
 }
 
-// The file that is asked for, in place of what asks.
+// The file that is asked for in the file `own`, in place of what asks.
 #[cycle(reading)]
 fn include<F: Files>(
     alloc: Global,
     files: &mut F,
-    directories: &Texts,
-    enabled: bool,
-    levels: u32,
-    own: &[u8],
+    setting: &Setting<'_>,
+    own: &OpenFile<'_>,
     work: &mut Work,
     wanted: &Wanted,
 ) -> Result<(), Halt>
     ensures reached { (state : State) → Shows work.old state → IsSound state → wanted.now.place.file < length state.files
         → Reaches result (F.contents files.old) work.new.files (λ later. Stands work.new later (length state.files))
-        (λ told. spec.included (spec.reading_at (spec.setting_of told directories.now enabled) levels) (spec.setting_of told directories.now enabled) own.now (asked_for wanted.now) wanted.now.place state) }
+        (λ told. spec.included (spec.reading_at (setting_by told setting.now) own.now.levels) (setting_by told setting.now) own.now.name.now (asked_for wanted.now) wanted.now.place state) }
     ensures fault { (state : State) → Shows work.old state → IsSound state → wanted.now.place.file < length state.files → IfErr result (λ halt. Counts halt (F.faults files.old) (F.faults files.new)) }
     ensures faults { OnOk result (F.faults files.new ≡ F.faults files.old) }
     ensures contents { F.contents files.new ≡ F.contents files.old }
     ensures later { F.faults files.old ≤ F.faults files.new }
 {
-    if levels == 0 {
-        return Err(refusal(alloc, TOO_DEEP, wanted.place, wanted.name.as_bytes()));
-    }
-    match seek(alloc, files, directories, own, work, wanted) {
-        Ok(found) => read_file(
+    if own.levels == 0 {
+        return Err(refusal(
             alloc,
-            files,
-            directories,
-            enabled,
-            levels - 1,
-            found.number,
-            found.name.as_bytes(),
-            &found.bytes,
-            work,
-        ),
+            INCLUDES_TOO_DEEP,
+            wanted.place,
+            wanted.name.as_bytes(),
+        ));
+    }
+    match seek(alloc, files, setting.directories, own.name, work, wanted) {
+        Ok(found) => {
+            let file = OpenFile {
+                number: found.number,
+                name: found.name.as_bytes(),
+                levels: own.levels - 1,
+            };
+            read_file(alloc, files, setting, &file, &found.bytes, work)
+        }
         Err(halt) => Err(halt),
     }
 }
 
-// A row of the file of this number and name.
+// A row of a file.
 #[cycle(reading)]
 fn pass_row<F: Files>(
     alloc: Global,
     files: &mut F,
-    directories: &Texts,
-    enabled: bool,
-    levels: u32,
-    file: u32,
-    own: &[u8],
+    setting: &Setting<'_>,
+    file: &OpenFile<'_>,
     row: Row<'_>,
     work: &mut Work,
     branches: &mut Branches,
 ) -> Result<(), Halt>
-    ensures reached { (state : State) → Shows work.old state → IsSound state → file < length state.files
+    ensures reached { (state : State) → Shows work.old state → IsSound state → file.now.number < length state.files
         → Reaches result (F.contents files.old) work.new.files (λ later. StandsIn work.new branches.new later (length state.files))
-        (λ told. and_then (spec.of_row enabled file (row_by row.entry) (record { state = state; branches = branches.old })) (spec.done (spec.reading_at (spec.setting_of told directories.now enabled) levels) (spec.setting_of told directories.now enabled) own.now)) }
-    ensures fault { (state : State) → Shows work.old state → IsSound state → file < length state.files → IfErr result (λ halt. Counts halt (F.faults files.old) (F.faults files.new)) }
+        (λ told. and_then (spec.of_row setting.now.enabled file.now.number (row_by row.entry) (record { state = state; branches = branches.old })) (spec.done (spec.reading_at (setting_by told setting.now) file.now.levels) (setting_by told setting.now) file.now.name.now)) }
+    ensures fault { (state : State) → Shows work.old state → IsSound state → file.now.number < length state.files → IfErr result (λ halt. Counts halt (F.faults files.old) (F.faults files.new)) }
     ensures faults { OnOk result (F.faults files.new ≡ F.faults files.old) }
     ensures contents { F.contents files.new ≡ F.contents files.old }
     ensures later { F.faults files.old ≤ F.faults files.new }
 {
-    match take_row(alloc, enabled, work, branches, file, row) {
-        Ok(Some(wanted)) => include(
-            alloc,
-            files,
-            directories,
-            enabled,
-            levels,
-            own,
-            work,
-            &wanted,
-        ),
+    match take_row(alloc, setting.enabled, work, branches, file.number, row) {
+        Ok(Some(wanted)) => include(alloc, files, setting, file, work, &wanted),
         Ok(None) => Ok(()),
         Err(halt) => Err(halt),
     }
@@ -190,51 +203,37 @@ fn end(alloc: Global, file: u32, branches: &Branches) -> Result<(), Halt>
                 line: branch.line,
                 column: branch.column,
             };
-            Err(refusal(alloc, UNBALANCED, place, b""))
+            Err(refusal(alloc, UNBALANCED_CONDITIONALS, place, b""))
         }
     }
 }
 
-/// Reads a file, which may have this many levels of files below it.
+/// Reads a file whose bytes are these.
 #[cycle(reading)]
 pub(crate) fn read_file<F: Files>(
     alloc: Global,
     files: &mut F,
-    directories: &Texts,
-    enabled: bool,
-    levels: u32,
-    file: u32,
-    own: &[u8],
+    setting: &Setting<'_>,
+    file: &OpenFile<'_>,
     bytes: &[u8],
     work: &mut Work,
 ) -> Result<(), Halt>
     requires { length bytes.now ≤ most_bytes }
-    ensures reached { (state : State) → Shows work.old state → IsSound state → file < length state.files → file ≡ number_of own.now state.files
+    ensures reached { (state : State) → Shows work.old state → IsSound state → file.now.number < length state.files → file.now.number ≡ number_of file.now.name.now state.files
         → Reaches result (F.contents files.old) work.new.files (λ later. Stands work.new later (length state.files))
-        (λ told. spec.of_file (spec.setting_of told directories.now enabled) levels state own.now bytes.now) }
-    ensures fault { (state : State) → Shows work.old state → IsSound state → file < length state.files → IfErr result (λ halt. Counts halt (F.faults files.old) (F.faults files.new)) }
+        (λ told. spec.of_file (setting_by told setting.now) file.now.levels state file.now.name.now bytes.now) }
+    ensures fault { (state : State) → Shows work.old state → IsSound state → file.now.number < length state.files → IfErr result (λ halt. Counts halt (F.faults files.old) (F.faults files.new)) }
     ensures faults { OnOk result (F.faults files.new ≡ F.faults files.old) }
     ensures contents { F.contents files.new ≡ F.contents files.old }
     ensures later { F.faults files.old ≤ F.faults files.new }
 {
     let mut branches = Branches::new(alloc);
-    let mut rows = Rows::new(bytes, enabled);
+    let mut rows = Rows::new(bytes, setting.enabled);
     while let Some(row) = rows.next(alloc)? {
-        match pass_row(
-            alloc,
-            files,
-            directories,
-            enabled,
-            levels,
-            file,
-            own,
-            row,
-            work,
-            &mut branches,
-        ) {
+        match pass_row(alloc, files, setting, file, row, work, &mut branches) {
             Ok(()) => {}
             Err(halt) => return Err(halt),
         }
     }
-    end(alloc, file, &branches)
+    end(alloc, file.number, &branches)
 }

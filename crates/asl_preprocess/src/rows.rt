@@ -1,12 +1,16 @@
 //! The rows of a file: its lines, where a directive that goes on in further lines is one row with them.
-ghost use Rattle.std.specs.Prelude.{◌≡◌, ◌∷◌, ◌++◌, ◌+◌, ◌≤◌, ◌<◌, ◌^◌, [], ℕ, length, IfOk, IfNone, OnSome, MatchOption};
+ghost use Rattle.std.specs.Prelude.{◌≡◌, ◌∷◌, ◌++◌, ◌+◌, ◌≤◌, ◌<◌, ◌^◌, ◌==◌, [], ℕ, length, take, position, Some, IfOk, IfSome, IfNone, OnSome, MatchOption};
 ghost use Rattle.std.specs.Option.{option_copied};
 ghost use Rattle.iasl_ports.specs.Fetched.{most_bytes};
+ghost use Rattle.iasl_messages.specs.Cut.{without_cr as without_cr_of};
+ghost use Rattle.asl_fragments.specs.Fragments.{ends_in_comment as ends_in_comment_of};
 ghost use Rattle.asl_preprocess.specs.Rows as spec;
+ghost use Rattle.asl_preprocess.specs.Cuts.{IsClosed, IsPlainBelow, AsksNothing};
 
-use asl_directives::words::behind_mark;
+use crate::line_text::{LineText, behind_blanks};
 use asl_fragments::ends_in_comment;
 use iasl_messages::cut::cut_line;
+use memchr::memchr3;
 use std::alloc::{AllocError, Global};
 
 /// A row, with the number of its first line: a directive; or any other line, which may begin inside a block comment.
@@ -19,21 +23,77 @@ pub(crate) enum Row<'a> {
     Ordinary {
         line: u32,
         in_comment: bool,
-        text: &'a [u8],
+        text: LineText<'a>,
     },
 }
 
-// The first line of a file, and what stands behind it; none where there is no line.
+// A line without the CR at its end, if it has one.
+fn without_cr(line: &[u8]) -> &[u8]
+    ensures { result.now ≡ without_cr_of line.now }
+{
+    match line.strip_suffix(b"\r") {
+        Some(front) => front,
+        None => line,
+    }
+}
+
+// The first line of a text that is not empty, and what stands behind it.
 #[tactic(auto, using(crate::proofs::FileLines::lines_then, crate::proofs::FileLines::lines_last))]
-fn first_line(text: &[u8]) -> Option<(&[u8], &[u8])>
-    ensures { MatchOption result (spec.file_lines text.now ≡ []) (λ cut. spec.file_lines text.now ≡ cut.0.now ∷ spec.file_lines cut.1.now) }
+fn any_line(text: &[u8]) -> (&[u8], &[u8])
+    requires { 0 < length text.now }
+    ensures { spec.file_lines text.now ≡ result.0.now ∷ spec.file_lines result.1.now }
+{
+    match cut_line(text) {
+        Some(cut) => cut,
+        None => text.split_at(text.len()),
+    }
+}
+
+// A text that is not empty, cut at this place, where its first LF stands.
+fn cut_at(text: &[u8], place: usize) -> (&[u8], &[u8])
+    requires lf { position (λ c. c == 10) text.now ≡ Some place }
+    requires within { place < length text.now }
+    ensures cut { spec.file_lines text.now ≡ result.0.now ∷ spec.file_lines result.1.now }
+    ensures line { result.0.now ≡ without_cr_of (take place text.now) }
+{
+    let line = text.split_at(place).0;
+    let rest = text.split_at(place + 1).1;
+    (without_cr(line), rest)
+}
+
+// The place of the first LF of a text, where neither a `"` nor a `/` stands before it.
+fn plain_end(text: &[u8]) -> Option<usize>
+    ensures lf { IfSome result (λ place. position (λ c. c == 10) text.now ≡ Some place) }
+    ensures within { IfSome result (λ place. place < length text.now) }
+    ensures plain { IfSome result (λ place. IsPlainBelow place text.now) }
+{
+    let place = memchr3(b'\n', b'"', b'/', text)?;
+    if text[place] == b'\n' {
+        Some(place)
+    } else {
+        None
+    }
+}
+
+// The first line of a file, what stands behind it, and whether the line is plain: it has neither a `"` nor a `/`. None
+// where there is no line.
+fn first_line(text: &[u8]) -> Option<(&[u8], &[u8], bool)>
+    ensures line { MatchOption result (spec.file_lines text.now ≡ []) (λ cut. spec.file_lines text.now ≡ cut.0.now ∷ spec.file_lines cut.1.now) }
+    ensures closed { IfSome result (λ cut. IsClosed cut.2 cut.0.now) }
+    ensures asks_nothing { IfSome result (λ cut. AsksNothing cut.2 cut.0.now) }
 {
     if text.is_empty() {
         return None;
     }
-    match cut_line(text) {
-        Some(cut) => Some(cut),
-        None => Some(text.split_at(text.len())),
+    match plain_end(text) {
+        Some(place) => {
+            let (line, rest) = cut_at(text, place);
+            Some((line, rest, true))
+        }
+        None => {
+            let (line, rest) = any_line(text);
+            Some((line, rest, false))
+        }
     }
 }
 
@@ -41,7 +101,19 @@ fn first_line(text: &[u8]) -> Option<(&[u8], &[u8])>
 fn begins_directive(in_comment: bool, line: &[u8]) -> bool
     ensures { result ≡ spec.begins_directive in_comment line.now }
 {
-    !in_comment && behind_mark(line, b'#').is_some()
+    !in_comment && matches!(behind_blanks(line), [b'#', ..])
+}
+
+// Whether a block comment is open behind a line.
+fn is_open_behind(in_comment: bool, line: &[u8], plain: bool) -> bool
+    requires { IsClosed plain line.now }
+    ensures { result ≡ ends_in_comment_of in_comment line.now }
+{
+    if plain && !in_comment {
+        false
+    } else {
+        ends_in_comment(line, in_comment)
+    }
 }
 
 // A text without the `\` at its end; none where it does not end so.
@@ -79,20 +151,22 @@ impl<'a> Rows<'a> {
         }
     }
 
-    // The next line.
-    fn next_line(&mut self) -> Option<&'a [u8]>
+    // The next line, and whether it is plain.
+    fn next_line(&mut self) -> Option<(&'a [u8], bool)>
         requires { self.old.number + lines_left self.old < 2 ^ 32 }
-        ensures line { MatchOption result (spec.file_lines self.old.rest.now ≡ []) (λ line. spec.file_lines self.old.rest.now ≡ line.now ∷ spec.file_lines self.new.rest.now) }
+        ensures line { MatchOption result (spec.file_lines self.old.rest.now ≡ []) (λ line. spec.file_lines self.old.rest.now ≡ line.0.now ∷ spec.file_lines self.new.rest.now) }
+        ensures closed { IfSome result (λ line. IsClosed line.1 line.0.now) }
+        ensures asks_nothing { IfSome result (λ line. AsksNothing line.1 line.0.now) }
         ensures none { IfNone result (self.new ≡ self.old) }
         ensures number { OnSome result (self.new.number ≡ self.old.number + 1) }
         ensures in_comment { self.new.in_comment ≡ self.old.in_comment }
         ensures enabled { self.new.enabled ≡ self.old.enabled }
         ensures room { self.new.number + lines_left self.new ≡ self.old.number + lines_left self.old }
     {
-        let (line, rest) = first_line(self.rest)?;
+        let (line, rest, plain) = first_line(self.rest)?;
         self.rest = rest;
         self.number += 1;
-        Some(line)
+        Some((line, plain))
     }
 
     // The text of a directive that begins with this line, joined with the lines in which it goes on.
@@ -108,7 +182,7 @@ impl<'a> Rows<'a> {
             let len = front.len();
             text.truncate(len);
             match self.next_line() {
-                Some(next) => text.extend_from_slice(next)?,
+                Some((next, _)) => text.extend_from_slice(next)?,
                 None => break,
             }
         }
@@ -121,21 +195,21 @@ impl<'a> Rows<'a> {
         ensures row { IfOk result (λ row. MatchOption row (rows_left self.old ≡ []) (λ row. rows_left self.old ≡ row_by row ∷ rows_left self.new)) }
         ensures room { self.new.number + lines_left self.new ≡ self.old.number + lines_left self.old }
     {
-        let Some(text) = self.next_line() else {
+        let Some((whole, plain)) = self.next_line() else {
             return Ok(None);
         };
         let line = self.number;
         let in_comment = self.in_comment;
-        if self.enabled && begins_directive(in_comment, text) {
+        if self.enabled && begins_directive(in_comment, whole) {
             self.in_comment = false;
-            let text = self.join(alloc, text)?;
+            let text = self.join(alloc, whole)?;
             return Ok(Some(Row::Directive { line, text }));
         }
-        self.in_comment = ends_in_comment(text, in_comment);
+        self.in_comment = is_open_behind(in_comment, whole, plain);
         Ok(Some(Row::Ordinary {
             line,
             in_comment,
-            text,
+            text: LineText { whole, plain },
         }))
     }
 }

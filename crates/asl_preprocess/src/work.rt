@@ -1,20 +1,20 @@
 //! What is known between two rows.
-ghost use Rattle.std.specs.Prelude.{◌≡◌, ◌∷◌, ◌++◌, ◌≤◌, ◌<◌, [], ℕ, List, length, OnOk, IfErr, IfOk};
+ghost use Rattle.std.specs.Prelude.{◌≡◌, ◌∷◌, ◌++◌, ◌≤◌, ◌<◌, [], ℕ, List, length, OnOk, IfErr, IfOk, true, false};
 ghost use Rattle.iasl_ports.specs.Fetched.{most_bytes};
 ghost use Rattle.asl_macros.specs.History.{History};
 ghost use Rattle.asl_preprocess.specs.State.{message_at, total_size};
+ghost use Rattle.asl_preprocess.specs.Left.{Leaves};
 
 use crate::files::FileNames;
 use crate::halt::{Halt, refusal};
-use asl_macros::{Macros, ReplaceStop, Within, replace};
+use crate::lines::OrdinaryLine;
+use asl_macros::{Macros, ReplaceStop, Within, replace_names, stays};
 use iasl_messages::message::{Message, Messages};
+use iasl_messages::number::TEXT_IS_TOO_LARGE;
 use iasl_messages::place::{Line, LineList, Place};
 use iasl_ports::files::MOST_BYTES;
 use iasl_ports::list::Text;
 use std::alloc::{AllocError, Global};
-
-/// The number of the message that a text is too large.
-const TOO_LARGE: u16 = 6007;
 
 /// The definitions; the lines so far, with their size joined and an LF behind each; the notes so far; and the names of
 /// the files that were fetched.
@@ -27,9 +27,19 @@ pub(crate) struct Work {
     pub(crate) files: FileNames,
 }
 
+// A text as it is, if it has room.
+fn whole(alloc: Global, text: &[u8], room: usize) -> Result<Text, ReplaceStop>
+    ensures { Leaves result room text.now }
+{
+    if text.len() > room {
+        return Err(ReplaceStop::TooLong);
+    }
+    Ok(Text::from_bytes(alloc, text)?)
+}
+
 impl Work {
     ghost use Rattle.asl_macros.specs.History.{Defines, Undefines};
-    ghost use Rattle.asl_macros.specs.Replacement.{replaced, Gives};
+    ghost use Rattle.asl_macros.specs.Replacement.{replaced};
     ghost use Rattle.asl_macros.specs.Table.{Tells};
     ghost use Rattle.asl_directives.specs.declared.branches.Branch.{Branch};
     ghost use Rattle.asl_preprocess.specs.State.{State, with_history, with_notes, with_file, with_files, number_of};
@@ -94,27 +104,36 @@ impl Work {
         self.files.add(alloc, name)
     }
 
+    // Whether a line stays as it is.
+    fn stays(&self, enabled: bool, line: &OrdinaryLine<'_>) -> bool
+        ensures yes { result ≡ true → (history : History) → Tells self.now.macros history → text_left enabled history line.now.in_comment line.now.text.whole.now ≡ line.now.text.whole.now }
+        ensures no { result ≡ false → enabled ≡ true }
+    {
+        !enabled || stays(&self.macros, line.text.whole, line.in_comment)
+    }
+
     // The text that is left of a line, if it has room.
     fn text_left(
         &self,
         alloc: Global,
         enabled: bool,
-        in_comment: bool,
-        text: &[u8],
+        line: &OrdinaryLine<'_>,
         room: usize,
-    ) -> Result<Vec<u8>, ReplaceStop>
-        ensures { (history : History) → Tells self.now.macros history → Gives result room (text_left enabled history in_comment text.now) }
+    ) -> Result<Text, ReplaceStop>
+        ensures { (history : History) → Tells self.now.macros history → Leaves result room (text_left enabled history line.now.in_comment line.now.text.whole.now) }
     {
-        if enabled {
-            replace(alloc, &self.macros, Within::InLine, text, in_comment, room)
-        } else if text.len() > room {
-            Err(ReplaceStop::TooLong)
-        } else {
-            match text.to_vec(alloc) {
-                Ok(left) => Ok(left),
-                Err(AllocError) => Err(ReplaceStop::Memory),
-            }
+        if self.stays(enabled, line) {
+            return whole(alloc, line.text.whole, room);
         }
+        let left = replace_names(
+            alloc,
+            &self.macros,
+            Within::InLine,
+            line.text.whole,
+            line.in_comment,
+            room,
+        )?;
+        Ok(Text::from_vec(alloc, left)?)
     }
 
     /// Keeps a line, with its defined names replaced where the preprocessor is enabled.
@@ -122,34 +141,31 @@ impl Work {
         &mut self,
         alloc: Global,
         enabled: bool,
-        file: u32,
-        line: u32,
-        in_comment: bool,
-        text: &[u8],
+        line: &OrdinaryLine<'_>,
     ) -> Result<(), Halt>
         ensures { (state : State) (branches : List Branch) → Shows self.old state → Steps result self.new branches
-            (with_line (record { state = state; branches = branches }) (record { file = file; number = line; text = text_left enabled state.history in_comment text.now })) }
+            (with_line (record { state = state; branches = branches }) (record { file = line.now.file; number = line.now.number; text = text_left enabled state.history line.now.in_comment line.now.text.whole.now })) }
     {
         let place = Place {
-            file,
-            line,
+            file: line.file,
+            line: line.number,
             column: 1,
         };
         let Some(room) = MOST_BYTES.checked_sub(self.size) else {
-            return Err(refusal(alloc, TOO_LARGE, place, b""));
+            return Err(refusal(alloc, TEXT_IS_TOO_LARGE, place, b""));
         };
-        match self.text_left(alloc, enabled, in_comment, text, room) {
-            Ok(left) => {
-                let size = left.len();
+        match self.text_left(alloc, enabled, line, room) {
+            Ok(text) => {
+                let size = text.as_bytes().len();
                 self.lines.push(Line {
-                    file,
-                    number: line,
-                    text: Text::from_vec(alloc, left)?,
+                    file: line.file,
+                    number: line.number,
+                    text,
                 })?;
                 self.size += size + 1;
                 Ok(())
             }
-            Err(ReplaceStop::TooLong) => Err(refusal(alloc, TOO_LARGE, place, b"")),
+            Err(ReplaceStop::TooLong) => Err(refusal(alloc, TEXT_IS_TOO_LARGE, place, b"")),
             Err(ReplaceStop::Memory) => Err(Halt::Memory),
         }
     }

@@ -12,6 +12,7 @@ use asl_words::operator::{Parameter, Slot};
 use asl_words::parameters::{macro_parameters, offset_parameters, parameters_of};
 use asl_words::paths::parts;
 use asl_words::resources::descriptor_parameters;
+use iasl_messages::number::{NOT_ALLOWED_HERE, UNKNOWN_OPERATOR, WRONG_ARGUMENT_COUNT, WRONG_BODY};
 
 #[tactic(auto, using(asl_parser::proofs::Views::written_rules))]
 fn is_empty(raw: &Raw) -> bool
@@ -97,16 +98,16 @@ pub fn item_fault(
     ensures { result ≡ words.item_fault slot inside.method meaning (at.has_arguments_at meaning args.now) has_body }
 {
     if is_unknown(meaning) {
-        return Some(6020);
+        return Some(UNKNOWN_OPERATOR);
     }
     if !may_be(slot, inside.method, meaning) {
-        return Some(6025);
+        return Some(NOT_ALLOWED_HERE);
     }
     if !has_arguments(meaning, args) {
-        return Some(6021);
+        return Some(WRONG_ARGUMENT_COUNT);
     }
     if !is_same(wants_braces(meaning), has_body) {
-        return Some(6023);
+        return Some(WRONG_BODY);
     }
     None
 }

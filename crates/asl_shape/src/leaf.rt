@@ -16,6 +16,7 @@ use asl_words::meaning::{Meaning, meaning_of, takes_expression, takes_known, unf
 use asl_words::operator::{Known, Slot, StringForm, WordKind};
 use asl_words::paths::path_of;
 use asl_words::texts::{has_form, is_text};
+use iasl_messages::number::{NOT_ALLOWED_HERE, VALUE_OUT_OF_RANGE, WRONG_ARGUMENT_FORM};
 use iasl_messages::place::Place;
 use iasl_ports::list::Text;
 use std::alloc::{AllocError, Global};
@@ -49,7 +50,7 @@ pub fn number(
     ensures made { IfOk result (λ term. plan_of term ≡ (spec.number_shape slot place value).made) }
 {
     match slot {
-        Slot::Term { .. } => Ok(refuse(alloc, work, 6025, place)?),
+        Slot::Term { .. } => Ok(refuse(alloc, work, NOT_ALLOWED_HERE, place)?),
         _ => {
             if takes_expression(slot) {
                 Ok(Term::Integer(wrap(Width::W64, value)))
@@ -81,7 +82,7 @@ fn string(
     if has_form(form, bytes.as_bytes()) && is_text(bytes.as_bytes()) {
         Ok(copied(alloc, bytes)?)
     } else {
-        Ok(refuse(alloc, work, 6024, place)?)
+        Ok(refuse(alloc, work, VALUE_OUT_OF_RANGE, place)?)
     }
 }
 
@@ -102,7 +103,7 @@ pub fn text(
         Slot::CaseMember => Ok(string(alloc, work, StringForm::Any, place, bytes)?),
         Slot::String(form) => Ok(string(alloc, work, form, place, bytes)?),
         Slot::MacroText(text_macro) => Ok(macro_text(alloc, work, text_macro, place, bytes)?),
-        Slot::Term { .. } => Ok(refuse(alloc, work, 6025, place)?),
+        Slot::Term { .. } => Ok(refuse(alloc, work, NOT_ALLOWED_HERE, place)?),
         _ => Ok(refuse(alloc, work, unfit(slot), place)?),
     }
 }
@@ -114,7 +115,7 @@ pub fn path(alloc: Global, work: &mut Work, place: Place, text: &[u8]) -> Result
 {
     match path_of(alloc, text)? {
         Some(path) => Ok(Term::Name(path)),
-        None => Ok(refuse(alloc, work, 6024, place)?),
+        None => Ok(refuse(alloc, work, VALUE_OUT_OF_RANGE, place)?),
     }
 }
 
@@ -230,12 +231,12 @@ fn types(
     ensures made { IfOk result (λ term. plan_of term ≡ (at.types_at most place raws.now).made) }
 {
     if !are_all_types(raws) {
-        return Ok(refuse(alloc, work, 6022, place)?);
+        return Ok(refuse(alloc, work, WRONG_ARGUMENT_FORM, place)?);
     }
     if raws.len() as u64 <= most {
         Ok(Term::Integer(raws.len() as u64))
     } else {
-        Ok(refuse(alloc, work, 6024, place)?)
+        Ok(refuse(alloc, work, VALUE_OUT_OF_RANGE, place)?)
     }
 }
 

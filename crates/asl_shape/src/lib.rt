@@ -15,10 +15,3 @@ mod unit;
 mod work;
 
 pub use unit::shape;
-
-#[cfg(test)]
-mod resource_tests;
-#[cfg(test)]
-mod switch_tests;
-#[cfg(test)]
-mod tests;

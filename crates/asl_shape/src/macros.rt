@@ -9,6 +9,7 @@ use crate::work::{Work, refuse};
 use asl_tree::term::{NamedDescriptor, Node, Op, Special, Term, Word};
 use asl_words::operator::TextMacro;
 use asl_words::texts::is_text;
+use iasl_messages::number::{BAD_EISA_IDENTIFIER, BAD_UUID, VALUE_OUT_OF_RANGE};
 use iasl_messages::place::Place;
 use iasl_ports::list::{List, Text};
 use resource_macros::identifiers::{eisaid, utf16, uuid};
@@ -43,7 +44,7 @@ fn eisa(alloc: Global, work: &mut Work, place: Place, text: &Text) -> Result<Ter
 {
     match eisaid(text.as_bytes()) {
         Some(number) => Ok(Term::Word(Word::Identifier(number))),
-        None => Ok(refuse(alloc, work, 6026, place)?),
+        None => Ok(refuse(alloc, work, BAD_EISA_IDENTIFIER, place)?),
     }
 }
 
@@ -60,7 +61,7 @@ fn unique(alloc: Global, work: &mut Work, place: Place, text: &Text) -> Result<T
             Text::from_bytes(alloc, &bytes)?,
             List::new(alloc),
         )?),
-        None => Ok(refuse(alloc, work, 6027, place)?),
+        None => Ok(refuse(alloc, work, BAD_UUID, place)?),
     }
 }
 
@@ -78,7 +79,7 @@ fn characters(alloc: Global, work: &mut Work, place: Place, text: &Text) -> Resu
             List::new(alloc),
         )?)
     } else {
-        Ok(refuse(alloc, work, 6024, place)?)
+        Ok(refuse(alloc, work, VALUE_OUT_OF_RANGE, place)?)
     }
 }
 

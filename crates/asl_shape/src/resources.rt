@@ -13,6 +13,7 @@ use crate::work::{Work, tell};
 use asl_tree::path::NameSeg;
 use asl_tree::term::{NamedDescriptor, Node, Term};
 use asl_words::paths::parts;
+use iasl_messages::number::VALUE_OUT_OF_RANGE;
 use iasl_messages::place::Place;
 use iasl_ports::list::{List, Text};
 use resource_layout::descriptor::{Descriptor, Field, Giver, Word};
@@ -228,7 +229,7 @@ fn ask_room(alloc: Global, work: &mut Work, has_room: bool, place: Place) -> Res
     if has_room {
         Ok(())
     } else {
-        Ok(tell(alloc, work, 6024, place)?)
+        Ok(tell(alloc, work, VALUE_OUT_OF_RANGE, place)?)
     }
 }
 

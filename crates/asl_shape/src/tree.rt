@@ -26,6 +26,7 @@ use asl_words::parameters::{body_as, macro_parameters, offset_parameters, parame
 use asl_words::paths::path_of;
 use asl_words::resources::{descriptor_body, descriptor_parameters};
 use iasl_messages::message::{Messages, Stage};
+use iasl_messages::number::{VALUE_OUT_OF_RANGE, WRONG_ARGUMENT_FORM};
 use iasl_messages::place::Place;
 use iasl_ports::list::Text;
 use resource_layout::descriptor::Descriptor;
@@ -232,7 +233,7 @@ fn call(
     ensures made { IfOk result (λ term. plan_of term ≡ (spec.call_shape place (Paths.path_of word.now) (at.call_at inside args.now)).made) }
 {
     let Some(path) = path_of(alloc, word.as_bytes())? else {
-        return Ok(refuse(alloc, work, 6024, place)?);
+        return Ok(refuse(alloc, work, VALUE_OUT_OF_RANGE, place)?);
     };
     let mut nodes = Vec::new(alloc);
     operands(
@@ -549,7 +550,7 @@ fn field_list(
     ensures made { OnOk result (plans_of nodes.new.items ≡ join (plans_of nodes.old.items) (spec.list_shape place (at.is_field_list_at spec.begin raws.now) (at.elements_at spec.begin None inside raws.now)).made) }
 {
     if !is_field_list(raws) {
-        return Ok(tell(alloc, work, 6022, place)?);
+        return Ok(tell(alloc, work, WRONG_ARGUMENT_FORM, place)?);
     }
     Ok(field_elements(alloc, work, nodes, inside, raws)?)
 }
@@ -643,7 +644,7 @@ fn miss_comma(
         return Ok(());
     }
     match unit {
-        Some(unit) => Ok(tell(alloc, work, 6022, unit.place)?),
+        Some(unit) => Ok(tell(alloc, work, WRONG_ARGUMENT_FORM, unit.place)?),
         None => Ok(()),
     }
 }
@@ -682,7 +683,7 @@ fn elements(
     ensures made { OnOk result (plans_of nodes.new.items ≡ join (plans_of nodes.old.items) (spec.list_shape place (at.is_listed_at true raws.now) (at.members_at slot inside raws.now)).made) }
 {
     if !is_listed(raws) {
-        return Ok(tell(alloc, work, 6022, place)?);
+        return Ok(tell(alloc, work, WRONG_ARGUMENT_FORM, place)?);
     }
     Ok(members(alloc, work, nodes, slot, inside, raws)?)
 }

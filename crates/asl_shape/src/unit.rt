@@ -18,6 +18,7 @@ use asl_tree::term::{Node, Term};
 use asl_words::parameters::block_parameters;
 use asl_words::paths::parts;
 use iasl_messages::message::{Message, Messages, Stage};
+use iasl_messages::number::{NO_DEFINITION_BLOCK, WRONG_ARGUMENT_COUNT, WRONG_BODY};
 use iasl_messages::place::Place;
 use iasl_ports::list::Text;
 use std::alloc::{AllocError, Global};
@@ -103,10 +104,10 @@ fn block_fault(has_arguments: bool, has_body: bool) -> Option<u16>
     ensures { result ≡ spec.block_fault has_arguments has_body }
 {
     if !has_arguments {
-        return Some(6021);
+        return Some(WRONG_ARGUMENT_COUNT);
     }
     if !has_body {
-        return Some(6023);
+        return Some(WRONG_BODY);
     }
     None
 }
@@ -217,10 +218,10 @@ fn item(
     ensures refused { IfErr result (λ stage. at.Refuses stage (spec.item_errors_at place word.now args.now body.now rest.now)) }
 {
     if !is_block_word(word) {
-        return Err(refusal(alloc, 6028, place));
+        return Err(refusal(alloc, NO_DEFINITION_BLOCK, place));
     }
     match parts(rest) {
-        Some((next, _)) => Err(refusal(alloc, 6028, place_in(START, next))),
+        Some((next, _)) => Err(refusal(alloc, NO_DEFINITION_BLOCK, place_in(START, next))),
         None => block(alloc, place, args, body),
     }
 }
@@ -237,13 +238,13 @@ fn first_block(alloc: Global, first: &Raw, rest: &[Raw]) -> Result<Block, Stage>
             args,
             body,
         } => item(alloc, *place, word, args, body, rest),
-        Raw::Number { place, .. } => Err(refusal(alloc, 6028, *place)),
-        Raw::Text { place, .. } => Err(refusal(alloc, 6028, *place)),
-        Raw::Apply { place, .. } => Err(refusal(alloc, 6028, *place)),
-        Raw::List { place, .. } => Err(refusal(alloc, 6028, *place)),
-        Raw::Comma => Err(refusal(alloc, 6028, START)),
-        Raw::Semicolon => Err(refusal(alloc, 6028, START)),
-        Raw::Empty => Err(refusal(alloc, 6028, START)),
+        Raw::Number { place, .. } => Err(refusal(alloc, NO_DEFINITION_BLOCK, *place)),
+        Raw::Text { place, .. } => Err(refusal(alloc, NO_DEFINITION_BLOCK, *place)),
+        Raw::Apply { place, .. } => Err(refusal(alloc, NO_DEFINITION_BLOCK, *place)),
+        Raw::List { place, .. } => Err(refusal(alloc, NO_DEFINITION_BLOCK, *place)),
+        Raw::Comma => Err(refusal(alloc, NO_DEFINITION_BLOCK, START)),
+        Raw::Semicolon => Err(refusal(alloc, NO_DEFINITION_BLOCK, START)),
+        Raw::Empty => Err(refusal(alloc, NO_DEFINITION_BLOCK, START)),
     }
 }
 
@@ -254,7 +255,7 @@ fn source_block(alloc: Global, raws: &[Raw]) -> Result<Block, Stage>
 {
     match parts(raws) {
         Some((first, rest)) => first_block(alloc, first, rest),
-        None => Err(refusal(alloc, 6028, START)),
+        None => Err(refusal(alloc, NO_DEFINITION_BLOCK, START)),
     }
 }
 

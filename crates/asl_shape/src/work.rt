@@ -11,6 +11,7 @@ use asl_tree::path::Path;
 use asl_tree::term::{Op, Special, Term};
 use asl_words::operator::Slot;
 use iasl_messages::message::Message;
+use iasl_messages::number::{VALUE_OUT_OF_RANGE, WRONG_ARGUMENT_FORM};
 use iasl_messages::place::Place;
 use iasl_ports::list::Text;
 use std::alloc::{AllocError, Global};
@@ -68,11 +69,11 @@ fn valued(
             if least <= value && value <= most {
                 Ok(Term::Integer(value))
             } else {
-                Ok(refuse(alloc, work, 6024, place)?)
+                Ok(refuse(alloc, work, VALUE_OUT_OF_RANGE, place)?)
             }
         }
-        Err(NoConstant::Fault) => Ok(refuse(alloc, work, 6024, place)?),
-        Err(NoConstant::Form) => Ok(refuse(alloc, work, 6022, place)?),
+        Err(NoConstant::Fault) => Ok(refuse(alloc, work, VALUE_OUT_OF_RANGE, place)?),
+        Err(NoConstant::Form) => Ok(refuse(alloc, work, WRONG_ARGUMENT_FORM, place)?),
     }
 }
 
@@ -217,7 +218,7 @@ fn case_value(
             if is_case_package(members) {
                 Ok(term)
             } else {
-                Ok(refuse(alloc, work, 6024, place)?)
+                Ok(refuse(alloc, work, VALUE_OUT_OF_RANGE, place)?)
             }
         }
     }
@@ -323,7 +324,7 @@ pub fn evaluate(
             if is_element(&term) {
                 Ok(term)
             } else {
-                Ok(refuse(alloc, work, 6022, place)?)
+                Ok(refuse(alloc, work, WRONG_ARGUMENT_FORM, place)?)
             }
         }
         _ => Ok(term),

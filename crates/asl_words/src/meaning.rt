@@ -9,6 +9,7 @@ use crate::paths::{is_path, parts};
 use crate::resources::descriptor_body;
 use crate::table::{operator_of, word_of};
 use asl_tree::term::{Control, Op};
+use iasl_messages::number::{NOT_ALLOWED_HERE, WRONG_ARGUMENT_FORM};
 use resource_layout::descriptor::{Descriptor, Kind};
 use resource_layout::layout;
 
@@ -280,9 +281,9 @@ pub fn unfit(slot: Slot) -> u16
     ensures { result ≡ spec.unfit slot }
 {
     if takes_descriptor(slot) || takes_branch(slot) {
-        6025
+        NOT_ALLOWED_HERE
     } else {
-        6022
+        WRONG_ARGUMENT_FORM
     }
 }
 

@@ -4,5 +4,3 @@
 pub mod row;
 pub mod rows;
 pub mod table;
-#[cfg(test)]
-mod tests;

@@ -8,7 +8,5 @@ mod field;
 mod label;
 mod part;
 mod seal;
-#[cfg(test)]
-mod tests;
 mod walk;
 mod walker;

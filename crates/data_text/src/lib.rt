@@ -7,6 +7,4 @@ pub mod kind;
 mod labels;
 mod parts;
 pub mod source;
-#[cfg(test)]
-mod tests;
 pub mod values;

@@ -19,7 +19,7 @@ use Rattle.asl_shape.proofs.Settled.{join_nothing, join_first, push_is}
 use Rattle.asl_shape.proofs.Terms.{name_term}
 use Rattle.descriptor_names.specs.Declaring.{alone}
 use Rattle.descriptor_names.specs.Senses.{Sense, sense_of, Position}
-use Rattle.descriptor_names.specs.Resolved.{Among, Arguments, Contents, OfCall, position_in, is_in_bits, inner, resolved, resolved_from, told, told_from, resolved_use, told_use, resolved_call, told_call}
+use Rattle.descriptor_names.specs.Resolved.{Among, Arguments, Contents, OfCall, position_in, is_in_bits, inner, resolved, resolved_from, told, told_from, resolved_use, told_use, resolved_call, told_call, leaving}
 use Rattle.descriptor_names.proofs.Walks.{popped, none_left}
 
 -- ---- a term that is no name, no call and no form
@@ -74,20 +74,25 @@ module _ (has : AbsolutePath → Bool) (look : AbsolutePath → Option NamedDesc
   pub name_resolved : (t made : Term) (name : Path) (s : Sense) → t ≡ D.Name name → s ≡ sense_of has look name scope → plan_of made ≡ resolved_use bits position name s → plan_of made ≡ resolved has look bits position (plan_of t) scope
   name_resolved t made name s e is f = f ∙ ap (resolved_use bits position name) is ∙ sym (ap (λ t. resolved has look bits position (plan_of t) scope) e ∙ ap (λ p. resolved has look bits position p scope) (name_term name))
 
-  pub name_told : (place : Place) (old new : List Message) (t : Term) (name : Path) (s : Sense) → t ≡ D.Name name → s ≡ sense_of has look name scope → new ≡ old ++ told_use bits position name place s → new ≡ old ++ told has look bits position place (plan_of t) scope
-  name_told place old new t name s e is f =
-      f ∙ ap (λ s. old ++ told_use bits position name place s) is ∙ sym (ap (λ t. old ++ told has look bits position place (plan_of t) scope) e ∙ ap (λ p. old ++ told has look bits position place p scope) (name_term name))
+  pub name_told : (place : Place) (old between new : List Message) (t : Term) (name : Path) (s : Sense) → t ≡ D.Name name → s ≡ sense_of has look name scope → between ≡ old ++ leaving name place scope s → new ≡ between ++ told_use bits position name place s
+      → new ≡ old ++ told has look bits position place (plan_of t) scope
+  name_told place old between new t name s e is g f =
+      f ∙ ap (λ ms. ms ++ told_use bits position name place s) g ∙ append_assoc old (leaving name place scope s) (told_use bits position name place s)
+      ∙ ap (λ s. old ++ (leaving name place scope s ++ told_use bits position name place s)) is ∙ sym (ap (λ t. old ++ told has look bits position place (plan_of t) scope) e ∙ ap (λ p. old ++ told has look bits position place p scope) (name_term name))
 
   pub call_resolved : (t : Term) (name path : Path) (args more : Vec Node Global) (s : Sense) → t ≡ D.Call name args → s ≡ sense_of has look name scope → path ≡ resolved_call name s → plans_of more.items ≡ resolved_from has look OfCall 0 bits (plans_of args.items) scope → plan_of (D.Call path more) ≡ resolved has look bits position (plan_of t) scope
   call_resolved t name path args more s e is p f =
       plan_call path more ∙ ap (λ n. a_call n (plans_of more.items)) (p ∙ ap (resolved_call name) is) ∙ ap (a_call (resolved_call name (sense_of has look name scope))) f
       ∙ sym (ap (λ t. resolved has look bits position (plan_of t) scope) e ∙ ap (λ p. resolved has look bits position p scope) (plan_call name args))
 
-  pub call_told : (place : Place) (old between new : List Message) (t : Term) (name : Path) (args : Vec Node Global) (s : Sense) → t ≡ D.Call name args → s ≡ sense_of has look name scope → between ≡ old ++ told_call name place s → new ≡ between ++ told_from has look OfCall 0 bits (plans_of args.items) scope → new ≡ old ++ told has look bits position place (plan_of t) scope
-  call_told place old between new t name args s e is g f =
-      let own = told_call name place (sense_of has look name scope) in
+  pub call_told : (place : Place) (old left between new : List Message) (t : Term) (name : Path) (args : Vec Node Global) (s : Sense) → t ≡ D.Call name args → s ≡ sense_of has look name scope → left ≡ old ++ leaving name place scope s → between ≡ left ++ told_call name place s
+      → new ≡ between ++ told_from has look OfCall 0 bits (plans_of args.items) scope → new ≡ old ++ told has look bits position place (plan_of t) scope
+  call_told place old left between new t name args s e is l g f =
       let further = told_from has look OfCall 0 bits (plans_of args.items) scope in
-      f ∙ ap (λ ms. ms ++ further) (g ∙ ap (λ s. old ++ told_call name place s) is) ∙ append_assoc old own further
+      f ∙ ap (λ ms. ms ++ further) (g ∙ ap (λ ms. ms ++ told_call name place s) l)
+      ∙ append_assoc (old ++ leaving name place scope s) (told_call name place s) further
+      ∙ append_assoc old (leaving name place scope s) (told_call name place s ++ further)
+      ∙ ap (λ s. old ++ (leaving name place scope s ++ (told_call name place s ++ further))) is
       ∙ sym (ap (λ t. old ++ told has look bits position place (plan_of t) scope) e ∙ ap (λ p. old ++ told has look bits position place p scope) (plan_call name args))
 
   pub form_resolved : (t : Term) (op : Op) (args body more others : Vec Node Global) (inside : AbsolutePath) → t ≡ D.Form op args body → plans_of more.items ≡ resolved_from has look (Arguments op) 0 bits (plans_of args.items) scope → inside ≡ inner has op (plans_of more.items) scope

@@ -1,5 +1,5 @@
 -- Terms in which the fields of descriptors are constants, and what is told of uses of descriptors (ACPI Specification 6.4, 19.2.8).
-use Rattle.std.specs.Prelude.{ℕ, suc, ◌/◌, ◌%◌, nat_eq, Bool, true, false, ◌||◌, if◌then◌else◌, List, [], ◌∷◌, ◌++◌, Option, Some, None}
+use Rattle.std.specs.Prelude.{ℕ, suc, ◌/◌, ◌%◌, nat_eq, nat_lt, Bool, true, false, ◌||◌, if◌then◌else◌, List, [], ◌∷◌, ◌++◌, length, Option, Some, None}
 use Rattle.acpi_values.specs.Paths.{AbsolutePath}
 use Rattle.acpi_state.specs.Objects.{lookup}
 use Rattle.acpi_state.specs.Outcomes.{choose}
@@ -58,6 +58,11 @@ told_use bits p name place s = []
 abbrev pub told_call : Path → Place → Sense → List Message
 told_call name place (AField bit) = message 6051 place (name_text name)
 told_call name place s = []
+
+-- a field by a path with more steps up than scopes stand around it: its name is the path as it is written, also where the field stands for its descriptor
+abbrev pub leaving : Path → Place → AbsolutePath → Sense → List Message
+leaving name place scope (AField bit) = if nat_lt (length scope) name.up then message 6043 place (name_text name) else []
+leaving name place scope s = []
 
 -- ---- scopes
 
@@ -147,8 +152,9 @@ module _ (has : AbsolutePath → Bool) (look : AbsolutePath → Option NamedDesc
 
   abbrev mutual
     pub told : Bool → Position → Place → Plan → AbsolutePath → List Message
-    told bits p place (a_name name) scope = told_use bits p name place (sense_of has look name scope)
-    told bits p place (a_call name args) scope = told_call name place (sense_of has look name scope) ++ told_from OfCall 0 bits args scope
+    told bits p place (a_name name) scope = let sense = sense_of has look name scope in leaving name place scope sense ++ told_use bits p name place sense
+    told bits p place (a_call name args) scope =
+        let sense = sense_of has look name scope in leaving name place scope sense ++ (told_call name place sense ++ told_from OfCall 0 bits args scope)
     told bits p place (a_form op args body) scope =
         told_from (Arguments op) 0 bits args scope ++ told_from (Contents op) 0 bits body (inner has op (resolved_from (Arguments op) 0 bits args scope) scope)
     told bits p place q scope = []

@@ -48,10 +48,6 @@ checked_trees ps = numbered_all 0 (checked_terms ps)
 abbrev pub names_below : Plans → List NameError
 names_below ps = below_errors (table_of (checked_terms ps)) (checked_trees ps)
 
--- of names: declared twice or nowhere, of a Scope and of an External, as for any other name
-abbrev pub names_told : Plans → List Message
-names_told ps = map message_of (name_errors (checked_trees ps) ++ names_below ps)
-
 -- those of some messages that stand at another place than each of others
 abbrev pub stands_at : Place → Message → Bool
 stands_at place m = nat_eq m.place.file place.file && (nat_eq m.place.line place.line && nat_eq m.place.column place.column)
@@ -59,6 +55,21 @@ stands_at place m = nat_eq m.place.file place.file && (nat_eq m.place.line place
 abbrev pub besides : List Message → List Message → List Message
 besides others ms = filter (λ m. not (list_any (stands_at m.place) others)) ms
 
--- of kinds and counts, where the class of names has none; a use that is told of by its name as it is written is not told of again
+-- messages with those of uses, which have the names as they are written and stand alone at their places
+abbrev pub with_uses : List Message → List Message → List Message
+with_uses uses ms = besides uses ms ++ uses
+
+-- the uses by paths that leave the root, which are of the class of names
+abbrev pub leaves_root : Message → Bool
+leaves_root m = nat_eq m.number 6043
+
+abbrev pub steps_told : Plans → List Message
+steps_told ps = filter leaves_root (use_errors ps)
+
+-- of names: declared twice or nowhere, of a Scope, of an External and of steps up, as for any other name
+abbrev pub names_told : Plans → List Message
+names_told ps = with_uses (steps_told ps) (map message_of (name_errors (checked_trees ps) ++ names_below ps))
+
+-- of kinds and counts, where the class of names has none
 abbrev pub kinds_told : Plans → List Message
-kinds_told ps = besides (use_errors ps) (map message_of (type_errors (checked_trees ps))) ++ use_errors ps
+kinds_told ps = with_uses (use_errors ps) (map message_of (type_errors (checked_trees ps)))

@@ -9,5 +9,3 @@ pub mod resolve;
 pub mod sense;
 pub mod strip;
 pub mod table;
-#[cfg(test)]
-mod tests;

@@ -1,5 +1,5 @@
 //! Terms in which the fields of descriptors are constants, and what is told of uses of descriptors.
-ghost use Rattle.std.specs.Prelude.{◌≡◌, ◌<◌, ◌++◌, ◌||◌, Option, [], length, get_or, IfOk, OnOk, false};
+ghost use Rattle.std.specs.Prelude.{◌≡◌, ◌<◌, ◌++◌, ◌||◌, Option, [], length, get_or, nat_lt, IfOk, OnOk, false};
 ghost use Rattle.acpi_values.specs.Paths.{AbsolutePath};
 ghost use Rattle.asl_meaning.specs.Declarations.{Declarations, is_named};
 ghost use Rattle.asl_shape.specs.Plans.{plan_of, plans_of};
@@ -14,9 +14,14 @@ use crate::position::{Among, Position, is_in_bits, position_in};
 use crate::sense::{Sense, outer_segments, sense_of};
 use crate::table::inner;
 use acpi_names::index::Index;
+use acpi_names::paths::Paths;
 use asl_tree::path::{Path, Segs};
 use asl_tree::term::{NamedDescriptor, Node, Term, Word};
 use iasl_messages::message::Message;
+use iasl_messages::number::{
+    FIELD_NOT_WHOLE_BYTES, PATH_LEAVES_ROOT, WRONG_CALL_ARGUMENT_COUNT, WRONG_OBJECT_KIND,
+    WRONG_TYPE,
+};
 use iasl_messages::place::Place;
 use iasl_ports::list::Text;
 use name_checks::fault::text_of_name;
@@ -97,7 +102,45 @@ fn tell_broken(
     if bits || bit % 8 == 0 {
         return Ok(());
     }
-    tell(faults, 6056, place, Text::new(alloc))
+    tell(faults, FIELD_NOT_WHOLE_BYTES, place, Text::new(alloc))
+}
+
+// Whether a path has more steps up than scopes stand around it.
+fn leaves_root(paths: &Paths, up: u32, scope: usize) -> bool
+    requires { scope < length paths.now }
+    ensures { result ≡ nat_lt (length (get_or paths.now scope [])) up }
+{
+    let mut around = scope;
+    let mut left = up;
+    while left > 0 {
+        match paths.step(around) {
+            Some((outer, _)) => around = outer,
+            None => return true,
+        }
+        left -= 1;
+    }
+    false
+}
+
+// Tells of a field by a path that leaves the root.
+fn tell_leaving(
+    alloc: Global,
+    faults: &mut Vec<Message>,
+    index: &Index,
+    name: &Path,
+    place: Place,
+    scope: usize,
+    sense: Sense,
+) -> Result<(), AllocError>
+    requires { scope < length index.now.paths }
+    ensures { OnOk result (faults.new.items ≡ faults.old.items ++ spec.leaving name.now place (get_or index.now.paths scope []) (sense_as sense)) }
+{
+    match sense {
+        Sense::Field(_) if leaves_root(&index.paths, name.up, scope) => {
+            tell(faults, PATH_LEAVES_ROOT, place, text_of_name(alloc, name)?)
+        }
+        _ => Ok(()),
+    }
 }
 
 // What is told of a use.
@@ -116,11 +159,11 @@ fn tell_use(
         (Position::Value, Sense::Field(bit)) => tell_broken(alloc, faults, bits, bit, place),
         (Position::Value, Sense::Descriptor)
         | (Position::Spot, Sense::Descriptor)
-        | (Position::Spot, Sense::Field(_)) => { tell(faults, 6050, place, Text::new(alloc)) }
+        | (Position::Spot, Sense::Field(_)) => { tell(faults, WRONG_TYPE, place, Text::new(alloc)) }
         (Position::AnyPath, Sense::Descriptor)
         | (Position::AnyPath, Sense::Field(_))
         | (Position::Path, Sense::Field(_)) => {
-            tell(faults, 6054, place, text_of_name(alloc, name)?)
+            tell(faults, WRONG_OBJECT_KIND, place, text_of_name(alloc, name)?)
         }
         _ => Ok(()),
     }
@@ -137,59 +180,81 @@ fn tell_call(
     ensures { OnOk result (faults.new.items ≡ faults.old.items ++ spec.told_call name.now place (sense_as sense)) }
 {
     match sense {
-        Sense::Field(_) => tell(faults, 6051, place, text_of_name(alloc, name)?),
+        Sense::Field(_) => tell(
+            faults,
+            WRONG_CALL_ARGUMENT_COUNT,
+            place,
+            text_of_name(alloc, name)?,
+        ),
         Sense::Nothing | Sense::Descriptor => Ok(()),
     }
+}
+
+// The names of a block, and its descriptors by the numbers of their paths.
+#[derive(Clone, Copy)]
+struct Names<'a> {
+    index: &'a Index,
+    table: &'a [Option<NamedDescriptor>],
+}
+
+// Where a node stands: in which scope, whether it is counted in bits, and as what.
+#[derive(Clone, Copy)]
+struct Standing {
+    scope: usize,
+    bits: bool,
+    position: Position,
 }
 
 #[cycle(resolve)]
 fn resolve_term(
     alloc: Global,
-    index: &Index,
-    table: &[Option<NamedDescriptor>],
+    names: &Names<'_>,
     faults: &mut Vec<Message>,
-    bits: bool,
-    position: Position,
+    standing: Standing,
     place: Place,
     term: Term,
-    scope: usize,
 ) -> Result<Term, AllocError>
-    requires scope_in { scope < length index.now.paths }
-    requires all { length index.now.named.items ≡ length index.now.paths }
-    ensures made { IfOk result (λ made. (d : Declarations) (look : AbsolutePath → Option ANamed) → Agrees index.now.paths index.now.named.items d → Tabled index.now.paths table.now look
-        → plan_of made ≡ spec.resolved (is_named d) look bits (position_as position) (plan_of term) (get_or index.now.paths scope [])) }
-    ensures told { OnOk result ((d : Declarations) (look : AbsolutePath → Option ANamed) → Agrees index.now.paths index.now.named.items d → Tabled index.now.paths table.now look
-        → faults.new.items ≡ faults.old.items ++ spec.told (is_named d) look bits (position_as position) place (plan_of term) (get_or index.now.paths scope [])) }
+    requires scope_in { standing.scope < length names.now.index.now.paths }
+    requires all { length names.now.index.now.named.items ≡ length names.now.index.now.paths }
+    ensures made { IfOk result (λ made. (d : Declarations) (look : AbsolutePath → Option ANamed) → Agrees names.now.index.now.paths names.now.index.now.named.items d → Tabled names.now.index.now.paths names.now.table.now look
+        → plan_of made ≡ spec.resolved (is_named d) look standing.bits (position_as standing.position) (plan_of term) (get_or names.now.index.now.paths standing.scope [])) }
+    ensures told { OnOk result ((d : Declarations) (look : AbsolutePath → Option ANamed) → Agrees names.now.index.now.paths names.now.index.now.named.items d → Tabled names.now.index.now.paths names.now.table.now look
+        → faults.new.items ≡ faults.old.items ++ spec.told (is_named d) look standing.bits (position_as standing.position) place (plan_of term) (get_or names.now.index.now.paths standing.scope [])) }
 {
+    let Standing {
+        scope,
+        bits,
+        position,
+    } = standing;
     match term {
         Term::Name(path) => {
-            let sense = sense_of(index, table, &path, scope)?;
+            let sense = sense_of(names.index, names.table, &path, scope)?;
+            tell_leaving(alloc, faults, names.index, &path, place, scope, sense)?;
             tell_use(alloc, faults, bits, position, &path, place, sense)?;
             Ok(resolved_use(alloc, bits, position, path, sense)?)
         }
         Term::Call { path, args } => {
-            let sense = sense_of(index, table, &path, scope)?;
+            let sense = sense_of(names.index, names.table, &path, scope)?;
+            tell_leaving(alloc, faults, names.index, &path, place, scope, sense)?;
             tell_call(alloc, faults, &path, place, sense)?;
             let path = resolved_call(alloc, path, sense)?;
-            let args = resolve_list(alloc, index, table, faults, Among::Call, bits, args, scope)?;
+            let args = resolve_list(alloc, names, faults, Among::Call, bits, args, scope)?;
             Ok(Term::Call { path, args })
         }
         Term::Form { op, args, body } => {
             let args = resolve_list(
                 alloc,
-                index,
-                table,
+                names,
                 faults,
                 Among::Arguments(op),
                 bits,
                 args,
                 scope,
             )?;
-            let inside = inner(index, op, &args, scope)?;
+            let inside = inner(names.index, op, &args, scope)?;
             let body = resolve_list(
                 alloc,
-                index,
-                table,
+                names,
                 faults,
                 Among::Contents(op),
                 bits,
@@ -212,26 +277,21 @@ fn is_counted(bits: bool, among: Among, number: usize) -> bool
 #[cycle(resolve)]
 fn resolve_node(
     alloc: Global,
-    index: &Index,
-    table: &[Option<NamedDescriptor>],
+    names: &Names<'_>,
     faults: &mut Vec<Message>,
-    bits: bool,
-    position: Position,
+    standing: Standing,
     node: Node,
-    scope: usize,
 ) -> Result<Node, AllocError>
-    requires scope_in { scope < length index.now.paths }
-    requires all { length index.now.named.items ≡ length index.now.paths }
+    requires scope_in { standing.scope < length names.now.index.now.paths }
+    requires all { length names.now.index.now.named.items ≡ length names.now.index.now.paths }
     ensures place { IfOk result (λ made. made.place ≡ node.place) }
-    ensures made { IfOk result (λ made. (d : Declarations) (look : AbsolutePath → Option ANamed) → Agrees index.now.paths index.now.named.items d → Tabled index.now.paths table.now look
-        → plan_of made.term ≡ spec.resolved (is_named d) look bits (position_as position) (plan_of node.term) (get_or index.now.paths scope [])) }
-    ensures told { OnOk result ((d : Declarations) (look : AbsolutePath → Option ANamed) → Agrees index.now.paths index.now.named.items d → Tabled index.now.paths table.now look
-        → faults.new.items ≡ faults.old.items ++ spec.told (is_named d) look bits (position_as position) node.place (plan_of node.term) (get_or index.now.paths scope [])) }
+    ensures made { IfOk result (λ made. (d : Declarations) (look : AbsolutePath → Option ANamed) → Agrees names.now.index.now.paths names.now.index.now.named.items d → Tabled names.now.index.now.paths names.now.table.now look
+        → plan_of made.term ≡ spec.resolved (is_named d) look standing.bits (position_as standing.position) (plan_of node.term) (get_or names.now.index.now.paths standing.scope [])) }
+    ensures told { OnOk result ((d : Declarations) (look : AbsolutePath → Option ANamed) → Agrees names.now.index.now.paths names.now.index.now.named.items d → Tabled names.now.index.now.paths names.now.table.now look
+        → faults.new.items ≡ faults.old.items ++ spec.told (is_named d) look standing.bits (position_as standing.position) node.place (plan_of node.term) (get_or names.now.index.now.paths standing.scope [])) }
 {
     let Node { id, place, term } = node;
-    let term = resolve_term(
-        alloc, index, table, faults, bits, position, place, term, scope,
-    )?;
+    let term = resolve_term(alloc, names, faults, standing, place, term)?;
     Ok(Node { id, place, term })
 }
 
@@ -239,20 +299,19 @@ fn resolve_node(
 #[cycle(resolve)]
 fn resolve_list(
     alloc: Global,
-    index: &Index,
-    table: &[Option<NamedDescriptor>],
+    names: &Names<'_>,
     faults: &mut Vec<Message>,
     among: Among,
     bits: bool,
     nodes: Vec<Node>,
     scope: usize,
 ) -> Result<Vec<Node>, AllocError>
-    requires scope_in { scope < length index.now.paths }
-    requires all { length index.now.named.items ≡ length index.now.paths }
-    ensures made { IfOk result (λ made. (d : Declarations) (look : AbsolutePath → Option ANamed) → Agrees index.now.paths index.now.named.items d → Tabled index.now.paths table.now look
-        → plans_of made.items ≡ spec.resolved_from (is_named d) look (among_as among) 0 bits (plans_of nodes.items) (get_or index.now.paths scope [])) }
-    ensures told { OnOk result ((d : Declarations) (look : AbsolutePath → Option ANamed) → Agrees index.now.paths index.now.named.items d → Tabled index.now.paths table.now look
-        → faults.new.items ≡ faults.old.items ++ spec.told_from (is_named d) look (among_as among) 0 bits (plans_of nodes.items) (get_or index.now.paths scope [])) }
+    requires scope_in { scope < length names.now.index.now.paths }
+    requires all { length names.now.index.now.named.items ≡ length names.now.index.now.paths }
+    ensures made { IfOk result (λ made. (d : Declarations) (look : AbsolutePath → Option ANamed) → Agrees names.now.index.now.paths names.now.index.now.named.items d → Tabled names.now.index.now.paths names.now.table.now look
+        → plans_of made.items ≡ spec.resolved_from (is_named d) look (among_as among) 0 bits (plans_of nodes.items) (get_or names.now.index.now.paths scope [])) }
+    ensures told { OnOk result ((d : Declarations) (look : AbsolutePath → Option ANamed) → Agrees names.now.index.now.paths names.now.index.now.named.items d → Tabled names.now.index.now.paths names.now.table.now look
+        → faults.new.items ≡ faults.old.items ++ spec.told_from (is_named d) look (among_as among) 0 bits (plans_of nodes.items) (get_or names.now.index.now.paths scope [])) }
 {
     let mut left = nodes;
     left.reverse();
@@ -261,7 +320,12 @@ fn resolve_list(
         let number = out.len();
         let counted = is_counted(bits, among, number);
         let position = position_in(among, number);
-        let made = resolve_node(alloc, index, table, faults, counted, position, node, scope)?;
+        let standing = Standing {
+            scope,
+            bits: counted,
+            position,
+        };
+        let made = resolve_node(alloc, names, faults, standing, node)?;
         out.push(made)?;
     }
     Ok(out)
@@ -284,5 +348,6 @@ pub fn resolve(
         → faults.new.items ≡ faults.old.items ++ spec.told_from (is_named d) look spec.OfCall 0 false (plans_of terms.items) []) }
 {
     let count = index.paths.len();
-    Ok(resolve_list(alloc, index, table, faults, Among::Call, false, terms, 0)?)
+    let names = Names { index, table };
+    Ok(resolve_list(alloc, &names, faults, Among::Call, false, terms, 0)?)
 }

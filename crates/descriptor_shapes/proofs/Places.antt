@@ -1,7 +1,7 @@
 -- The terms of a block with those that declare its descriptors stand where its own terms and its descriptors stand, and so does what is told
 -- of them.
-use Rattle.std.proofs.Common.{ℕ, suc, ◌<◌, Bool, true, false, List, [], ◌∷◌, ◌++◌, get_or, Option, arith}
-use Rattle.std.specs.Prelude.{◌||◌, ◌%◌, not, nat_eq, if◌then◌else◌, map}
+use Rattle.std.proofs.Common.{ℕ, suc, ◌<◌, Bool, true, false, List, [], ◌∷◌, ◌++◌, length, get_or, Option, arith}
+use Rattle.std.specs.Prelude.{◌||◌, ◌%◌, not, nat_eq, nat_lt, if◌then◌else◌, map}
 use Rattle.std.specs.List.{All, list_any}
 use Rattle.std.proofs.lemmas.List.Elements.{All-cons, All-append, All-map, All-filter}
 use Rattle.iasl_messages.specs.declared.place.Place.{Place}
@@ -13,7 +13,7 @@ use Rattle.asl_tree.specs.declared.term.NamedDescriptor.{NamedDescriptor}
 use Rattle.asl_meaning.specs.Declarations.{nothing_declared}
 use Rattle.acpi_names.specs.Errors.{NameError, Twice, DeclaredHere, Missing, NoContainer, LeavesRoot, Differs, TooLong, WrongCount, WrongKind, UnbuiltSpace, unless, name_errors, type_errors}
 use Rattle.acpi_names.specs.Mentions.{Mention, Declares, block_mentions}
-use Rattle.name_checks.specs.Messages.{message_of}
+use Rattle.name_checks.specs.Messages.{name_text, message_of}
 use Rattle.named_sessions.specs.Places.{at_of, AreWithin}
 use Rattle.named_sessions.proofs.Places.{errors_within}
 use Rattle.asl_parser.specs.Within.{IsIn}
@@ -21,8 +21,8 @@ use Rattle.asl_shape.specs.Places.{AreTold}
 use Rattle.asl_shape.specs.Plans.{Plan, a_fill, a_name, a_call, a_form, Plans, no_plans, plan, join}
 use Rattle.descriptor_names.specs.Declaring.{has_terms, names_inside, names_among, declarations, alone, beside, is_first, opened, declaring, declared_by, unless_declared, closed, stripped}
 use Rattle.descriptor_names.specs.Senses.{Sense, Nothing, ADescriptor, AField, Position, Value, Spot, AnyPath, APath, Written, sense_of}
-use Rattle.descriptor_names.specs.Resolved.{resolved_use, message, broken, told_use, told_call, inner, Among, Arguments, Contents, OfCall, position_in, is_in_bits, resolved, resolved_from, told, told_from, names_of, table_of, checked_terms, use_errors, resolved_terms}
-use Rattle.descriptor_names.specs.Told.{is_below, mention_below, all_below, checked_trees, names_below, names_told, stands_at, besides, kinds_told}
+use Rattle.descriptor_names.specs.Resolved.{resolved_use, message, broken, told_use, told_call, leaving, inner, Among, Arguments, Contents, OfCall, position_in, is_in_bits, resolved, resolved_from, told, told_from, names_of, table_of, checked_terms, use_errors, resolved_terms}
+use Rattle.descriptor_names.specs.Told.{is_below, mention_below, all_below, checked_trees, names_below, names_told, stands_at, besides, with_uses, leaves_root, steps_told, kinds_told}
 use Rattle.descriptor_shapes.specs.Places.{NamesWithin, PlanWithin, PlansWithin}
 use Rattle.descriptor_shapes.proofs.TreePlaces.{numbered_within}
 use Rattle.descriptor_shapes.proofs.MentionPlaces.{IsMentionedIn, AreMentionedIn, block_in}
@@ -147,6 +147,15 @@ module _ (files : ℕ) where
   call_told name place Nothing h = tt
   call_told name place ADescriptor h = tt
 
+  leaving_told : (name : Path) (place : Place) (scope : AbsolutePath) (s : Sense) → IsIn files place → AreTold files (leaving name place scope s)
+  leaving_told name place scope (AField bit) h = by_steps (nat_lt (length scope) name.up)
+    where
+      by_steps : (b : Bool) → AreTold files (if b then message 6043 place (name_text name) else [])
+      by_steps true = (h, tt)
+      by_steps false = tt
+  leaving_told name place scope Nothing h = tt
+  leaving_told name place scope ADescriptor h = tt
+
   module _ (has : AbsolutePath → Bool) (look : AbsolutePath → Option NamedDescriptor) where
     mutual
       term_within : (bits : Bool) (p : Position) (q : Plan) (scope : AbsolutePath) → PlanWithin files q → PlanWithin files (resolved has look bits p q scope)
@@ -163,9 +172,12 @@ module _ (files : ℕ) where
 
     mutual
       told_within : (bits : Bool) (p : Position) (place : Place) (q : Plan) (scope : AbsolutePath) → IsIn files place → PlanWithin files q → AreTold files (told has look bits p place q scope)
-      told_within bits p place (a_name name) scope h k = use_told bits p name place (sense_of has look name scope) h
+      told_within bits p place (a_name name) scope h k =
+          let sense = sense_of has look name scope in both_told (leaving name place scope sense) (told_use bits p name place sense) (leaving_told name place scope sense h) (use_told bits p name place sense h)
       told_within bits p place (a_call name args) scope h k =
-          both_told (told_call name place (sense_of has look name scope)) (told_from has look OfCall 0 bits args scope) (call_told name place (sense_of has look name scope) h) (all_told OfCall 0 bits args scope k)
+          let sense = sense_of has look name scope in
+          both_told (leaving name place scope sense) (told_call name place sense ++ told_from has look OfCall 0 bits args scope) (leaving_told name place scope sense h)
+          (both_told (told_call name place sense) (told_from has look OfCall 0 bits args scope) (call_told name place sense h) (all_told OfCall 0 bits args scope k))
       told_within bits p place (a_form op args body) scope h k =
           let given = resolved_from has look (Arguments op) 0 bits args scope in
           both_told (told_from has look (Arguments op) 0 bits args scope) (told_from has look (Contents op) 0 bits body (inner has op given scope)) (all_told (Arguments op) 0 bits args scope k.0) (all_told (Contents op) 0 bits body (inner has op given scope) k.1)
@@ -237,16 +249,20 @@ uses_within files ps h = all_messages files (use_errors ps) (all_told files (nam
 checked_trees_within : (files : ℕ) (ps : Plans) → PlansWithin files ps → AreWithin files (checked_trees ps)
 checked_trees_within files ps h = numbered_within files 0 (checked_terms ps) (checked_within files ps h)
 
+-- messages with those of uses
+with_uses_within : (files : ℕ) (uses ms : List Message) → All (λ (m : Message). m.place.file < files) uses → All (λ (m : Message). m.place.file < files) ms → All (λ (m : Message). m.place.file < files) (with_uses uses ms)
+with_uses_within files uses ms h k =
+    All-append (λ (m : Message). m.place.file < files) (besides uses ms) uses (All-filter (λ m. not (list_any (stands_at m.place) uses)) (λ (m : Message). m.place.file < files) ms k) h
+
 pub names_told_within : (files : ℕ) (ps : Plans) → PlansWithin files ps → All (λ (m : Message). m.place.file < files) (names_told ps)
 names_told_within files ps h =
     let trees = checked_trees_within files ps h in
-    messages_in files (name_errors (checked_trees ps) ++ names_below ps)
+    with_uses_within files (steps_told ps) (map message_of (name_errors (checked_trees ps) ++ names_below ps)) (All-filter leaves_root (λ (m : Message). m.place.file < files) (use_errors ps) (uses_within files ps h))
+    (messages_in files (name_errors (checked_trees ps) ++ names_below ps)
     (All-append (λ e. (at_of e).place.file < files) (name_errors (checked_trees ps)) (names_below ps) (errors_within files (checked_trees ps) trees).0
-    (all_errors files (names_below ps) (below_in files (table_of (checked_terms ps)) (block_mentions (checked_trees ps) [] nothing_declared) (block_in files (checked_trees ps) [] nothing_declared trees))))
+    (all_errors files (names_below ps) (below_in files (table_of (checked_terms ps)) (block_mentions (checked_trees ps) [] nothing_declared) (block_in files (checked_trees ps) [] nothing_declared trees)))))
 
 pub kinds_told_within : (files : ℕ) (ps : Plans) → PlansWithin files ps → All (λ (m : Message). m.place.file < files) (kinds_told ps)
 kinds_told_within files ps h =
-    let uses = uses_within files ps h in
-    let types = messages_in files (type_errors (checked_trees ps)) (errors_within files (checked_trees ps) (checked_trees_within files ps h)).1 in
-    All-append (λ (m : Message). m.place.file < files) (besides (use_errors ps) (map message_of (type_errors (checked_trees ps)))) (use_errors ps)
-    (All-filter (λ m. not (list_any (stands_at m.place) (use_errors ps))) (λ (m : Message). m.place.file < files) (map message_of (type_errors (checked_trees ps))) types) uses
+    with_uses_within files (use_errors ps) (map message_of (type_errors (checked_trees ps))) (uses_within files ps h)
+    (messages_in files (type_errors (checked_trees ps)) (errors_within files (checked_trees ps) (checked_trees_within files ps h)).1)

@@ -15,7 +15,7 @@ use Rattle.asl_shape.specs.Plans.{Plan, a_fill, a_name, a_call, a_form, Plans, n
 use Rattle.asl_shape.specs.Descriptors.{named_of}
 use Rattle.descriptor_names.specs.Declaring.{has_terms, names_inside, names_among, declarations, alone, beside, is_first, opened, declaring, is_naming, declared_by, unless_declared, closed, stripped, names_descriptor, names_descriptors}
 use Rattle.descriptor_names.specs.Senses.{Nothing, descriptor_sense, field_in, field_sense, last_segment, outer_path, sense_of, Position, Value, Spot, AnyPath, APath, Written}
-use Rattle.descriptor_names.specs.Resolved.{resolved_use, resolved_call, told_use, told_call, placed, inner, described_by, described, Among, Arguments, Contents, OfCall, position_in, is_in_bits, resolved, resolved_from, told, told_from, names_of, table_of, checked_terms, use_errors, resolved_terms}
+use Rattle.descriptor_names.specs.Resolved.{resolved_use, resolved_call, told_use, told_call, leaving, placed, inner, described_by, described, Among, Arguments, Contents, OfCall, position_in, is_in_bits, resolved, resolved_from, told, told_from, names_of, table_of, checked_terms, use_errors, resolved_terms}
 use Rattle.descriptor_names.specs.Told.{is_below, mention_below, all_below, below_errors, checked_trees, names_below}
 
 -- neither of two
@@ -171,9 +171,9 @@ module _ (has : AbsolutePath → Bool) where
 
   mutual
     told_none : (bits : Bool) (p : Position) (place : Place) (q : Plan) (scope : AbsolutePath) → told has no_descriptor bits p place q scope ≡ []
-    told_none bits p place (a_name name) scope = ap (told_use bits p name place) (sense_none name scope) ∙ use_silent bits p name place
+    told_none bits p place (a_name name) scope = ap (λ s. leaving name place scope s ++ told_use bits p name place s) (sense_none name scope) ∙ use_silent bits p name place
     told_none bits p place (a_call name args) scope =
-        ap (λ s. told_call name place s ++ told_from has no_descriptor OfCall 0 bits args scope) (sense_none name scope) ∙ all_silent OfCall 0 bits args scope
+        ap (λ s. leaving name place scope s ++ (told_call name place s ++ told_from has no_descriptor OfCall 0 bits args scope)) (sense_none name scope) ∙ all_silent OfCall 0 bits args scope
     told_none bits p place (a_form op args body) scope =
         let given = resolved_from has no_descriptor (Arguments op) 0 bits args scope in
         ap (λ ms. ms ++ told_from has no_descriptor (Contents op) 0 bits body (inner has op given scope)) (all_silent (Arguments op) 0 bits args scope) ∙ all_silent (Contents op) 0 bits body (inner has op given scope)

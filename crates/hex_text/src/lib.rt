@@ -3,5 +3,3 @@
 
 pub mod blanks;
 pub mod digits;
-#[cfg(test)]
-mod tests;

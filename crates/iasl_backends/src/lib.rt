@@ -7,6 +7,4 @@ pub mod c_hex;
 pub mod lent;
 pub mod listing;
 pub mod raw_aml;
-#[cfg(test)]
-mod tests;
 mod text;

@@ -8,6 +8,4 @@ pub mod number;
 pub mod order;
 pub mod place;
 pub mod severity;
-#[cfg(test)]
-mod tests;
 pub mod texts;

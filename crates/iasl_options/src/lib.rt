@@ -7,6 +7,4 @@ pub mod names;
 pub mod request;
 pub mod switches;
 pub mod task;
-#[cfg(test)]
-mod tests;
 mod words;

@@ -1,13 +1,14 @@
 -- What a run delivers: a status, the text of the console, and the files to put.
 use Rattle.std.specs.Prelude.{◌≡◌, ◌⊎◌, ℕ, ◌≤◌, List, [], ◌++◌, map, take, string_bytes, None, Some}
 use Rattle.std.specs.declared.option.Option.{Option}
+use Rattle.std.specs.Cow.{cow_slice_items}
 use Rattle.iasl_ports.specs.Gained.{Named, Gains, GainsSome}
 use Rattle.iasl_ports.specs.declared.delivery.OutFile.{OutFile}
 use Rattle.iasl_ports.specs.declared.delivery.Due.{Due}
 
 -- a file as its name and its bytes
 abbrev pub name_and_bytes : OutFile → Named
-name_and_bytes file = (string_bytes file.name, file.bytes.items)
+name_and_bytes file = (string_bytes file.name, cow_slice_items file.bytes)
 
 -- what a run is to end with: its status, the text of the console, and the files in the order of their putting
 pub record Answer : Type 0 where

@@ -9,20 +9,21 @@ use crate::list::Text;
 use crate::outputs::{Outputs, PutFault};
 use crate::sink::{Sink, write_all};
 use std::alloc::AllocError;
+use std::borrow::CowSlice;
 
-/// A file to put.
+/// A file to put. Its bytes are its own, or lent by whoever holds them.
 #[derive(Drop)]
-pub struct OutFile {
+pub struct OutFile<'a> {
     pub name: String,
-    pub bytes: Vec<u8>,
+    pub bytes: CowSlice<'a, u8>,
 }
 
 /// What a run is to end with: its status, the text of the console, and the files in the order of their putting.
 #[derive(Drop)]
-pub struct Due {
+pub struct Due<'a> {
     pub status: u8,
     pub text: Text,
-    pub files: Vec<OutFile>,
+    pub files: Vec<OutFile<'a>>,
 }
 
 /// Why a run stops before it has a status of its own.
@@ -44,7 +45,7 @@ impl From<AllocError> for Stop {
     }
 }
 
-fn put_one<O: Outputs>(outs: &mut O, file: &OutFile) -> Result<(), PutFault>
+fn put_one<O: Outputs>(outs: &mut O, file: &OutFile<'_>) -> Result<(), PutFault>
     ensures all { OnOk result (Gains (O.written outs.old) (O.written outs.new) (name_and_bytes file.now ∷ [])) }
     ensures part { IsErrOf result PutFault.Failed → GainsPart (O.written outs.old) (O.written outs.new) (name_and_bytes file.now) }
     ensures none { IsErrOf result PutFault.Memory → Gains (O.written outs.old) (O.written outs.new) [] }
@@ -52,13 +53,13 @@ fn put_one<O: Outputs>(outs: &mut O, file: &OutFile) -> Result<(), PutFault>
     ensures cause { IsErrOf result PutFault.Failed → Rose (O.faults outs.old) (O.faults outs.new) }
     ensures later { O.faults outs.old ≤ O.faults outs.new }
 {
-    outs.put(&file.name, &file.bytes)
+    outs.put(&file.name, file.bytes.as_slice())
 }
 
 #[tactic(auto, using(crate::proofs::PutSoFar::stops_whole, crate::specs::GainedLaws::gains_none))]
 /// Puts the files in order, and stops at the first that is refused: with `Fault` where it failed, of which a
 /// part may stand then, and with `Memory` where there was no memory for it.
-pub fn put_all<O: Outputs>(outs: &mut O, files: &[OutFile]) -> Result<(), Stop>
+pub fn put_all<O: Outputs>(outs: &mut O, files: &[OutFile<'_>]) -> Result<(), Stop>
     ensures all { OnOk result (Gains (O.written outs.old) (O.written outs.new) (map name_and_bytes files.now)) }
     ensures some { OnErr result (GainsSome (IsErrOf result Stop.Fault) (O.written outs.old) (O.written outs.new) (map name_and_bytes files.now)) }
     ensures faults { OnOk result (O.faults outs.new ≡ O.faults outs.old) }
@@ -77,7 +78,11 @@ pub fn put_all<O: Outputs>(outs: &mut O, files: &[OutFile]) -> Result<(), Stop>
 
 /// Puts the files that are due, and then writes the text. It answers the status that is due, `Fault` where a
 /// file or the text failed, and `Memory`, before a byte of the text, where there was no memory for a file.
-pub fn deliver<O: Outputs, C: Sink>(outs: &mut O, console: &mut C, due: &Due) -> Result<u8, Stop>
+pub fn deliver<O: Outputs, C: Sink>(
+    outs: &mut O,
+    console: &mut C,
+    due: &Due<'_>,
+) -> Result<u8, Stop>
     ensures status { IfOk result (λ status. status ≡ due.now.status) }
 
     // It succeeds only where no count rose, and a fault has its cause.

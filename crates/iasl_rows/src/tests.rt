@@ -5,6 +5,7 @@ mod descriptors;
 mod folding;
 mod kinds;
 mod rows;
+mod runs;
 mod spelling;
 mod switches;
 mod widths;
@@ -43,16 +44,23 @@ fn boxes(alloc: Global) -> Result<Vec<Box<dyn Backend>>, AllocError>
     )
 }
 
-// A run with these words, where the text of `t.asl` is this one.
-fn run(alloc: Global, words: &[&str], text: &[u8]) -> Result<Ran, AllocError> {
-    let mut files = MemoryFiles::new(alloc);
-    files.add("t.asl", text)?;
-    let mut outs = MemoryOutputs::new(alloc);
-    let mut console = MemorySink::new(alloc, 1000)?;
+fn given_words(alloc: Global, words: &[&str]) -> Result<Vec<String>, AllocError> {
     let mut given = Vec::new(alloc);
     for word in words {
         given.push(String::from_str(alloc, word)?)?;
     }
+    Ok(given)
+}
+
+// A run with these words over these ports.
+fn run_over(
+    alloc: Global,
+    words: &[&str],
+    mut files: MemoryFiles,
+    mut outs: MemoryOutputs,
+    mut console: MemorySink,
+) -> Result<Ran, AllocError> {
+    let given = given_words(alloc, words)?;
     let mut backends = boxes(alloc)?;
     let status = iasl(
         alloc,
@@ -67,6 +75,15 @@ fn run(alloc: Global, words: &[&str], text: &[u8]) -> Result<Ran, AllocError> {
         outs,
         console,
     })
+}
+
+// A run with these words, where the text of `t.asl` is this one.
+fn run(alloc: Global, words: &[&str], text: &[u8]) -> Result<Ran, AllocError> {
+    let mut files = MemoryFiles::new(alloc);
+    files.add("t.asl", text)?;
+    let outs = MemoryOutputs::new(alloc);
+    let console = MemorySink::new(alloc, 1000)?;
+    run_over(alloc, words, files, outs, console)
 }
 
 fn are(texts: &Texts, wanted: &[&[u8]]) -> bool {

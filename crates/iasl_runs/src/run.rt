@@ -36,7 +36,7 @@ fn fail<C: Sink>(console: &mut C, stop: Stop, texts: StopTexts<'_>) -> u8
 fn finish_due<O: Outputs, C: Sink>(
     outs: &mut O,
     console: &mut C,
-    due: &Due,
+    due: &Due<'_>,
     texts: StopTexts<'_>,
 ) -> u8
     requires { IsSettled due.now }
@@ -55,11 +55,11 @@ fn finish_due<O: Outputs, C: Sink>(
 pub fn finish<O: Outputs, C: Sink>(
     outs: &mut O,
     console: &mut C,
-    decided: Result<Due, Stop>,
+    decided: Result<Due<'_>, Stop>,
     texts: StopTexts<'_>,
 ) -> u8
     requires { IfOk decided IsSettled }
-    ensures { Finishes texts.entry.fault.now texts.entry.memory.now decided result (outputs_seen (O.written outs.old) (O.faults outs.old)) (outputs_seen (O.written outs.new) (O.faults outs.new))
+    ensures { Finishes texts.entry.fault.now texts.entry.memory.now decided.entry result (outputs_seen (O.written outs.old) (O.faults outs.old)) (outputs_seen (O.written outs.new) (O.faults outs.new))
         (console_seen (C.told console.old) (C.faults console.old)) (console_seen (C.told console.new) (C.faults console.new)) }
 {
     match decided {

@@ -15,8 +15,7 @@ use Rattle.acpi_names.specs.Terms.{are_terms}
 use Rattle.acpi_names.proofs.MentionErrors.{block_errors}
 use Rattle.acpi_names.proofs.MentionTypes.{block_types}
 use Rattle.name_checks.specs.Messages.{message_of, first_errors}
-use Rattle.descriptor_names.specs.Told.{besides}
-use Rattle.iasl_tool.specs.Compiled.{first_told, is_of_names, are_of_names}
+use Rattle.iasl_tool.specs.Compiled.{is_of_names, are_of_names}
 
 -- each error is of the class of names, or none is
 abbrev pub AreOf : Bool → List NameError → Type 0
@@ -127,26 +126,19 @@ block_classes terms are =
 
 -- ---- the messages of both
 
--- errors of names stand before those of names below descriptors
-pub names_first : (names kinds : List NameError) (messages below others : List Message) → Classes names kinds → messages ≡ map message_of (first_errors names kinds) → (map message_of (first_errors names kinds) ≡ [] → ⊥) → are_of_names messages ≡ true
-    → messages ++ below ≡ first_told (map message_of names ++ below) others
-names_first (n ∷ ns) ks messages below others h e some is = ap (λ ms. ms ++ below) e
-names_first [] [] messages below others h e some is = absurd (some refl)
-names_first [] (k ∷ ks) messages below others h e some is =
+-- messages of the class of names are all that is told of it
+pub names_alone : (names kinds : List NameError) (messages : List Message) → Classes names kinds → messages ≡ map message_of (first_errors names kinds) → are_of_names messages ≡ true → (messages ≡ map message_of names) × (names ≡ [] → ⊥)
+names_alone (n ∷ ns) ks messages h e is = (e, λ none. absurd cc)
+names_alone [] [] messages h e is = let of : are_of_names [] ≡ true = sym (ap are_of_names e) ∙ is in absurd cc
+names_alone [] (k ∷ ks) messages h e is =
     let of : is_of_names (message_of k).number ≡ true = sym (ap are_of_names e) ∙ is in
     let other : is_of_names (message_of k).number ≡ false = (h.of_kinds refl).0 in
     absurd (cc (of, other))
 
--- errors of kinds stand where there are none of names
-pub kinds_behind : (names kinds : List NameError) (messages below faults : List Message) → Classes names kinds → messages ≡ map message_of (first_errors names kinds) → are_of_names messages ≡ false
-    → first_told below (besides faults messages ++ faults) ≡ first_told (map message_of names ++ below) (besides faults (map message_of kinds) ++ faults)
-kinds_behind (n ∷ ns) ks messages below faults h e is =
+-- others are told where there are none of names
+pub kinds_alone : (names kinds : List NameError) (messages : List Message) → Classes names kinds → messages ≡ map message_of (first_errors names kinds) → are_of_names messages ≡ false → (names ≡ []) × (messages ≡ map message_of kinds)
+kinds_alone (n ∷ ns) ks messages h e is =
     let of : is_of_names (message_of n).number ≡ false = sym (ap are_of_names e) ∙ is in
     let other : is_of_names (message_of n).number ≡ true = h.of_names.0 in
     absurd (cc (of, other))
-kinds_behind [] ks messages below faults h e is = ap (λ ms. first_told below (besides faults ms ++ faults)) e
-
--- nothing is told of names or of kinds
-pub nothing_else : (names kinds : List NameError) (below faults : List Message) → names ≡ [] → kinds ≡ [] → first_told below faults ≡ first_told (map message_of names ++ below) (besides faults (map message_of kinds) ++ faults)
-nothing_else names kinds below faults en ek =
-    sym (ap (λ ns. first_told (map message_of ns ++ below) (besides faults (map message_of kinds) ++ faults)) en ∙ ap (λ ks. first_told below (besides faults (map message_of ks) ++ faults)) ek)
+kinds_alone [] ks messages h e is = (refl, e)

@@ -6,6 +6,7 @@ pub mod Homes
 pub mod Given
 pub mod Classes
 pub mod Resolving
+pub mod Spots
 pub mod Sorting
 pub mod Texts
 pub mod Sizes

@@ -3,3 +3,4 @@ pub mod Compiled
 pub mod Ready
 pub mod Due
 pub mod Headline
+pub mod Spots

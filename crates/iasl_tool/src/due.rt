@@ -31,6 +31,7 @@ use iasl_ports::delivery::{Due, OutFile, Stop};
 use iasl_ports::files::Files;
 use iasl_ports::list::{List, Text, Texts};
 use std::alloc::{AllocError, Global};
+use std::borrow::CowSlice;
 use table_outputs::decision::{Decision, Making};
 use table_outputs::names::{is_fetched, name_in_use, names_of_table};
 
@@ -61,7 +62,12 @@ fn console_text(
 }
 
 // What is due of a source that is refused, with these errors and notes.
-fn refuse(alloc: Global, brief: bool, files: &Texts, messages: Messages) -> Result<Due, AllocError>
+fn refuse(
+    alloc: Global,
+    brief: bool,
+    files: &Texts,
+    messages: Messages,
+) -> Result<Due<'static>, AllocError>
     requires { AreWithin (length files.now) messages }
     ensures due { IfOk result (λ due. answer_of due ≡ refusal brief files.now messages) }
     ensures settled { IfOk result IsSettled }
@@ -73,11 +79,18 @@ fn refuse(alloc: Global, brief: bool, files: &Texts, messages: Messages) -> Resu
     })
 }
 
-fn one_file(alloc: Global, name: String, bytes: Vec<u8>) -> Result<Vec<OutFile>, AllocError>
+fn one_file(
+    alloc: Global,
+    name: String,
+    bytes: Vec<u8>,
+) -> Result<Vec<OutFile<'static>>, AllocError>
     ensures { IfOk result (λ files. map name_and_bytes files.items ≡ (string_bytes name, bytes.items) ∷ []) }
 {
     let mut files = Vec::new(alloc);
-    files.push(OutFile { name, bytes })?;
+    files.push(OutFile {
+        name,
+        bytes: CowSlice::Owned(bytes),
+    })?;
     Ok(files)
 }
 
@@ -90,7 +103,7 @@ fn make_file(
     line: &Text,
     name: String,
     bytes: Vec<u8>,
-) -> Result<Due, AllocError>
+) -> Result<Due<'static>, AllocError>
     requires { AreWithin (length files.now) notes }
     ensures due { IfOk result (λ due. answer_of due ≡ made_files brief files.now notes line.now ((string_bytes name, bytes.items) ∷ [])) }
     ensures settled { IfOk result IsSettled }
@@ -103,7 +116,7 @@ fn make_file(
 }
 
 // What is due where a fetched file has the name of an output.
-fn refuse_name(alloc: Global, name: &str) -> Result<Due, AllocError>
+fn refuse_name(alloc: Global, name: &str) -> Result<Due<'static>, AllocError>
     ensures due { IfOk result (λ due. answer_of due ≡ in_use name.now) }
     ensures settled { IfOk result IsSettled }
 {
@@ -151,7 +164,7 @@ fn make_or_refuse(
     line: &Text,
     name: String,
     bytes: Vec<u8>,
-) -> Result<Due, AllocError>
+) -> Result<Due<'static>, AllocError>
     requires { AreWithin (length files.now) notes }
     ensures due { IfOk result (λ due. answer_of due ≡ made_or_refused (asked_of options.now) files.now notes line.now ((string_bytes name, bytes.items) ∷ [])) }
     ensures settled { IfOk result IsSettled }
@@ -192,7 +205,7 @@ fn make_text(
     options: &Options,
     lines: &Lines,
     notes: Messages,
-) -> Result<Due, AllocError>
+) -> Result<Due<'static>, AllocError>
     requires texts { AreTexts options.now }
     requires notes { AreWithin (length lines.now.files) notes }
     ensures due { IfOk result (λ due. answer_of due ≡ answer_to_text (asked_of options.now) options.now.file lines.now.files lines.now.list notes) }
@@ -349,7 +362,7 @@ fn answer_to_lines(
 }
 
 // What is due where the words are not good.
-fn usage(alloc: Global) -> Result<Due, AllocError>
+fn usage(alloc: Global) -> Result<Due<'static>, AllocError>
     ensures due { IfOk result (λ due. answer_of due ≡ usage) }
     ensures settled { IfOk result IsSettled }
 {

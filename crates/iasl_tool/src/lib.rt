@@ -7,5 +7,3 @@ mod generated;
 mod resolved;
 pub mod run;
 mod source;
-#[cfg(test)]
-mod tests;

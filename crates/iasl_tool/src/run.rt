@@ -19,7 +19,7 @@ use iasl_ports::outputs::Outputs;
 use iasl_ports::sink::Sink;
 use iasl_runs::run::{StopTexts, finish};
 use std::alloc::Global;
-use table_outputs::outputs::render;
+use table_outputs::outputs::{lend, render};
 
 /// What the console is told with status 3 and with status 4.
 const STOP_TEXTS: StopTexts<'static> = StopTexts {
@@ -84,6 +84,7 @@ pub fn iasl<F: Files, O: Outputs, C: Sink>(
         × AreRendered (λ b. pieces b) (λ b. finished b) (kinds_by (settings_by (map string_bytes words.now))) backends.new.items (answer_for (map string_bytes words.now)) (F.contents files.old) }
 {
     let decided = decide(alloc, words, files);
-    let made = render(alloc, backends, decided);
+    let rendered = render(backends, decided);
+    let made = lend(alloc, backends, rendered);
     finish(outs, console, made, STOP_TEXTS)
 }

@@ -5,6 +5,4 @@ pub mod description;
 pub mod entries;
 pub mod kind;
 mod places;
-#[cfg(test)]
-mod tests;
 mod uses;

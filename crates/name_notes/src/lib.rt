@@ -5,5 +5,3 @@
 pub mod check;
 mod marks;
 pub mod reserved;
-#[cfg(test)]
-mod tests;

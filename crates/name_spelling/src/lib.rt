@@ -3,6 +3,4 @@
 
 mod form;
 pub mod spell;
-#[cfg(test)]
-mod tests;
 mod written;

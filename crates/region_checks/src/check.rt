@@ -28,6 +28,7 @@ use acpi_values::width::Width;
 use asl_tree::path::Path;
 use asl_tree::term::Node;
 use iasl_messages::message::{Message, Messages};
+use iasl_messages::number::ACCESS_WIDER_THAN_REGION;
 use iasl_messages::place::Place;
 use iasl_ports::list::Text;
 use name_kinds::facts::{Facts, end, facts_of};
@@ -76,7 +77,7 @@ fn field_errors(
 {
     if is_wider(access, size) {
         out.push(Message {
-            number: 6072,
+            number: ACCESS_WIDER_THAN_REGION,
             place,
             name: Text::new(alloc),
         })?;

@@ -4,5 +4,3 @@
 pub mod descriptor;
 pub mod layout;
 mod rows;
-#[cfg(test)]
-mod tests;

@@ -11,5 +11,3 @@ pub mod identifiers;
 pub mod node;
 pub mod output;
 pub mod template;
-#[cfg(test)]
-mod tests;

@@ -12,7 +12,7 @@ use Rattle.asl_lexer.specs.declared.token.Token.{Token}
 use Rattle.asl_lexer.specs.declared.mode.Fault.{Fault}
 use Rattle.asl_lexer.specs.Class.{base_of, takes_equals, doubles, shifts}
 use Rattle.asl_lexer.specs.Scan.{Mark, name_kind}
-use Rattle.asl_lexer.specs.Cut.{Each, Stops, class, in_name_class, begins_name_class, in_line_class, is_blank_class, begins_sign_class, is_caret_class, is_equals_class, in_line, is_caret, digit_in, IsName, IsNumeral, Content, Breaks, Inside, are_two, are_three}
+use Rattle.asl_lexer.specs.Cut.{Each, Stops, class, in_name_class, begins_name_class, in_line_class, is_whitespace_class, begins_sign_class, is_caret_class, is_equals_class, in_line, is_caret, digit_in, IsName, IsNumeral, Content, Breaks, Inside, are_two, are_three}
 use Rattle.asl_lexer.specs.Cut as g
 use Rattle.asl_lexer.proofs.Bits.{both}
 use Rattle.source_laws.specs.Parts.{IsToken, IsComment, BeginsComment, Part, Parts}
@@ -205,8 +205,8 @@ with_part (q ∷ parts) part more =
     append_assoc (part_sights q) (sights_in (parts ++ part ∷ [])) more ∙ ap (λ l. part_sights q ++ l) (with_part parts part more)
     ∙ sym (append_assoc (part_sights q) (sights_in parts) (part_sights part ++ more))
 
-blank_walk : (m : Mark) (rest : List Mark) → is_blank_class (class m) ≡ true → walk between (bytes (m ∷ rest)) ≡ Elsewhere ∷ walk between (bytes rest)
-blank_walk m rest blank = plain_walk (m ∷ []) rest (tested is_blank_class m blank refl refl)
+blank_walk : (m : Mark) (rest : List Mark) → is_whitespace_class (class m) ≡ true → walk between (bytes (m ∷ rest)) ≡ Elsewhere ∷ walk between (bytes rest)
+blank_walk m rest blank = plain_walk (m ∷ []) rest (tested is_whitespace_class m blank refl refl)
 
 pub lexed : {text : List Mark} {parts : List Part} {rest : List Mark} → Parts text parts rest → walk between (bytes text) ≡ sights_in parts ++ walk between (bytes rest)
 lexed p.begun = refl

@@ -11,7 +11,8 @@ use Rattle.asl_lexer.specs.Scan.{Mark}
 use Rattle.asl_lexer.specs.Marks.{marks_from, line_marks, following, joined}
 use Rattle.asl_fragments.specs.declared.fragment.Fragment.{Fragment}
 use Rattle.asl_fragments.specs.declared.fragment.FragmentKind.TheVariants.{Identifier, Number, Quoted, Comment, Other}
-use Rattle.asl_fragments.specs.Fragments.{begins_identifier, in_identifier, quoted_length, block_length, block_is_open, made, fragment_of_slash, fragment_of, first_fragment, piece_of, fragments, open_behind, ends_in_comment}
+use Rattle.asl_fragments.specs.Bytes.{begins_identifier, in_identifier}
+use Rattle.asl_fragments.specs.Fragments.{quoted_length, block_length, block_is_open, made, fragment_of_slash, fragment_of, first_fragment, piece_of, fragments, open_behind, ends_in_comment}
 use Rattle.asl_fragments.proofs.FragmentLaws.{fragments_step, no_fragments}
 use Rattle.asl_fragments.proofs.Joined.{first_forward}
 use Rattle.source_laws.specs.Sights.{Sight, InString, InComment, Elsewhere, each, piece_sights, line_sights, sights_behind, sights_of}

@@ -10,7 +10,7 @@ use Rattle.asl_lexer.specs.declared.class.Radix.TheVariants.{Octal, Decimal, Hex
 use Rattle.asl_lexer.specs.declared.token.Token.{Token}
 use Rattle.asl_lexer.specs.Class.{base_of, doubles, shifts, takes_equals}
 use Rattle.asl_lexer.specs.Scan.{Mark}
-use Rattle.asl_lexer.specs.Cut.{Each, Stops, class, in_name_class, begins_name_class, behind_slash_class, begins_sign_class, is_caret_class, is_equals_class, in_name, begins_name, behind_slash, is_caret, is_equals, is_x, digit_in, places, IsName, EndsName, no_name_by, no_name_behind, IsNumeral, Content, Inside, are_two, are_three, Cut, is_blank_class}
+use Rattle.asl_lexer.specs.Cut.{Each, Stops, class, in_name_class, begins_name_class, behind_slash_class, begins_sign_class, is_caret_class, is_equals_class, in_name, begins_name, behind_slash, is_caret, is_equals, is_x, digit_in, places, IsName, EndsName, no_name_by, no_name_behind, IsNumeral, Content, Inside, are_two, are_three, Cut, is_whitespace_class}
 use Rattle.asl_lexer.specs.Cut as g
 use Rattle.asl_lexer.proofs.Bits.{both, x_no_digit, either_true, both_true, shift_doubles}
 use Rattle.source_laws.specs.Parts.{IsToken, NoLonger, IsComment, BeginsComment, Part, Parts, tokens_in}
@@ -383,7 +383,7 @@ tokens_on (p.Blank m ∷ parts) more = tokens_on parts more
 tokens_on (p.Comment w ∷ parts) more = tokens_on parts more
 tokens_on (p.Whole t w ∷ parts) more = ap (λ l. t ∷ l) (tokens_on parts more)
 
-with_blank : {text : List Mark} {done : List Token} {m : Mark} {rest : List Mark} → is_blank_class (class m) ≡ true → Parted text done (m ∷ rest) → Parted text done rest
+with_blank : {text : List Mark} {done : List Token} {m : Mark} {rest : List Mark} → is_whitespace_class (class m) ≡ true → Parted text done (m ∷ rest) → Parted text done rest
 with_blank {done = done} {m = m} blank q = record { parts = q.parts ++ p.Blank m ∷ []; is = p.a_blank q.is blank; tokens = tokens_on q.parts (p.Blank m ∷ []) ∙ append-nil (tokens_in q.parts) ∙ q.tokens }
 
 with_comment : {text : List Mark} {done : List Token} {rest : List Mark} (w bytes : List Mark) → bytes ≡ w ++ rest → IsComment w rest → Parted text done bytes → Parted text done rest

@@ -7,7 +7,7 @@ use Rattle.asl_lexer.specs.declared.token.Token.{Token}
 use Rattle.asl_lexer.specs.declared.token.TokenKind.{TokenKind}
 use Rattle.asl_lexer.specs.declared.token.TokenKind.TheVariants as k
 use Rattle.asl_lexer.specs.Scan.{Mark, end_at, column_after, name_kind}
-use Rattle.asl_lexer.specs.Cut.{Each, Stops, class, end_of, in_line, is_blank_class, begins_sign_class, IsName, IsNumeral, Content, Inside, are_two, are_three}
+use Rattle.asl_lexer.specs.Cut.{Each, Stops, class, end_of, in_line, is_whitespace_class, begins_sign_class, IsName, IsNumeral, Content, Inside, are_two, are_three}
 
 -- ---- tokens
 
@@ -68,7 +68,7 @@ tokens_in (Whole t w ∷ parts) = t ∷ tokens_in parts
 -- The front of the text is these parts in turn, and the bytes of the last list are left. Where a comment begins, no token does.
 pub data Parts (text : List Mark) : List Part → List Mark → Type 0 where
   begun : Parts text [] text
-  a_blank : {parts : List Part} {m : Mark} {rest : List Mark} → Parts text parts (m ∷ rest) → is_blank_class (class m) ≡ true → Parts text (parts ++ Blank m ∷ []) rest
+  a_blank : {parts : List Part} {m : Mark} {rest : List Mark} → Parts text parts (m ∷ rest) → is_whitespace_class (class m) ≡ true → Parts text (parts ++ Blank m ∷ []) rest
   a_comment : {parts : List Part} {rest : List Mark} (w : List Mark) → Parts text parts (w ++ rest) → IsComment w rest → Parts text (parts ++ Comment w ∷ []) rest
   a_token : {parts : List Part} {rest : List Mark} (w : List Mark) (t : Token) → Parts text parts (w ++ rest) → (BeginsComment (w ++ rest) → ⊥) → IsToken t w → NoLonger w rest
       → Parts text (parts ++ Whole t w ∷ []) rest

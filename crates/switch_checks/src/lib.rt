@@ -4,7 +4,5 @@
 pub mod laws;
 pub mod locals;
 pub mod repeat;
-#[cfg(test)]
-mod tests;
 mod told;
 mod value;

@@ -9,5 +9,3 @@ mod made;
 mod measure;
 mod spare;
 mod split;
-#[cfg(test)]
-mod tests;

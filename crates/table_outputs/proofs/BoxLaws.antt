@@ -19,7 +19,7 @@ use Rattle.table_outputs.specs.declared.decision.OutputNames.{OutputNames}
 use Rattle.table_outputs.specs.declared.decision.Making.{Making}
 use Rattle.table_outputs.specs.declared.decision.Decision.{Decision}
 use Rattle.table_outputs.specs.declared.decision.Decision.TheVariants.{Ends, Makes}
-use Rattle.table_outputs.specs.Decision.{file_under, files_under, kinds_of, kinds_in, end_of, IsDecidedBy, IsDecidedFor, Settles, Renders, only_by}
+use Rattle.table_outputs.specs.Decision.{file_under, files_under, kinds_of, kinds_in, end_of, IsDecidedBy, IsDecidedFor, Settles, IsRendered, IsDueOf, only_by}
 use Rattle.table_outputs.specs.Boxes.{kinds_by, HoldsAsked, order_of, AreRendered, ChangesBy}
 
 -- an end is settled
@@ -30,9 +30,20 @@ end_settled (Err word) due h = h.0
 as_decided : (stop later : Stop) → later ≡ stop → IsErrOf {T = Due} (Err later) Fault → IsErrOf {T = Decision} (Err stop) Fault
 as_decided stop later m h = let is : later ≡ Fault = cc in ap (λ s. Err s) (sym m ∙ is)
 
+-- what is due of a decision whose outputs were made
+pub due_then : (decided rendered : Result Decision Stop) (made : Result Due Stop) → IsRendered decided rendered → IsDueOf rendered made → IsDueOf decided made
+due_then (Ok (Makes making)) (Ok rendered) made r m = subst (λ d. IsDueOf (Ok d) made) r m
+due_then (Ok (Ends decided)) (Ok rendered) made r m = subst (λ d. IsDueOf (Ok d) made) r m
+due_then (Ok (Makes making)) (Err stop) (Ok due) r m = absurd m
+due_then (Ok (Makes making)) (Err stop) (Err later) r m = m ∙ r
+due_then (Ok (Ends decided)) (Err stop) made r m = absurd r
+due_then (Err stop) (Ok rendered) made r m = absurd r
+due_then (Err stop) (Err later) (Ok due) r m = absurd m
+due_then (Err stop) (Err later) (Err last) r m = m ∙ r
+
 -- what a call decides, once its outputs are made
 pub decides : (answer : List Named → Option Answer) (r : Result Asked ℕ) (decided : Result Decision Stop) (made : Result Due Stop) (old new : FilesSeen)
-    → Settles answer (IsDecidedFor r) decided old new → Renders decided made → Decides answer made old new
+    → Settles answer (IsDecidedFor r) decided old new → IsDueOf decided made → Decides answer made old new
 decides answer r (Ok (Makes making)) (Ok due) old new s m = record {
   due = λ told is. s.due told is ∙ ap Some (sym m.0);
   settled = m.1;
@@ -107,28 +118,28 @@ stops Fault status e = omega (arith, e)
 stops Memory status e = omega (arith, e)
 
 module _ {X : Type 0} (kind_of : X → Kind) (pieces_of : X → List Piece) (is_finished : X → Bool) (r : Result Asked ℕ) (old new : List X) where
-  pub boxes_kept : (decided : Result Decision Stop) (made : Result Due Stop) → IfOk decided (IsDecidedFor r) → ChangesBy kind_of pieces_of is_finished decided made old new → (new ≡ old) ⊎ HoldsAsked kind_of (kinds_by r) old new
-  boxes_kept (Ok (Makes making)) made h change = inr (subst (λ kinds. HoldsAsked kind_of kinds old new) (kinds_are r making h) change.0)
-  boxes_kept (Ok (Ends due)) made h change = inl change
-  boxes_kept (Err stop) made h change = inl change
+  pub boxes_kept : (decided rendered : Result Decision Stop) → IfOk decided (IsDecidedFor r) → ChangesBy kind_of pieces_of is_finished decided rendered old new → (new ≡ old) ⊎ HoldsAsked kind_of (kinds_by r) old new
+  boxes_kept (Ok (Makes making)) rendered h change = inr (subst (λ kinds. HoldsAsked kind_of kinds old new) (kinds_are r making h) change.0)
+  boxes_kept (Ok (Ends due)) rendered h change = inl change
+  boxes_kept (Err stop) rendered h change = inl change
 
-  pub boxes_of_text : (decided : Result Decision Stop) (made : Result Due Stop) → IfOk decided (IsDecidedFor r) → ChangesBy kind_of pieces_of is_finished decided made old new → only_by r ≡ true → new ≡ old
-  boxes_of_text (Ok (Makes making)) made h change alone = let no : only_by r ≡ false = compiles r making h in absurd cc
-  boxes_of_text (Ok (Ends due)) made h change alone = change
-  boxes_of_text (Err stop) made h change alone = change
+  pub boxes_of_text : (decided rendered : Result Decision Stop) → IfOk decided (IsDecidedFor r) → ChangesBy kind_of pieces_of is_finished decided rendered old new → only_by r ≡ true → new ≡ old
+  boxes_of_text (Ok (Makes making)) rendered h change alone = let no : only_by r ≡ false = compiles r making h in absurd cc
+  boxes_of_text (Ok (Ends due)) rendered h change alone = change
+  boxes_of_text (Err stop) rendered h change alone = change
 
   module _ (fault memory : List ℕ) (status : ℕ) (put now_put : OutputsSeen) (told now_told : ConsoleSeen) where
-    pub boxes_as_before : (decided : Result Decision Stop) (made : Result Due Stop) → Renders decided made → ChangesBy kind_of pieces_of is_finished decided made old new → Finishes fault memory made status put now_put told now_told
+    pub boxes_as_before : (decided rendered : Result Decision Stop) (made : Result Due Stop) → IsDueOf decided made → ChangesBy kind_of pieces_of is_finished decided rendered old new → Finishes fault memory made status put now_put told now_told
         → 1 ≤ status → status ≤ 2 → new ≡ old
-    boxes_as_before (Ok (Makes making)) (Ok due) m change f some few = absurd (of_making due status (ap (λ a. a.status) m.0) f.is some few)
-    boxes_as_before (Ok (Makes making)) (Err stop) m change f some few = let high = stops stop status f.1.is in absurd (omega arith)
-    boxes_as_before (Ok (Ends due)) made m change f some few = change
-    boxes_as_before (Err stop) made m change f some few = change
+    boxes_as_before (Ok (Makes making)) rendered (Ok due) m change f some few = absurd (of_making due status (ap (λ a. a.status) m.0) f.is some few)
+    boxes_as_before (Ok (Makes making)) rendered (Err stop) m change f some few = let high = stops stop status f.1.is in absurd (omega arith)
+    boxes_as_before (Ok (Ends due)) rendered made m change f some few = change
+    boxes_as_before (Err stop) rendered made m change f some few = change
 
-    pub boxes_rendered : (answer : List Named → Option Answer) (files now_files : FilesSeen) (decided : Result Decision Stop) (made : Result Due Stop) → Settles answer (IsDecidedFor r) decided files now_files → Renders decided made
-        → ChangesBy kind_of pieces_of is_finished decided made old new → Finishes fault memory made status put now_put told now_told
+    pub boxes_rendered : (answer : List Named → Option Answer) (files now_files : FilesSeen) (decided rendered : Result Decision Stop) (made : Result Due Stop) → Settles answer (IsDecidedFor r) decided files now_files → IsDueOf decided made → IsDueOf rendered made
+        → ChangesBy kind_of pieces_of is_finished decided rendered old new → Finishes fault memory made status put now_put told now_told
         → status ≡ 0 → only_by r ≡ false → HoldsAsked kind_of (kinds_by r) old new × AreRendered pieces_of is_finished (kinds_by r) new answer files.contents
-    boxes_rendered answer files now_files (Ok (Makes making)) (Ok due) s m change f zero asks =
+    boxes_rendered answer files now_files (Ok (Makes making)) (Ok rendered) (Ok due) s m n change f zero asks =
         let kinds = kinds_are r making s.settled in (
           subst (λ kinds. HoldsAsked kind_of kinds old new) kinds change.0,
           record {
@@ -141,9 +152,10 @@ module _ {X : Type 0} (kind_of : X → Kind) (pieces_of : X → List Piece) (is_
                 ∙ ap (λ kinds. map (λ kind. rendering kind making.pieces) (order_of kinds)) kinds;
           },
         )
-    boxes_rendered answer files now_files (Ok (Makes making)) (Err stop) s m change f zero asks = let high = stops stop status f.1.is in absurd (omega (arith, high, zero))
-    boxes_rendered answer files now_files (Ok (Ends decided)) (Ok due) s m change f zero asks =
+    boxes_rendered answer files now_files (Ok (Makes making)) (Err stop) (Ok due) s m n change f zero asks = absurd n
+    boxes_rendered answer files now_files (Ok (Makes making)) rendered (Err stop) s m n change f zero asks = let high = stops stop status f.1.is in absurd (omega (arith, high, zero))
+    boxes_rendered answer files now_files (Ok (Ends decided)) rendered (Ok due) s m n change f zero asks =
         let yes : only_by r ≡ true = text_alone r decided s.settled (ap (λ d. d.status) (sym m) ∙ of_zero due status zero f.is) in absurd cc
-    boxes_rendered answer files now_files (Ok (Ends decided)) (Err stop) s m change f zero asks = absurd m
-    boxes_rendered answer files now_files (Err stop) (Ok due) s m change f zero asks = absurd m
-    boxes_rendered answer files now_files (Err stop) (Err later) s m change f zero asks = let high = stops later status f.1.is in absurd (omega (arith, high, zero))
+    boxes_rendered answer files now_files (Ok (Ends decided)) rendered (Err stop) s m n change f zero asks = absurd m
+    boxes_rendered answer files now_files (Err stop) rendered (Ok due) s m n change f zero asks = absurd m
+    boxes_rendered answer files now_files (Err stop) rendered (Err later) s m n change f zero asks = let high = stops later status f.1.is in absurd (omega (arith, high, zero))

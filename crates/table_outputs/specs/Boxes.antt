@@ -1,20 +1,20 @@
 -- What a list of boxed outputs holds after a call.
-use Rattle.std.specs.Prelude.{◌≡◌, ℕ, Bool, true, false, List, [], ◌∷◌, ◌++◌, map, cond, OnOk, Result, Ok, Err}
+use Rattle.std.specs.Prelude.{◌≡◌, ℕ, Bool, true, false, List, [], ◌∷◌, ◌++◌, map, cond, ⊤, OnOk, Result, Ok, Err}
 use Rattle.std.specs.List.{filter, All}
 use Rattle.std.specs.declared.option.Option.{Option}
 use Rattle.std.specs.Option.{ForSome}
 use Rattle.iasl_ports.specs.Gained.{Named}
 use Rattle.iasl_ports.specs.Delivery.{Answer, due_of}
-use Rattle.iasl_ports.specs.declared.delivery.Due.{Due}
 use Rattle.iasl_ports.specs.declared.delivery.Stop.{Stop}
 use Rattle.iasl_messages.specs.declared.place.Piece.{Piece}
 use Rattle.iasl_backends.specs.declared.asked.Asked.{Asked as Kinds}
 use Rattle.iasl_backends.specs.declared.backend.Kind.{Kind}
 use Rattle.iasl_backends.specs.declared.backend.Kind.TheVariants.{RawAml, CHex, Listing}
-use Rattle.iasl_backends.specs.Asked.{is_asked}
+use Rattle.iasl_backends.specs.Asked.{is_asked, has_kind}
 use Rattle.iasl_backends.specs.Each.{Each}
 use Rattle.iasl_backends.specs.Rendering.{rendering}
 use Rattle.iasl_options.specs.Asking.{Asked, asked_by}
+use Rattle.table_outputs.specs.declared.decision.Making.{Making}
 use Rattle.table_outputs.specs.declared.decision.Decision.{Decision}
 use Rattle.table_outputs.specs.declared.decision.Decision.TheVariants.{Ends, Makes}
 use Rattle.table_outputs.specs.Decision.{kinds_in, kinds_of}
@@ -39,11 +39,23 @@ pub record AreRendered {X : Type 0} (pieces_of : X → List Piece) (is_finished 
   pub finished : All (λ b. is_finished b ≡ true) boxes
   pub texts : ForSome contents (λ told. map (λ file. file.1) (due_of (answer told)) ≡ map (λ kind. rendering kind pieces) (order_of kinds))
 
+-- The boxes hold the texts of a table's outputs: each is finished over the table, and there is one of each kind that has a name.
+pub record HoldsTexts {X : Type 0} (kind_of : X → Kind) (pieces_of : X → List Piece) (is_finished : X → Bool) (making : Making) (boxes : List X) : Type 0 where
+  pub over : All (λ b. pieces_of b ≡ making.pieces) boxes
+  pub finished : All (λ b. is_finished b ≡ true) boxes
+  pub there : (kind : Kind) → is_asked (kinds_of making.names) kind ≡ true → has_kind kind_of kind boxes ≡ true
+
+-- they do so where a decision has outputs
+abbrev pub HoldsOutputs : {X : Type 0} → (X → Kind) → (X → List Piece) → (X → Bool) → Result Decision Stop → List X → Type 0
+HoldsOutputs kind_of pieces_of is_finished (Ok (Makes making)) boxes = HoldsTexts kind_of pieces_of is_finished making boxes
+HoldsOutputs kind_of pieces_of is_finished (Ok (Ends due)) boxes = ⊤
+HoldsOutputs kind_of pieces_of is_finished (Err stop) boxes = ⊤
+
 -- What making the outputs of a decision does to the boxes: nothing where there are none to make; else those of other kinds are let go,
 -- and the others are finished over the table, unless memory is wanted.
-abbrev pub ChangesBy : {X : Type 0} → (X → Kind) → (X → List Piece) → (X → Bool) → Result Decision Stop → Result Due Stop → List X → List X → Type 0
-ChangesBy kind_of pieces_of is_finished (Ok (Makes making)) result old new =
+abbrev pub ChangesBy : {X : Type 0} → (X → Kind) → (X → List Piece) → (X → Bool) → Result Decision Stop → Result Decision Stop → List X → List X → Type 0
+ChangesBy kind_of pieces_of is_finished (Ok (Makes making)) rendered old new =
     HoldsAsked kind_of (kinds_of making.names) old new
-    × OnOk result (All (λ b. pieces_of b ≡ making.pieces) new × All (λ b. is_finished b ≡ true) new)
-ChangesBy kind_of pieces_of is_finished (Ok (Ends due)) result old new = new ≡ old
-ChangesBy kind_of pieces_of is_finished (Err stop) result old new = new ≡ old
+    × OnOk rendered (All (λ b. pieces_of b ≡ making.pieces) new × All (λ b. is_finished b ≡ true) new)
+ChangesBy kind_of pieces_of is_finished (Ok (Ends due)) rendered old new = new ≡ old
+ChangesBy kind_of pieces_of is_finished (Err stop) rendered old new = new ≡ old

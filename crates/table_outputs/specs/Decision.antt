@@ -68,14 +68,23 @@ pub record Settles (answer : List Named → Option Answer) (is_decided : Decisio
   pub contents : new.contents ≡ old.contents
   pub later : old.faults ≤ new.faults
 
--- The outputs of a decision are made, unless memory is wanted.
-abbrev pub Renders : Result Decision Stop → Result Due Stop → Type 0
-Renders (Ok (Makes making)) (Ok due) = (answer_of due ≡ end_of (Makes making)) × IsSettled due
-Renders (Ok (Ends decided)) (Ok due) = due ≡ decided
-Renders (Ok (Ends decided)) (Err stop) = ⊥
-Renders (Ok (Makes making)) (Err stop) = stop ≡ Memory
-Renders (Err stop) (Ok due) = ⊥
-Renders (Err stop) (Err later) = later ≡ stop
+-- The texts of the outputs of a decision are made, unless memory is wanted; the decision stays the same.
+abbrev pub IsRendered : Result Decision Stop → Result Decision Stop → Type 0
+IsRendered (Ok (Makes making)) (Ok rendered) = rendered ≡ Makes making
+IsRendered (Ok (Makes making)) (Err stop) = stop ≡ Memory
+IsRendered (Ok (Ends due)) (Ok rendered) = rendered ≡ Ends due
+IsRendered (Ok (Ends due)) (Err stop) = ⊥
+IsRendered (Err stop) (Ok rendered) = ⊥
+IsRendered (Err stop) (Err later) = later ≡ stop
+
+-- What is due is the end of a decision, unless memory is wanted for the list of its outputs.
+abbrev pub IsDueOf : Result Decision Stop → Result Due Stop → Type 0
+IsDueOf (Ok (Makes making)) (Ok due) = (answer_of due ≡ end_of (Makes making)) × IsSettled due
+IsDueOf (Ok (Makes making)) (Err stop) = stop ≡ Memory
+IsDueOf (Ok (Ends decided)) (Ok due) = due ≡ decided
+IsDueOf (Ok (Ends decided)) (Err stop) = ⊥
+IsDueOf (Err stop) (Ok due) = ⊥
+IsDueOf (Err stop) (Err later) = later ≡ stop
 
 -- whether words ask for preprocessed text alone
 abbrev pub only_by : Result Asked ℕ → Bool

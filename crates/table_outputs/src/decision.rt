@@ -24,8 +24,8 @@ pub struct Making {
 /// What a call is to end with.
 #[derive(Drop)]
 pub enum Decision {
-    /// An end of which no output has to be made.
-    Ends(Due),
+    /// An end of which no output has to be made. Its file, if there is one, has bytes of its own.
+    Ends(Due<'static>),
     /// The outputs of a table, and status 0.
     Makes(Making),
 }

@@ -1,4 +1,4 @@
-//! The outputs of a table, which a list of boxes makes.
+//! The outputs of a table, which a list of boxes makes and lends.
 ghost use Rattle.std.specs.Prelude.{◌≡◌, ◌++◌, List, map, string_bytes, is_some, true, IfOk, OnOk};
 ghost use Rattle.std.specs.List.{All};
 ghost use Rattle.iasl_ports.specs.Delivery.{answer_of, name_and_bytes, IsSettled};
@@ -7,8 +7,8 @@ ghost use Rattle.iasl_backends.specs.declared.backend.Kind.TheVariants as kinds;
 ghost use Rattle.iasl_backends.specs.Asked.{has_kind, IsOneOfEach};
 ghost use Rattle.iasl_backends.specs.Rendering.{rendering};
 ghost use Rattle.table_outputs.specs.declared.decision.Decision.TheVariants.{Makes};
-ghost use Rattle.table_outputs.specs.Decision.{file_under, files_under, kinds_of, end_of, Renders};
-ghost use Rattle.table_outputs.specs.Boxes.{HoldsAsked, ChangesBy};
+ghost use Rattle.table_outputs.specs.Decision.{file_under, files_under, kinds_of, end_of, IsRendered, IsDueOf};
+ghost use Rattle.table_outputs.specs.Boxes.{HoldsAsked, ChangesBy, HoldsOutputs, HoldsTexts};
 
 use crate::decision::{Decision, Making, OutputNames};
 use iasl_backends::asked::Asked;
@@ -16,48 +16,76 @@ use iasl_backends::backend::{Backend, Kind};
 use iasl_backends::lent::{render_asked, rendered_text};
 use iasl_ports::delivery::{Due, OutFile, Stop};
 use std::alloc::{AllocError, Global};
+use std::borrow::CowSlice;
 
-// The file with the text of an output.
-fn file_of(
-    alloc: Global,
-    backends: &Vec<Box<dyn Backend>>,
-    kind: Kind,
-    name: String,
-) -> Result<OutFile, AllocError>
+// Makes the texts of a table's outputs that are asked for.
+fn make(backends: &mut Vec<Box<dyn Backend>>, making: &Making) -> Result<(), AllocError>
+    requires { IsOneOfEach (λ b. kind_of b) backends.old.items }
+    ensures held { HoldsAsked (λ b. kind_of b) (kinds_of making.now.names) backends.old.items backends.new.items }
+    ensures texts { OnOk result (HoldsTexts (λ b. kind_of b) (λ b. pieces b) (λ b. finished b) making.now backends.new.items) }
+{
+    let asked = Asked {
+        c_text: making.names.c_text.is_some(),
+        listing: making.names.listing.is_some(),
+    };
+    render_asked(backends, asked, making.pieces.as_slice())
+}
+
+/// Makes the texts of the outputs of what was decided, where there are any. The boxes of other kinds are let go then.
+pub fn render(
+    backends: &mut Vec<Box<dyn Backend>>,
+    decided: Result<Decision, Stop>,
+) -> Result<Decision, Stop>
+    requires { IsOneOfEach (λ b. kind_of b) backends.old.items }
+    ensures rendered { IsRendered decided result }
+    ensures boxes { ChangesBy (λ b. kind_of b) (λ b. pieces b) (λ b. finished b) decided result backends.old.items backends.new.items }
+    ensures outputs { HoldsOutputs (λ b. kind_of b) (λ b. pieces b) (λ b. finished b) result backends.new.items }
+{
+    match decided {
+        Ok(Decision::Makes(making)) => {
+            make(backends, &making)?;
+            Ok(Decision::Makes(making))
+        }
+        Ok(Decision::Ends(due)) => Ok(Decision::Ends(due)),
+        Err(stop) => Err(stop),
+    }
+}
+
+// The file with the text of an output, which a box lends.
+fn file_of<'a>(backends: &'a Vec<Box<dyn Backend>>, kind: Kind, name: String) -> OutFile<'a>
     requires done { All (λ b. finished b ≡ true) backends.now.items }
     requires there { has_kind (λ b. kind_of b) kind backends.now.items ≡ true }
-    ensures { (all : List SpecPiece) → All (λ b. pieces b ≡ all) backends.now.items → IfOk result (λ file. name_and_bytes file ≡ (string_bytes name, rendering kind all)) }
+    ensures { (all : List SpecPiece) → All (λ b. pieces b ≡ all) backends.now.items → name_and_bytes result ≡ (string_bytes name, rendering kind all) }
 {
-    Ok(OutFile {
+    OutFile {
         name,
-        bytes: rendered_text(backends, kind).to_vec(alloc)?,
-    })
+        bytes: CowSlice::Borrowed(rendered_text(backends, kind)),
+    }
 }
 
 // Adds the file with the text of an output, where that has a name.
-fn push_named(
-    alloc: Global,
-    backends: &Vec<Box<dyn Backend>>,
+fn push_named<'a>(
+    backends: &'a Vec<Box<dyn Backend>>,
     kind: Kind,
     name: Option<String>,
-    files: &mut Vec<OutFile>,
+    files: &mut Vec<OutFile<'a>>,
 ) -> Result<(), AllocError>
     requires done { All (λ b. finished b ≡ true) backends.now.items }
     requires there { is_some name ≡ true → has_kind (λ b. kind_of b) kind backends.now.items ≡ true }
     ensures { (all : List SpecPiece) → All (λ b. pieces b ≡ all) backends.now.items → OnOk result (map name_and_bytes files.new.items ≡ map name_and_bytes files.old.items ++ file_under (λ name. string_bytes name) name (rendering kind all)) }
 {
     if let Some(name) = name {
-        files.push(file_of(alloc, backends, kind, name)?)?;
+        files.push(file_of(backends, kind, name))?;
     }
     Ok(())
 }
 
 // The files with the texts of the outputs.
-fn files_of(
+fn files_of<'a>(
     alloc: Global,
-    backends: &Vec<Box<dyn Backend>>,
+    backends: &'a Vec<Box<dyn Backend>>,
     names: OutputNames,
-) -> Result<Vec<OutFile>, AllocError>
+) -> Result<Vec<OutFile<'a>>, AllocError>
     requires done { All (λ b. finished b ≡ true) backends.now.items }
     requires table { has_kind (λ b. kind_of b) kinds.RawAml backends.now.items ≡ true }
     requires c_text { is_some names.c_text ≡ true → has_kind (λ b. kind_of b) kinds.CHex backends.now.items ≡ true }
@@ -70,54 +98,40 @@ fn files_of(
         listing,
     } = names;
     let mut files = Vec::new(alloc);
-    files.push(file_of(alloc, backends, Kind::RawAml, table)?)?;
-    push_named(alloc, backends, Kind::CHex, c_text, &mut files)?;
-    push_named(alloc, backends, Kind::Listing, listing, &mut files)?;
+    files.push(file_of(backends, Kind::RawAml, table))?;
+    push_named(backends, Kind::CHex, c_text, &mut files)?;
+    push_named(backends, Kind::Listing, listing, &mut files)?;
     Ok(files)
 }
 
-// Makes the outputs of a table that are asked for.
-fn make(
+// What is due of a table whose outputs the boxes hold.
+fn due_of_table<'a>(
     alloc: Global,
-    backends: &mut Vec<Box<dyn Backend>>,
+    backends: &'a Vec<Box<dyn Backend>>,
     making: Making,
-) -> Result<Due, AllocError>
-    requires { IsOneOfEach (λ b. kind_of b) backends.old.items }
+) -> Result<Due<'a>, AllocError>
+    requires { HoldsTexts (λ b. kind_of b) (λ b. pieces b) (λ b. finished b) making backends.now.items }
     ensures due { IfOk result (λ due. answer_of due ≡ end_of (Makes making)) }
     ensures settled { IfOk result IsSettled }
-    ensures held { HoldsAsked (λ b. kind_of b) (kinds_of making.names) backends.old.items backends.new.items }
-    ensures over { OnOk result (All (λ b. pieces b ≡ making.pieces) backends.new.items) }
-    ensures done { OnOk result (All (λ b. finished b ≡ true) backends.new.items) }
 {
-    let Making {
-        text,
-        names,
-        pieces,
-    } = making;
-    let asked = Asked {
-        c_text: names.c_text.is_some(),
-        listing: names.listing.is_some(),
-    };
-    render_asked(backends, asked, pieces.as_slice())?;
     Ok(Due {
         status: 0,
-        text,
-        files: files_of(alloc, backends, names)?,
+        text: making.text,
+        files: files_of(alloc, backends, making.names)?,
     })
 }
 
-/// Makes the outputs of what was decided, where there are any. The boxes of other kinds are let go then.
-pub fn render(
+/// What is due of what was decided, where the boxes hold the outputs, if there are any: they lend their texts to the files.
+pub fn lend<'a>(
     alloc: Global,
-    backends: &mut Vec<Box<dyn Backend>>,
-    decided: Result<Decision, Stop>,
-) -> Result<Due, Stop>
-    requires { IsOneOfEach (λ b. kind_of b) backends.old.items }
-    ensures due { Renders decided result }
-    ensures boxes { ChangesBy (λ b. kind_of b) (λ b. pieces b) (λ b. finished b) decided result backends.old.items backends.new.items }
+    backends: &'a Vec<Box<dyn Backend>>,
+    rendered: Result<Decision, Stop>,
+) -> Result<Due<'a>, Stop>
+    requires { HoldsOutputs (λ b. kind_of b) (λ b. pieces b) (λ b. finished b) rendered backends.now.items }
+    ensures { IsDueOf rendered result }
 {
-    match decided {
-        Ok(Decision::Makes(making)) => Ok(make(alloc, backends, making)?),
+    match rendered {
+        Ok(Decision::Makes(making)) => Ok(due_of_table(alloc, backends, making)?),
         Ok(Decision::Ends(due)) => Ok(due),
         Err(stop) => Err(stop),
     }

@@ -5,5 +5,3 @@ pub mod check;
 pub mod kind;
 pub mod names;
 pub mod size;
-#[cfg(test)]
-mod tests;

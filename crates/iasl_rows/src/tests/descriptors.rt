@@ -153,6 +153,35 @@ const TOLD: &[Told] = &[
         "Method (M) { Name (C, ResourceTemplate () { FixedIO (1, 2, E) }) } Name (N, E._LEN)",
         b"t.asl:4:77: error 6041: name is not found: E___._LEN\n1 errors, 0 warnings, 0 remarks\n"
     ),
+    // A path with more steps up than scopes, as it is written: at a field that is read, as a place, as an object and as a method.
+    row!(
+        "Name (N, ^D._BAS)",
+        b"t.asl:4:10: error 6043: path leaves the root: ^D___._BAS\n1 errors, 0 warnings, 0 remarks\n"
+    ),
+    row!(
+        "Name (P, Package () { ^^D._LEN, ^D })",
+        b"t.asl:4:23: error 6043: path leaves the root: ^^D___._LEN\nt.asl:4:33: error 6043: path leaves the root: ^D___\n2 errors, 0 warnings, 0 remarks\n"
+    ),
+    row!(
+        "Method (M) { Store (^D._LEN, ^^D._LEN) }",
+        b"t.asl:4:30: error 6043: path leaves the root: ^^D___._LEN\n1 errors, 0 warnings, 0 remarks\n"
+    ),
+    row!(
+        "Method (M) { Acquire (^^D._LEN, 1) }",
+        b"t.asl:4:23: error 6043: path leaves the root: ^^D___._LEN\n1 errors, 0 warnings, 0 remarks\n"
+    ),
+    row!(
+        "Method (M) { ^^D._LEN (1) }",
+        b"t.asl:4:14: error 6043: path leaves the root: ^^D___._LEN\n1 errors, 0 warnings, 0 remarks\n"
+    ),
+    row!(
+        "Alias (^D._LEN, N)",
+        b"t.asl:4:8: error 6043: path leaves the root: ^D___._LEN\n1 errors, 0 warnings, 0 remarks\n"
+    ),
+    row!(
+        "Name (N, ^D._BAS) Name (D, 1)",
+        b"t.asl:4:10: error 6043: path leaves the root: ^D___._BAS\nt.asl:4:25: error 6040: name is declared twice: \\D___\n2 errors, 0 warnings, 0 remarks\n"
+    ),
     // Nothing is declared below a descriptor, and it is no scope.
     row!(
         "Name (D.X, 1)",
@@ -161,6 +190,10 @@ const TOLD: &[Told] = &[
     row!(
         "Scope (D) { Name (X, 1) }",
         b"t.asl:4:1: error 6042: scope is not a container: D___\nt.asl:4:19: error 6041: name is not found: X___\n2 errors, 0 warnings, 0 remarks\n"
+    ),
+    row!(
+        "Scope (^D._LEN) { }",
+        b"t.asl:4:1: error 6042: scope is not a container: ^D___\nt.asl:4:8: error 6043: path leaves the root: ^D___._LEN\n2 errors, 0 warnings, 0 remarks\n"
     ),
     // A descriptor has no value: it is no expression, no term and no member of a Package.
     row!(

@@ -11,4 +11,4 @@ returns-in_err-mode c = λ rest ends.
 
 pub returns : goal.returns
 returns c = λ rest ends.
-    subst (Leads c.scan_line.result c.scan_line.new.tokens rest) (sym (scan_goes (break_mark c.args.line.now) (line_marks c.args.line.now ++ rest) c.args.mode c.in_ok-mode.mode c.args.tokens.now c.step.new.tokens c.in_ok-mode.ensures)) (c.scan_line.ensures rest ends)
+    subst (Leads c.scan_line.result c.scan_line.new.tokens rest) (sym (scan_goes (break_mark c.args.line.now) (line_marks c.args.line.now ++ rest) c.args.mode c.in_ok-mode.mode c.args.tokens.now c.at_break.new.tokens c.in_ok-mode.ensures)) (c.scan_line.ensures rest ends)

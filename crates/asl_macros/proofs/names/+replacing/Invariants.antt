@@ -15,11 +15,11 @@ decreases-add_text l = 3 * l.levels + 2
 
 abbrev pub invariant-add_text-loop-rest : goal.invariant-add_text-loop-rest
 invariant-add_text-loop-rest l =
-    let value = value_of l.levels l.within (text_at l.macros) (map (λ other. other.now) l.fn.active.items) in
+    let value = value_of l.levels l.rule.within (text_at l.rule.macros.now) (map (λ other. other.now) l.fn.active.items) in
     record {
-      added : l.out.items ++ with_values l.within value l.spot (fragments l.inside l.rest) ≡ l.fn.out.items ++ text_with_values l.within value l.in_comment l.text;
+      added : l.out.items ++ with_values l.rule.within value l.spot (fragments l.inside l.rest) ≡ l.fn.out.items ++ text_with_values l.rule.within value l.in_comment l.text;
       active : l.active.items ≡ l.fn.active.items;
-      within : length l.out.items ≤ l.limit;
+      within : length l.out.items ≤ l.rule.limit;
     }
 
 abbrev pub decreases-add_text-loop-rest : goal.decreases-add_text-loop-rest

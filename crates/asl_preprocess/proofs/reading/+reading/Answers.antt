@@ -2,8 +2,8 @@ use Rattle.std.proofs.Common.{rules, ◌≡◌, ℕ, ◌-◌, ◌<◌, List, [],
 use Rattle.asl_preprocess.specs.RowsByCode.{row_by, rows_left}
 use Rattle.asl_preprocess.specs.Rows.{rows_of}
 use Rattle.asl_preprocess.specs.State.{number_of, with_file, with_files}
-use Rattle.asl_preprocess.specs.Preprocess.{of_file, setting_of, included, reading_at}
-use Rattle.asl_preprocess.specs.Told.{Shows, asked_for}
+use Rattle.asl_preprocess.specs.Preprocess.{of_file, included, reading_at}
+use Rattle.asl_preprocess.specs.Told.{Shows, asked_for, setting_by}
 use Rattle.asl_preprocess.specs.Sound.{IsSound}
 use Rattle.asl_preprocess.specs.Reached.{Stands}
 use Rattle.asl_preprocess.proofs.Passing.{passed_none, passed_more, passed_stops, passed_end, end_counts, one_of}
@@ -12,13 +12,13 @@ use Rattle.asl_preprocess.proofs.reading.+reading.Goals as goal
 
 pub include-returns-in-Err-clause-reached : goal.include-returns-in-Err-clause-reached
 include-returns-in-Err-clause-reached g t c state shows sound known =
-    let some : 0 < c.args.levels = omega arith in
-    seek_stops (g.F.Files.contents c.args.files.now) c.args.directories.now c.args.enabled c.args.levels c.args.own.now state c.args.wanted.now some
+    let some : 0 < c.args.own.now.levels = omega arith in
+    seek_stops (g.F.Files.contents c.args.files.now) c.args.setting.now.directories.now c.args.setting.now.enabled c.args.own.now.levels c.args.own.now.name.now state c.args.wanted.now some
     c.in-Err.halt c.args.work.now.files c.seek.new.work.files shows.files known c.in-Err.ensures.refused
 
 pub include-returns-in-Ok-clause-reached : goal.include-returns-in-Ok-clause-reached
 include-returns-in-Ok-clause-reached g t c state shows sound known =
-    let some : 0 < c.args.levels = omega arith in
+    let some : 0 < c.args.own.now.levels = omega arith in
     let name = c.in-Ok.found.name in
     let new = with_files state (with_file name state.files) in
     let shows' : Shows c.seek.new.work new = c.in-Ok.ensures.shows state shows in
@@ -28,32 +28,32 @@ include-returns-in-Ok-clause-reached g t c state shows sound known =
     c.in-Ok.ensures.number ∙ ap (number_of name) shows'.files ∙ ap (λ (n : List ℕ). number_of n (with_file name state.files)) (sym c.as_bytes-in-Ok.ensures) in
     reaches_by c.read_file.result (g.F.Files.contents c.args.files.now) (g.F.Files.contents c.seek.new.files) c.read_file.new.work.files
     (λ later. Stands c.read_file.new.work later (length state.files)) (λ later. Stands c.read_file.new.work later (length (with_file name state.files)))
-    (λ told. included (reading_at (setting_of told c.args.directories.now c.args.enabled) c.args.levels) (setting_of told c.args.directories.now c.args.enabled) c.args.own.now (asked_for c.args.wanted.now) c.args.wanted.now.place state)
-    (λ told. of_file (setting_of told c.args.directories.now c.args.enabled) (c.args.levels - 1) new c.as_bytes-in-Ok.result.now c.deref.result.now)
+    (λ told. included (reading_at (setting_by told c.args.setting.now) c.args.own.now.levels) (setting_by told c.args.setting.now) c.args.own.now.name.now (asked_for c.args.wanted.now) c.args.wanted.now.place state)
+    (λ told. of_file (setting_by told c.args.setting.now) (c.args.own.now.levels - 1) new c.as_bytes-in-Ok.result.now c.deref.result.now)
     c.in-Ok.ensures.contents
     (λ later stands. record { shows = stands.shows; sound = stands.sound; grows = omega (arith, stands.grows, more_files name state.files) })
     (λ told k.
-    seek_reads (g.F.Files.contents c.args.files.now) c.args.directories.now c.args.enabled c.args.levels c.args.own.now state c.args.wanted.now some name c.in-Ok.found.bytes.items told (c.in-Ok.ensures.found told k)
-    ∙ ap (λ (n : List ℕ). of_file (setting_of told c.args.directories.now c.args.enabled) (c.args.levels - 1) new n c.in-Ok.found.bytes.items) (sym c.as_bytes-in-Ok.ensures)
-    ∙ ap (λ (b : List ℕ). of_file (setting_of told c.args.directories.now c.args.enabled) (c.args.levels - 1) new c.as_bytes-in-Ok.result.now b) (sym c.deref.ensures.value))
+    seek_reads (g.F.Files.contents c.args.files.now) c.args.setting.now.directories.now c.args.setting.now.enabled c.args.own.now.levels c.args.own.now.name.now state c.args.wanted.now some name c.in-Ok.found.bytes.items told (c.in-Ok.ensures.found told k)
+    ∙ ap (λ (n : List ℕ). of_file (setting_by told c.args.setting.now) (c.args.own.now.levels - 1) new n c.in-Ok.found.bytes.items) (sym c.as_bytes-in-Ok.ensures)
+    ∙ ap (λ (b : List ℕ). of_file (setting_by told c.args.setting.now) (c.args.own.now.levels - 1) new c.as_bytes-in-Ok.result.now b) (sym c.deref.ensures.value))
     (c.read_file.ensures.reached new shows' sound' within number)
 
 pub pass_row-returns-in-Ok-Some-clause-reached : goal.pass_row-returns-in-Ok-Some-clause-reached
 pass_row-returns-in-Ok-Some-clause-reached g t c state shows sound known =
     let does = (rw c.in-Ok-Some.field-0-is at c.in-Ok-Some.ensures) state shows in
-    let asking = row_asks (g.F.Files.contents c.args.files.now) c.args.directories.now c.args.enabled c.args.levels c.args.own.now c.args.file state c.args.branches.now (row_by c.args.row) sound known
+    let asking = row_asks (g.F.Files.contents c.args.files.now) c.args.setting.now.directories.now c.args.setting.now.enabled c.args.file.now.levels c.args.file.now.name.now c.args.file.now.number state c.args.branches.now (row_by c.args.row) sound known
     c.take_row.new.work c.take_row.new.branches c.in-Ok-Some.wanted does in
     asking.next c.include.result c.include.new.work.files c.include.new.work (c.include.ensures.reached asking.now asking.shows asking.is_sound asking.within)
 
 pub pass_row-returns-in-Ok-None-clause-reached : goal.pass_row-returns-in-Ok-None-clause-reached
 pass_row-returns-in-Ok-None-clause-reached g t c state shows sound known =
     let does = (rw c.in-Ok-None.field-0-is at c.in-Ok-None.ensures) state shows in
-    row_goes (g.F.Files.contents c.args.files.now) c.args.directories.now c.args.enabled c.args.levels c.args.own.now c.args.file state c.args.branches.now (row_by c.args.row) sound known
+    row_goes (g.F.Files.contents c.args.files.now) c.args.setting.now.directories.now c.args.setting.now.enabled c.args.file.now.levels c.args.file.now.name.now c.args.file.now.number state c.args.branches.now (row_by c.args.row) sound known
     c.take_row.new.work c.take_row.new.branches c.take_row.new.work.files does
 
 pub pass_row-returns-in-Err-clause-reached : goal.pass_row-returns-in-Err-clause-reached
 pass_row-returns-in-Err-clause-reached g t c state shows sound known =
-    row_stops (g.F.Files.contents c.args.files.now) c.args.directories.now c.args.enabled c.args.levels c.args.own.now c.args.file state c.args.branches.now (row_by c.args.row) sound known
+    row_stops (g.F.Files.contents c.args.files.now) c.args.setting.now.directories.now c.args.setting.now.enabled c.args.file.now.levels c.args.file.now.name.now c.args.file.now.number state c.args.branches.now (row_by c.args.row) sound known
     c.in-Err.halt c.take_row.new.work.files (c.in-Err.ensures state shows)
 
 pub read_file-loop-branches-init : goal.read_file-loop-branches-init
@@ -62,8 +62,8 @@ read_file-loop-branches-init g t c = record {
   faults = refl;
   room = omega arith;
   passed = λ state shows sound known.
-      passed_none (g.F.Files.contents c.args.files.now) c.args.directories.now c.args.enabled c.args.levels c.args.file c.args.own.now c.args.work.now c.new-branches.result state
-      (rows_of c.args.enabled c.args.bytes.now) (rows_left c.new-rows.result) c.new-branches.ensures shows sound c.new-rows.ensures.rows;
+      passed_none (g.F.Files.contents c.args.files.now) c.args.setting.now.directories.now c.args.setting.now.enabled c.args.file.now.levels c.args.file.now.number c.args.file.now.name.now c.args.work.now c.new-branches.result state
+      (rows_of c.args.setting.now.enabled c.args.bytes.now) (rows_left c.new-rows.result) c.new-branches.ensures shows sound c.new-rows.ensures.rows;
 }
 
 pub read_file-loop-branches-preserved : goal.read_file-loop-branches-preserved
@@ -74,9 +74,9 @@ read_file-loop-branches-preserved g t c = record {
   passed = λ state shows sound known.
       let p = c.loop-branches.invariant.passed state shows sound known in
       let e = rw c.in-Some.is at c.in_ok-row.ensures.row in
-      let known' : c.args.file < length p.now.state.files = omega (arith, p.stands_in.stands.grows) in
+      let known' : c.args.file.now.number < length p.now.state.files = omega (arith, p.stands_in.stands.grows) in
       let r = c.in-Ok.ensures.reached p.now.state p.stands_in.stands.shows p.stands_in.stands.sound known' in
-      passed_more (g.F.Files.contents c.args.files.now) c.args.directories.now c.args.enabled c.args.levels c.args.file c.args.own.now p (row_by c.in-Some.row) (rows_left c.next.new.self) e
+      passed_more (g.F.Files.contents c.args.files.now) c.args.setting.now.directories.now c.args.setting.now.enabled c.args.file.now.levels c.args.file.now.number c.args.file.now.name.now p (row_by c.in-Some.row) (rows_left c.next.new.self) e
       r.0 r.1 (λ told k. r.2 told (c.loop-branches.invariant.contents ∙ k));
 }
 
@@ -84,25 +84,25 @@ pub read_file-returns-in-Err-clause-reached : goal.read_file-returns-in-Err-clau
 read_file-returns-in-Err-clause-reached g t c state shows sound known number =
     let p = c.loop-branches.invariant.passed state shows sound known in
     let e = rw c.in-Some.is at c.in_ok-row.ensures.row in
-    let known' : c.args.file < length p.now.state.files = omega (arith, p.stands_in.stands.grows) in
+    let known' : c.args.file.now.number < length p.now.state.files = omega (arith, p.stands_in.stands.grows) in
     let r = c.in-Err.ensures.reached p.now.state p.stands_in.stands.shows p.stands_in.stands.sound known' in
-    passed_stops (g.F.Files.contents c.args.files.now) c.args.directories.now c.args.enabled c.args.levels c.args.file c.args.own.now p (row_by c.in-Some.row) (rows_left c.next.new.self) e
-    c.in-Err.halt c.pass_row.new.work.files c.args.bytes.now (refl {a = rows_of c.args.enabled c.args.bytes.now}) number
+    passed_stops (g.F.Files.contents c.args.files.now) c.args.setting.now.directories.now c.args.setting.now.enabled c.args.file.now.levels c.args.file.now.number c.args.file.now.name.now p (row_by c.in-Some.row) (rows_left c.next.new.self) e
+    c.in-Err.halt c.pass_row.new.work.files c.args.bytes.now (refl {a = rows_of c.args.setting.now.enabled c.args.bytes.now}) number
     (stops_by c.in-Err.halt (g.F.Files.contents c.args.files.now) (g.F.Files.contents c.loop-branches.files) c.pass_row.new.work.files
-    (λ told. one_of c.args.directories.now c.args.enabled c.args.levels c.args.file c.args.own.now told (row_by c.in-Some.row) (record { state = p.now.state; branches = c.loop-branches.branches }))
+    (λ told. one_of c.args.setting.now.directories.now c.args.setting.now.enabled c.args.file.now.levels c.args.file.now.number c.args.file.now.name.now told (row_by c.in-Some.row) (record { state = p.now.state; branches = c.loop-branches.branches }))
     c.loop-branches.invariant.contents r)
 
 pub read_file-returns-clause-reached : goal.read_file-returns-clause-reached
 read_file-returns-clause-reached g t c state shows sound known number =
     let p = c.loop-branches.invariant.passed state shows sound known in
     let none : rows_left c.loop-branches.rows ≡ [] = search rules in
-    passed_end (g.F.Files.contents c.args.files.now) c.args.directories.now c.args.enabled c.args.levels c.args.file c.args.own.now {all = rows_of c.args.enabled c.args.bytes.now} p c.args.bytes.now none (refl {a = rows_of c.args.enabled c.args.bytes.now}) number known
+    passed_end (g.F.Files.contents c.args.files.now) c.args.setting.now.directories.now c.args.setting.now.enabled c.args.file.now.levels c.args.file.now.number c.args.file.now.name.now {all = rows_of c.args.setting.now.enabled c.args.bytes.now} p c.args.bytes.now none (refl {a = rows_of c.args.setting.now.enabled c.args.bytes.now}) number known
     c.end.result c.loop-branches.work.files (refl {a = c.loop-branches.work.files}) (c.end.ensures p.now.state)
 
 pub pass_row-returns-in-Ok-Some-clause-fault : goal.pass_row-returns-in-Ok-Some-clause-fault
 pass_row-returns-in-Ok-Some-clause-fault g t c state shows sound known =
     let does = (rw c.in-Ok-Some.field-0-is at c.in-Ok-Some.ensures) state shows in
-    let asking = row_asks (g.F.Files.contents c.args.files.now) c.args.directories.now c.args.enabled c.args.levels c.args.own.now c.args.file state c.args.branches.now (row_by c.args.row) sound known
+    let asking = row_asks (g.F.Files.contents c.args.files.now) c.args.setting.now.directories.now c.args.setting.now.enabled c.args.file.now.levels c.args.file.now.name.now c.args.file.now.number state c.args.branches.now (row_by c.args.row) sound known
     c.take_row.new.work c.take_row.new.branches c.in-Ok-Some.wanted does in
     c.include.ensures.fault asking.now asking.shows asking.is_sound asking.within
 
@@ -117,4 +117,4 @@ include-returns-in-Ok-clause-fault g t c state shows sound known =
 
 pub read_file-returns-clause-fault : goal.read_file-returns-clause-fault
 read_file-returns-clause-fault g t c state shows sound known =
-    end_counts c.end.result c.args.file _ state (g.F.Files.faults c.args.files.now) (g.F.Files.faults c.loop-branches.files) c.loop-branches.invariant.faults (c.end.ensures state)
+    end_counts c.end.result c.args.file.now.number _ state (g.F.Files.faults c.args.files.now) (g.F.Files.faults c.loop-branches.files) c.loop-branches.invariant.faults (c.end.ensures state)

@@ -10,8 +10,8 @@ use Rattle.descriptor_names.proofs.resolve.+resolve.Goals as goal
 
 pub resolve_list-loop-node-init : goal.resolve_list-loop-node-init
 resolve_list-loop-node-init t c = record {
-  made = λ d look agrees tabled. begin_from (is_named d) look (among_as c.args.among) c.args.bits (get_or c.args.index.now.paths c.args.scope []) c.args.nodes.items c.reverse.new.self.items c.new-out.result.items c.reverse.ensures.items c.new-out.ensures.items;
-  told = λ d look agrees tabled. begin_told (is_named d) look (among_as c.args.among) c.args.bits (get_or c.args.index.now.paths c.args.scope []) c.args.nodes.items c.reverse.new.self.items c.new-out.result.items c.args.faults.now.items c.reverse.ensures.items c.new-out.ensures.items;
+  made = λ d look agrees tabled. begin_from (is_named d) look (among_as c.args.among) c.args.bits (get_or c.args.names.now.index.now.paths c.args.scope []) c.args.nodes.items c.reverse.new.self.items c.new-out.result.items c.reverse.ensures.items c.new-out.ensures.items;
+  told = λ d look agrees tabled. begin_told (is_named d) look (among_as c.args.among) c.args.bits (get_or c.args.names.now.index.now.paths c.args.scope []) c.args.nodes.items c.reverse.new.self.items c.new-out.result.items c.args.faults.now.items c.reverse.ensures.items c.new-out.ensures.items;
   size = omega (arith, turned_size c.args.nodes.items c.reverse.new.self.items c.reverse.ensures.items);
 }
 
@@ -21,7 +21,7 @@ resolve_list-resolve_node-requires t c =
 
 pub resolve_list-loop-node-preserved : goal.resolve_list-loop-node-preserved
 resolve_list-loop-node-preserved t c =
-    let scope = get_or c.args.index.now.paths c.args.scope [] in
+    let scope = get_or c.args.names.now.index.now.paths c.args.scope [] in
     let among = among_as c.args.among in
     let number = c.len-number.ensures ∙ c.loop-node.out.ok.0 in
     let size = popped_size c.loop-node.left.items c.pop.new.self.items c.in-Some.node c.in-Some.ensures.items in record {
@@ -40,27 +40,28 @@ resolve_list-loop-node-preserved t c =
 
 pub resolve_list-returns-clause-made : goal.resolve_list-returns-clause-made
 resolve_list-returns-clause-made t c d look agrees tabled =
-    end_from (is_named d) look (among_as c.args.among) c.args.bits (get_or c.args.index.now.paths c.args.scope []) c.loop-node.left.items c.loop-node.out.items _ (omega (arith, c.in_default.ensures.cases.0)) (c.loop-node.invariant.made d look agrees tabled)
+    end_from (is_named d) look (among_as c.args.among) c.args.bits (get_or c.args.names.now.index.now.paths c.args.scope []) c.loop-node.left.items c.loop-node.out.items _ (omega (arith, c.in_default.ensures.cases.0)) (c.loop-node.invariant.made d look agrees tabled)
 
 pub resolve_list-returns-clause-told : goal.resolve_list-returns-clause-told
 resolve_list-returns-clause-told t c d look agrees tabled =
-    end_told (is_named d) look (among_as c.args.among) c.args.bits (get_or c.args.index.now.paths c.args.scope []) c.loop-node.left.items c.loop-node.out.items c.loop-node.faults.items _ (omega (arith, c.in_default.ensures.cases.0)) (c.loop-node.invariant.told d look agrees tabled)
+    end_told (is_named d) look (among_as c.args.among) c.args.bits (get_or c.args.names.now.index.now.paths c.args.scope []) c.loop-node.left.items c.loop-node.out.items c.loop-node.faults.items _ (omega (arith, c.in_default.ensures.cases.0)) (c.loop-node.invariant.told d look agrees tabled)
 
 -- ---- a term
 
 pub resolve_term-returns-in_default-clause-made : goal.resolve_term-returns-in_default-clause-made
-resolve_term-returns-in_default-clause-made t c d look agrees tabled = other_resolved (is_named d) look c.args.bits (position_as c.args.position) (get_or c.args.index.now.paths c.args.scope []) c.args.term c.in_default.not-Name c.in_default.not-Call c.in_default.not-Form
+resolve_term-returns-in_default-clause-made t c d look agrees tabled = other_resolved (is_named d) look c.args.standing.bits (position_as c.args.standing.position) (get_or c.args.names.now.index.now.paths c.args.standing.scope []) c.args.term c.in_default.not-Name c.in_default.not-Call c.in_default.not-Form
 
 pub resolve_term-returns-in_default-clause-told : goal.resolve_term-returns-in_default-clause-told
-resolve_term-returns-in_default-clause-told t c d look agrees tabled = other_told (is_named d) look c.args.bits (position_as c.args.position) (get_or c.args.index.now.paths c.args.scope []) c.args.place c.args.faults.now.items c.args.term c.in_default.not-Name c.in_default.not-Call c.in_default.not-Form
+resolve_term-returns-in_default-clause-told t c d look agrees tabled = other_told (is_named d) look c.args.standing.bits (position_as c.args.standing.position) (get_or c.args.names.now.index.now.paths c.args.standing.scope []) c.args.place c.args.faults.now.items c.args.term c.in_default.not-Name c.in_default.not-Call c.in_default.not-Form
 
 pub resolve_term-returns-in_ok-resolved_use-in-Name-clause-made : goal.resolve_term-returns-in_ok-resolved_use-in-Name-clause-made
 resolve_term-returns-in_ok-resolved_use-in-Name-clause-made t c d look agrees tabled =
-    name_resolved (is_named d) look c.args.bits (position_as c.args.position) (get_or c.args.index.now.paths c.args.scope []) c.args.term _ c.in-Name.path _ c.in-Name.is (c.in_ok-sense-in-Name.ensures d look agrees tabled) c.in_ok-resolved_use-in-Name.ensures
+    name_resolved (is_named d) look c.args.standing.bits (position_as c.args.standing.position) (get_or c.args.names.now.index.now.paths c.args.standing.scope []) c.args.term _ c.in-Name.path _ c.in-Name.is (c.in_ok-sense-in-Name.ensures d look agrees tabled) c.in_ok-resolved_use-in-Name.ensures
 
 pub resolve_term-returns-in_ok-resolved_use-in-Name-clause-told : goal.resolve_term-returns-in_ok-resolved_use-in-Name-clause-told
 resolve_term-returns-in_ok-resolved_use-in-Name-clause-told t c d look agrees tabled =
-    name_told (is_named d) look c.args.bits (position_as c.args.position) (get_or c.args.index.now.paths c.args.scope []) c.args.place c.args.faults.now.items c.tell_use.new.faults.items c.args.term c.in-Name.path _ c.in-Name.is (c.in_ok-sense-in-Name.ensures d look agrees tabled) c.in_ok-tell_use-in-Name.ensures
+    name_told (is_named d) look c.args.standing.bits (position_as c.args.standing.position) (get_or c.args.names.now.index.now.paths c.args.standing.scope []) c.args.place c.args.faults.now.items c.tell_leaving.new.faults.items c.tell_use.new.faults.items c.args.term c.in-Name.path _ c.in-Name.is
+    (c.in_ok-sense-in-Name.ensures d look agrees tabled) c.in_ok-tell_leaving-in-Name.ensures c.in_ok-tell_use-in-Name.ensures
 
 -- ---- a call
 
@@ -70,13 +71,13 @@ resolve_term-resolve_list-requires t c =
 
 pub resolve_term-returns-in_ok-args-in-Call-clause-made : goal.resolve_term-returns-in_ok-args-in-Call-clause-made
 resolve_term-returns-in_ok-args-in-Call-clause-made t c d look agrees tabled =
-    call_resolved (is_named d) look c.args.bits (position_as c.args.position) (get_or c.args.index.now.paths c.args.scope []) c.args.term c.in-Call.path c.in_ok-path-in-Call.path c.in-Call.args c.in_ok-args-in-Call.args _ c.in-Call.is
+    call_resolved (is_named d) look c.args.standing.bits (position_as c.args.standing.position) (get_or c.args.names.now.index.now.paths c.args.standing.scope []) c.args.term c.in-Call.path c.in_ok-path-in-Call.path c.in-Call.args c.in_ok-args-in-Call.args _ c.in-Call.is
     (c.in_ok-sense-in-Call.ensures d look agrees tabled) c.in_ok-path-in-Call.ensures (c.in_ok-args-in-Call.ensures.made d look agrees tabled)
 
 pub resolve_term-returns-in_ok-args-in-Call-clause-told : goal.resolve_term-returns-in_ok-args-in-Call-clause-told
 resolve_term-returns-in_ok-args-in-Call-clause-told t c d look agrees tabled =
-    call_told (is_named d) look c.args.bits (position_as c.args.position) (get_or c.args.index.now.paths c.args.scope []) c.args.place c.args.faults.now.items c.tell_call.new.faults.items c.resolve_list.new.faults.items c.args.term c.in-Call.path c.in-Call.args _ c.in-Call.is
-    (c.in_ok-sense-in-Call.ensures d look agrees tabled) c.in_ok-tell_call-in-Call.ensures (c.in_ok-args-in-Call.ensures.told d look agrees tabled)
+    call_told (is_named d) look c.args.standing.bits (position_as c.args.standing.position) (get_or c.args.names.now.index.now.paths c.args.standing.scope []) c.args.place c.args.faults.now.items c.tell_leaving-in-Call.new.faults.items c.tell_call.new.faults.items c.resolve_list.new.faults.items c.args.term c.in-Call.path c.in-Call.args _ c.in-Call.is
+    (c.in_ok-sense-in-Call.ensures d look agrees tabled) c.in_ok-tell_leaving-in-Call.ensures c.in_ok-tell_call-in-Call.ensures (c.in_ok-args-in-Call.ensures.told d look agrees tabled)
 
 -- ---- a form
 
@@ -90,13 +91,13 @@ resolve_term-resolve_list-requires-in-Form-2 t c =
 
 pub resolve_term-returns-in_ok-body-in-Form-clause-made : goal.resolve_term-returns-in_ok-body-in-Form-clause-made
 resolve_term-returns-in_ok-body-in-Form-clause-made t c d look agrees tabled =
-    let scope = get_or c.args.index.now.paths c.args.scope [] in
-    form_resolved (is_named d) look c.args.bits (position_as c.args.position) scope c.args.term c.in-Form.op c.in-Form.args c.in-Form.body c.in_ok-args-in-Form.args c.in_ok-body-in-Form.body _ c.in-Form.is (c.in_ok-args-in-Form.ensures.made d look agrees tabled)
+    let scope = get_or c.args.names.now.index.now.paths c.args.standing.scope [] in
+    form_resolved (is_named d) look c.args.standing.bits (position_as c.args.standing.position) scope c.args.term c.in-Form.op c.in-Form.args c.in-Form.body c.in_ok-args-in-Form.args c.in_ok-body-in-Form.body _ c.in-Form.is (c.in_ok-args-in-Form.ensures.made d look agrees tabled)
     (c.in_ok-inside-in-Form.ensures.path d agrees ∙ ap (λ ns. inner (is_named d) c.in-Form.op (plans_of ns) scope) c.deref.ensures.value) (c.in_ok-body-in-Form.ensures.made d look agrees tabled)
 
 pub resolve_term-returns-in_ok-body-in-Form-clause-told : goal.resolve_term-returns-in_ok-body-in-Form-clause-told
 resolve_term-returns-in_ok-body-in-Form-clause-told t c d look agrees tabled =
-    let scope = get_or c.args.index.now.paths c.args.scope [] in
-    form_told (is_named d) look c.args.bits (position_as c.args.position) scope c.args.place c.args.faults.now.items c.resolve_list-in-Form.new.faults.items c.resolve_list-in-Form-2.new.faults.items c.args.term c.in-Form.op c.in-Form.args c.in-Form.body c.in_ok-args-in-Form.args _ c.in-Form.is
+    let scope = get_or c.args.names.now.index.now.paths c.args.standing.scope [] in
+    form_told (is_named d) look c.args.standing.bits (position_as c.args.standing.position) scope c.args.place c.args.faults.now.items c.resolve_list-in-Form.new.faults.items c.resolve_list-in-Form-2.new.faults.items c.args.term c.in-Form.op c.in-Form.args c.in-Form.body c.in_ok-args-in-Form.args _ c.in-Form.is
     (c.in_ok-args-in-Form.ensures.made d look agrees tabled) (c.in_ok-inside-in-Form.ensures.path d agrees ∙ ap (λ ns. inner (is_named d) c.in-Form.op (plans_of ns) scope) c.deref.ensures.value)
     (c.in_ok-args-in-Form.ensures.told d look agrees tabled) (c.in_ok-body-in-Form.ensures.told d look agrees tabled)

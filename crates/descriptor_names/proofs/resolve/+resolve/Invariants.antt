@@ -12,12 +12,12 @@ use Rattle.descriptor_names.proofs.resolve.+resolve.Given as goal
 
 abbrev pub invariant-resolve_list-loop-node : goal.invariant-resolve_list-loop-node
 invariant-resolve_list-loop-node l = record {
-  made : (d : Declarations) (look : AbsolutePath → Option NamedDescriptor) → Agrees l.index.paths l.index.named.items d → Tabled l.index.paths l.table look
-      → join (plans_of l.out.items) (resolved_from (is_named d) look (among_as l.among) (length l.out.items) l.bits (plans_of (reverse l.left.items)) (get_or l.index.paths l.scope []))
-      ≡ resolved_from (is_named d) look (among_as l.among) 0 l.bits (plans_of l.fn.nodes.items) (get_or l.index.paths l.scope []);
-  told : (d : Declarations) (look : AbsolutePath → Option NamedDescriptor) → Agrees l.index.paths l.index.named.items d → Tabled l.index.paths l.table look
-      → l.faults.items ++ told_from (is_named d) look (among_as l.among) (length l.out.items) l.bits (plans_of (reverse l.left.items)) (get_or l.index.paths l.scope [])
-      ≡ l.initial.faults.items ++ told_from (is_named d) look (among_as l.among) 0 l.bits (plans_of l.fn.nodes.items) (get_or l.index.paths l.scope []);
+  made : (d : Declarations) (look : AbsolutePath → Option NamedDescriptor) → Agrees l.names.index.now.paths l.names.index.now.named.items d → Tabled l.names.index.now.paths l.names.table.now look
+      → join (plans_of l.out.items) (resolved_from (is_named d) look (among_as l.among) (length l.out.items) l.bits (plans_of (reverse l.left.items)) (get_or l.names.index.now.paths l.scope []))
+      ≡ resolved_from (is_named d) look (among_as l.among) 0 l.bits (plans_of l.fn.nodes.items) (get_or l.names.index.now.paths l.scope []);
+  told : (d : Declarations) (look : AbsolutePath → Option NamedDescriptor) → Agrees l.names.index.now.paths l.names.index.now.named.items d → Tabled l.names.index.now.paths l.names.table.now look
+      → l.faults.items ++ told_from (is_named d) look (among_as l.among) (length l.out.items) l.bits (plans_of (reverse l.left.items)) (get_or l.names.index.now.paths l.scope [])
+      ≡ l.initial.faults.items ++ told_from (is_named d) look (among_as l.among) 0 l.bits (plans_of l.fn.nodes.items) (get_or l.names.index.now.paths l.scope []);
   size : nodes_size l.left.items ≤ nodes_size l.fn.nodes.items;
 }
 

@@ -8,6 +8,6 @@ use Rattle.table_outputs.proofs.outputs.files_of.Goals as goal
 
 pub returns : goal.returns
 returns g c = λ all fed.
-    behind_table name_and_bytes c.in_ok-file_of.field-0 c.push.new.self.items c.push_named.new.files.items c.push_named-2.new.files.items (string_bytes c.args.names.table, rendering kinds.RawAml all)
+    behind_table name_and_bytes c.file_of.result c.push.new.self.items c.push_named.new.files.items c.push_named-2.new.files.items (string_bytes c.args.names.table, rendering kinds.RawAml all)
     (file_under string_bytes c.args.names.c_text (rendering kinds.CHex all)) (file_under string_bytes c.args.names.listing (rendering kinds.Listing all))
-    (c.in_ok-push.ensures.items ∙ ap (λ xs. xs ++ c.in_ok-file_of.field-0 ∷ []) c.new-files.ensures.items) (c.in_ok-file_of.ensures all fed) (c.in_ok-push_named.ensures all fed) (c.in_ok-push_named-2.ensures all fed)
+    (c.in_ok-push.ensures.items ∙ ap (λ xs. xs ++ c.file_of.result ∷ []) c.new-files.ensures.items) (c.file_of.ensures all fed) (c.in_ok-push_named.ensures all fed) (c.in_ok-push_named-2.ensures all fed)

@@ -10,11 +10,11 @@ returns-then-begins_directive-clause-row c =
     let new = c.join.new.self in
     let text = c.in_ok-text.text.items in
     let on : old.enabled ≡ true = sym c.in-Some.ensures.enabled ∙ c.if-self.true in
-    let begins : begins_directive old.in_comment c.in-Some.text.now ≡ true = sym (ap (λ b. begins_directive b c.in-Some.text.now) c.in-Some.ensures.in_comment) ∙ sym c.begins_directive.ensures ∙ c.if-begins_directive.true in
+    let begins : begins_directive old.in_comment c.in-Some.whole.now ≡ true = sym (ap (λ b. begins_directive b c.in-Some.whole.now) c.in-Some.ensures.in_comment) ∙ sym c.begins_directive.ensures ∙ c.if-begins_directive.true in
     let number : mid.number ≡ old.number + 1 = c.in-Some.ensures.number in
     let later : mid.number + 1 ≡ old.number + 1 + 1 = omega arith in
-    directive_first old.enabled old.in_comment (old.number + 1) (mid.number + 1) (file_lines old.rest.now) (file_lines mid.rest.now) c.in-Some.text.now on begins c.in-Some.ensures.line later
-    ∙ ap (λ b. joined_by b (mid.number + 1) (file_lines mid.rest.now) (old.number + 1) c.in-Some.text.now (continued c.in-Some.text.now)) (sym c.in-Some.ensures.enabled)
-    ∙ ap (λ k. joined_by mid.enabled (mid.number + 1) (file_lines mid.rest.now) k c.in-Some.text.now (continued c.in-Some.text.now)) (sym number)
+    directive_first old.enabled old.in_comment (old.number + 1) (mid.number + 1) (file_lines old.rest.now) (file_lines mid.rest.now) c.in-Some.whole.now on begins c.in-Some.ensures.line later
+    ∙ ap (λ b. joined_by b (mid.number + 1) (file_lines mid.rest.now) (old.number + 1) c.in-Some.whole.now (continued c.in-Some.whole.now)) (sym c.in-Some.ensures.enabled)
+    ∙ ap (λ k. joined_by mid.enabled (mid.number + 1) (file_lines mid.rest.now) k c.in-Some.whole.now (continued c.in-Some.whole.now)) (sym number)
     ∙ c.in_ok-text.ensures.joined mid.number
     ∙ ap (λ b. Directive mid.number text ∷ rows_from new.enabled (Between b) (new.number + 1) (file_lines new.rest.now)) (sym c.in_ok-text.ensures.in_comment)

@@ -1,0 +1,39 @@
+-- What was read last, as the code keeps it: the trees of it are held.
+use Rattle.std.specs.Prelude.{◌≡◌, List, Option, Some, None, Result, Ok, Err}
+use Rattle.asl_parser.specs.declared.branch.Branches.{Branches}
+use Rattle.asl_parser.specs.declared.frame.Frame.{Frame}
+use Rattle.asl_parser.specs.declared.frame.State.{State}
+use Rattle.asl_parser.specs.declared.frame.State.TheVariants as st
+use Rattle.asl_parser.specs.declared.frame.Refusal.{Refusal}
+use Rattle.asl_parser.specs.declared.frame.Refusal.TheVariants as r
+use Rattle.asl_parser.specs.declared.stage.Stage.{Stage}
+use Rattle.asl_parser.specs.declared.stage.Stage.TheVariants as g
+use Rattle.asl_parser.specs.Grow.{no_branches}
+use Rattle.asl_parser.specs.Machine.{Config}
+use Rattle.asl_parser.specs.Opens.{IsOne, tree_of}
+
+-- the state with these trees
+abbrev pub state_of : Stage → Branches → State
+state_of g.Operand hand = st.Operand
+state_of g.FirstArgument hand = st.FirstArgument
+state_of g.Argument hand = st.Argument
+state_of g.FirstElement hand = st.FirstElement
+state_of g.Element hand = st.Element
+state_of g.Sequence hand = st.Sequence
+state_of (g.Word p w) hand = st.Word p w
+state_of (g.Called p w) hand = st.Called p w hand
+state_of g.Whole hand = st.Whole (tree_of hand)
+state_of g.Listed hand = st.Listed (tree_of hand)
+
+-- that so many trees are held as have to be
+abbrev pub Holds : Stage → Branches → Type 0
+Holds (g.Called p w) hand = Unit {0}
+Holds g.Whole hand = IsOne hand
+Holds g.Listed hand = IsOne hand
+Holds _ hand = hand ≡ no_branches
+
+-- what a step of the code ensures
+abbrev pub Moves : Result Stage Refusal → Branches × List Frame → Option Config → Type 0
+Moves (Ok s) new move = (move ≡ Some (state_of s new.0, new.1)) × Holds s new.0
+Moves (Err r.Memory) new move = Unit {0}
+Moves (Err r.Refused) new move = move ≡ None

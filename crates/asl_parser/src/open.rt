@@ -1,0 +1,93 @@
+//! What stands open, as it is kept: without the nodes, which lie on one vector.
+ghost use Rattle.std.specs.Prelude.{◌≡◌, [], true};
+ghost use Rattle.asl_parser.specs.Opens as spec;
+
+use crate::branch::Branches;
+use crate::frame::LOOSEST;
+use crate::levels::Levels;
+use crate::mark::Spot;
+use crate::raw::Infix;
+use iasl_ports::list::Text;
+use std::alloc::Global;
+
+/// Trees in order. Their nodes are those of the vector from a place on. Where one of them is too tall, none is kept.
+#[derive(Drop)]
+pub struct Group {
+    pub start: usize,
+    pub kept: bool,
+    pub levels: Levels,
+}
+
+impl Group {
+    /// No trees.
+    pub fn new(alloc: Global, start: usize) -> Group
+        ensures start { result.start ≡ start }
+        ensures kept { result.kept ≡ true }
+        ensures levels { result.levels ≡ [] }
+    {
+        Group {
+            start,
+            kept: true,
+            levels: Levels::new(alloc),
+        }
+    }
+}
+
+/// What stands open, but for the trees that were read of it.
+#[derive(Drop)]
+pub enum Kind {
+    /// Nothing: the whole source was read.
+    Nothing,
+    Unit,
+    Args {
+        spot: Spot,
+        word: Text,
+    },
+    Body {
+        spot: Spot,
+        word: Text,
+        args: Option<Branches>,
+    },
+    Bracket,
+    Index {
+        spot: Spot,
+    },
+    Pending {
+        level: u8,
+        room: u8,
+        spot: Spot,
+        op: Infix,
+    },
+    List {
+        spot: Spot,
+    },
+}
+
+/// What stands open, and the trees that were read of it.
+#[derive(Drop)]
+pub struct Open {
+    pub kind: Kind,
+    pub group: Group,
+}
+
+/// How much it adds to what is open.
+pub fn weight(kind: &Kind) -> usize
+    ensures { result ≡ spec.weight kind.now }
+{
+    match kind {
+        Kind::Unit | Kind::Nothing => 0,
+        Kind::Pending { level, room, .. } => { if *level == *room { 1 } else { 0 } }
+        _ => 1,
+    }
+}
+
+/// The level of the expressions that may stand next in it.
+pub fn room(kind: &Kind) -> u8
+    ensures { result ≡ spec.room kind.now }
+{
+    match kind {
+        Kind::Pending { room, .. } => *room,
+        Kind::Unit | Kind::Nothing | Kind::List { .. } => 0,
+        _ => LOOSEST,
+    }
+}

@@ -1,0 +1,5 @@
+//! Tests alone: dumps and data tables.
+#![tactic(auto)]
+
+#[cfg(test)]
+mod tests;

@@ -1,0 +1,137 @@
+use data_text::kind::is_data_table;
+use data_text::source::data_text;
+use data_text::values::{Number, bytes_in, number_in, text_in};
+use iasl_messages::place::{Line, LineList};
+use iasl_ports::list::Text;
+use std::alloc::{AllocError, Global};
+
+fn lines_of(alloc: Global, text: &[u8]) -> Result<LineList, AllocError> {
+    let mut lines = LineList::new(alloc);
+    let mut number = 0u32;
+    for line in text.split(|byte| *byte == b'\n') {
+        number = number.saturating_add(1);
+        lines.push(Line {
+            file: 0,
+            number,
+            text: Text::from_bytes(alloc, line)?,
+        })?;
+    }
+    Ok(lines)
+}
+
+// The field lines of a text, each as its label, `=`, its value and `;`, a `[` before those with a part in brackets.
+fn told(alloc: Global, text: &[u8]) -> Result<Vec<u8>, AllocError> {
+    let lines = lines_of(alloc, text)?;
+    let mut told = Vec::new(alloc);
+    for line in data_text(alloc, lines.as_slice())?.lines.as_slice() {
+        if line.bracketed {
+            told.push(b'[')?;
+        }
+        told.extend_from_slice(line.label.as_slice())?;
+        if line.colon {
+            told.push(b'=')?;
+        }
+        told.extend_from_slice(line.value.as_slice())?;
+        told.push(b';')?;
+    }
+    Ok(told)
+}
+
+#[test]
+fn texts_have_their_field_lines(rt: HostRuntime) -> Result<(), AllocError> {
+    let rows: [(&[u8], &[u8]); 9] = [
+        (b"", b""),
+        (b"[0004] Oem  ID : 12", b"[oemid= 12;"),
+        (b"Flags : 1 [remark : 2]", b"flags= 1 ;"),
+        (b"A : \"x [y] // z\" [remark]", b"a= \"x [y] // z\" ;"),
+        (b"A : 1 // 2\nB :\n\n  \t\nC : 3", b"a= 1     ;c= 3;"),
+        (b"A : 1 /* 2\nB : 3\n*/ C : 4", b"a= 1     ;c= 4;"),
+        (b"A : 1 \\\n2 : 3\nB : 4", b"a= 1  2 : 3;b= 4;"),
+        (b"no colon\nA : 1", b";a= 1;"),
+        (b"A : 1\n Raw Table Data: Length 4\nB : 2", b"a= 1;"),
+    ];
+    for (text, expected) in rows {
+        let told = told(rt.alloc(), text)?;
+        assert_eq!(rt; told.as_slice(), expected);
+    }
+    Ok(())
+}
+
+#[test]
+fn the_end_is_the_last_line(rt: HostRuntime) -> Result<(), AllocError> {
+    let lines = lines_of(rt.alloc(), b"A : 1\n\n// last\nRaw Table Data\nB : 2")?;
+    let end = data_text(rt.alloc(), lines.as_slice())?.end;
+    assert!(rt; end.file == 0 && end.line == 3 && end.column == 1);
+    Ok(())
+}
+
+#[test]
+fn values_are_numbers(rt: HostRuntime) {
+    let rows: [(&[u8], Number); 9] = [
+        (b" 0x1F ", Number::Is(31)),
+        (b"fF\t", Number::Is(255)),
+        (b"FFFFFFFFFFFFFFFF", Number::Is(0xffff_ffff_ffff_ffff)),
+        (b"00000000000000000001", Number::Is(1)),
+        (b"10000000000000000", Number::Wide),
+        (b"0X1", Number::Malformed),
+        (b"1 2", Number::Malformed),
+        (b"0x", Number::Malformed),
+        (b"", Number::Malformed),
+    ];
+    for (value, expected) in rows {
+        assert!(rt; number_in(value) == expected);
+    }
+}
+
+#[test]
+fn values_are_texts(rt: HostRuntime) {
+    let rows: [(&[u8], Option<&[u8]>); 6] = [
+        (b" \"AB C\" ", Some(b"AB C")),
+        (b"\"\"", Some(b"")),
+        (b"\"A\\\"", Some(b"A\\")),
+        (b"\"A", None),
+        (b"AB", None),
+        (b"\"A\" B", None),
+    ];
+    for (value, expected) in rows {
+        assert!(rt; text_in(value) == expected);
+    }
+}
+
+#[test]
+fn values_are_bytes(rt: HostRuntime) -> Result<(), AllocError> {
+    let rows: [(&[u8], Option<&[u8]>); 5] = [
+        (b" 0a FF\t00 ", Some(b"\x0a\xff\x00")),
+        (b"7f", Some(b"\x7f")),
+        (b"1 02", None),
+        (b"0x10", None),
+        (b"10 2", None),
+    ];
+    for (value, expected) in rows {
+        let found = bytes_in(rt.alloc(), value)?;
+        assert!(rt; found.as_ref().map(|bytes| bytes.as_slice()) == expected);
+    }
+    Ok(())
+}
+
+#[test]
+fn the_first_line_tells_the_kind(rt: HostRuntime) -> Result<(), AllocError> {
+    let rows: [(&[u8], bool); 11] = [
+        (b"[0004] Signature : \"HPET\"", true),
+        (b"\n  \t\n  sIgNaTuRe \t: \"HPET\"", true),
+        (b"/* a\n b */ // c\n [", true),
+        (b"Signature:", true),
+        (b"", false),
+        (b"// Signature :", false),
+        (b"/* [\n", false),
+        (b"Signature \"HPET\"", false),
+        (b"Signatures : 1", false),
+        (b"Table Length : 1\n[0004]", false),
+        (b"DefinitionBlock (\"\", \"SSDT\", 2, \"\", \"\", 1)", false),
+    ];
+    for (text, expected) in rows {
+        let lines = lines_of(rt.alloc(), text)?;
+        assert_eq!(rt; is_data_table(rt.alloc(), lines.as_slice())?, expected);
+    }
+    Ok(())
+}

@@ -1,0 +1,177 @@
+use asl_conditions::{ConditionStop, condition};
+use asl_macros::Macros;
+use std::alloc::{AllocError, Global};
+use std::test::Fail;
+
+// `A` is 7, `E` is empty, `C` is `defined A`, `Z` is `A / 0`, `P` is `( 2`.
+fn macros(alloc: Global) -> Result<Macros, AllocError> {
+    let mut macros = Macros::new(alloc);
+    macros.define(alloc, b"A", b"7")?;
+    macros.define(alloc, b"E", b"")?;
+    macros.define(alloc, b"C", b"defined A")?;
+    macros.define(alloc, b"Z", b"A / 0")?;
+    macros.define(alloc, b"P", b"( 2")?;
+    macros.define(alloc, b"R", b"/* 1 */")?;
+    Ok(macros)
+}
+
+fn shown(alloc: Global, text: &[u8]) -> Result<String, AllocError> {
+    let macros = macros(alloc)?;
+    match condition(alloc, &macros, text) {
+        Ok(value) => format!(in alloc; "{}", value),
+        Err(ConditionStop::Bad) => String::from_str(alloc, "bad"),
+        Err(ConditionStop::Memory) => String::from_str(alloc, "memory"),
+    }
+}
+
+#[test]
+fn values_of_operators(rt: HostRuntime) -> Result<(), Fail> {
+    let cases: [&str; 32] = [
+        "1 => 1",
+        "017 => 15",
+        "0x1f => 31",
+        "0xFFFFFFFFFFFFFFFF => 18446744073709551615",
+        "18446744073709551615 + 1 => 0",
+        "0 - 1 => 18446744073709551615",
+        "1 + 2 * 3 => 7",
+        "(1 + 2) * 3 => 9",
+        "7 - 2 - 1 => 4",
+        "100 / 10 / 2 => 5",
+        "7 % 4 * 2 => 6",
+        "1 << 4 >> 2 => 4",
+        "1 << 63 << 1 => 0",
+        "1 << 64 => 0",
+        "1 >> 64 => 0",
+        "1 << 2 + 1 => 8",
+        "3 > 2 > 1 => 0",
+        "1 < 2 => 1",
+        "2 <= 2 => 1",
+        "2 >= 3 => 0",
+        "1 == 1 == 1 => 1",
+        "1 != 2 & 3 => 1",
+        "6 & 3 ^ 1 | 8 => 11",
+        "2 && 4 => 1",
+        "0 || 0 => 0",
+        "1 || 0 && 0 => 1",
+        "5 & 6 == 6 => 1",
+        "!0 => 1",
+        "!5 => 0",
+        "~0 => 18446744073709551615",
+        "!~~0 + 1 => 2",
+        "~ 1 & 3 => 2",
+    ];
+    for case in cases.iter() {
+        let (text, expected) = case.split_once(" => ").ok_or("no case")?;
+        let value = shown(rt.alloc(), text.as_bytes())?;
+        assert_eq!(rt; value.as_str(), expected, "{text}");
+    }
+    Ok(())
+}
+
+#[test]
+fn values_of_names(rt: HostRuntime) -> Result<(), Fail> {
+    let cases: [&str; 16] = [
+        "A => 7",
+        "B => 0",
+        "defined A => 1",
+        "defined B => 0",
+        "defined ( A ) => 1",
+        "defined(B) || A == 7 => 1",
+        "!defined B => 1",
+        "C => 1",
+        "C + C => 2",
+        "defined defined => 0",
+        "1 E => 1",
+        "A/**/+\t1 => 8",
+        "P + 1) => 3",
+        "((((A)))) => 7",
+        "A R + 1 => 8",
+        "4294967296 * 4294967296 => 0",
+    ];
+    for case in cases.iter() {
+        let (text, expected) = case.split_once(" => ").ok_or("no case")?;
+        let value = shown(rt.alloc(), text.as_bytes())?;
+        assert_eq!(rt; value.as_str(), expected, "{text}");
+    }
+    Ok(())
+}
+
+#[test]
+fn faults(rt: HostRuntime) -> Result<(), Fail> {
+    let cases: [&str; 36] = [
+        "",
+        " ",
+        "E",
+        "1 2",
+        "1 +",
+        "+ 1",
+        "- 1",
+        "()",
+        "(1",
+        "1)",
+        "1 / 0",
+        "1 % 0",
+        "0 && 1 / 0",
+        "1 || 1 / 0",
+        "Z",
+        "08",
+        "0x",
+        "0X1",
+        "0b1",
+        "1a",
+        "5_",
+        "18446744073709551616",
+        "0x10000000000000000",
+        "\"a\"",
+        "'a'",
+        "1 = 1",
+        "1 ? 2 : 3",
+        "defined",
+        "defined 1",
+        "defined (A",
+        "defined ((A))",
+        "defined ()",
+        "1 & & 2",
+        "1 ! 2",
+        "A B",
+        "1.2",
+    ];
+    for text in cases.iter() {
+        let value = shown(rt.alloc(), text.as_bytes())?;
+        assert_eq!(rt; value.as_str(), "bad", "{text}");
+    }
+    Ok(())
+}
+
+// So many times the front, 1, and so many times the back.
+fn nested(alloc: Global, front: &[u8], back: &[u8], count: u32) -> Result<Vec<u8>, AllocError> {
+    let mut text = Vec::new(alloc);
+    for _ in 0..count {
+        text.extend_from_slice(front)?;
+    }
+    text.push(b'1')?;
+    for _ in 0..count {
+        text.extend_from_slice(back)?;
+    }
+    Ok(text)
+}
+
+#[test]
+fn depth_and_length(rt: HostRuntime) -> Result<(), Fail> {
+    let cases: [(&str, &str, u32, &str); 8] = [
+        ("(", ")", 128, "1"),
+        ("(", ")", 129, "bad"),
+        ("!", "", 128, "1"),
+        ("!", "", 129, "bad"),
+        ("~(", ")", 64, "1"),
+        ("~(", ")", 65, "bad"),
+        ("(1)+", "", 5000, "5001"),
+        ("1*2+", "-1", 3000, "3001"),
+    ];
+    for (front, back, count, expected) in cases.iter() {
+        let text = nested(rt.alloc(), front.as_bytes(), back.as_bytes(), *count)?;
+        let value = shown(rt.alloc(), text.as_slice())?;
+        assert_eq!(rt; value.as_str(), *expected, "{front}");
+    }
+    Ok(())
+}

@@ -1,0 +1,68 @@
+use asl_fragments::fragment::{FragmentKind, first_fragment};
+use asl_fragments::{ends_in_comment, without_comments};
+use std::test::Fail;
+
+#[test]
+fn fragments_of_a_line(rt: HostRuntime) -> Result<(), Fail> {
+    let cases: [(&[u8], bool, &[u8]); 12] = [
+        (b"Name(_A1,0x1F)", false, b"i4 o1 i3 o1 n4 o1 "),
+        (b"5_a b", false, b"n3 o1 i1 "),
+        (b"\"a\\\"b\" c", false, b"q6 o1 i1 "),
+        (b"\"a\\", false, b"q3 "),
+        (b"a//b", false, b"i1 c3 "),
+        (b"a/*b*/c", false, b"i1 c5 i1 "),
+        (b"/*/ x", false, b"c5 "),
+        (b"x*/y", true, b"c3 i1 "),
+        (b"/ *", false, b"o1 o1 o1 "),
+        (b"\"/*\"/**/", false, b"q4 c4 "),
+        (b"/", true, b"c1 "),
+        (b"", true, b""),
+    ];
+    for (text, in_comment, expected) in cases.iter() {
+        let mut shown = Vec::new(rt.alloc());
+        let mut rest = *text;
+        let mut inside = *in_comment;
+        for _ in 0..text.len() {
+            if rest.is_empty() {
+                break;
+            }
+            let fragment = first_fragment(rest, inside);
+            shown.push(match fragment.kind {
+                FragmentKind::Identifier => b'i',
+                FragmentKind::Number => b'n',
+                FragmentKind::Quoted => b'q',
+                FragmentKind::Comment => b'c',
+                FragmentKind::Other => b'o',
+            })?;
+            let length = format!(in rt.alloc(); "{} ", fragment.length)?;
+            shown.extend_from_slice(length.as_str().as_bytes())?;
+            rest = rest.split_at(fragment.length).1;
+            inside = false;
+        }
+        assert_eq!(rt; shown.as_slice(), *expected);
+    }
+    Ok(())
+}
+
+#[test]
+fn comments_of_a_line(rt: HostRuntime) -> Result<(), Fail> {
+    let cases: [(&[u8], bool, &[u8], bool); 11] = [
+        (b"a /* b */ c", false, b"a         c", false),
+        (b"a // b", false, b"a     ", false),
+        (b"a /* b", false, b"a     ", true),
+        (b"a /*/", false, b"a    ", true),
+        (b"a */ b", true, b"     b", false),
+        (b"/* a */ b", true, b"        b", false),
+        (b"", true, b"", true),
+        (b"", false, b"", false),
+        (b"\"// /*\"", false, b"\"// /*\"", false),
+        (b"a /**/ /*", false, b"a        ", true),
+        (b"// /*", false, b"     ", false),
+    ];
+    for (text, in_comment, expected, open) in cases.iter() {
+        let line = without_comments(rt.alloc(), text, *in_comment)?;
+        assert_eq!(rt; line.as_slice(), *expected);
+        assert_eq!(rt; ends_in_comment(text, *in_comment), *open);
+    }
+    Ok(())
+}

@@ -1,0 +1,6 @@
+mod of_generated_lines;
+mod of_iasl_backends;
+mod of_iasl_messages;
+mod of_iasl_options;
+mod of_iasl_ports;
+mod of_source_lines;

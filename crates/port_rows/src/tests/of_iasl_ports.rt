@@ -1,0 +1,161 @@
+use iasl_ports::delivery::{Due, OutFile, Stop, deliver, tell};
+use iasl_ports::files::{FetchFault, Files};
+use iasl_ports::host::{HostFiles, HostOutputs, HostSink};
+use iasl_ports::list::Text;
+use iasl_ports::memory::{MemoryFiles, MemoryOutputs, MemorySink};
+use iasl_ports::outputs::{Outputs, PutFault};
+use iasl_ports::sink::{Sink, SinkFault, write_all};
+use std::alloc::{AllocError, Global};
+use std::borrow::CowSlice;
+
+fn fetch_len<F: Files>(files: &mut F, alloc: Global, name: &str) -> Result<usize, FetchFault> {
+    Ok(files.fetch(alloc, name)?.len())
+}
+
+#[test]
+fn fetches_fail_when_told_to(rt: HostRuntime) -> Result<(), AllocError> {
+    let mut files = MemoryFiles::new(rt.alloc());
+    files.add("a", b"xyz")?;
+    files.add("a", b"other")?;
+    files.fail_at(2)?;
+    files.fail_at(4)?;
+    assert!(rt; fetch_len(&mut files, rt.alloc(), "a") == Ok(3));
+    assert!(rt; fetch_len(&mut files, rt.alloc(), "a") == Err(FetchFault::Failed));
+    assert!(rt; fetch_len(&mut files, rt.alloc(), "b") == Err(FetchFault::Absent));
+    assert!(rt; fetch_len(&mut files, rt.alloc(), "a") == Err(FetchFault::Failed));
+    assert!(rt; fetch_len(&mut files, rt.alloc(), "a") == Ok(3));
+    Ok(())
+}
+
+fn put_one<O: Outputs>(outs: &mut O, name: &str, bytes: &[u8]) -> Result<(), PutFault> {
+    outs.put(name, bytes)
+}
+
+#[test]
+fn a_failing_put_leaves_half(rt: HostRuntime) -> Result<(), AllocError> {
+    let mut outs = MemoryOutputs::new(rt.alloc());
+    outs.fail_at(2)?;
+    assert!(rt; put_one(&mut outs, "a", b"1234") == Ok(()));
+    assert!(rt; put_one(&mut outs, "b", b"1234") == Err(PutFault::Failed));
+    assert!(rt; outs.names().len() == 2);
+    match outs.bodies().get(1) {
+        Some(body) => assert!(rt; body.as_bytes() == b"12".as_slice()),
+        None => assert!(rt; false),
+    }
+    Ok(())
+}
+
+#[test]
+fn a_console_takes_what_it_has_room_for(rt: HostRuntime) -> Result<(), AllocError> {
+    let mut sink = MemorySink::new(rt.alloc(), 5)?;
+    sink.fail_at(2)?;
+    assert!(rt; write_all(&mut sink, b"abc") == Ok(()));
+    assert!(rt; write_all(&mut sink, b"d") == Err(SinkFault));
+    assert!(rt; write_all(&mut sink, b"def") == Err(SinkFault));
+    assert!(rt; sink.as_bytes() == b"abcde".as_slice());
+    Ok(())
+}
+
+#[test]
+fn the_host_has_what_was_put(rt: HostRuntime) {
+    let mut outs = HostOutputs::new(rt);
+    assert!(rt; put_one(&mut outs, "made.bin", b"hello") == Ok(()));
+    assert!(rt; put_one(&mut outs, "no/such/dir/made.bin", b"hello") == Err(PutFault::Failed));
+    let mut files = HostFiles::new(rt);
+    assert!(rt; fetch_len(&mut files, rt.alloc(), "made.bin") == Ok(5));
+    assert!(rt; fetch_len(&mut files, rt.alloc(), "absent.bin") == Err(FetchFault::Absent));
+    assert!(rt; fetch_len(&mut files, rt.alloc(), "made.bin/x") == Err(FetchFault::Absent));
+    assert!(rt; fetch_len(&mut files, rt.alloc(), ".") == Err(FetchFault::Failed));
+    let mut sink = HostSink::new(rt);
+    assert!(rt; write_all(&mut sink, b"told\n") == Ok(()));
+}
+
+// A delivery of two files, with a put and a write that fail, and how many files stand after it.
+#[derive(Drop)]
+struct Delivery {
+    put: u64,
+    write: u64,
+    outcome: Result<u8, Stop>,
+    files: usize,
+    told: &'static [u8],
+}
+
+#[test]
+fn a_delivery_stops_at_a_fault(rt: HostRuntime) -> Result<(), AllocError> {
+    let rows = [
+        Delivery {
+            put: 9,
+            write: 9,
+            outcome: Ok(0),
+            files: 2,
+            told: b"done\nlast\n",
+        },
+        Delivery {
+            put: 1,
+            write: 9,
+            outcome: Err(Stop::Fault),
+            files: 1,
+            told: b"last\n",
+        },
+        Delivery {
+            put: 9,
+            write: 1,
+            outcome: Err(Stop::Fault),
+            files: 2,
+            told: b"last\n",
+        },
+    ];
+    for row in &rows {
+        let due = two_files(rt.alloc())?;
+        let mut outs = MemoryOutputs::new(rt.alloc());
+        outs.fail_at(row.put)?;
+        let mut console = MemorySink::new(rt.alloc(), 100)?;
+        console.fail_at(row.write)?;
+        assert!(rt; deliver(&mut outs, &mut console, &due) == row.outcome);
+        tell(&mut console, b"last\n");
+        assert_eq!(rt; outs.names().len(), row.files);
+        assert!(rt; console.as_bytes() == row.told);
+    }
+    Ok(())
+}
+
+fn out_file<'a>(
+    alloc: Global,
+    name: &str,
+    bytes: CowSlice<'a, u8>,
+) -> Result<OutFile<'a>, AllocError> {
+    Ok(OutFile {
+        name: String::from_str(alloc, name)?,
+        bytes,
+    })
+}
+
+// A file whose bytes are lent, and one with bytes of its own.
+fn two_files(alloc: Global) -> Result<Due<'static>, AllocError> {
+    let first = out_file(alloc, "a", CowSlice::Borrowed(b"12"))?;
+    let second = out_file(alloc, "b", CowSlice::Owned(b"345".to_vec(alloc)?))?;
+    Ok(Due {
+        status: 0,
+        text: Text::from_bytes(alloc, b"done\n")?,
+        files: vec![in alloc; first, second]?,
+    })
+}
+
+#[test]
+fn texts_of_every_length_keep_their_bytes(rt: HostRuntime) -> Result<(), AllocError> {
+    let alloc = rt.alloc();
+    for bytes in [
+        b"".as_slice(),
+        b"_Abz09\\.^{z",
+        b"abcdefghijklmn",
+        b"abcdefghijklmno",
+    ] {
+        let text = Text::from_bytes(alloc, bytes)?;
+        assert!(rt; text.as_bytes() == bytes);
+    }
+    let short = Text::from_uppercase(alloc, b"_ab.z09[`{")?;
+    assert!(rt; short.as_bytes() == b"_AB.Z09[`{".as_slice());
+    let long = Text::from_uppercase(alloc, b"\\abcd.efgh.ijkl")?;
+    assert!(rt; long.as_bytes() == b"\\ABCD.EFGH.IJKL".as_slice());
+    Ok(())
+}

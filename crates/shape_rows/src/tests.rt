@@ -1,0 +1,3 @@
+mod of_asl_shape;
+mod of_resource_layout;
+mod of_resource_macros;

@@ -1,0 +1,525 @@
+mod resources;
+mod switches;
+
+use acpi_values::operator::{DataOp, IntOp, Plain};
+use asl_lexer::token::{Token, TokenKind, Tokens};
+use asl_parser::parse;
+use asl_shape::shape;
+use asl_tree::program::Program;
+use asl_tree::term::{Compound, Op, Special, Symbolic, Term};
+use iasl_messages::message::Stage;
+use iasl_messages::place::Place;
+use iasl_ports::list::Text;
+use std::alloc::{AllocError, Global};
+use std::test::Fail;
+
+fn decimal(bytes: &[u8]) -> u64 {
+    let mut number: u64 = 0;
+    for byte in bytes {
+        number = number
+            .wrapping_mul(10)
+            .wrapping_add(byte.wrapping_sub(b'0') as u64);
+    }
+    number
+}
+
+/// The tokens of a text that has a blank between each two; a token's column is its number.
+fn tokens(alloc: Global, text: &str) -> Result<Tokens, AllocError> {
+    let mut tokens = Tokens::new(alloc);
+    for (column, word) in text.split(' ').enumerate() {
+        let bytes = word.as_bytes();
+        let kind = match bytes.first() {
+            None => continue,
+            Some(b'0'..=b'9') => TokenKind::Number,
+            Some(b'A'..=b'Z' | b'_') => TokenKind::Word,
+            Some(b'\\') => TokenKind::Path,
+            Some(b'"') => TokenKind::Text,
+            Some(_) => TokenKind::Symbol,
+        };
+        let bytes = match bytes {
+            [b'"', rest @ ..] => rest,
+            _ => bytes,
+        };
+        tokens.push(Token {
+            kind,
+            place: Place {
+                file: 0,
+                line: 1,
+                column: u32::try_from(column).unwrap_or(0),
+            },
+            end: 0,
+            number: decimal(bytes),
+            text: Text::from_bytes(alloc, bytes)?,
+        })?;
+    }
+    Ok(tokens)
+}
+
+/// The errors of a source: each with its column, in order.
+fn errors(alloc: Global, text: &str) -> Result<String, AllocError> {
+    let tokens = tokens(alloc, text)?;
+    if tokens.len() > 1000 {
+        return String::from_str(alloc, "too long");
+    }
+    let Ok(unit) = parse(alloc, &tokens) else {
+        return String::from_str(alloc, "no tree");
+    };
+    match shape(alloc, &unit) {
+        Ok(_) => String::from_str(alloc, "none"),
+        Err(Stage::Memory) => Err(AllocError),
+        Err(Stage::Refused(messages)) => {
+            let mut out = String::new(alloc);
+            for message in messages.as_slice() {
+                let number = message.number;
+                let column = message.place.column;
+                out.push_str(format!(in alloc; "{number}@{column} ")?.as_str())?;
+            }
+            Ok(out)
+        }
+    }
+}
+
+#[test]
+fn tells_each_error_at_its_place(rt: HostRuntime) -> Result<(), Fail> {
+    let alloc = rt.alloc();
+    for (text, want) in [
+        // No definition block, or something beside it.
+        ("", "6028@1 "),
+        ("NAME ( A , 1 ) B", "6028@0 "),
+        (
+            "DEFINITIONBLOCK ( \"a , \"DSDT , 2 , \"O , \"T , 1 ) { } NAME ( A , 1 )",
+            "6028@16 ",
+        ),
+        // Its own arguments, all of them.
+        (
+            "DEFINITIONBLOCK ( \"a , \"DSDT , 2 , \"O , \"T ) { }",
+            "6021@0 ",
+        ),
+        (
+            "DEFINITIONBLOCK ( \"a , \"DSDT , 2 , \"O , \"T , 1 )",
+            "6023@0 ",
+        ),
+        (
+            "DEFINITIONBLOCK ( A , \"OEMX , 256 , \"OEMOEMO , \"T , B ) { NAME ( C ) }",
+            "6022@2 6024@6 6024@8 6022@12 6021@15 ",
+        ),
+        (
+            "DEFINITIONBLOCK ( \" , \"XSDT , 256 , \"OEMOEM , \"TABLETAB , ONES ) { }",
+            "6024@4 6024@6 6024@12 ",
+        ),
+    ] {
+        assert_eq!(rt; errors(alloc, text)?.as_str(), want);
+    }
+    for (text, want) in [
+        // Unknown operators, also those of later, and nothing inside of them.
+        ("FOO12 ( BARBAR )", "6020@15 "),
+        ("FOR ( 1 ) { NAME ( ) }", "6020@15 "),
+        ("LOAD ( A )", "6020@15 "),
+        ("FOO { }", "6020@15 "),
+        // Paths: a long segment, and one in a method.
+        ("NAME ( \\A.BCDEF , 1 )", "6024@17 "),
+        ("METHOD ( M ) { NAME ( \\A , 1 ) }", "6025@22 "),
+        ("\\A.B { }", "6023@15 "),
+        ("SCOPE ( \\ ) { NAME ( \\A.B.CDEF , 1 ) }", "none"),
+        // The first of 6020, 6025, 6021 and 6023 alone.
+        ("RETURN ( 1 , 2 )", "6025@15 "),
+        (
+            "METHOD ( M ) { METHOD ( N , 1 , 2 , 3 , 4 , 5 , 6 ) }",
+            "6025@20 ",
+        ),
+        ("METHOD ( M ) { RETURN ( ADD ( ARG0 ) ) }", "6021@22 "),
+        ("METHOD ( M , 8 )", "6023@15 "),
+        ("NAME ( A , 1 ) { }", "6023@15 "),
+        ("NAME ( A , 1 , 2 )", "6021@15 "),
+        ("METHOD ( M ) { ADD ( 1 , , LOCAL0 ) }", "6021@20 "),
+        ("A ( 1 , , 2 )", "6021@15 "),
+        // Literals and words of the language are no terms, and an Else stands behind an If.
+        ("1 \"a SERIALIZED", "6025@15 6025@16 6025@17 "),
+        (
+            "METHOD ( M ) { ELSE { } IF ( 1 ) { } ; ELSE { } ELSE { } }",
+            "6025@20 6025@33 ",
+        ),
+        // What the arguments are, one error for each.
+        ("NAME ( 1 , METHOD ( M ) { } )", "6022@17 6022@19 "),
+        (
+            "METHOD ( M , ARG0 , 1 , 16 ) { }",
+            "6022@19 6022@21 6024@23 ",
+        ),
+        (
+            "METHOD ( M , 8 , SERIALIZED , DIVIDE ( 1 , 0 ) ) { }",
+            "6024@19 6024@23 ",
+        ),
+        (
+            "METHOD ( M ) { ADD ( 1 , 2 , 3 ) INCREMENT ( \"a ) }",
+            "6022@26 6022@30 ",
+        ),
+        // The error inside a constant stands alone.
+        ("METHOD ( M , ADD ( 1 ) ) { }", "6021@19 "),
+        ("NAME ( ABCDE , 1 )", "6020@17 "),
+        (
+            "EXTERNAL ( A , INTOBJ , { INTOBJ , B } , 1 )",
+            "6022@21 6022@27 ",
+        ),
+        // No error: what may be left out, and where a constant may be an operator.
+        (
+            "METHOD ( M , ADD ( 1 , 2 ) , , ) { RETURN ( ) ADD ( ARG0 , 1 ) }",
+            "none",
+        ),
+    ] {
+        let head = "DEFINITIONBLOCK ( \"a , \"DSDT , 2 , \"O , \"T , 1 ) {";
+        let source = format!(in alloc; "{head} {text} }}")?;
+        assert_eq!(rt; errors(alloc, source.as_str())?.as_str(), want);
+    }
+    Ok(())
+}
+
+const HEAD: &str = "DEFINITIONBLOCK ( \"a , \"DSDT , 2 , \"O , \"T , 1 ) {";
+
+#[test]
+fn tells_errors_of_regions_and_fields(rt: HostRuntime) -> Result<(), Fail> {
+    let alloc = rt.alloc();
+    for (text, want) in [
+        ("OPERATIONREGION ( R , SYSTEMIO , 128 , 4 )", "none"),
+        (
+            "FIELD ( R , WORDACC , NOLOCK , PRESERVE ) { A , 12 , B , 8 , C , 12 }",
+            "none",
+        ),
+        (
+            "INDEXFIELD ( IX , DT , BYTEACC , NOLOCK , PRESERVE ) { , 16 , V , 8 }",
+            "none",
+        ),
+        (
+            "BANKFIELD ( R , B , 1 , ANYACC , LOCK , WRITEASONES ) { OFFSET ( 4 ) , A , ADD ( 1 , 2 ) , }",
+            "none",
+        ),
+        // Spaces: a word for one, or a number from 0x80.
+        ("OPERATIONREGION ( R , 255 , 0 , 1 )", "none"),
+        ("OPERATIONREGION ( R , 127 , 0 , 1 )", "6024@19 "),
+        ("OPERATIONREGION ( R , BYTEACC , 0 , 1 )", "6022@19 "),
+        ("OPERATIONREGION ( R , SYSTEMIO , 0 )", "6021@15 "),
+        // The words of a field, and its list.
+        ("FIELD ( R , NOLOCK , NOLOCK , 1 ) { }", "6022@19 6022@23 "),
+        (
+            "FIELD ( R , BUFFERACC , NOLOCK , PRESERVE ) { }",
+            "6020@19 ",
+        ),
+        ("FIELD ( R , ANYACC , LOCK , PRESERVE )", "6023@15 "),
+        // A list that is not elements with commas between them is told at the field.
+        (
+            "FIELD ( R , ANYACC , LOCK , PRESERVE ) { A , 12 B , 8 }",
+            "6022@15 ",
+        ),
+        (
+            "FIELD ( R , ANYACC , LOCK , PRESERVE ) { A ; 8 }",
+            "6022@15 ",
+        ),
+        ("FIELD ( R , ANYACC , LOCK , PRESERVE ) { A }", "6022@15 "),
+        // A unit without its comma is told at its name.
+        (
+            "FIELD ( R , ANYACC , LOCK , PRESERVE ) { A 12 , B , 8 }",
+            "6022@26 ",
+        ),
+        // Names are single segments, and numbers of bits constants.
+        (
+            "FIELD ( R , ANYACC , LOCK , PRESERVE ) { \\A.B , 8 , ABCDE , 8 , 5 , 8 }",
+            "6022@26 6020@30 6022@34 ",
+        ),
+        (
+            "FIELD ( R , ANYACC , LOCK , PRESERVE ) { A , B , C , DIVIDE ( 1 , 0 ) }",
+            "6022@28 6024@32 ",
+        ),
+        // An Offset stands in a field's list alone, with one argument and no braces.
+        (
+            "FIELD ( R , ANYACC , LOCK , PRESERVE ) { OFFSET ( ) , OFFSET ( 1 ) { } }",
+            "6021@26 6023@30 ",
+        ),
+        ("OFFSET ( 1 ) NAME ( A , OFFSET ( 1 ) )", "6025@15 6025@23 "),
+    ] {
+        let source = format!(in alloc; "{HEAD} {text} }}")?;
+        assert_eq!(rt; errors(alloc, source.as_str())?.as_str(), want);
+    }
+    Ok(())
+}
+
+#[test]
+fn tells_errors_of_symbols(rt: HostRuntime) -> Result<(), Fail> {
+    let alloc = rt.alloc();
+    for (text, want) in [
+        ("NAME ( A , 1 + 2 )", "none"),
+        ("A = B + C [ 1 ] A -- ! A", "none"),
+        // A constant may be written with symbols, and has to be in its range.
+        ("METHOD ( M , 3 + 4 ) { }", "none"),
+        ("METHOD ( M , 4 + 4 ) { }", "6024@20 "),
+        ("METHOD ( M , A + 4 ) { }", "6022@20 "),
+        ("METHOD ( M , A = 4 ) { }", "6022@20 "),
+        // A symbol stands for no name, and for a place only where it is an Index.
+        ("NAME ( A + B , 1 )", "6022@18 "),
+        ("ACQUIRE ( A ++ , 1 )", "6022@18 "),
+        ("A [ 0 ] = 1", "none"),
+        ("A + 0 = 1", "6022@16 "),
+        // Its operands are what its operator asks for, one error for each.
+        ("1 += \"a", "6022@15 "),
+        ("A = NAME ( B , 1 ) + FOO12 ( )", "6022@17 6020@24 "),
+    ] {
+        let source = format!(in alloc; "{HEAD} {text} }}")?;
+        assert_eq!(rt; errors(alloc, source.as_str())?.as_str(), want);
+    }
+    Ok(())
+}
+
+#[test]
+fn tells_errors_of_runs(rt: HostRuntime) -> Result<(), Fail> {
+    let alloc = rt.alloc();
+    for (text, want) in [
+        (
+            "IF ( 1 ) { } ; ELSEIF ( 2 ) { } ELSEIF ( 3 ) { } ELSE { }",
+            "none",
+        ),
+        // Behind nothing, behind a While and behind an Else; what follows is accepted.
+        ("ELSEIF ( 1 ) { } ELSEIF ( 2 ) { } ELSE { }", "6025@15 "),
+        ("WHILE ( 1 ) { } ELSEIF ( 1 ) { }", "6025@21 "),
+        ("IF ( 1 ) { } ELSE { } ELSEIF ( 1 ) { }", "6025@24 "),
+        // Its test and its braces.
+        ("IF ( 1 ) { } ELSEIF { }", "6021@21 "),
+        ("IF ( 1 ) { } ELSEIF ( 1 ) ELSE { }", "6023@21 "),
+    ] {
+        let source = format!(in alloc; "{HEAD} {text} }}")?;
+        assert_eq!(rt; errors(alloc, source.as_str())?.as_str(), want);
+    }
+    Ok(())
+}
+
+/// The errors of an If and a run of so many ElseIfs behind it.
+fn run_errors(alloc: Global, count: usize) -> Result<String, AllocError> {
+    let mut source = String::from_str(alloc, HEAD)?;
+    source.push_str(" IF ( 1 ) { }")?;
+    for _ in 0..count {
+        source.push_str(" ELSEIF ( 1 ) { }")?;
+    }
+    source.push_str(" ELSE { } }")?;
+    errors(alloc, source.as_str())
+}
+
+#[test]
+fn a_run_has_at_most_120_else_ifs(rt: HostRuntime) -> Result<(), Fail> {
+    let alloc = rt.alloc();
+    assert_eq!(rt; run_errors(alloc, 120)?.as_str(), "none");
+    assert_eq!(rt; run_errors(alloc, 122)?.as_str(), "6025@741 6025@747 ");
+    Ok(())
+}
+
+/// The one term of a block, where there is no error.
+fn with_term(alloc: Global, text: &str) -> Result<Option<Program>, AllocError> {
+    let source = format!(in alloc; "{HEAD} {text} }}")?;
+    let tokens = tokens(alloc, source.as_str())?;
+    if tokens.len() > 1000 {
+        return Ok(None);
+    }
+    let Ok(unit) = parse(alloc, &tokens) else {
+        return Ok(None);
+    };
+    match shape(alloc, &unit) {
+        Ok(program) => Ok(Some(program)),
+        Err(_) => Ok(None),
+    }
+}
+
+/// The last number among the arguments of the one term of a block.
+fn last_number(alloc: Global, text: &str) -> Result<Option<u64>, AllocError> {
+    let Some(program) = with_term(alloc, text)? else {
+        return Ok(None);
+    };
+    let Some(block) = program.blocks.get(0) else {
+        return Ok(None);
+    };
+    let Some(node) = block.terms.get(0) else {
+        return Ok(None);
+    };
+    let Term::Form { args, .. } = &node.term else {
+        return Ok(None);
+    };
+    match args.last() {
+        Some(last) => match &last.term {
+            Term::Integer(number) => Ok(Some(*number)),
+            Term::Word(word) => Ok(Some(word.number())),
+            _ => Ok(None),
+        },
+        None => Ok(None),
+    }
+}
+
+#[test]
+fn the_words_of_a_field_are_one_number(rt: HostRuntime) -> Result<(), Fail> {
+    let alloc = rt.alloc();
+    for (text, want) in [
+        ("FIELD ( R , WORDACC , NOLOCK , PRESERVE ) { A , 12 }", 0x02),
+        ("FIELD ( R , WORDACC , NOLOCK , WRITEASONES ) { }", 0x22),
+        (
+            "INDEXFIELD ( I , D , QWORDACC , LOCK , WRITEASZEROS ) { }",
+            0x54,
+        ),
+    ] {
+        assert!(rt; last_number(alloc, text)? == Some(want));
+    }
+    Ok(())
+}
+
+fn operator_of(term: &Term) -> Option<Op> {
+    match term {
+        Term::Form { op, .. } => Some(*op),
+        _ => None,
+    }
+}
+
+/// The operator of the one term of a block, or of its argument of this number.
+fn operator_in(
+    alloc: Global,
+    text: &str,
+    argument: Option<usize>,
+) -> Result<Option<Op>, AllocError> {
+    let Some(program) = with_term(alloc, text)? else {
+        return Ok(None);
+    };
+    let Some(block) = program.blocks.get(0) else {
+        return Ok(None);
+    };
+    let Some(node) = block.terms.get(0) else {
+        return Ok(None);
+    };
+    let Term::Form { op, args, .. } = &node.term else {
+        return Ok(None);
+    };
+    let Some(i) = argument else {
+        return Ok(Some(*op));
+    };
+    match args.get(i) {
+        Some(node) => Ok(operator_of(&node.term)),
+        None => Ok(None),
+    }
+}
+
+fn number(op: IntOp) -> Op {
+    Op::Symbolic(Symbolic::Operator(Plain::Number(op)))
+}
+
+fn data(op: DataOp) -> Op {
+    Op::Symbolic(Symbolic::Operator(Plain::Data(op)))
+}
+
+#[test]
+fn symbols_are_operators(rt: HostRuntime) -> Result<(), Fail> {
+    let alloc = rt.alloc();
+    let assign = Op::Symbolic(Symbolic::Assign);
+    for (text, argument, want) in [
+        ("X = Y + 1 * 2", None, assign),
+        ("X = Y + 1 * 2", Some(1), number(IntOp::Add)),
+        ("Y + 1 * 2", Some(1), number(IntOp::Multiply)),
+        ("X [ 1 ] = 2", None, assign),
+        ("X [ 1 ] = 2", Some(0), data(DataOp::Index)),
+        ("X ++", None, data(DataOp::Increment)),
+        ("! X", None, number(IntOp::LNot)),
+        ("~ X", None, number(IntOp::Not)),
+        (
+            "X <<= 1",
+            None,
+            Op::Symbolic(Symbolic::AssignBy(Compound::ShiftLeft)),
+        ),
+    ] {
+        assert!(rt; operator_in(alloc, text, argument)? == Some(want));
+    }
+    // A constant argument is its value.
+    assert!(rt; last_number(alloc, "MUTEX ( M , 1 + 2 )")? == Some(3));
+    Ok(())
+}
+
+#[test]
+fn tells_errors_of_macros(rt: HostRuntime) -> Result<(), Fail> {
+    let alloc = rt.alloc();
+    for (text, want) in [
+        ("NAME ( A , EISAID ( \"PNP0C09 ) )", "none"),
+        (
+            "NAME ( A , PACKAGE ( ) { EISAID ( \"PNP0c0a ) , TOUUID ( \"e5c937d0-3553-4d7a-9117-ea4d19c3434d ) , UNICODE ( \"A ) } )",
+            "none",
+        ),
+        // A string of another form is told at itself.
+        ("NAME ( A , EISAID ( \"PnP0C09 ) )", "6026@21 "),
+        ("NAME ( A , EISAID ( \"PNP0C0 ) )", "6026@21 "),
+        (
+            "NAME ( A , TOUUID ( \"e5c937d0-3553-4d7a-9117-ea4d19c3434 ) )",
+            "6027@21 ",
+        ),
+        // The one argument is a string, and there are no braces.
+        ("NAME ( A , EISAID ( B ) )", "6022@21 "),
+        ("NAME ( A , UNICODE ( 1 ) )", "6022@21 "),
+        ("NAME ( A , EISAID )", "6021@19 "),
+        ("NAME ( A , TOUUID ( \"a , \"b ) )", "6021@19 "),
+        ("NAME ( A , UNICODE ( \"A ) { } )", "6023@19 "),
+        // A macro is no term, no place and no constant, also under an operator.
+        ("EISAID ( \"PNP0C09 )", "6025@15 "),
+        ("STORE ( 1 , EISAID ( \"PNP0C09 ) )", "6022@19 "),
+        ("MUTEX ( M , EISAID ( \"PNP0C09 ) )", "6022@19 "),
+        ("MUTEX ( M , EISAID ( \"PNP0C09 ) & 1 )", "6022@23 "),
+        (
+            "MUTEX ( M , ADD ( 1 , NOT ( EISAID ( \"PNP0C09 ) ) ) )",
+            "6022@19 ",
+        ),
+        ("MUTEX ( M , EISAID ( \"P ) & 1 )", "6026@21 "),
+        ("NAME ( B , BUFFER ( ) { UNICODE ( \"A ) } )", "6022@23 "),
+        (
+            "NAME ( P , PACKAGE ( ) { 1 + EISAID ( \"PNP0C09 ) } )",
+            "6022@24 ",
+        ),
+        ("A = 1 + EISAID ( \"PNP0C09 )", "none"),
+    ] {
+        let source = format!(in alloc; "{HEAD} {text} }}")?;
+        assert_eq!(rt; errors(alloc, source.as_str())?.as_str(), want);
+    }
+    Ok(())
+}
+
+/// Whether the one term of a block has a Buffer of these bytes as its last argument.
+fn has_buffer(alloc: Global, text: &str, bytes: &[u8]) -> Result<bool, AllocError> {
+    let Some(program) = with_term(alloc, text)? else {
+        return Ok(false);
+    };
+    let Some(block) = program.blocks.get(0) else {
+        return Ok(false);
+    };
+    let Some(node) = block.terms.get(0) else {
+        return Ok(false);
+    };
+    let Term::Form { args, .. } = &node.term else {
+        return Ok(false);
+    };
+    let Some(last) = args.last() else {
+        return Ok(false);
+    };
+    let Term::Form { op, body, .. } = &last.term else {
+        return Ok(false);
+    };
+    if *op != Op::Special(Special::Buffer) {
+        return Ok(false);
+    }
+    match body.get(0) {
+        Some(node) => match &node.term {
+            Term::Fill { bytes: fill, .. } => Ok(fill.as_bytes() == bytes),
+            _ => Ok(false),
+        },
+        None => Ok(false),
+    }
+}
+
+#[test]
+fn macros_stand_for_their_strings(rt: HostRuntime) -> Result<(), Fail> {
+    let alloc = rt.alloc();
+    assert!(rt; last_number(alloc, "NAME ( A , EISAID ( \"PNP0C09 ) )")? == Some(0x090CD041));
+    assert!(rt; has_buffer(alloc, "NAME ( U , UNICODE ( \"AB ) )", b"A\0B\0\0\0")?);
+    assert!(rt;
+        has_buffer(
+            alloc,
+            "NAME ( U , TOUUID ( \"E5c937d0-3553-4d7a-9117-ea4d19c3434d ) )",
+            b"\xD0\x37\xC9\xE5\x53\x35\x7A\x4D\x91\x17\xEA\x4D\x19\xC3\x43\x4D",
+        )?
+    );
+    Ok(())
+}

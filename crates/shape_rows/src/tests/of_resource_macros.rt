@@ -1,0 +1,332 @@
+use asl_tree::path::{Path, Segs};
+use iasl_messages::message::Stage;
+use iasl_messages::place::Place;
+use iasl_ports::list::Text;
+use resource_layout::descriptor::{Descriptor, Kind, Word};
+use resource_macros::identifiers::{eisaid, utf16, uuid};
+use resource_macros::node::{Node, Term};
+use resource_macros::output::Template;
+use resource_macros::template::template;
+use std::alloc::{AllocError, Global};
+use std::test::Fail;
+
+#[test]
+fn eisa_identifiers_are_numbers(rt: HostRuntime) {
+    for (text, number) in [
+        (b"PNP0C09".as_slice(), Some(0x090C_D041)),
+        (b"PNP0A08", Some(0x080A_D041)),
+        (b"ACPIabc", None),
+        (b"AAA0000", Some(0x0000_2104)),
+        (b"ZZZffFF", Some(0xFFFF_5A6B)),
+        (b"PnP0C09", None),
+        (b"PNP0C0G", None),
+        (b"PNP0C0", None),
+        (b"PNP0C099", None),
+        (b"", None),
+    ] {
+        assert!(rt; eisaid(text) == number);
+    }
+}
+
+// The bytes of a UUID are those of its first three parts backwards, and then the others.
+#[test]
+fn uuids_are_bytes(rt: HostRuntime) {
+    let bytes = [
+        0xD0, 0x37, 0xC9, 0xE5, 0x53, 0x35, 0x7A, 0x4D, 0x91, 0x17, 0xEA, 0x4D, 0x19, 0xC3, 0x43,
+        0x4D,
+    ];
+    for text in [
+        b"e5c937d0-3553-4d7a-9117-ea4d19c3434d".as_slice(),
+        b"E5C937D0-3553-4D7A-9117-EA4D19C3434D",
+    ] {
+        assert!(rt; uuid(text) == Some(bytes));
+    }
+    for text in [
+        b"e5c937d0-3553-4d7a-9117-ea4d19c3434".as_slice(),
+        b"e5c937d0-3553-4d7a-9117-ea4d19c3434dd",
+        b"e5c937d0 3553-4d7a-9117-ea4d19c3434d",
+        b"e5c937d-03553-4d7a-9117-ea4d19c3434d",
+        b"g5c937d0-3553-4d7a-9117-ea4d19c3434d",
+        b"{5c937d0-3553-4d7a-9117-ea4d19c3434d",
+    ] {
+        assert!(rt; uuid(text).is_none());
+    }
+}
+
+#[test]
+fn texts_have_characters_of_16_bits(rt: HostRuntime) -> Result<(), AllocError> {
+    assert!(rt; utf16(rt.alloc(), b"AB")?.as_bytes() == b"A\0B\0\0\0".as_slice());
+    assert!(rt; utf16(rt.alloc(), b"")?.as_bytes() == b"\0\0".as_slice());
+    Ok(())
+}
+
+// An argument, or a member of a list.
+#[derive(Clone, Copy)]
+enum Given {
+    Number(u64),
+    Word(Kind, u64),
+    Letter(u8),
+    Name([u8; 4]),
+    LeftOut,
+}
+
+use Given::{LeftOut, Letter, Name, Number};
+
+fn name(alloc: Global, segment: [u8; 4]) -> Result<Term, AllocError> {
+    let mut segs = Segs::new(alloc);
+    segs.push(segment)?;
+    Ok(Term::Name(Path {
+        root: false,
+        up: 0,
+        segs,
+    }))
+}
+
+fn term(alloc: Global, given: Given) -> Result<Term, AllocError> {
+    match given {
+        Given::Number(number) => Ok(Term::Integer(number)),
+        Given::Word(kind, number) => Ok(Term::Word(Word { kind, number })),
+        Given::Letter(letter) => Ok(Term::Text(Text::from_bytes(alloc, &[letter])?)),
+        Given::Name(segment) => name(alloc, segment),
+        Given::LeftOut => Ok(Term::Omitted),
+    }
+}
+
+fn place(line: u32, column: u32) -> Place {
+    Place {
+        file: 0,
+        line,
+        column,
+    }
+}
+
+// Nodes of one line, each in a column of its own.
+fn nodes(alloc: Global, line: u32, given: &[Given]) -> Result<Vec<Node>, AllocError> {
+    let mut nodes = Vec::new(alloc);
+    let mut column: u32 = 1;
+    for one in given {
+        nodes.push(Node {
+            place: place(line, column),
+            term: term(alloc, *one)?,
+        })?;
+        column = column.wrapping_add(1);
+    }
+    Ok(nodes)
+}
+
+// A descriptor at line 1, its arguments in line 2, its list in line 3.
+fn resource(
+    alloc: Global,
+    descriptor: Descriptor,
+    args: &[Given],
+    members: &[Given],
+) -> Result<Node, AllocError> {
+    Ok(Node {
+        place: place(1, 1),
+        term: Term::Resource {
+            descriptor,
+            args: nodes(alloc, 2, args)?,
+            body: nodes(alloc, 3, members)?,
+        },
+    })
+}
+
+const IO_PORT: [Given; 5] = [
+    Given::Word(Kind::IoDecode, 1),
+    Number(0x62),
+    Number(0x62),
+    Number(0),
+    Number(1),
+];
+
+const MEMORY: [Given; 16] = [
+    Given::Word(Kind::Usage, 0),
+    Given::Word(Kind::Decode, 0),
+    Given::Word(Kind::MinimumFixed, 1),
+    Given::Word(Kind::MaximumFixed, 1),
+    Given::Word(Kind::Caching, 1),
+    Given::Word(Kind::Access, 1),
+    Number(0),
+    Number(0x1_0000_0000),
+    Number(0x1_FFFF_FFFF),
+    Number(0),
+    Number(0x1_0000_0000),
+    LeftOut,
+    LeftOut,
+    Name(*b"RNG0"),
+    Given::Word(Kind::Range, 0),
+    Given::Word(Kind::Translation, 0),
+];
+
+// Bytes of the ACPI Specification 6.4, 6.4.2 and 6.4.3, without the end tag.
+#[test]
+fn descriptors_are_bytes(rt: HostRuntime) -> Result<(), Fail> {
+    for (descriptor, args, members, bytes) in [
+        (
+            Descriptor::Irq,
+            [
+                Given::Word(Kind::Mode, 1),
+                Given::Word(Kind::Level, 0),
+                Given::Word(Kind::Sharing, 0),
+            ]
+            .as_slice(),
+            [Number(3)].as_slice(),
+            b"\x23\x08\x00\x01".as_slice(),
+        ),
+        (
+            Descriptor::Io,
+            &IO_PORT,
+            &[],
+            b"\x47\x01\x62\x00\x62\x00\x00\x01",
+        ),
+        (
+            Descriptor::QWordMemory,
+            &MEMORY,
+            &[],
+            b"\x8A\x2B\x00\x00\x0C\x03\0\0\0\0\0\0\0\0\0\0\0\0\x01\0\0\0\xFF\xFF\xFF\xFF\x01\0\0\0\0\0\0\0\0\0\0\0\0\0\0\0\x01\0\0\0",
+        ),
+        (
+            Descriptor::Interrupt,
+            &[
+                LeftOut,
+                Given::Word(Kind::Mode, 0),
+                Given::Word(Kind::Level, 1),
+            ],
+            &[Number(9), Number(0x1234_5678)],
+            b"\x89\x0A\x00\x05\x02\x09\0\0\0\x78\x56\x34\x12",
+        ),
+        (
+            Descriptor::WordBusNumber,
+            &[
+                Given::Word(Kind::Usage, 0),
+                Given::Word(Kind::MinimumFixed, 1),
+                Given::Word(Kind::MaximumFixed, 1),
+                LeftOut,
+                Number(0),
+                Number(0),
+                Number(0xFF),
+                Number(0),
+                Number(0x100),
+                Number(5),
+                Letter(b'A'),
+            ],
+            &[],
+            b"\x88\x10\x00\x02\x0C\x00\0\0\0\0\xFF\0\0\0\0\x01\x05A\0",
+        ),
+        (
+            Descriptor::VendorShort,
+            &[],
+            &[Number(1), Number(2)],
+            b"\x72\x01\x02",
+        ),
+        (
+            Descriptor::StartDependentFn,
+            &[Number(1), Number(2)],
+            &[],
+            b"\x31\x09",
+        ),
+    ] {
+        let mut list = Vec::new(rt.alloc());
+        list.push(resource(rt.alloc(), descriptor, args, members)?)?;
+        match template(rt.alloc(), &list) {
+            Ok(made) => {
+                let ended = [bytes, b"\x79\0".as_slice()].concat(rt.alloc())?;
+                assert!(rt; made.bytes.as_bytes() == ended.as_slice());
+            }
+            Err(_) => assert!(rt; false),
+        }
+    }
+    Ok(())
+}
+
+// Whether the first of the faults is this one.
+fn begins_with(made: &Result<Template, Stage>, number: u16, at: Place) -> bool {
+    match made {
+        Err(Stage::Refused(faults)) => match faults.get(0) {
+            Some(fault) => fault.number == number && fault.place == at,
+            None => false,
+        },
+        _ => false,
+    }
+}
+
+// The first fault of a descriptor: its number, and the line and the column of its place.
+#[test]
+fn arguments_and_lists_have_faults(rt: HostRuntime) -> Result<(), Fail> {
+    let flags = [Given::Word(Kind::Mode, 1), Given::Word(Kind::Level, 0)];
+    for (descriptor, args, members, number, line, column) in [
+        (
+            Descriptor::Irq,
+            flags.as_slice(),
+            [Number(16)].as_slice(),
+            6024,
+            3,
+            1,
+        ),
+        (Descriptor::Irq, &flags, &[Letter(b'A')], 6022, 3, 1),
+        (Descriptor::Interrupt, &flags, &[Number(1)], 6022, 2, 1),
+        (Descriptor::VendorShort, &[], &[], 6024, 1, 1),
+        (Descriptor::VendorShort, &[], &[Number(0); 8], 6024, 1, 1),
+        (
+            Descriptor::StartDependentFn,
+            &[Number(1), Number(3)],
+            &[],
+            6024,
+            2,
+            2,
+        ),
+        (
+            Descriptor::FixedIo,
+            &[Number(0x1_0000), Number(1)],
+            &[],
+            6024,
+            2,
+            1,
+        ),
+        (
+            Descriptor::FixedIo,
+            &[Number(0), Number(1), Number(2)],
+            &[],
+            6022,
+            2,
+            3,
+        ),
+    ] {
+        let mut list = Vec::new(rt.alloc());
+        list.push(resource(rt.alloc(), descriptor, args, members)?)?;
+        let made = template(rt.alloc(), &list);
+        assert!(rt; begins_with(&made, number, place(line, column)));
+    }
+    Ok(())
+}
+
+// The list of a StartDependentFn stands behind it, and fields count from the template's front.
+#[test]
+fn templates_tell_their_fields(rt: HostRuntime) -> Result<(), Fail> {
+    let mut inner = Vec::new(rt.alloc());
+    inner.push(resource(rt.alloc(), Descriptor::QWordMemory, &MEMORY, &[])?)?;
+    let mut list = Vec::new(rt.alloc());
+    list.push(Node {
+        place: place(1, 1),
+        term: Term::Resource {
+            descriptor: Descriptor::StartDependentFnNoPri,
+            args: Vec::new(rt.alloc()),
+            body: inner,
+        },
+    })?;
+    list.push(resource(rt.alloc(), Descriptor::EndDependentFn, &[], &[])?)?;
+    match template(rt.alloc(), &list) {
+        Ok(made) => {
+            assert!(rt; made.bytes.as_bytes().len() == 50);
+            match made.fields.get(6) {
+                Some(minimum) => {
+                    assert!(rt; minimum.descriptor == 0x3047_4E52 && minimum.field == 0x4E49_4D5F);
+                    assert!(rt; minimum.bit == 120 && minimum.bits == 64);
+                }
+                None => assert!(rt; false),
+            }
+        }
+        Err(_) => assert!(rt; false),
+    }
+    Ok(())
+}
