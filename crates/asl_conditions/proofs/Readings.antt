@@ -4,17 +4,17 @@ use Rattle.std.specs.Prelude.{if◌then◌else◌, is_some}
 use Rattle.std.specs.Option.{option_and_then}
 use Rattle.std.proofs.lemmas.Bool.{lt-ltb, le-ltb}
 use Rattle.iasl_ports.specs.Fetched.{most_bytes}
-use Rattle.asl_macros.specs.declared.spot.Within.TheVariants.{InCondition}
+use Rattle.asl_macros.specs.declared.context.Within.TheVariants.{InCondition}
 use Rattle.asl_macros.specs.declared.table.Macros.{Macros}
 use Rattle.asl_macros.specs.History.{History}
 use Rattle.asl_macros.specs.Table.{Tells, text_at}
 use Rattle.asl_macros.specs.Replacement.{replaced}
 use Rattle.asl_conditions.specs.Condition.{is_known, text_value, condition_of}
-use Rattle.asl_conditions.specs.declared.tokens.Token.{Token}
-use Rattle.asl_conditions.specs.declared.tokens.Cut.{Cut}
-use Rattle.asl_conditions.specs.declared.tokens.Lexeme.{Lexeme}
-use Rattle.asl_conditions.specs.declared.tokens.Lexeme.TheVariants.{Blank, Whole, Bad}
-use Rattle.asl_conditions.specs.declared.reader.Reader.{Reader}
+use Rattle.asl_conditions.specs.declared.tokens.ConditionToken.{ConditionToken}
+use Rattle.asl_conditions.specs.declared.tokens.ConditionCut.{ConditionCut}
+use Rattle.asl_conditions.specs.declared.tokens.ConditionLexeme.{ConditionLexeme}
+use Rattle.asl_conditions.specs.declared.tokens.ConditionLexeme.TheVariants.{Blank, Whole, Bad}
+use Rattle.asl_conditions.specs.declared.reader.ConditionReader.{ConditionReader}
 use Rattle.asl_conditions.specs.declared.reader.ConditionStop.{ConditionStop}
 use Rattle.asl_conditions.specs.declared.reader.ConditionStop.TheVariants as stop
 use Rattle.asl_conditions.specs.Tokens.{cut_at, before, tokens_behind, tokens_of}
@@ -31,12 +31,12 @@ drop_of zero b bs h = absurd (omega arith)
 drop_of (suc n) b bs h = ap (λ m. drop m bs) (omega arith)
 
 -- what stands at the front, before the tokens of what stands behind it
-pub tokens_step : (is_known : List ℕ → Bool) (text rest : List ℕ) (cut : Cut) → cut ≡ cut_at is_known text → 0 < length text → 0 < cut.length → rest ≡ drop cut.length text
+pub tokens_step : (is_known : List ℕ → Bool) (text rest : List ℕ) (cut : ConditionCut) → cut ≡ cut_at is_known text → 0 < length text → 0 < cut.length → rest ≡ drop cut.length text
     → tokens_of is_known text ≡ before cut.lexeme (tokens_of is_known rest)
 unfolding tokens_behind
 tokens_step is_known [] rest cut is h f e = absurd (omega arith)
 tokens_step is_known (b ∷ bs) rest cut is h f e =
-    ap (λ (c : Cut). before c.lexeme (tokens_behind is_known (c.length - 1) bs)) (sym is)
+    ap (λ (c : ConditionCut). before c.lexeme (tokens_behind is_known (c.length - 1) bs)) (sym is)
     ∙ ap (before cut.lexeme) (behind_is is_known (cut.length - 1) bs ∙ ap (tokens_of is_known) (drop_of cut.length b bs f ∙ sym e))
 
 pub no_tokens : (is_known : List ℕ → Bool) (text : List ℕ) → length text ≡ 0 → tokens_of is_known text ≡ Some []
@@ -45,7 +45,7 @@ no_tokens is_known [] h = refl
 no_tokens is_known (b ∷ bs) h = absurd (omega arith)
 
 -- a token is read before the others
-pub read_goes : (r next : Reader) (lexeme : Lexeme) (tokens : Option (List Token)) → read r lexeme ≡ Some next → option_and_then (run next) tokens ≡ option_and_then (run r) (before lexeme tokens)
+pub read_goes : (r next : ConditionReader) (lexeme : ConditionLexeme) (tokens : Option (List ConditionToken)) → read r lexeme ≡ Some next → option_and_then (run next) tokens ≡ option_and_then (run r) (before lexeme tokens)
 unfolding run
 read_goes r next Blank None e = refl
 read_goes r next Blank (Some ts) e = let same : r ≡ next = cc in ap (λ q. run q ts) (sym same)
@@ -54,7 +54,7 @@ read_goes r next (Whole token) (Some ts) e = sym (ap (option_and_then (λ q. run
 read_goes r next Bad tokens e = absurd cc
 
 -- and where it cannot be read there is no value
-pub read_fails : (r : Reader) (lexeme : Lexeme) (tokens : Option (List Token)) → read r lexeme ≡ None → option_and_then (run r) (before lexeme tokens) ≡ None
+pub read_fails : (r : ConditionReader) (lexeme : ConditionLexeme) (tokens : Option (List ConditionToken)) → read r lexeme ≡ None → option_and_then (run r) (before lexeme tokens) ≡ None
 unfolding run
 read_fails r Blank tokens e = absurd cc
 read_fails r (Whole token) None e = refl

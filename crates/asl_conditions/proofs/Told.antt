@@ -4,10 +4,10 @@ use Rattle.std.proofs.lemmas.Bool.{le-ltb, ltb-false}
 use Rattle.std.specs.Prelude.{nat_lt, if◌then◌else◌, IfOk}
 use Rattle.std.specs.Option.{option_and_then}
 use Rattle.iasl_ports.specs.Fetched.{most_bytes}
-use Rattle.asl_macros.specs.declared.spot.Within.TheVariants.{InCondition}
+use Rattle.asl_macros.specs.declared.context.Within.TheVariants.{InCondition}
 use Rattle.asl_macros.specs.History.{History}
 use Rattle.asl_macros.specs.Replacement.{replaced}
-use Rattle.asl_conditions.specs.declared.tokens.Token.{Token}
+use Rattle.asl_conditions.specs.declared.tokens.ConditionToken.{ConditionToken}
 use Rattle.asl_conditions.specs.declared.reader.ConditionStop.{ConditionStop}
 use Rattle.asl_conditions.specs.Tokens.{tokens_of}
 use Rattle.asl_conditions.specs.Reading.{value_of, Gives}
@@ -15,7 +15,7 @@ use Rattle.asl_conditions.specs.Condition.{is_known, text_value, condition_of}
 use Rattle.asl_conditions.specs.Grammar.{IsCondition}
 use Rattle.asl_conditions.proofs.Grammars.{value_is_read, read_is_value}
 
-told_by : (history : History) (text : List ℕ) (value : ℕ) (tokens : Option (List Token)) → length (replaced InCondition history false text) ≤ most_bytes → tokens_of (is_known history) (replaced InCondition history false text) ≡ tokens
+told_by : (history : History) (text : List ℕ) (value : ℕ) (tokens : Option (List ConditionToken)) → length (replaced InCondition history false text) ≤ most_bytes → tokens_of (is_known history) (replaced InCondition history false text) ≡ tokens
     → option_and_then value_of tokens ≡ Some value → IsCondition history text value
 told_by history text value None h e f = absurd cc
 told_by history text value (Some tokens) h e f = record { short = h; tokens = tokens; cut = e; is = read_is_value tokens value f }

@@ -4,8 +4,8 @@ use Rattle.std.proofs.lemmas.Bool.{eqb-true}
 use Rattle.std.proofs.lemmas.Bool.Decides.{nat_tests}
 use Rattle.std.specs.Prelude.{if◌then◌else◌, ◌==◌}
 use Rattle.std.specs.Option.{option_and_then, option_map}
-use Rattle.asl_conditions.specs.declared.operators.Infix.{Infix}
-use Rattle.asl_conditions.specs.declared.operators.Infix.TheVariants as op
+use Rattle.asl_conditions.specs.declared.operators.ConditionInfix.{ConditionInfix}
+use Rattle.asl_conditions.specs.declared.operators.ConditionInfix.TheVariants as op
 use Rattle.asl_conditions.specs.declared.operators.Operand.{Operand}
 use Rattle.asl_conditions.specs.Operators.{apply, level_of, operand, with_left, pass, passes, row_value}
 use Rattle.asl_conditions.specs.Worth.{IsWorth}
@@ -14,7 +14,7 @@ use Rattle.asl_conditions.proofs.Rows.{Passed}
 
 -- ---- small facts
 
-highest : (o : Infix) → level_of o ≤ 10
+highest : (o : ConditionInfix) → level_of o ≤ 10
 highest op.Multiply = omega arith
 highest op.Divide = omega arith
 highest op.Remainder = omega arith
@@ -34,7 +34,7 @@ highest op.BitOr = omega arith
 highest op.Both = omega arith
 highest op.Either = omega arith
 
-lowest : (o : Infix) → 0 < level_of o
+lowest : (o : ConditionInfix) → 0 < level_of o
 lowest op.Multiply = omega arith
 lowest op.Divide = omega arith
 lowest op.Remainder = omega arith
@@ -82,7 +82,7 @@ pass_is level left x row last = refl
 -- what the rows are worth.
 data Falls : ℕ → List Operand → ℕ → List Operand → ℕ → Type 0 where
   whole : {n last v : ℕ} {xs : List Operand} → IsWorth n xs last v → Falls n xs last [] v
-  split : {n x last u z : ℕ} (o : Infix) (xs ys : List Operand) {zs : List Operand} → IsWorth n xs x u → n < level_of o → Falls n ys last zs z → Falls n (xs ++ operand x o ∷ ys) last (operand u o ∷ zs) z
+  split : {n x last u z : ℕ} (o : ConditionInfix) (xs ys : List Operand) {zs : List Operand} → IsWorth n xs x u → n < level_of o → Falls n ys last zs z → Falls n (xs ++ operand x o ∷ ys) last (operand u o ∷ zs) z
 
 falls_apart : (xs : List Operand) (last : ℕ) → Falls 0 xs last xs last
 falls_apart [] last = whole w.alone
@@ -110,7 +110,7 @@ whole_steps n last v ys worth = (
       subst (λ (r : Passed). Falls (suc n) (xs ++ operand x l.operator ∷ ys) last r.0 r.1) m.2 (whole (w.applied l.operator xs ys waits.level waits.worth worth m.1)),
 )
 
-after_steps : (n last v y z : ℕ) (o : Infix) (ls ys zs : List Operand) (b : Bool) → (level_of o == suc n) ≡ b → IsWorth (suc n) ls y v → n < level_of o → Steps n ys last zs z
+after_steps : (n last v y z : ℕ) (o : ConditionInfix) (ls ys zs : List Operand) (b : Bool) → (level_of o == suc n) ≡ b → IsWorth (suc n) ls y v → n < level_of o → Steps n ys last zs z
     → (ws : List Operand) (u : ℕ) → after_by b (suc n) (operand v o) zs z ≡ Some (ws, u) → Falls (suc n) (ls ++ operand y o ∷ ys) last ws u
 unfolding after_by
 after_steps n last v y z o ls ys zs true is worth above steps ws u e = steps.1 (operand v o) ls y (record { worth = worth; level = eqb-true (level_of o) (suc n) is }) ws u e
@@ -119,7 +119,7 @@ after_steps n last v y z o ls ys zs false is worth above steps ws u e =
     let more : suc n < level_of o = unequal (level_of o) (suc n) is (omega arith) in
     subst (λ (r : Passed). Falls (suc n) (ls ++ operand y o ∷ ys) last r.0 r.1) m.2 (split o ls ys worth more (steps.0 m.0.0 m.0.1 m.1))
 
-split_steps : (n last v y z : ℕ) (o : Infix) (ys1 ys2 zs : List Operand) → IsWorth n ys1 y v → n < level_of o → Steps n ys2 last zs z → Steps n (ys1 ++ operand y o ∷ ys2) last (operand v o ∷ zs) z
+split_steps : (n last v y z : ℕ) (o : ConditionInfix) (ys1 ys2 zs : List Operand) → IsWorth n ys1 y v → n < level_of o → Steps n ys2 last zs z → Steps n (ys1 ++ operand y o ∷ ys2) last (operand v o ∷ zs) z
 unfolding pass after_by
 split_steps n last v y z o ys1 ys2 zs worth above steps = (
   λ ws u e. after_steps n last v y z o ys1 ys2 zs (level_of o == suc n) refl (w.tighter worth) above steps ws u e,
@@ -195,10 +195,10 @@ before_last (suc k) level xs last r e =
     record { p = more.p; others = ap (option_and_then (λ (q : Passed). reduced k (level + 1) q.0 q.1)) m.1 ∙ more.others; one = subst (λ n. pass n None more.p.0 more.p.1 ≡ Some r) (omega arith) more.one }
 
 -- a pass goes over an operator of another level
-abbrev joined : Infix → Passed → Passed → Passed
+abbrev joined : ConditionInfix → Passed → Passed → Passed
 joined o p q = (p.0 ++ operand p.1 o ∷ q.0, q.1)
 
-append_by : (b : Bool) (level : ℕ) (a : Operand) (xs ys : List Operand) (x last : ℕ) (o : Infix) (p q : Passed)
+append_by : (b : Bool) (level : ℕ) (a : Operand) (xs ys : List Operand) (x last : ℕ) (o : ConditionInfix) (p q : Passed)
     → ((left : Option Operand) (p : Passed) → pass level left xs x ≡ Some p → pass level left (xs ++ operand x o ∷ ys) last ≡ Some (joined o p q))
     → after_by b level a xs x ≡ Some p → after_by b level a (xs ++ operand x o ∷ ys) last ≡ Some (joined o p q)
 unfolding after_by
@@ -207,7 +207,7 @@ append_by false level a xs ys x last o p q others e =
     let m = map_ok {B = Passed} (λ (r : Passed). (a ∷ r.0, r.1)) (pass level None xs x) p e in
     ap (option_map (λ (r : Passed). (a ∷ r.0, r.1))) (others None m.0 m.1) ∙ ap (λ (r : Passed). Some (joined o r q)) m.2
 
-pass_append : (level : ℕ) (left : Option Operand) (xs ys : List Operand) (x last : ℕ) (o : Infix) (p q : Passed) → (level_of o == level) ≡ false → pass level left xs x ≡ Some p → pass level None ys last ≡ Some q
+pass_append : (level : ℕ) (left : Option Operand) (xs ys : List Operand) (x last : ℕ) (o : ConditionInfix) (p q : Passed) → (level_of o == level) ≡ false → pass level left xs x ≡ Some p → pass level None ys last ≡ Some q
     → pass level left (xs ++ operand x o ∷ ys) last ≡ Some (joined o p q)
 unfolding pass after_by
 pass_append level left [] ys x last o p q other e f =
@@ -222,7 +222,7 @@ pass_append level left (y ∷ xs) ys x last o p q other e f =
 above : (a b : ℕ) → b < a → (a == b) ≡ false
 above a b h = grind (arith, nat_tests)
 
-reduced_append : (k level : ℕ) (xs ys : List Operand) (x last : ℕ) (o : Infix) (p q : Passed) → level + k ≤ level_of o → reduced k level xs x ≡ Some p → reduced k level ys last ≡ Some q
+reduced_append : (k level : ℕ) (xs ys : List Operand) (x last : ℕ) (o : ConditionInfix) (p q : Passed) → level + k ≤ level_of o → reduced k level xs x ≡ Some p → reduced k level ys last ≡ Some q
     → reduced k level (xs ++ operand x o ∷ ys) last ≡ Some (joined o p q)
 unfolding reduced
 reduced_append zero level xs ys x last o p q h e f =
@@ -236,7 +236,7 @@ reduced_append (suc k) level xs ys x last o p q h e f =
     ∙ reduced_append k (level + 1) m.0.0 n.0.0 m.0.1 n.0.1 o p q (omega arith) m.2 n.2
 
 -- the last operator of a level is applied last
-last_by : (b : Bool) (level : ℕ) (a : Operand) (zs : List Operand) (z u v r : ℕ) (o : Infix) → ((left : Option Operand) → pass level left zs z ≡ Some ([], u) → pass level left (zs ++ operand z o ∷ []) v ≡ Some ([], r))
+last_by : (b : Bool) (level : ℕ) (a : Operand) (zs : List Operand) (z u v r : ℕ) (o : ConditionInfix) → ((left : Option Operand) → pass level left zs z ≡ Some ([], u) → pass level left (zs ++ operand z o ∷ []) v ≡ Some ([], r))
     → after_by b level a zs z ≡ Some ([], u) → after_by b level a (zs ++ operand z o ∷ []) v ≡ Some ([], r)
 unfolding after_by
 last_by true level a zs z u v r o others e = others (Some a) e
@@ -245,7 +245,7 @@ last_by false level a zs z u v r o others e =
     let none : a ∷ m.0.0 ≡ [] = ap (λ (q : Passed). q.0) m.2 in
     absurd cc
 
-pass_last : (level : ℕ) (left : Option Operand) (zs : List Operand) (z u v r : ℕ) (o : Infix) → (level_of o == level) ≡ true → pass level left zs z ≡ Some ([], u) → apply o u v ≡ Some r
+pass_last : (level : ℕ) (left : Option Operand) (zs : List Operand) (z u v r : ℕ) (o : ConditionInfix) → (level_of o == level) ≡ true → pass level left zs z ≡ Some ([], u) → apply o u v ≡ Some r
     → pass level left (zs ++ operand z o ∷ []) v ≡ Some ([], r)
 unfolding pass after_by
 pass_last level left [] z u v r o is e f =

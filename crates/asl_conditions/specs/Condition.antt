@@ -2,7 +2,7 @@
 use Rattle.std.specs.Prelude.{ℕ, if◌then◌else◌, nat_lt, is_some, Bool, false, List, length, Option, None}
 use Rattle.std.specs.Option.{option_and_then}
 use Rattle.iasl_ports.specs.Fetched.{most_bytes}
-use Rattle.asl_macros.specs.declared.spot.Within.TheVariants.{InCondition}
+use Rattle.asl_macros.specs.declared.context.Within.TheVariants.{InCondition}
 use Rattle.asl_macros.specs.History.{History, text_in}
 use Rattle.asl_macros.specs.Replacement.{replaced}
 use Rattle.asl_conditions.specs.Tokens.{tokens_of}

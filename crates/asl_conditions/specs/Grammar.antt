@@ -1,14 +1,14 @@
 -- What a condition's tokens spell, and what that is worth.
 use Rattle.std.specs.Prelude.{◌≡◌, ℕ, suc, ◌≤◌, Bool, false, List, [], ◌∷◌, ◌++◌, length, Some}
 use Rattle.iasl_ports.specs.Fetched.{most_bytes}
-use Rattle.asl_macros.specs.declared.spot.Within.TheVariants.{InCondition}
+use Rattle.asl_macros.specs.declared.context.Within.TheVariants.{InCondition}
 use Rattle.asl_macros.specs.History.{History}
 use Rattle.asl_macros.specs.Replacement.{replaced}
-use Rattle.asl_conditions.specs.declared.operators.Prefix.{Prefix}
-use Rattle.asl_conditions.specs.declared.operators.Infix.{Infix}
+use Rattle.asl_conditions.specs.declared.operators.ConditionPrefix.{ConditionPrefix}
+use Rattle.asl_conditions.specs.declared.operators.ConditionInfix.{ConditionInfix}
 use Rattle.asl_conditions.specs.declared.operators.Operand.{Operand}
-use Rattle.asl_conditions.specs.declared.tokens.Token.{Token}
-use Rattle.asl_conditions.specs.declared.tokens.Token.TheVariants as t
+use Rattle.asl_conditions.specs.declared.tokens.ConditionToken.{ConditionToken}
+use Rattle.asl_conditions.specs.declared.tokens.ConditionToken.TheVariants as t
 use Rattle.asl_conditions.specs.Operators.{truth, apply_prefix, operand}
 use Rattle.asl_conditions.specs.Worth.{IsWorth}
 use Rattle.asl_conditions.specs.Tokens.{tokens_of}
@@ -25,27 +25,27 @@ pub data Phrase : Type 0 where
 
 -- The tokens of the first list spell the phrase, up to those of the second. At most so many parentheses and
 -- prefix operators are open in it at once.
-pub data Spells : ℕ → Phrase → List Token → List Token → Type 0 where
-  a_number : {open_most n : ℕ} {rest : List Token} → Spells open_most (part n) (t.Number n ∷ rest) rest
+pub data Spells : ℕ → Phrase → List ConditionToken → List ConditionToken → Type 0 where
+  a_number : {open_most n : ℕ} {rest : List ConditionToken} → Spells open_most (part n) (t.Number n ∷ rest) rest
   -- a name that stands after replacement is 0
-  a_name : {open_most : ℕ} {b : Bool} {rest : List Token} → Spells open_most (part 0) (t.Name b ∷ rest) rest
+  a_name : {open_most : ℕ} {b : Bool} {rest : List ConditionToken} → Spells open_most (part 0) (t.Name b ∷ rest) rest
   -- `defined X`, where X may be the word `defined` too
-  a_defined : {open_most : ℕ} {b c : Bool} {rest : List Token} → Spells open_most (part (truth b)) (t.Defined c ∷ t.Name b ∷ rest) rest
-  a_defined_word : {open_most : ℕ} {b c : Bool} {rest : List Token} → Spells open_most (part (truth b)) (t.Defined c ∷ t.Defined b ∷ rest) rest
+  a_defined : {open_most : ℕ} {b c : Bool} {rest : List ConditionToken} → Spells open_most (part (truth b)) (t.Defined c ∷ t.Name b ∷ rest) rest
+  a_defined_word : {open_most : ℕ} {b c : Bool} {rest : List ConditionToken} → Spells open_most (part (truth b)) (t.Defined c ∷ t.Defined b ∷ rest) rest
   -- `defined (X)`
-  in_parentheses : {open_most : ℕ} {b c : Bool} {rest : List Token} → Spells (suc open_most) (part (truth b)) (t.Defined c ∷ t.Open ∷ t.Name b ∷ t.Close ∷ rest) rest
-  word_in_parentheses : {open_most : ℕ} {b c : Bool} {rest : List Token} → Spells (suc open_most) (part (truth b)) (t.Defined c ∷ t.Open ∷ t.Defined b ∷ t.Close ∷ rest) rest
-  a_prefix : {open_most x : ℕ} {o : Prefix} {ms rest : List Token} → Spells open_most (part x) ms rest → Spells (suc open_most) (part (apply_prefix o x)) (t.Prefix o ∷ ms) rest
+  in_parentheses : {open_most : ℕ} {b c : Bool} {rest : List ConditionToken} → Spells (suc open_most) (part (truth b)) (t.Defined c ∷ t.Open ∷ t.Name b ∷ t.Close ∷ rest) rest
+  word_in_parentheses : {open_most : ℕ} {b c : Bool} {rest : List ConditionToken} → Spells (suc open_most) (part (truth b)) (t.Defined c ∷ t.Open ∷ t.Defined b ∷ t.Close ∷ rest) rest
+  a_prefix : {open_most x : ℕ} {o : ConditionPrefix} {ms rest : List ConditionToken} → Spells open_most (part x) ms rest → Spells (suc open_most) (part (apply_prefix o x)) (t.Prefix o ∷ ms) rest
   -- a row in parentheses
-  a_group : {open_most x last : ℕ} {xs : List Operand} {ms rest : List Token} → Spells open_most (row xs last) ms (t.Close ∷ rest) → IsWorth 10 xs last x
+  a_group : {open_most x last : ℕ} {xs : List Operand} {ms rest : List ConditionToken} → Spells open_most (row xs last) ms (t.Close ∷ rest) → IsWorth 10 xs last x
       → Spells (suc open_most) (part x) (t.Open ∷ ms) rest
-  no_operand : {open_most : ℕ} {ms : List Token} → Spells open_most (front []) ms ms
-  one_more : {open_most x : ℕ} {o : Infix} {xs : List Operand} {ms mid rest : List Token} → Spells open_most (front xs) ms mid → Spells open_most (part x) mid (t.Infix o ∷ rest)
+  no_operand : {open_most : ℕ} {ms : List ConditionToken} → Spells open_most (front []) ms ms
+  one_more : {open_most x : ℕ} {o : ConditionInfix} {xs : List Operand} {ms mid rest : List ConditionToken} → Spells open_most (front xs) ms mid → Spells open_most (part x) mid (t.Infix o ∷ rest)
       → Spells open_most (front (xs ++ operand x o ∷ [])) ms rest
-  a_row : {open_most x : ℕ} {xs : List Operand} {ms mid rest : List Token} → Spells open_most (front xs) ms mid → Spells open_most (part x) mid rest → Spells open_most (row xs x) ms rest
+  a_row : {open_most x : ℕ} {xs : List Operand} {ms mid rest : List ConditionToken} → Spells open_most (front xs) ms mid → Spells open_most (part x) mid rest → Spells open_most (row xs x) ms rest
 
 -- The tokens are an expression of this value, in which at most 128 parentheses and prefix operators are open at once.
-pub record IsValue (tokens : List Token) (value : ℕ) : Type 0 where
+pub record IsValue (tokens : List ConditionToken) (value : ℕ) : Type 0 where
   pub operands : List Operand
   pub last : ℕ
   pub spells : Spells 128 (row operands last) tokens []
@@ -55,6 +55,6 @@ pub record IsValue (tokens : List Token) (value : ℕ) : Type 0 where
 -- expression of the value.
 pub record IsCondition (history : History) (text : List ℕ) (value : ℕ) : Type 0 where
   pub short : length (replaced InCondition history false text) ≤ most_bytes
-  pub tokens : List Token
+  pub tokens : List ConditionToken
   pub cut : tokens_of (is_known history) (replaced InCondition history false text) ≡ Some tokens
   pub is : IsValue tokens value

@@ -1,22 +1,22 @@
 -- The operators of a condition, on unsigned numbers of 64 bits that wrap, and what a row of operands is worth.
 use Rattle.std.specs.Prelude.{ℕ, zero, suc, ◌+◌, ◌-◌, ◌*◌, ◌/◌, ◌%◌, ◌^◌, ◌==◌, ◌&&◌, ◌||◌, not, if◌then◌else◌, nat_lt, nat_le, bit_and, bit_or, bit_xor, Bool, List, [], ◌∷◌, Option, Some, None}
 use Rattle.std.specs.Option.{option_map, option_and_then}
-use Rattle.asl_conditions.specs.declared.operators.Prefix.{Prefix}
-use Rattle.asl_conditions.specs.declared.operators.Prefix.TheVariants.{Not, Complement}
-use Rattle.asl_conditions.specs.declared.operators.Infix.{Infix}
-use Rattle.asl_conditions.specs.declared.operators.Infix.TheVariants as op
+use Rattle.asl_conditions.specs.declared.operators.ConditionPrefix.{ConditionPrefix}
+use Rattle.asl_conditions.specs.declared.operators.ConditionPrefix.TheVariants.{Not, Complement}
+use Rattle.asl_conditions.specs.declared.operators.ConditionInfix.{ConditionInfix}
+use Rattle.asl_conditions.specs.declared.operators.ConditionInfix.TheVariants as op
 use Rattle.asl_conditions.specs.declared.operators.Operand.{Operand}
 
 -- 1 for true, 0 for false
 abbrev pub truth : Bool → ℕ
 truth b = if b then 1 else 0
 
-abbrev pub apply_prefix : Prefix → ℕ → ℕ
+abbrev pub apply_prefix : ConditionPrefix → ℕ → ℕ
 apply_prefix Not x = truth (x == 0)
 apply_prefix Complement x = 2 ^ 64 - 1 - x
 
 -- what an operator gives; none where it divides by 0
-abbrev pub apply : Infix → ℕ → ℕ → Option ℕ
+abbrev pub apply : ConditionInfix → ℕ → ℕ → Option ℕ
 apply op.Multiply x y = Some ((x * y) % 2 ^ 64)
 apply op.Divide x y = if y == 0 then None else Some (x / y)
 apply op.Remainder x y = if y == 0 then None else Some (x % y)
@@ -37,7 +37,7 @@ apply op.Both x y = Some (truth (not (x == 0) && not (y == 0)))
 apply op.Either x y = Some (truth (not (x == 0) || not (y == 0)))
 
 -- how tightly an operator holds its operands; 1 is the tightest
-abbrev pub level_of : Infix → ℕ
+abbrev pub level_of : ConditionInfix → ℕ
 level_of op.Multiply = 1
 level_of op.Divide = 1
 level_of op.Remainder = 1
@@ -59,7 +59,7 @@ level_of op.Either = 10
 
 -- ---- a row: operands, each with the operator behind it, and the last operand
 
-abbrev pub operand : ℕ → Infix → Operand
+abbrev pub operand : ℕ → ConditionInfix → Operand
 operand value operator = record { value = value; operator = operator }
 
 -- the operator that still waits for its right operand, where one does, applied to that

@@ -2,15 +2,15 @@
 use Rattle.std.specs.Prelude.{◌≡◌, ℕ, if◌then◌else◌, nat_lt, Bool, true, false, List, [], ◌∷◌, ◌++◌, length, Option, Some, None, Result, Ok, Err}
 use Rattle.std.specs.Option.{option_and_then, option_map}
 use Rattle.asl_conditions.specs.declared.operators.Operand.{Operand}
-use Rattle.asl_conditions.specs.declared.tokens.Token.{Token}
-use Rattle.asl_conditions.specs.declared.tokens.Token.TheVariants as t
-use Rattle.asl_conditions.specs.declared.tokens.Lexeme.{Lexeme}
-use Rattle.asl_conditions.specs.declared.tokens.Lexeme.TheVariants.{Blank, Whole, Bad}
+use Rattle.asl_conditions.specs.declared.tokens.ConditionToken.{ConditionToken}
+use Rattle.asl_conditions.specs.declared.tokens.ConditionToken.TheVariants as t
+use Rattle.asl_conditions.specs.declared.tokens.ConditionLexeme.{ConditionLexeme}
+use Rattle.asl_conditions.specs.declared.tokens.ConditionLexeme.TheVariants.{Blank, Whole, Bad}
 use Rattle.asl_conditions.specs.declared.opened.Opened.{Opened}
 use Rattle.asl_conditions.specs.declared.opened.Opened.TheVariants as o
 use Rattle.asl_conditions.specs.declared.reader.Phase.{Phase}
 use Rattle.asl_conditions.specs.declared.reader.Phase.TheVariants as p
-use Rattle.asl_conditions.specs.declared.reader.Reader.{Reader}
+use Rattle.asl_conditions.specs.declared.reader.ConditionReader.{ConditionReader}
 use Rattle.asl_conditions.specs.declared.reader.ConditionStop.{ConditionStop}
 use Rattle.asl_conditions.specs.declared.reader.ConditionStop.TheVariants as stop
 use Rattle.asl_conditions.specs.Operators.{truth, apply_prefix, operand, row_value}
@@ -20,7 +20,7 @@ abbrev pub limit : ℕ
 limit = 128
 
 -- what is read: the row of the innermost parentheses, and what is open around it, the innermost first
-abbrev pub reader : Phase → List Operand → List Opened → Reader
+abbrev pub reader : Phase → List Operand → List Opened → ConditionReader
 reader phase row opened = record { phase = phase; row = row; opened = opened }
 
 abbrev pub is_prefix : Opened → Bool
@@ -33,17 +33,17 @@ has_prefix [] = false
 has_prefix (top ∷ opened) = is_prefix top
 
 -- an operand is whole, and so are the prefix operators before it
-abbrev pub whole : List Operand → List Opened → ℕ → Reader
+abbrev pub whole : List Operand → List Opened → ℕ → ConditionReader
 whole row (o.Prefix operator ∷ opened) value = whole row opened (apply_prefix operator value)
 whole row (o.Parenthesis outer ∷ opened) value = reader (p.Operator value) row (o.Parenthesis outer ∷ opened)
 whole row [] value = reader (p.Operator value) row []
 
 -- one more is open
-abbrev pub open_more : List Operand → List Opened → Opened → Option Reader
+abbrev pub open_more : List Operand → List Opened → Opened → Option ConditionReader
 open_more row opened new = if nat_lt (length opened) limit then Some (reader p.Operand row (new ∷ opened)) else None
 
 -- where an operand is to come
-abbrev pub operand_step : List Operand → List Opened → Token → Option Reader
+abbrev pub operand_step : List Operand → List Opened → ConditionToken → Option ConditionReader
 operand_step row opened (t.Number n) = Some (whole row opened n)
 operand_step row opened (t.Name is_defined) = Some (whole row opened 0)
 operand_step row opened (t.Defined is_defined) = Some (reader p.Defined row opened)
@@ -53,13 +53,13 @@ operand_step row opened (t.Prefix operator) = open_more row opened (o.Prefix ope
 operand_step row opened (t.Infix operator) = None
 
 -- the parentheses close, and their value is an operand of the row around them
-abbrev pub closed : List Opened → Option ℕ → Option Reader
+abbrev pub closed : List Opened → Option ℕ → Option ConditionReader
 closed (o.Parenthesis outer ∷ opened) value = option_map (λ v. whole outer opened v) value
 closed (o.Prefix operator ∷ opened) value = None
 closed [] value = None
 
 -- where an operator is to come
-abbrev pub operator_step : ℕ → List Operand → List Opened → Token → Option Reader
+abbrev pub operator_step : ℕ → List Operand → List Opened → ConditionToken → Option ConditionReader
 operator_step value row opened (t.Infix operator) = Some (reader p.Operand (row ++ operand value operator ∷ []) opened)
 operator_step value row opened t.Close = closed opened (row_value row value)
 operator_step value row opened (t.Number n) = None
@@ -69,7 +69,7 @@ operator_step value row opened t.Open = None
 operator_step value row opened (t.Prefix operator) = None
 
 -- behind `defined`: a name, or a parenthesis, which counts as one that is open
-abbrev pub defined_step : List Operand → List Opened → Token → Option Reader
+abbrev pub defined_step : List Operand → List Opened → ConditionToken → Option ConditionReader
 defined_step row opened (t.Name is_defined) = Some (whole row opened (truth is_defined))
 defined_step row opened t.Open = if nat_lt (length opened) limit then Some (reader p.DefinedParenthesis row opened) else None
 defined_step row opened (t.Number n) = None
@@ -79,28 +79,28 @@ defined_step row opened (t.Prefix operator) = None
 defined_step row opened (t.Infix operator) = None
 
 -- behind that parenthesis: a name
-abbrev pub parenthesis_step : List Operand → List Opened → Token → Option Reader
+abbrev pub parenthesis_step : List Operand → List Opened → ConditionToken → Option ConditionReader
 parenthesis_step row opened (t.Name is_defined) = Some (reader (p.DefinedName (truth is_defined)) row opened)
 parenthesis_step row opened (t.Defined is_defined) = Some (reader (p.DefinedName (truth is_defined)) row opened)
 parenthesis_step row opened _ = None
 
 -- behind that name: the closing parenthesis
-abbrev pub name_step : ℕ → List Operand → List Opened → Token → Option Reader
+abbrev pub name_step : ℕ → List Operand → List Opened → ConditionToken → Option ConditionReader
 name_step value row opened t.Close = Some (whole row opened value)
 name_step value row opened _ = None
 
-abbrev pub step_by : Phase → List Operand → List Opened → Token → Option Reader
+abbrev pub step_by : Phase → List Operand → List Opened → ConditionToken → Option ConditionReader
 step_by p.Operand row opened token = operand_step row opened token
 step_by (p.Operator value) row opened token = operator_step value row opened token
 step_by p.Defined row opened token = defined_step row opened token
 step_by p.DefinedParenthesis row opened token = parenthesis_step row opened token
 step_by (p.DefinedName value) row opened token = name_step value row opened token
 
-unfoldable pub step : Reader → Token → Option Reader
+unfoldable pub step : ConditionReader → ConditionToken → Option ConditionReader
 step r token = step_by r.phase r.row r.opened token
 
 -- what stands at a place
-abbrev pub read : Reader → Lexeme → Option Reader
+abbrev pub read : ConditionReader → ConditionLexeme → Option ConditionReader
 read r Blank = Some r
 read r (Whole token) = step r token
 read r Bad = None
@@ -111,16 +111,16 @@ finish_by (p.Operator value) row [] = row_value row value
 finish_by _ row opened = None
 
 -- the value of what was read and of the tokens to come
-unfoldable pub run : Reader → List Token → Option ℕ
+unfoldable pub run : ConditionReader → List ConditionToken → Option ℕ
 run r [] = finish_by r.phase r.row r.opened
 run r (token ∷ tokens) = option_and_then (λ next. run next tokens) (step r token)
 
 -- nothing is read yet
-abbrev pub start : Reader
+abbrev pub start : ConditionReader
 start = reader p.Operand [] []
 
 -- the value of tokens; none where they are no expression, open too much at once, or divide by 0
-abbrev pub value_of : List Token → Option ℕ
+abbrev pub value_of : List ConditionToken → Option ℕ
 value_of tokens = run start tokens
 
 -- ---- what the code ensures

@@ -2,7 +2,7 @@
 ghost use Rattle.std.specs.Prelude.{◌≡◌, [], ◌∷◌, length, MatchOption, OnOk};
 ghost use Rattle.asl_conditions.specs.Reading as spec;
 
-use crate::operators::{Operand, Prefix};
+use crate::operators::{ConditionPrefix, Operand};
 use iasl_ports::list::List;
 use std::alloc::{AllocError, Global};
 use std::marker::Model;
@@ -10,7 +10,7 @@ use std::marker::Model;
 /// A prefix operator whose operand is to come, or a parenthesis that is not closed, with the row around it.
 #[derive(Drop)]
 pub enum Opened {
-    Prefix(Prefix),
+    Prefix(ConditionPrefix),
     Parenthesis(List<Operand>),
 }
 

@@ -4,7 +4,7 @@ ghost use Rattle.asl_conditions.specs.Operators as spec;
 
 /// An operator before its operand.
 #[derive(Clone, Copy, Debug)]
-pub enum Prefix {
+pub enum ConditionPrefix {
     /// `!`
     Not,
     /// `~`
@@ -13,7 +13,7 @@ pub enum Prefix {
 
 /// An operator between its operands.
 #[derive(Clone, Copy, Debug)]
-pub enum Infix {
+pub enum ConditionInfix {
     /// `*`
     Multiply,
     /// `/`
@@ -56,7 +56,7 @@ pub enum Infix {
 #[derive(Clone, Copy, Debug)]
 pub struct Operand {
     pub value: u64,
-    pub operator: Infix,
+    pub operator: ConditionInfix,
 }
 
 /// 1 for true, 0 for false.
@@ -67,67 +67,70 @@ pub fn truth(holds: bool) -> u64
 }
 
 /// What a prefix operator gives.
-pub fn apply_prefix(operator: Prefix, x: u64) -> u64
+pub fn apply_prefix(operator: ConditionPrefix, x: u64) -> u64
     ensures { result ≡ spec.apply_prefix operator x }
 {
     match operator {
-        Prefix::Not => truth(x == 0),
-        Prefix::Complement => !x,
+        ConditionPrefix::Not => truth(x == 0),
+        ConditionPrefix::Complement => !x,
     }
 }
 
 fn shift_left(x: u64, y: u64) -> u64
-    ensures { spec.apply Infix.ShiftLeft x y ≡ Some result }
+    ensures { spec.apply ConditionInfix.ShiftLeft x y ≡ Some result }
 {
     if y < 64 { x << y as u32 } else { 0 }
 }
 
 fn shift_right(x: u64, y: u64) -> u64
-    ensures { spec.apply Infix.ShiftRight x y ≡ Some result }
+    ensures { spec.apply ConditionInfix.ShiftRight x y ≡ Some result }
 {
     if y < 64 { x >> y as u32 } else { 0 }
 }
 
 /// What an operator gives, on numbers that wrap; none where it divides by 0. A shift by 64 or more gives 0.
-pub fn apply(operator: Infix, x: u64, y: u64) -> Option<u64>
+pub fn apply(operator: ConditionInfix, x: u64, y: u64) -> Option<u64>
     ensures { result ≡ spec.apply operator x y }
 {
     match operator {
-        Infix::Multiply => Some(x.wrapping_mul(y)),
-        Infix::Divide => x.checked_div(y),
-        Infix::Remainder => x.checked_rem(y),
-        Infix::Add => Some(x.wrapping_add(y)),
-        Infix::Subtract => Some(x.wrapping_sub(y)),
-        Infix::ShiftLeft => Some(shift_left(x, y)),
-        Infix::ShiftRight => Some(shift_right(x, y)),
-        Infix::Less => Some(truth(x < y)),
-        Infix::AtMost => Some(truth(x <= y)),
-        Infix::Greater => Some(truth(x > y)),
-        Infix::AtLeast => Some(truth(x >= y)),
-        Infix::Equal => Some(truth(x == y)),
-        Infix::Unequal => Some(truth(x != y)),
-        Infix::BitAnd => Some(x & y),
-        Infix::BitXor => Some(x ^ y),
-        Infix::BitOr => Some(x | y),
-        Infix::Both => Some(truth(x != 0 && y != 0)),
-        Infix::Either => Some(truth(x != 0 || y != 0)),
+        ConditionInfix::Multiply => Some(x.wrapping_mul(y)),
+        ConditionInfix::Divide => x.checked_div(y),
+        ConditionInfix::Remainder => x.checked_rem(y),
+        ConditionInfix::Add => Some(x.wrapping_add(y)),
+        ConditionInfix::Subtract => Some(x.wrapping_sub(y)),
+        ConditionInfix::ShiftLeft => Some(shift_left(x, y)),
+        ConditionInfix::ShiftRight => Some(shift_right(x, y)),
+        ConditionInfix::Less => Some(truth(x < y)),
+        ConditionInfix::AtMost => Some(truth(x <= y)),
+        ConditionInfix::Greater => Some(truth(x > y)),
+        ConditionInfix::AtLeast => Some(truth(x >= y)),
+        ConditionInfix::Equal => Some(truth(x == y)),
+        ConditionInfix::Unequal => Some(truth(x != y)),
+        ConditionInfix::BitAnd => Some(x & y),
+        ConditionInfix::BitXor => Some(x ^ y),
+        ConditionInfix::BitOr => Some(x | y),
+        ConditionInfix::Both => Some(truth(x != 0 && y != 0)),
+        ConditionInfix::Either => Some(truth(x != 0 || y != 0)),
     }
 }
 
 /// How tightly an operator holds its operands; 1 is the tightest, 10 the loosest.
-pub fn level_of(operator: Infix) -> u8
+pub fn level_of(operator: ConditionInfix) -> u8
     ensures { result ≡ spec.level_of operator }
 {
     match operator {
-        Infix::Multiply | Infix::Divide | Infix::Remainder => 1,
-        Infix::Add | Infix::Subtract => 2,
-        Infix::ShiftLeft | Infix::ShiftRight => 3,
-        Infix::Less | Infix::AtMost | Infix::Greater | Infix::AtLeast => 4,
-        Infix::Equal | Infix::Unequal => 5,
-        Infix::BitAnd => 6,
-        Infix::BitXor => 7,
-        Infix::BitOr => 8,
-        Infix::Both => 9,
-        Infix::Either => 10,
+        ConditionInfix::Multiply | ConditionInfix::Divide | ConditionInfix::Remainder => 1,
+        ConditionInfix::Add | ConditionInfix::Subtract => 2,
+        ConditionInfix::ShiftLeft | ConditionInfix::ShiftRight => 3,
+        ConditionInfix::Less
+        | ConditionInfix::AtMost
+        | ConditionInfix::Greater
+        | ConditionInfix::AtLeast => 4,
+        ConditionInfix::Equal | ConditionInfix::Unequal => 5,
+        ConditionInfix::BitAnd => 6,
+        ConditionInfix::BitXor => 7,
+        ConditionInfix::BitOr => 8,
+        ConditionInfix::Both => 9,
+        ConditionInfix::Either => 10,
     }
 }

@@ -5,9 +5,9 @@ ghost use Rattle.asl_conditions.specs.Reading as spec;
 ghost use Rattle.asl_conditions.specs.Reading.{Gives};
 
 use crate::opened::{Opened, Stack};
-use crate::operators::{Infix, Operand, apply_prefix, truth};
+use crate::operators::{ConditionInfix, Operand, apply_prefix, truth};
 use crate::row::row_value;
-use crate::tokens::{Lexeme, Token};
+use crate::tokens::{ConditionLexeme, ConditionToken};
 use iasl_ports::list::List;
 use std::alloc::{AllocError, Global};
 
@@ -49,7 +49,7 @@ pub enum Phase {
 
 /// What was read of a condition.
 #[derive(Drop)]
-pub struct Reader {
+pub struct ConditionReader {
     pub phase: Phase,
     /// The row of the innermost parentheses so far: operands with the operators behind them.
     pub row: List<Operand>,
@@ -61,7 +61,7 @@ pub struct Reader {
 const LIMIT: usize = 128;
 
 // An operand is whole, and so are the prefix operators before it.
-fn whole(row: List<Operand>, mut opened: Stack, mut value: u64) -> Reader
+fn whole(row: List<Operand>, mut opened: Stack, mut value: u64) -> ConditionReader
     ensures { result ≡ spec.whole row opened value }
 {
     while opened.has_prefix() {
@@ -70,21 +70,25 @@ fn whole(row: List<Operand>, mut opened: Stack, mut value: u64) -> Reader
             _ => break,
         }
     }
-    Reader {
+    ConditionReader {
         phase: Phase::Operator(value),
         row,
         opened,
     }
 }
 
-fn open_more(row: List<Operand>, mut opened: Stack, new: Opened) -> Result<Reader, ConditionStop>
+fn open_more(
+    row: List<Operand>,
+    mut opened: Stack,
+    new: Opened,
+) -> Result<ConditionReader, ConditionStop>
     ensures { Gives result (spec.open_more row opened new) }
 {
     if opened.len() >= LIMIT {
         return Err(ConditionStop::Bad);
     }
     opened.push(new)?;
-    Ok(Reader {
+    Ok(ConditionReader {
         phase: Phase::Operand,
         row,
         opened,
@@ -95,21 +99,21 @@ fn operand_step(
     alloc: Global,
     row: List<Operand>,
     opened: Stack,
-    token: Token,
-) -> Result<Reader, ConditionStop>
+    token: ConditionToken,
+) -> Result<ConditionReader, ConditionStop>
     ensures { Gives result (spec.operand_step row opened token) }
 {
     match token {
-        Token::Number(value) => Ok(whole(row, opened, value)),
-        Token::Name { .. } => Ok(whole(row, opened, 0)),
-        Token::Defined { .. } => Ok(Reader {
+        ConditionToken::Number(value) => Ok(whole(row, opened, value)),
+        ConditionToken::Name { .. } => Ok(whole(row, opened, 0)),
+        ConditionToken::Defined { .. } => Ok(ConditionReader {
             phase: Phase::Defined,
             row,
             opened,
         }),
-        Token::Open => open_more(List::new(alloc), opened, Opened::Parenthesis(row)),
-        Token::Prefix(operator) => open_more(row, opened, Opened::Prefix(operator)),
-        Token::Close | Token::Infix(_) => Err(ConditionStop::Bad),
+        ConditionToken::Open => open_more(List::new(alloc), opened, Opened::Parenthesis(row)),
+        ConditionToken::Prefix(operator) => open_more(row, opened, Opened::Prefix(operator)),
+        ConditionToken::Close | ConditionToken::Infix(_) => Err(ConditionStop::Bad),
     }
 }
 
@@ -119,7 +123,7 @@ fn close(
     row: List<Operand>,
     mut opened: Stack,
     value: u64,
-) -> Result<Reader, ConditionStop>
+) -> Result<ConditionReader, ConditionStop>
     ensures { Gives result (spec.closed opened (row_value_by row value)) }
 {
     match opened.pop() {
@@ -136,36 +140,40 @@ fn operator_step(
     mut row: List<Operand>,
     opened: Stack,
     value: u64,
-    token: Token,
-) -> Result<Reader, ConditionStop>
+    token: ConditionToken,
+) -> Result<ConditionReader, ConditionStop>
     ensures { Gives result (spec.operator_step value row opened token) }
 {
     match token {
-        Token::Infix(operator) => {
+        ConditionToken::Infix(operator) => {
             row.push(Operand { value, operator })?;
-            Ok(Reader {
+            Ok(ConditionReader {
                 phase: Phase::Operand,
                 row,
                 opened,
             })
         }
-        Token::Close => close(alloc, row, opened, value),
+        ConditionToken::Close => close(alloc, row, opened, value),
         _ => Err(ConditionStop::Bad),
     }
 }
 
-fn defined_step(row: List<Operand>, opened: Stack, token: Token) -> Result<Reader, ConditionStop>
+fn defined_step(
+    row: List<Operand>,
+    opened: Stack,
+    token: ConditionToken,
+) -> Result<ConditionReader, ConditionStop>
     ensures { Gives result (spec.defined_step row opened token) }
 {
     match token {
-        Token::Name { is_defined } | Token::Defined { is_defined } => {
+        ConditionToken::Name { is_defined } | ConditionToken::Defined { is_defined } => {
             Ok(whole(row, opened, truth(is_defined)))
         }
-        Token::Open => {
+        ConditionToken::Open => {
             if opened.len() >= LIMIT {
                 return Err(ConditionStop::Bad);
             }
-            Ok(Reader {
+            Ok(ConditionReader {
                 phase: Phase::DefinedParenthesis,
                 row,
                 opened,
@@ -178,16 +186,18 @@ fn defined_step(row: List<Operand>, opened: Stack, token: Token) -> Result<Reade
 fn parenthesis_step(
     row: List<Operand>,
     opened: Stack,
-    token: Token,
-) -> Result<Reader, ConditionStop>
+    token: ConditionToken,
+) -> Result<ConditionReader, ConditionStop>
     ensures { Gives result (spec.parenthesis_step row opened token) }
 {
     match token {
-        Token::Name { is_defined } | Token::Defined { is_defined } => Ok(Reader {
-            phase: Phase::DefinedName(truth(is_defined)),
-            row,
-            opened,
-        }),
+        ConditionToken::Name { is_defined } | ConditionToken::Defined { is_defined } => Ok(
+            ConditionReader {
+                phase: Phase::DefinedName(truth(is_defined)),
+                row,
+                opened,
+            },
+        ),
         _ => Err(ConditionStop::Bad),
     }
 }
@@ -196,22 +206,26 @@ fn name_step(
     row: List<Operand>,
     opened: Stack,
     value: u64,
-    token: Token,
-) -> Result<Reader, ConditionStop>
+    token: ConditionToken,
+) -> Result<ConditionReader, ConditionStop>
     ensures { Gives result (spec.name_step value row opened token) }
 {
     match token {
-        Token::Close => Ok(whole(row, opened, value)),
+        ConditionToken::Close => Ok(whole(row, opened, value)),
         _ => Err(ConditionStop::Bad),
     }
 }
 
 // Reads one more token.
 #[tactic(auto, unfolding(crate::specs::Reading::step))]
-fn step(alloc: Global, reader: Reader, token: Token) -> Result<Reader, ConditionStop>
+fn step(
+    alloc: Global,
+    reader: ConditionReader,
+    token: ConditionToken,
+) -> Result<ConditionReader, ConditionStop>
     ensures { Gives result (spec.step reader token) }
 {
-    let Reader { phase, row, opened } = reader;
+    let ConditionReader { phase, row, opened } = reader;
     match phase {
         Phase::Operand => operand_step(alloc, row, opened, token),
         Phase::Operator(value) => operator_step(alloc, row, opened, value, token),
@@ -222,21 +236,25 @@ fn step(alloc: Global, reader: Reader, token: Token) -> Result<Reader, Condition
 }
 
 /// Reads what stands at a place.
-pub fn read(alloc: Global, reader: Reader, lexeme: Lexeme) -> Result<Reader, ConditionStop>
+pub fn read(
+    alloc: Global,
+    reader: ConditionReader,
+    lexeme: ConditionLexeme,
+) -> Result<ConditionReader, ConditionStop>
     ensures { Gives result (spec.read reader lexeme) }
 {
     match lexeme {
-        Lexeme::Blank => Ok(reader),
-        Lexeme::Whole(token) => step(alloc, reader, token),
-        Lexeme::Bad => Err(ConditionStop::Bad),
+        ConditionLexeme::Blank => Ok(reader),
+        ConditionLexeme::Whole(token) => step(alloc, reader, token),
+        ConditionLexeme::Bad => Err(ConditionStop::Bad),
     }
 }
 
 /// The value at the end of the tokens.
-pub fn finish(alloc: Global, reader: Reader) -> Result<u64, ConditionStop>
+pub fn finish(alloc: Global, reader: ConditionReader) -> Result<u64, ConditionStop>
     ensures { Gives result (spec.finish_by reader.phase reader.row reader.opened) }
 {
-    let Reader { phase, row, opened } = reader;
+    let ConditionReader { phase, row, opened } = reader;
     match phase {
         Phase::Operator(value) => {
             if opened.len() == 0 {

@@ -5,14 +5,14 @@ ghost use Rattle.asl_conditions.specs.Numbers.{number_of as number_by_text};
 ghost use Rattle.asl_conditions.specs.Tokens as spec;
 
 use crate::numbers::number_of;
-use crate::operators::{Infix, Prefix};
+use crate::operators::{ConditionInfix, ConditionPrefix};
 use asl_fragments::first_fragment;
 use asl_fragments::fragment::FragmentKind;
 use asl_macros::Macros;
 
 /// A token of a condition.
 #[derive(Clone, Copy, Debug)]
-pub enum Token {
+pub enum ConditionToken {
     Number(u64),
     /// An identifier.
     Name { is_defined: bool },
@@ -20,98 +20,98 @@ pub enum Token {
     Defined { is_defined: bool },
     Open,
     Close,
-    Prefix(Prefix),
-    Infix(Infix),
+    Prefix(ConditionPrefix),
+    Infix(ConditionInfix),
 }
 
 /// What stands at a place.
 #[derive(Clone, Copy, Debug)]
-pub enum Lexeme {
+pub enum ConditionLexeme {
     /// A blank or a comment.
     Blank,
-    Whole(Token),
+    Whole(ConditionToken),
     /// No token.
     Bad,
 }
 
 /// What stands at a place, and how many bytes it has.
 #[derive(Clone, Copy, Debug)]
-pub struct Cut {
-    pub lexeme: Lexeme,
+pub struct ConditionCut {
+    pub lexeme: ConditionLexeme,
     pub length: usize,
 }
 
-fn infix_of(operator: Infix) -> Lexeme
+fn infix_of(operator: ConditionInfix) -> ConditionLexeme
     ensures { result ≡ spec.infix_of operator }
 {
-    Lexeme::Whole(Token::Infix(operator))
+    ConditionLexeme::Whole(ConditionToken::Infix(operator))
 }
 
 #[tactic(auto, unfolding(crate::specs::Tokens::one_byte))]
-fn one_byte(byte: u8) -> Lexeme
+fn one_byte(byte: u8) -> ConditionLexeme
     ensures { result ≡ spec.one_byte byte }
 {
     match byte {
-        b' ' | b'\t' => Lexeme::Blank,
-        b'(' => Lexeme::Whole(Token::Open),
-        b')' => Lexeme::Whole(Token::Close),
-        b'!' => Lexeme::Whole(Token::Prefix(Prefix::Not)),
-        b'~' => Lexeme::Whole(Token::Prefix(Prefix::Complement)),
-        b'*' => infix_of(Infix::Multiply),
-        b'/' => infix_of(Infix::Divide),
-        b'%' => infix_of(Infix::Remainder),
-        b'+' => infix_of(Infix::Add),
-        b'-' => infix_of(Infix::Subtract),
-        b'<' => infix_of(Infix::Less),
-        b'>' => infix_of(Infix::Greater),
-        b'&' => infix_of(Infix::BitAnd),
-        b'^' => infix_of(Infix::BitXor),
-        b'|' => infix_of(Infix::BitOr),
-        _ => Lexeme::Bad,
+        b' ' | b'\t' => ConditionLexeme::Blank,
+        b'(' => ConditionLexeme::Whole(ConditionToken::Open),
+        b')' => ConditionLexeme::Whole(ConditionToken::Close),
+        b'!' => ConditionLexeme::Whole(ConditionToken::Prefix(ConditionPrefix::Not)),
+        b'~' => ConditionLexeme::Whole(ConditionToken::Prefix(ConditionPrefix::Complement)),
+        b'*' => infix_of(ConditionInfix::Multiply),
+        b'/' => infix_of(ConditionInfix::Divide),
+        b'%' => infix_of(ConditionInfix::Remainder),
+        b'+' => infix_of(ConditionInfix::Add),
+        b'-' => infix_of(ConditionInfix::Subtract),
+        b'<' => infix_of(ConditionInfix::Less),
+        b'>' => infix_of(ConditionInfix::Greater),
+        b'&' => infix_of(ConditionInfix::BitAnd),
+        b'^' => infix_of(ConditionInfix::BitXor),
+        b'|' => infix_of(ConditionInfix::BitOr),
+        _ => ConditionLexeme::Bad,
     }
 }
 
 #[tactic(auto, unfolding(crate::specs::Tokens::two_bytes))]
-fn two_bytes(first: u8, second: u8) -> Option<Infix>
+fn two_bytes(first: u8, second: u8) -> Option<ConditionInfix>
     ensures { result ≡ spec.two_bytes first second }
 {
     match first {
         b'<' => match second {
-            b'<' => Some(Infix::ShiftLeft),
-            b'=' => Some(Infix::AtMost),
+            b'<' => Some(ConditionInfix::ShiftLeft),
+            b'=' => Some(ConditionInfix::AtMost),
             _ => None,
         },
         b'>' => match second {
-            b'>' => Some(Infix::ShiftRight),
-            b'=' => Some(Infix::AtLeast),
+            b'>' => Some(ConditionInfix::ShiftRight),
+            b'=' => Some(ConditionInfix::AtLeast),
             _ => None,
         },
-        b'=' if second == b'=' => Some(Infix::Equal),
-        b'!' if second == b'=' => Some(Infix::Unequal),
-        b'&' if second == b'&' => Some(Infix::Both),
-        b'|' if second == b'|' => Some(Infix::Either),
+        b'=' if second == b'=' => Some(ConditionInfix::Equal),
+        b'!' if second == b'=' => Some(ConditionInfix::Unequal),
+        b'&' if second == b'&' => Some(ConditionInfix::Both),
+        b'|' if second == b'|' => Some(ConditionInfix::Either),
         _ => None,
     }
 }
 
-fn single(byte: u8) -> Cut
+fn single(byte: u8) -> ConditionCut
     ensures { result ≡ spec.made (spec.one_byte byte) 1 }
 {
-    Cut {
+    ConditionCut {
         lexeme: one_byte(byte),
         length: 1,
     }
 }
 
 // The sign that a byte begins: the longest.
-fn sign(byte: u8, behind: &[u8]) -> Cut
+fn sign(byte: u8, behind: &[u8]) -> ConditionCut
     ensures exact { result ≡ spec.sign_of byte behind.now }
     ensures forward { 0 < result.length }
     ensures within { result.length ≤ length behind.now + 1 }
 {
     match behind {
         [second, ..] => match two_bytes(byte, *second) {
-            Some(operator) => Cut {
+            Some(operator) => ConditionCut {
                 lexeme: infix_of(operator),
                 length: 2,
             },
@@ -121,12 +121,12 @@ fn sign(byte: u8, behind: &[u8]) -> Cut
     }
 }
 
-fn number(text: &[u8]) -> Lexeme
+fn number(text: &[u8]) -> ConditionLexeme
     ensures { result ≡ spec.number_by (number_by_text text.now) }
 {
     match number_of(text) {
-        Some(value) => Lexeme::Whole(Token::Number(value)),
-        None => Lexeme::Bad,
+        Some(value) => ConditionLexeme::Whole(ConditionToken::Number(value)),
+        None => ConditionLexeme::Bad,
     }
 }
 
@@ -136,20 +136,20 @@ fn is_defined(macros: &Macros, name: &[u8]) -> bool
     macros.text_of(name).is_some()
 }
 
-fn word(macros: &Macros, text: &[u8]) -> Lexeme
+fn word(macros: &Macros, text: &[u8]) -> ConditionLexeme
     ensures { result ≡ spec.word_of (λ name. is_some (text_at macros.now name)) text.now }
 {
     let is_defined = is_defined(macros, text);
     if text == b"defined".as_slice() {
-        Lexeme::Whole(Token::Defined { is_defined })
+        ConditionLexeme::Whole(ConditionToken::Defined { is_defined })
     } else {
-        Lexeme::Whole(Token::Name { is_defined })
+        ConditionLexeme::Whole(ConditionToken::Name { is_defined })
     }
 }
 
 /// What stands at the front of a text.
 #[tactic(auto, unfolding(crate::specs::Tokens::cut_of))]
-pub fn front_of(macros: &Macros, text: &[u8]) -> Cut
+pub fn front_of(macros: &Macros, text: &[u8]) -> ConditionCut
     requires { 0 < length text.now }
     ensures exact { result ≡ spec.cut_at (λ name. is_some (text_at macros.now name)) text.now }
     ensures forward { 0 < result.length }
@@ -159,20 +159,20 @@ pub fn front_of(macros: &Macros, text: &[u8]) -> Cut
     let length = fragment.length;
     let front = text.split_at(length).0;
     match fragment.kind {
-        FragmentKind::Identifier => Cut {
+        FragmentKind::Identifier => ConditionCut {
             lexeme: word(macros, front),
             length,
         },
-        FragmentKind::Number => Cut {
+        FragmentKind::Number => ConditionCut {
             lexeme: number(front),
             length,
         },
-        FragmentKind::Quoted => Cut {
-            lexeme: Lexeme::Bad,
+        FragmentKind::Quoted => ConditionCut {
+            lexeme: ConditionLexeme::Bad,
             length,
         },
-        FragmentKind::Comment => Cut {
-            lexeme: Lexeme::Blank,
+        FragmentKind::Comment => ConditionCut {
+            lexeme: ConditionLexeme::Blank,
             length,
         },
         FragmentKind::Other => sign(text[0], text.split_at(1).1),

@@ -7,7 +7,7 @@ ghost use Rattle.asl_conditions.specs.Grammar.{IsCondition};
 ghost use Rattle.asl_conditions.specs.Reading.{Gives};
 
 use crate::opened::Stack;
-use crate::reader::{ConditionStop, Phase, Reader, finish, read};
+use crate::reader::{ConditionReader, ConditionStop, Phase, finish, read};
 use crate::tokens::front_of;
 use asl_macros::{Macros, ReplaceStop, Within, replace};
 use iasl_ports::files::MOST_BYTES;
@@ -18,7 +18,7 @@ fn value_of(alloc: Global, macros: &Macros, text: &[u8]) -> Result<u64, Conditio
     ensures { Gives result (spec.text_value (λ name. is_some (text_at macros.now name)) text.now) }
 {
     let mut rest = text;
-    let mut reader = Reader {
+    let mut reader = ConditionReader {
         phase: Phase::Operand,
         row: List::new(alloc),
         opened: Stack::new(alloc),

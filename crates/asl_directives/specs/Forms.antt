@@ -5,7 +5,7 @@ use Rattle.std.specs.Option.{option_map, option_and_then}
 use Rattle.std.specs.Char.{to_ascii_lowercase}
 use Rattle.std.specs.Str.{bytes_eq, is_utf8}
 use Rattle.asl_fragments.specs.Bytes.{is_blank, is_blank_text}
-use Rattle.asl_directives.specs.declared.forms.Asked.{Asked as AskedByCode}
+use Rattle.asl_directives.specs.declared.forms.IncludedFile.{IncludedFile as IncludedFileByCode}
 use Rattle.asl_directives.specs.Words.{past_blanks, trimmed, word_of, behind_word, is_identifier, behind_mark, split_at_mark}
 
 -- what stands between this mark and the next of that one, where nothing but blanks stands around
@@ -52,7 +52,7 @@ abbrev pub message_of : List ℕ → Option (List ℕ)
 message_of text = message_in (past_blanks text)
 
 -- a file that is asked for: its name as written, and whether it stands in quotes or else in `<` and `>`
-pub record Asked : Type 0 where
+pub record IncludedFile : Type 0 where
   pub quoted : Bool
   pub name : List ℕ
 
@@ -63,16 +63,16 @@ is_file_name name = not (length name == 0) && is_utf8 name
 abbrev pub file_name_of : List ℕ → Option (List ℕ)
 file_name_of bytes = cond (is_file_name bytes) (Some bytes) None
 
-abbrev pub asked_as : Bool → List ℕ → Option Asked
-asked_as quoted bytes = option_map (λ name. record { quoted = quoted; name = name }) (file_name_of bytes)
+abbrev pub included_as : Bool → List ℕ → Option IncludedFile
+included_as quoted bytes = option_map (λ name. record { quoted = quoted; name = name }) (file_name_of bytes)
 
 -- the second where there is no first
-abbrev pub else_in_angles : List ℕ → Option (List ℕ) → Option Asked
-else_in_angles text (Some name) = asked_as true name
-else_in_angles text None = option_and_then (asked_as false) (between_marks 60 62 text)
+abbrev pub else_in_angles : List ℕ → Option (List ℕ) → Option IncludedFile
+else_in_angles text (Some name) = included_as true name
+else_in_angles text None = option_and_then (included_as false) (between_marks 60 62 text)
 
 -- `#include "f"` or `#include <f>`
-abbrev pub include_of : List ℕ → Option Asked
+abbrev pub include_of : List ℕ → Option IncludedFile
 include_of text = else_in_angles text (between_marks 34 34 text)
 
 -- the letters of a word in lower case
@@ -87,5 +87,5 @@ abbrev pub include_line : List ℕ → Option (List ℕ)
 include_line text = include_in (past_blanks text)
 
 -- the code's answer as the definition's
-abbrev pub asked_by : AskedByCode → Asked
-asked_by asked = record { quoted = asked.quoted; name = asked.name.now }
+abbrev pub included_by : IncludedFileByCode → IncludedFile
+included_by asked = record { quoted = asked.quoted; name = asked.name.now }

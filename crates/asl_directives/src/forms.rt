@@ -90,7 +90,7 @@ pub fn message_of(text: &[u8]) -> Option<&[u8]>
 
 /// A file that is asked for: its name as written, and whether that stands in quotes, or else in `<` and `>`.
 #[derive(Clone, Copy)]
-pub struct Asked<'a> {
+pub struct IncludedFile<'a> {
     pub quoted: bool,
     pub name: &'a str,
 }
@@ -108,20 +108,20 @@ pub fn file_name(bytes: &[u8]) -> Option<&str>
     }
 }
 
-fn asked_as(quoted: bool, bytes: &[u8]) -> Option<Asked<'_>>
-    ensures { option_map spec.asked_by result ≡ spec.asked_as quoted bytes.now }
+fn included_as(quoted: bool, bytes: &[u8]) -> Option<IncludedFile<'_>>
+    ensures { option_map spec.included_by result ≡ spec.included_as quoted bytes.now }
 {
     let name = file_name(bytes)?;
-    Some(Asked { quoted, name })
+    Some(IncludedFile { quoted, name })
 }
 
 /// The file of `#include "f"` or `#include <f>`.
-pub fn include_of(text: &[u8]) -> Option<Asked<'_>>
-    ensures { option_map spec.asked_by result ≡ spec.include_of text.now }
+pub fn include_of(text: &[u8]) -> Option<IncludedFile<'_>>
+    ensures { option_map spec.included_by result ≡ spec.include_of text.now }
 {
     match between_marks(text, b'"', b'"') {
-        Some(name) => asked_as(true, name),
-        None => asked_as(false, between_marks(text, b'<', b'>')?),
+        Some(name) => included_as(true, name),
+        None => included_as(false, between_marks(text, b'<', b'>')?),
     }
 }
 

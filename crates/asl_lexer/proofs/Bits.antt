@@ -8,7 +8,7 @@ use Rattle.asl_lexer.specs.declared.class.Class.{Class}
 use Rattle.asl_lexer.specs.declared.class.Radix.{Radix}
 use Rattle.asl_lexer.specs.declared.class.Radix.TheVariants.{Octal, Decimal, Hexadecimal}
 use Rattle.asl_lexer.specs.Class.{class_of, base_of, doubles, shifts}
-use Rattle.asl_lexer.specs.Scan.{Mark, end_at, more, is_plain}
+use Rattle.asl_lexer.specs.Scan.{MarkedByte, end_at, more, is_plain}
 use Rattle.asl_lexer.specs.Cut.{Each, Stops, end_of, are_three}
 
 pub both : (a b : Bool) → (a && b) ≡ true → (a ≡ true) × (b ≡ true)
@@ -42,15 +42,15 @@ neither_true false b e f = f
 pub never : (k j : Class) (b : ℕ) → class_of b ≡ k → (k ≡ j → ⊥) → class_of b ≡ j → ⊥
 never k j b is differ e = differ (sym is ∙ e)
 
-pub Stops-all : (p : Mark → Bool) (rest : List Mark) → ((m : Mark) → p m ≡ false) → Stops p rest
+pub Stops-all : (p : MarkedByte → Bool) (rest : List MarkedByte) → ((m : MarkedByte) → p m ≡ false) → Stops p rest
 Stops-all p [] h = tt
 Stops-all p (m ∷ ms) h = h m
 
-pub Each-snoc : (p : Mark → Bool) (w : List Mark) (m : Mark) → Each p w → p m ≡ true → Each p (w ++ m ∷ [])
+pub Each-snoc : (p : MarkedByte → Bool) (w : List MarkedByte) (m : MarkedByte) → Each p w → p m ≡ true → Each p (w ++ m ∷ [])
 Each-snoc p [] m h e = (e, tt)
 Each-snoc p (x ∷ w) m h e = (h.0, Each-snoc p w m h.1 e)
 
-pub end_of-snoc : (w : List Mark) (m : Mark) → end_of (w ++ m ∷ []) ≡ end_at m.place
+pub end_of-snoc : (w : List MarkedByte) (m : MarkedByte) → end_of (w ++ m ∷ []) ≡ end_at m.place
 end_of-snoc [] m = refl
 end_of-snoc (x ∷ []) m = refl
 end_of-snoc (x ∷ y ∷ w) m = end_of-snoc (y ∷ w) m

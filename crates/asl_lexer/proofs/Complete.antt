@@ -13,45 +13,45 @@ use Rattle.asl_lexer.specs.declared.mode.Fault.{Fault}
 use Rattle.asl_lexer.specs.declared.mode.Mode.{Mode}
 use Rattle.asl_lexer.specs.declared.mode.Mode.TheVariants as m
 use Rattle.asl_lexer.specs.Class.{base_of, takes_equals, doubles, shifts}
-use Rattle.asl_lexer.specs.Scan.{Mark, end_at, bad_character, open_string, open_comment, bad_escape, large_number, with_name, with_number, with_string, with_symbol, begin_by, begin, name_by, dot_by, root_by, caret_text, first_of, carets_by, behind_by, digit_by, more, number_by, zero_by, prefix_by, broken_by, broken_escape_by, is_plain, plain_by, text_by, escaped, digits_by, escaped_by, escape_by, coded_by, value_by, escape_digit_by, slash_by, line_by, block_by, star_by, doubled_by, sign_by, shift_by, step, finish, scan}
+use Rattle.asl_lexer.specs.Scan.{MarkedByte, end_at, bad_character, open_string, open_comment, bad_escape, large_number, with_name, with_number, with_string, with_symbol, begin_by, begin, name_by, dot_by, root_by, caret_text, first_of, carets_by, behind_by, digit_by, more, number_by, zero_by, prefix_by, broken_by, broken_escape_by, is_plain, plain_by, text_by, escaped, digits_by, escaped_by, escape_by, coded_by, value_by, escape_digit_by, slash_by, line_by, block_by, star_by, doubled_by, sign_by, shift_by, step, finish, scan}
 use Rattle.asl_lexer.specs.Cut.{Each, Stops, class, end_of, in_name_class, begins_name_class, behind_number_class, in_line_class, is_whitespace_class, in_text_class, behind_slash_class, begins_none_class, begins_sign_class, is_caret_class, is_equals_class, in_line, in_text, in_name, begins_name, behind_number, behind_slash, is_caret, is_equals, is_x, upper, digit_in, places, IsName, EndsName, no_name_by, no_name_behind, IsNumeral, IsCode, Content, Breaks, Inside, are_two, are_three, Cut, Bad, FailsWith}
 use Rattle.asl_lexer.specs.Cut as g
 use Rattle.asl_lexer.proofs.Steps.{then_scan, scan_steps, scan_goes}
 use Rattle.asl_lexer.proofs.Bits.{both, both_true, value_small, value_min, more_min, more_grows, plain_min, plain_is, x_no_digit, end_of-snoc, left_false, neither, shift_doubles, shift_no_equals}
 
-faults : (b : Mark) (rest : List Mark) (mode : Mode) (done : List Token) (x : Fault) → step mode b.place b.byte done ≡ Err x → scan (b ∷ rest) mode done ≡ Err x
+faults : (b : MarkedByte) (rest : List MarkedByte) (mode : Mode) (done : List Token) (x : Fault) → step mode b.place b.byte done ≡ Err x → scan (b ∷ rest) mode done ≡ Err x
 unfolding then_scan
 faults b rest mode done x e = scan_steps b rest mode done (Err x) e
 
 -- a step by the class that a byte is known to have
-pub begin_is : (k : Class) (b : Mark) (done : List Token) → class b ≡ k → begin b.place b.byte done ≡ begin_by k b.place b.byte done
+pub begin_is : (k : Class) (b : MarkedByte) (done : List Token) → class b ≡ k → begin b.place b.byte done ≡ begin_by k b.place b.byte done
 unfolding begin
 begin_is k b done is = ap (λ j. begin_by j b.place b.byte done) is
 
-pub begins : (k : Class) (next : Mode) (b : Mark) (rest : List Mark) (done more_done : List Token) → class b ≡ k → begin_by k b.place b.byte done ≡ Ok (next, more_done) → scan (b ∷ rest) m.Between done ≡ scan rest next more_done
+pub begins : (k : Class) (next : Mode) (b : MarkedByte) (rest : List MarkedByte) (done more_done : List Token) → class b ≡ k → begin_by k b.place b.byte done ≡ Ok (next, more_done) → scan (b ∷ rest) m.Between done ≡ scan rest next more_done
 begins k next b rest done more_done is e = scan_goes b rest m.Between next done more_done (begin_is k b done is ∙ e)
 
-pub begins_by : (next : Mode) (b : Mark) (rest : List Mark) (done more_done : List Token) → begin_by (class b) b.place b.byte done ≡ Ok (next, more_done) → scan (b ∷ rest) m.Between done ≡ scan rest next more_done
+pub begins_by : (next : Mode) (b : MarkedByte) (rest : List MarkedByte) (done more_done : List Token) → begin_by (class b) b.place b.byte done ≡ Ok (next, more_done) → scan (b ∷ rest) m.Between done ≡ scan rest next more_done
 begins_by next b rest done more_done e = begins (class b) next b rest done more_done refl e
 
 -- a mode that ends before the next byte
-pub then_between : (mode : Mode) (rest : List Mark) (done more_done : List Token) → finish mode done ≡ Ok more_done → ((b : Mark) (bs : List Mark) → rest ≡ b ∷ bs → step mode b.place b.byte done ≡ begin b.place b.byte more_done)
+pub then_between : (mode : Mode) (rest : List MarkedByte) (done more_done : List Token) → finish mode done ≡ Ok more_done → ((b : MarkedByte) (bs : List MarkedByte) → rest ≡ b ∷ bs → step mode b.place b.byte done ≡ begin b.place b.byte more_done)
     → scan rest mode done ≡ scan rest m.Between more_done
 unfolding scan then_scan
 then_between mode [] done more_done e h = e
 then_between mode (b ∷ bs) done more_done e h = ap (then_scan bs) (h b bs refl)
 
 -- two modes that end alike and take the next byte alike
-alike : (mode other : Mode) (rest : List Mark) (done : List Token) → finish mode done ≡ finish other done → ((b : Mark) (bs : List Mark) → rest ≡ b ∷ bs → step mode b.place b.byte done ≡ step other b.place b.byte done)
+alike : (mode other : Mode) (rest : List MarkedByte) (done : List Token) → finish mode done ≡ finish other done → ((b : MarkedByte) (bs : List MarkedByte) → rest ≡ b ∷ bs → step mode b.place b.byte done ≡ step other b.place b.byte done)
     → scan rest mode done ≡ scan rest other done
 unfolding scan then_scan
 alike mode other [] done e h = e
 alike mode other (b ∷ bs) done e h = ap (then_scan bs) (h b bs refl)
 
-stops_at : (p : Mark → Bool) (rest : List Mark) (b : Mark) (bs : List Mark) → Stops p rest → rest ≡ b ∷ bs → p b ≡ false
+stops_at : (p : MarkedByte → Bool) (rest : List MarkedByte) (b : MarkedByte) (bs : List MarkedByte) → Stops p rest → rest ≡ b ∷ bs → p b ≡ false
 stops_at p rest b bs s e = subst (Stops p) e s
 
-regrouped : (w v rest : List Mark) (mode : Mode) (done : List Token) → scan ((w ++ v) ++ rest) mode done ≡ scan (w ++ (v ++ rest)) mode done
+regrouped : (w v rest : List MarkedByte) (mode : Mode) (done : List Token) → scan ((w ++ v) ++ rest) mode done ≡ scan (w ++ (v ++ rest)) mode done
 regrouped w v rest mode done = ap (λ ms. scan ms mode done) (append_assoc w v rest)
 
 -- ---- words and paths
@@ -116,16 +116,16 @@ snoc_same (a ∷ xs) (b ∷ ys) x y e =
     (λ i. head i ∷ rest.0 i, rest.1)
 
 -- the state behind more carets
-carets_after : List Mark → List Place → Place → List Place × Place
+carets_after : List MarkedByte → List Place → Place → List Place × Place
 carets_after [] before last = (before, last)
 carets_after (x ∷ ms) before last = carets_after ms (before ++ last ∷ []) x.place
 
-carets_after_places : (ms : List Mark) (before : List Place) (last : Place) → (carets_after ms before last).0 ++ (carets_after ms before last).1 ∷ [] ≡ before ++ last ∷ places ms
+carets_after_places : (ms : List MarkedByte) (before : List Place) (last : Place) → (carets_after ms before last).0 ++ (carets_after ms before last).1 ∷ [] ≡ before ++ last ∷ places ms
 unfolding carets_after
 carets_after_places [] before last = refl
 carets_after_places (x ∷ ms) before last = carets_after_places ms (before ++ last ∷ []) x.place ∙ append_assoc before (last ∷ []) (x.place ∷ places ms)
 
-carets_after_run : (ms rest : List Mark) (before : List Place) (last : Place) (done : List Token) → Each is_caret ms
+carets_after_run : (ms rest : List MarkedByte) (before : List Place) (last : Place) (done : List Token) → Each is_caret ms
     → scan (ms ++ rest) (m.Carets before last) done ≡ scan rest (m.Carets (carets_after ms before last).0 (carets_after ms before last).1) done
 unfolding carets_after
 carets_after_run [] rest before last done each = refl
@@ -133,7 +133,7 @@ carets_after_run (x ∷ ms) rest before last done each =
     scan_goes x (ms ++ rest) (m.Carets before last) (m.Carets (before ++ last ∷ []) x.place) done done (ap (λ k. carets_by k before last x.place x.byte done) (caret_is (class x) each.0))
     ∙ carets_after_run ms rest (before ++ last ∷ []) x.place done each.1
 
-carets_run : (ms rest : List Mark) (before : List Place) (last : Place) (done : List Token) → Each is_caret ms → places ms ≡ before ++ last ∷ [] → scan (ms ++ rest) m.Between done ≡ scan rest (m.Carets before last) done
+carets_run : (ms rest : List MarkedByte) (before : List Place) (last : Place) (done : List Token) → Each is_caret ms → places ms ≡ before ++ last ∷ [] → scan (ms ++ rest) m.Between done ≡ scan rest (m.Carets before last) done
 carets_run [] rest [] last done each e = absurd cc
 carets_run [] rest (p ∷ ps) last done each e = absurd cc
 carets_run (x ∷ ms) rest before last done each e =
@@ -141,7 +141,7 @@ carets_run (x ∷ ms) rest before last done each e =
     begins c.Caret (m.Carets [] x.place) x (ms ++ rest) done done (caret_is (class x) each.0) refl ∙ carets_after_run ms rest [] x.place done each.1
     ∙ ap (λ ps. scan rest (m.Carets ps (carets_after ms [] x.place).1) done) same.0 ∙ ap (λ p. scan rest (m.Carets before p) done) same.1
 
-name_run : {path : Bool} {from : Place} {name : List ℕ} {w : List Mark} → IsName path from name w → (rest : List Mark) (done : List Token) → scan (w ++ rest) m.Between done ≡ scan rest (m.Name from path name) done
+name_run : {path : Bool} {from : Place} {name : List ℕ} {w : List MarkedByte} → IsName path from name w → (rest : List MarkedByte) (done : List Token) → scan (w ++ rest) m.Between done ≡ scan rest (m.Name from path name) done
 name_run (g.IsName.word {m = b} is) rest done = begins_by (m.Name b.place false (upper b ∷ [])) b rest done done (begin_name (class b) b.place b.byte done is)
 name_run (g.IsName.rooted {r = r} {m = b} root is) rest done =
     begins c.Backslash (m.Root r.place) r (b ∷ rest) done done root refl
@@ -158,12 +158,12 @@ name_run (g.IsName.dotted {path = path} {from = from} {text = name} {w = w} d b 
     ∙ scan_goes b rest (m.Dot from path name d.place) (m.Name from true ((name ++ 46 ∷ []) ++ upper b ∷ [])) done done (dot_in (class b) from name d.place b.byte done is)
 
 -- a dot behind a word that no word follows
-dot_faults : (from : Place) (path : Bool) (name : List ℕ) (dot : Place) (rest : List Mark) (done : List Token) → Stops begins_name rest → scan rest (m.Dot from path name dot) done ≡ Err (bad_character dot)
+dot_faults : (from : Place) (path : Bool) (name : List ℕ) (dot : Place) (rest : List MarkedByte) (done : List Token) → Stops begins_name rest → scan rest (m.Dot from path name dot) done ≡ Err (bad_character dot)
 unfolding scan
 dot_faults from path name dot [] done s = refl
 dot_faults from path name dot (b ∷ rest) done s = faults b rest (m.Dot from path name dot) done (bad_character dot) (dot_out (class b) from name dot b.byte done s)
 
-name_ends : (k : Class) (from : Place) (path : Bool) (name : List ℕ) (b : Mark) (rest : List Mark) (done : List Token) → class b ≡ k → in_name_class k ≡ false → (k ≡ c.Dot → Stops begins_name rest)
+name_ends : (k : Class) (from : Place) (path : Bool) (name : List ℕ) (b : MarkedByte) (rest : List MarkedByte) (done : List Token) → class b ≡ k → in_name_class k ≡ false → (k ≡ c.Dot → Stops begins_name rest)
     → scan (b ∷ rest) (m.Name from path name) done ≡ scan (b ∷ rest) m.Between (with_name done path from name)
 unfolding begin
 name_ends c.Letter from path name b rest done is out dot = absurd cc
@@ -178,14 +178,14 @@ name_ends k from path name b rest done is out dot =
     let same : b ≡ x = cc in
     subst (λ y. name_by (class y) from path name y.place y.byte done ≡ begin y.place y.byte (with_name done path from name)) same (ap (λ j. name_by j from path name b.place b.byte done) is))
 
-pub names_end : (from : Place) (path : Bool) (name : List ℕ) (rest : List Mark) (done : List Token) → EndsName rest → scan rest (m.Name from path name) done ≡ scan rest m.Between (with_name done path from name)
+pub names_end : (from : Place) (path : Bool) (name : List ℕ) (rest : List MarkedByte) (done : List Token) → EndsName rest → scan rest (m.Name from path name) done ≡ scan rest m.Between (with_name done path from name)
 unfolding scan
 names_end from path name [] done ends = refl
 names_end from path name (b ∷ rest) done ends = name_ends (class b) from path name b rest done refl ends.0 ends.1
 
 -- ---- carets
 
-drop_by : (k : Class) (b : Mark) (rest : List Mark) (p : Place) (before : List Place) (last : Place) (done : List Token) → class b ≡ k → no_name_by k (no_name_behind rest) ≡ true
+drop_by : (k : Class) (b : MarkedByte) (rest : List MarkedByte) (p : Place) (before : List Place) (last : Place) (done : List Token) → class b ≡ k → no_name_by k (no_name_behind rest) ≡ true
     → ((ps : List Place) (q : Place) → no_name_behind rest ≡ true → scan rest (m.Carets (p ∷ ps) q) done ≡ scan rest (m.Carets ps q) (with_symbol done p (94 ∷ [])))
     → scan (b ∷ rest) (m.Carets (p ∷ before) last) done ≡ scan (b ∷ rest) (m.Carets before last) (with_symbol done p (94 ∷ []))
 unfolding scan then_scan
@@ -199,12 +199,12 @@ drop_by _ b rest p before last done is f more_carets =
     ap (then_scan rest) (ap (λ k. carets_by k (p ∷ before) last b.place b.byte done) is ∙ sym (ap (λ k. carets_by k before last b.place b.byte (with_symbol done p (94 ∷ []))) is))
 
 -- the first of several carets that no word follows is an operator
-drop_caret : (rest : List Mark) (p : Place) (before : List Place) (last : Place) (done : List Token) → no_name_behind rest ≡ true → scan rest (m.Carets (p ∷ before) last) done ≡ scan rest (m.Carets before last) (with_symbol done p (94 ∷ []))
+drop_caret : (rest : List MarkedByte) (p : Place) (before : List Place) (last : Place) (done : List Token) → no_name_behind rest ≡ true → scan rest (m.Carets (p ∷ before) last) done ≡ scan rest (m.Carets before last) (with_symbol done p (94 ∷ []))
 unfolding scan
 drop_caret [] p before last done h = refl
 drop_caret (b ∷ rest) p before last done h = drop_by (class b) b rest p before last done refl h (λ ps q n. drop_caret rest p ps q done n)
 
-caret_by : (k : Class) (at : Place) (x : Mark) (xs : List Mark) (done : List Token) → class x ≡ k → is_equals_class k ≡ false → no_name_by k (no_name_behind xs) ≡ true
+caret_by : (k : Class) (at : Place) (x : MarkedByte) (xs : List MarkedByte) (done : List Token) → class x ≡ k → is_equals_class k ≡ false → no_name_by k (no_name_behind xs) ≡ true
     → scan (x ∷ xs) (m.Carets [] at) done ≡ scan (x ∷ xs) m.Between (with_symbol done at (94 ∷ []))
 unfolding scan then_scan
 caret_by c.Caret at x xs done k e n =
@@ -215,12 +215,12 @@ caret_by c.Underscore at x xs done k e n = absurd cc
 caret_by c.Equals at x xs done k e n = absurd cc
 caret_by _ at x xs done k e n = ap (then_scan xs) (ap (λ j. carets_by j [] at x.place x.byte done) k)
 
-caret_ends : (at : Place) (rest : List Mark) (done : List Token) → Stops is_equals rest → no_name_behind rest ≡ true → scan rest (m.Carets [] at) done ≡ scan rest m.Between (with_symbol done at (94 ∷ []))
+caret_ends : (at : Place) (rest : List MarkedByte) (done : List Token) → Stops is_equals rest → no_name_behind rest ≡ true → scan rest (m.Carets [] at) done ≡ scan rest m.Between (with_symbol done at (94 ∷ []))
 unfolding scan
 caret_ends at [] done e n = refl
 caret_ends at (x ∷ xs) done e n = caret_by (class x) at x xs done refl e n
 
-caret_run : (b : Mark) (rest : List Mark) (done : List Token) → class b ≡ c.Caret → Stops is_equals rest → no_name_behind rest ≡ true → scan (b ∷ rest) m.Between done ≡ scan rest m.Between (with_symbol done b.place (94 ∷ []))
+caret_run : (b : MarkedByte) (rest : List MarkedByte) (done : List Token) → class b ≡ c.Caret → Stops is_equals rest → no_name_behind rest ≡ true → scan (b ∷ rest) m.Between done ≡ scan rest m.Between (with_symbol done b.place (94 ∷ []))
 caret_run b rest done is no_equals no_name = begins c.Caret (m.Carets [] b.place) b rest done done is refl ∙ caret_ends b.place rest done no_equals no_name
 
 -- ---- numbers
@@ -237,24 +237,24 @@ behind_in c.Zero from value end at b done h = refl
 behind_in c.Digit from value end at b done h = refl
 behind_in _ from value end at b done h = absurd cc
 
-pub number_small : (from : Place) (radix : Radix) (value end : ℕ) (b : Mark) (done : List Token) → digit_in (base_of radix) b ≡ true → more value radix b.byte < 2 ^ 64
+pub number_small : (from : Place) (radix : Radix) (value end : ℕ) (b : MarkedByte) (done : List Token) → digit_in (base_of radix) b ≡ true → more value radix b.byte < 2 ^ 64
     → step (m.Number from radix value end) b.place b.byte done ≡ Ok (m.Number from radix (more value radix b.byte) (end_at b.place), done)
 number_small from radix value end b done is small =
     ap (λ t. number_by t from radix value end b.place b.byte done) is ∙ ap (λ t. digit_by t from radix (more value radix b.byte) (end_at b.place) done) (lt-ltb (more value radix b.byte) (2 ^ 64) small)
 
-number_large : (from : Place) (radix : Radix) (value end : ℕ) (b : Mark) (done : List Token) → digit_in (base_of radix) b ≡ true → 2 ^ 64 ≤ more value radix b.byte
+number_large : (from : Place) (radix : Radix) (value end : ℕ) (b : MarkedByte) (done : List Token) → digit_in (base_of radix) b ≡ true → 2 ^ 64 ≤ more value radix b.byte
     → step (m.Number from radix value end) b.place b.byte done ≡ Err (large_number from)
 number_large from radix value end b done is large =
     ap (λ t. number_by t from radix value end b.place b.byte done) is ∙ ap (λ t. digit_by t from radix (more value radix b.byte) (end_at b.place) done) (le-ltb (more value radix b.byte) (2 ^ 64) large)
 
-record NumeralRun (radix : Radix) (from : Place) (value : ℕ) (w rest : List Mark) (done : List Token) : Type 0 where
+record NumeralRun (radix : Radix) (from : Place) (value : ℕ) (w rest : List MarkedByte) (done : List Token) : Type 0 where
   small : value < 2 ^ 64 → scan (w ++ rest) m.Between done ≡ scan rest (m.Number from radix value (end_of w)) done
   large : 2 ^ 64 ≤ value → scan (w ++ rest) m.Between done ≡ Err (large_number from)
 
-first_digit : (radix : Radix) (from : Place) (b : ℕ) (w rest : List Mark) (done : List Token) → scan (w ++ rest) m.Between done ≡ scan rest (m.Number from radix (digit_value b) (end_of w)) done → NumeralRun radix from (digit_value b) w rest done
+first_digit : (radix : Radix) (from : Place) (b : ℕ) (w rest : List MarkedByte) (done : List Token) → scan (w ++ rest) m.Between done ≡ scan rest (m.Number from radix (digit_value b) (end_of w)) done → NumeralRun radix from (digit_value b) w rest done
 first_digit radix from b w rest done e = record { small = λ h. e; large = λ h. absurd (omega (arith, value_small b)) }
 
-one_more : (radix : Radix) (from : Place) (value : ℕ) (w : List Mark) (b : Mark) (rest : List Mark) (done : List Token) → digit_in (base_of radix) b ≡ true → NumeralRun radix from value w (b ∷ rest) done
+one_more : (radix : Radix) (from : Place) (value : ℕ) (w : List MarkedByte) (b : MarkedByte) (rest : List MarkedByte) (done : List Token) → digit_in (base_of radix) b ≡ true → NumeralRun radix from value w (b ∷ rest) done
     → NumeralRun radix from (more value radix b.byte) (w ++ b ∷ []) rest done
 one_more radix from value w b rest done is run = record {
   small = λ h.
@@ -267,7 +267,7 @@ one_more radix from value w b rest done is run = record {
   ];
 }
 
-numeral_run : {radix : Radix} {from : Place} {value : ℕ} {w : List Mark} → IsNumeral radix from value w → (rest : List Mark) (done : List Token) → NumeralRun radix from value w rest done
+numeral_run : {radix : Radix} {from : Place} {value : ℕ} {w : List MarkedByte} → IsNumeral radix from value w → (rest : List MarkedByte) (done : List Token) → NumeralRun radix from value w rest done
 numeral_run (g.IsNumeral.decimal {m = b} is) rest done = first_digit Decimal b.place b.byte (b ∷ []) rest done (begins c.Digit (m.Number b.place Decimal (digit_value b.byte) (end_at b.place)) b rest done done is refl)
 numeral_run (g.IsNumeral.octal {z = z} {m = b} zero is) rest done =
     first_digit Octal z.place b.byte (z ∷ b ∷ []) rest done
@@ -279,16 +279,16 @@ numeral_run (g.IsNumeral.hexadecimal {z = z} {x = x} {m = b} zero is_x is) rest 
     ∙ scan_goes b rest (m.Prefix z.place x.place) (m.Number z.place Hexadecimal (digit_value b.byte) (end_at b.place)) done done (ap (λ t. prefix_by t z.place x.place b.place b.byte done) is))
 numeral_run (g.IsNumeral.more {radix = radix} {from = from} {value = value} {w = w} b numeral is) rest done = one_more radix from value w b rest done is (numeral_run numeral (b ∷ rest) done)
 
-pub number_ends : (from : Place) (radix : Radix) (value end : ℕ) (rest : List Mark) (done : List Token) → Stops (digit_in (base_of radix)) rest → Stops behind_number rest
+pub number_ends : (from : Place) (radix : Radix) (value end : ℕ) (rest : List MarkedByte) (done : List Token) → Stops (digit_in (base_of radix)) rest → Stops behind_number rest
     → scan rest (m.Number from radix value end) done ≡ scan rest m.Between (with_number done from value end)
 number_ends from radix value end rest done no_digit none =
     then_between (m.Number from radix value end) rest done (with_number done from value end) refl (λ b bs e.
     ap (λ t. number_by t from radix value end b.place b.byte done) (stops_at (digit_in (base_of radix)) rest b bs no_digit e) ∙ behind_out (class b) from value end b.place b.byte done (stops_at behind_number rest b bs none e))
 
-zero_is : (from : Place) (b : Mark) (done : List Token) → digit_in 8 b ≡ false → is_x b ≡ false → step (m.Zero from) b.place b.byte done ≡ behind_by (class b) from 0 (end_at from) b.place b.byte done
+zero_is : (from : Place) (b : MarkedByte) (done : List Token) → digit_in 8 b ≡ false → is_x b ≡ false → step (m.Zero from) b.place b.byte done ≡ behind_by (class b) from 0 (end_at from) b.place b.byte done
 zero_is from b done no_digit no_x = ap (λ t. zero_by t (b.byte == 120) from b.place b.byte done) no_digit ∙ ap (λ t. zero_by false t from b.place b.byte done) no_x
 
-zero_ends : (from : Place) (rest : List Mark) (done : List Token) → Stops (digit_in 8) rest → Stops is_x rest → Stops behind_number rest → scan rest (m.Zero from) done ≡ scan rest m.Between (with_number done from 0 (end_at from))
+zero_ends : (from : Place) (rest : List MarkedByte) (done : List Token) → Stops (digit_in 8) rest → Stops is_x rest → Stops behind_number rest → scan rest (m.Zero from) done ≡ scan rest m.Between (with_number done from 0 (end_at from))
 zero_ends from rest done no_digit no_x none =
     then_between (m.Zero from) rest done (with_number done from 0 (end_at from)) refl (λ b bs e.
     zero_is from b done (stops_at (digit_in 8) rest b bs no_digit e) (stops_at is_x rest b bs no_x e) ∙ behind_out (class b) from 0 (end_at from) b.place b.byte done (stops_at behind_number rest b bs none e))
@@ -320,20 +320,20 @@ broken_escape_in c.Break from fault done h = absurd cc
 broken_escape_in _ from fault done h = refl
 
 -- a backslash in a string
-to_escape : (s : Mark) (rest : List Mark) (from : Place) (string : List ℕ) (done : List Token) → class s ≡ c.Backslash → scan (s ∷ rest) (m.Text from string) done ≡ scan rest (m.Escape from string s.place) done
+to_escape : (s : MarkedByte) (rest : List MarkedByte) (from : Place) (string : List ℕ) (done : List Token) → class s ≡ c.Backslash → scan (s ∷ rest) (m.Text from string) done ≡ scan rest (m.Escape from string s.place) done
 to_escape s rest from string done is = scan_goes s rest (m.Text from string) (m.Escape from string s.place) done done (ap (λ k. text_by k from string s.place s.byte done) is)
 
 -- a byte behind it that is no escape of one letter
-no_letter : (b : Mark) (from : Place) (string : List ℕ) (slash : Place) (done : List Token) → in_line b ≡ true → escaped b.byte ≡ None → step (m.Escape from string slash) b.place b.byte done ≡ digits_by (is_digit b.byte 8) (b.byte == 120) from string slash b.byte done
+no_letter : (b : MarkedByte) (from : Place) (string : List ℕ) (slash : Place) (done : List Token) → in_line b ≡ true → escaped b.byte ≡ None → step (m.Escape from string slash) b.place b.byte done ≡ digits_by (is_digit b.byte 8) (b.byte == 120) from string slash b.byte done
 no_letter b from string slash done line none = escape_in (class b) from string slash b.byte done line ∙ ap (λ o. escaped_by o from string slash b.byte done) none
 
-to_coded : (x : Mark) (rest : List Mark) (from : Place) (string : List ℕ) (slash : Place) (done : List Token) → in_line x ≡ true → escaped x.byte ≡ None → digit_in 8 x ≡ false → (x.byte == 120) ≡ true
+to_coded : (x : MarkedByte) (rest : List MarkedByte) (from : Place) (string : List ℕ) (slash : Place) (done : List Token) → in_line x ≡ true → escaped x.byte ≡ None → digit_in 8 x ≡ false → (x.byte == 120) ≡ true
     → scan (x ∷ rest) (m.Escape from string slash) done ≡ scan rest (m.Coded from string slash) done
 to_coded x rest from string slash done line none no_digit is_x =
     scan_goes x rest (m.Escape from string slash) (m.Coded from string slash) done done
     (no_letter x from string slash done line none ∙ ap (λ t. digits_by t (x.byte == 120) from string slash x.byte done) no_digit ∙ ap (λ t. digits_by false t from string slash x.byte done) is_x)
 
-code_run : {radix : Radix} {value left : ℕ} {w : List Mark} → IsCode radix value left w → (rest : List Mark) (from : Place) (string : List ℕ) (slash : Place) (done : List Token)
+code_run : {radix : Radix} {value left : ℕ} {w : List MarkedByte} → IsCode radix value left w → (rest : List MarkedByte) (from : Place) (string : List ℕ) (slash : Place) (done : List Token)
     → scan (w ++ rest) (m.Escape from string slash) done ≡ scan rest (m.Digits from string slash radix (min value 255) left) done
 code_run (g.IsCode.octal {m = b} line none is) rest from string slash done =
     scan_goes b rest (m.Escape from string slash) (m.Digits from string slash Octal (digit_value b.byte) 2) done done (no_letter b from string slash done line none ∙ ap (λ t. digits_by t (b.byte == 120) from string slash b.byte done) is)
@@ -348,7 +348,7 @@ code_run (g.IsCode.more {radix = radix} {value = value} {left = left} {w = w} b 
     (ap (λ t. escape_digit_by t from string slash radix (min value 255) left b.place b.byte done) (both_true (nat_lt 0 left) (digit_in (base_of radix) b) (lt-ltb 0 left room) is))
     ∙ ap (λ v. scan rest (m.Digits from string slash radix v (left - 1)) done) (more_min radix value b.byte)
 
-code_ends : (from : Place) (string : List ℕ) (slash : Place) (radix : Radix) (value left : ℕ) (rest : List Mark) (done : List Token) → Stops (λ b. nat_lt 0 left && digit_in (base_of radix) b) rest → is_plain value ≡ true
+code_ends : (from : Place) (string : List ℕ) (slash : Place) (radix : Radix) (value left : ℕ) (rest : List MarkedByte) (done : List Token) → Stops (λ b. nat_lt 0 left && digit_in (base_of radix) b) rest → is_plain value ≡ true
     → scan rest (m.Digits from string slash radix (min value 255) left) done ≡ scan rest (m.Text from (string ++ value ∷ [])) done
 code_ends from string slash radix value left rest done s plain =
     alike (m.Digits from string slash radix (min value 255) left) (m.Text from (string ++ value ∷ [])) rest done refl (λ b bs e.
@@ -356,18 +356,18 @@ code_ends from string slash radix value left rest done s plain =
     ∙ ap (λ t. value_by t from string slash (min value 255) b.place b.byte done) (plain_min value ∙ plain)
     ∙ ap (λ v. text_by (class b) from (string ++ v ∷ []) b.place b.byte done) (plain_is value plain))
 
-bad_code_ends : (from : Place) (string : List ℕ) (slash : Place) (radix : Radix) (value left : ℕ) (rest : List Mark) (done : List Token) → Stops (λ b. nat_lt 0 left && digit_in (base_of radix) b) rest → is_plain value ≡ false
+bad_code_ends : (from : Place) (string : List ℕ) (slash : Place) (radix : Radix) (value left : ℕ) (rest : List MarkedByte) (done : List Token) → Stops (λ b. nat_lt 0 left && digit_in (base_of radix) b) rest → is_plain value ≡ false
     → scan rest (m.Digits from string slash radix (min value 255) left) done ≡ scan rest (m.Broken from (bad_escape slash)) done
 bad_code_ends from string slash radix value left rest done s plain =
     alike (m.Digits from string slash radix (min value 255) left) (m.Broken from (bad_escape slash)) rest done refl (λ b bs e.
     ap (λ t. escape_digit_by t from string slash radix (min value 255) left b.place b.byte done) (stops_at (λ x. nat_lt 0 left && digit_in (base_of radix) x) rest b bs s e)
     ∙ ap (λ t. value_by t from string slash (min value 255) b.place b.byte done) (plain_min value ∙ plain))
 
-no_code_ends : (from : Place) (string : List ℕ) (slash : Place) (rest : List Mark) (done : List Token) → Stops (digit_in 16) rest → scan rest (m.Coded from string slash) done ≡ scan rest (m.Broken from (bad_escape slash)) done
+no_code_ends : (from : Place) (string : List ℕ) (slash : Place) (rest : List MarkedByte) (done : List Token) → Stops (digit_in 16) rest → scan rest (m.Coded from string slash) done ≡ scan rest (m.Broken from (bad_escape slash)) done
 no_code_ends from string slash rest done s =
     alike (m.Coded from string slash) (m.Broken from (bad_escape slash)) rest done refl (λ b bs e. ap (λ t. coded_by t from string slash b.byte done) (stops_at (digit_in 16) rest b bs s e))
 
-content_run : {s : Result (List ℕ) Fault} {bytes rest : List Mark} → Content s bytes rest → (from : Place) (done : List Token) → scan bytes (m.Text from []) done ≡ scan rest (text_mode s from) done
+content_run : {s : Result (List ℕ) Fault} {bytes rest : List MarkedByte} → Content s bytes rest → (from : Place) (done : List Token) → scan bytes (m.Text from []) done ≡ scan rest (text_mode s from) done
 content_run g.no_bytes from done = refl
 content_run (g.plain {text = string} {m = b} {rest = rest} content is plain) from done =
     content_run content from done ∙ scan_goes b rest (m.Text from string) (m.Text from (string ++ b.byte ∷ [])) done done (text_in (class b) from string b.place b.byte done is ∙ ap (λ t. plain_by t from string b.place b.byte done) plain)
@@ -392,7 +392,7 @@ content_run (g.passed_escape {fault = fault} {s = s} {m = b} {rest = rest} conte
     content_run content from done ∙ scan_goes s (b ∷ rest) (m.Broken from fault) (m.BrokenEscape from fault) done done (ap (λ k. broken_by k from fault done) slash)
     ∙ scan_goes b rest (m.BrokenEscape from fault) (m.Broken from fault) done done (broken_escape_in (class b) from fault done line)
 
-breaks : {rest : List Mark} → Breaks rest → (s : Result (List ℕ) Fault) (from : Place) (done : List Token) → scan rest (text_mode s from) done ≡ Err (open_string from)
+breaks : {rest : List MarkedByte} → Breaks rest → (s : Result (List ℕ) Fault) (from : Place) (done : List Token) → scan rest (text_mode s from) done ≡ Err (open_string from)
 unfolding scan
 breaks g.at_end (Ok string) from done = refl
 breaks g.at_end (Err fault) from done = refl
@@ -421,11 +421,11 @@ star_out c.Star from done h i = absurd (h refl)
 star_out c.Slash from done h i = absurd (i refl)
 star_out _ from done h i = refl
 
-star_step : (s : Bool) (from : Place) (b : Mark) (done : List Token) → class b ≡ c.Star → step (blocked s from) b.place b.byte done ≡ Ok (m.Star from, done)
+star_step : (s : Bool) (from : Place) (b : MarkedByte) (done : List Token) → class b ≡ c.Star → step (blocked s from) b.place b.byte done ≡ Ok (m.Star from, done)
 star_step true from b done is = ap (λ k. star_by k from done) is
 star_step false from b done is = ap (λ k. block_by k from done) is
 
-inside_run : {s : Bool} {bytes rest : List Mark} → Inside s bytes rest → (from : Place) (done : List Token) → scan bytes (m.Block from) done ≡ scan rest (blocked s from) done
+inside_run : {s : Bool} {bytes rest : List MarkedByte} → Inside s bytes rest → (from : Place) (done : List Token) → scan bytes (m.Block from) done ≡ scan rest (blocked s from) done
 inside_run g.opened from done = refl
 inside_run (g.a_star {s = s} {m = b} {rest = rest} inside is) from done = inside_run inside from done ∙ scan_goes b rest (blocked s from) (m.Star from) done done (star_step s from b done is)
 inside_run (g.no_star {m = b} {rest = rest} inside no_star) from done = inside_run inside from done ∙ scan_goes b rest (m.Block from) (m.Block from) done done (block_out (class b) from done no_star)
@@ -436,17 +436,17 @@ unfolding scan
 blocked_end true from done = refl
 blocked_end false from done = refl
 
-to_slash : (a : Mark) (rest : List Mark) (done : List Token) → class a ≡ c.Slash → scan (a ∷ rest) m.Between done ≡ scan rest (m.Slash a.place) done
+to_slash : (a : MarkedByte) (rest : List MarkedByte) (done : List Token) → class a ≡ c.Slash → scan (a ∷ rest) m.Between done ≡ scan rest (m.Slash a.place) done
 to_slash a rest done is = begins c.Slash (m.Slash a.place) a rest done done is refl
 
-to_block : (a b : Mark) (rest : List Mark) (done : List Token) → class a ≡ c.Slash → class b ≡ c.Star → scan (a ∷ b ∷ rest) m.Between done ≡ scan rest (m.Block a.place) done
+to_block : (a b : MarkedByte) (rest : List MarkedByte) (done : List Token) → class a ≡ c.Slash → class b ≡ c.Star → scan (a ∷ b ∷ rest) m.Between done ≡ scan rest (m.Block a.place) done
 to_block a b rest done first second = to_slash a (b ∷ rest) done first ∙ scan_goes b rest (m.Slash a.place) (m.Block a.place) done done (ap (λ k. slash_by k a.place b.place b.byte done) second)
 
 pub line_in : (k : Class) (done : List Token) → in_line_class k ≡ true → line_by k done ≡ Ok (m.Line, done)
 line_in c.Break done h = absurd cc
 line_in _ done h = refl
 
-line_run : (w rest : List Mark) (done : List Token) → Each in_line w → scan (w ++ rest) m.Line done ≡ scan rest m.Line done
+line_run : (w rest : List MarkedByte) (done : List Token) → Each in_line w → scan (w ++ rest) m.Line done ≡ scan rest m.Line done
 line_run [] rest done each = refl
 line_run (x ∷ w) rest done each = scan_goes x (w ++ rest) m.Line m.Line done done (line_in (class x) done each.0) ∙ line_run w rest done each.1
 
@@ -454,7 +454,7 @@ line_out : (k : Class) (at : Place) (b : ℕ) (done : List Token) → in_line_cl
 line_out c.Break at b done h = refl
 line_out _ at b done h = absurd cc
 
-line_ends : (rest : List Mark) (done : List Token) → Stops in_line rest → scan rest m.Line done ≡ scan rest m.Between done
+line_ends : (rest : List MarkedByte) (done : List Token) → Stops in_line rest → scan rest m.Line done ≡ scan rest m.Between done
 line_ends rest done s = then_between m.Line rest done done refl (λ b bs e. line_out (class b) b.place b.byte done (stops_at in_line rest b bs s e) ∙ sym (begin_is (class b) b done refl))
 
 slash_out : (k : Class) (from at : Place) (b : ℕ) (done : List Token) → behind_slash_class k ≡ false → slash_by k from at b done ≡ begin at b (with_symbol done from (47 ∷ []))
@@ -471,16 +471,16 @@ begin_sign c.Equals at b done h = refl
 begin_sign c.Sign at b done h = refl
 begin_sign _ at b done h = absurd cc
 
-pub to_sign : (b : Mark) (rest : List Mark) (done : List Token) → begins_sign_class (class b) ≡ true → scan (b ∷ rest) m.Between done ≡ scan rest (m.Sign b.place b.byte) done
+pub to_sign : (b : MarkedByte) (rest : List MarkedByte) (done : List Token) → begins_sign_class (class b) ≡ true → scan (b ∷ rest) m.Between done ≡ scan rest (m.Sign b.place b.byte) done
 to_sign b rest done is = begins_by (m.Sign b.place b.byte) b rest done done (begin_sign (class b) b.place b.byte done is)
 
-pub sign_ends : (from : Place) (first : ℕ) (rest : List Mark) (done : List Token) → Stops (λ n. are_two first n.byte) rest → scan rest (m.Sign from first) done ≡ scan rest m.Between (with_symbol done from (first ∷ []))
+pub sign_ends : (from : Place) (first : ℕ) (rest : List MarkedByte) (done : List Token) → Stops (λ n. are_two first n.byte) rest → scan rest (m.Sign from first) done ≡ scan rest m.Between (with_symbol done from (first ∷ []))
 sign_ends from first rest done s =
     then_between (m.Sign from first) rest done (with_symbol done from (first ∷ [])) refl (λ b bs e.
     let none = neither ((b.byte == 61) && takes_equals first) ((b.byte == first) && doubles first) (stops_at (λ n. are_two first n.byte) rest b bs s e) in
     ap (λ t. sign_by t ((b.byte == first) && doubles first) from first b.place b.byte done) none.0 ∙ ap (λ t. sign_by false t from first b.place b.byte done) none.1)
 
-shift_ends : (from : Place) (first second : ℕ) (rest : List Mark) (done : List Token) → (second == first) ≡ true → shifts first ≡ true → Stops (λ o. are_three first second o.byte) rest
+shift_ends : (from : Place) (first second : ℕ) (rest : List MarkedByte) (done : List Token) → (second == first) ≡ true → shifts first ≡ true → Stops (λ o. are_three first second o.byte) rest
     → scan rest (m.Shift from first) done ≡ scan rest m.Between (with_symbol done from (first ∷ first ∷ []))
 shift_ends from first second rest done same shift s =
     then_between (m.Shift from first) rest done (with_symbol done from (first ∷ first ∷ [])) refl (λ b bs e.
@@ -489,7 +489,7 @@ shift_ends from first second rest done same shift s =
       not_third true u is e = absurd (let no : true ≡ false = sym is ∙ e in cc)
       not_third false u is e = refl
 
-doubled_ends : (t : Bool) (b n : Mark) (rest : List Mark) (done : List Token) → shifts b.byte ≡ t → ((n.byte == 61) && takes_equals b.byte) ≡ false → (n.byte == b.byte) ≡ true → doubles b.byte ≡ true → Stops (λ o. are_three b.byte n.byte o.byte) rest
+doubled_ends : (t : Bool) (b n : MarkedByte) (rest : List MarkedByte) (done : List Token) → shifts b.byte ≡ t → ((n.byte == 61) && takes_equals b.byte) ≡ false → (n.byte == b.byte) ≡ true → doubles b.byte ≡ true → Stops (λ o. are_three b.byte n.byte o.byte) rest
     → scan (n ∷ rest) (m.Sign b.place b.byte) done ≡ scan rest m.Between (with_symbol done b.place (b.byte ∷ b.byte ∷ []))
 doubled_ends true b n rest done shift no_equals same double s =
     scan_goes n rest (m.Sign b.place b.byte) (m.Shift b.place b.byte) done done
@@ -499,7 +499,7 @@ doubled_ends false b n rest done shift no_equals same double s =
     scan_goes n rest (m.Sign b.place b.byte) m.Between done (with_symbol done b.place (b.byte ∷ b.byte ∷ []))
     (ap (λ t. sign_by t ((n.byte == b.byte) && doubles b.byte) b.place b.byte n.place n.byte done) no_equals ∙ ap (λ t. sign_by false t b.place b.byte n.place n.byte done) (both_true (n.byte == b.byte) (doubles b.byte) same double) ∙ ap (λ t. doubled_by t b.place b.byte done) shift)
 
-pub two_by : (t u : Bool) (b n : Mark) (rest : List Mark) (done : List Token) → ((n.byte == 61) && takes_equals b.byte) ≡ t → ((n.byte == b.byte) && doubles b.byte) ≡ u → (t || u) ≡ true → Stops (λ o. are_three b.byte n.byte o.byte) rest
+pub two_by : (t u : Bool) (b n : MarkedByte) (rest : List MarkedByte) (done : List Token) → ((n.byte == 61) && takes_equals b.byte) ≡ t → ((n.byte == b.byte) && doubles b.byte) ≡ u → (t || u) ≡ true → Stops (λ o. are_three b.byte n.byte o.byte) rest
     → scan (n ∷ rest) (m.Sign b.place b.byte) done ≡ scan rest m.Between (with_symbol done b.place (b.byte ∷ n.byte ∷ []))
 two_by true u b n rest done e f is s =
     let second : n.byte ≡ 61 = eqb-true n.byte 61 (both (n.byte == 61) (takes_equals b.byte) e).0 in
@@ -510,7 +510,7 @@ two_by false true b n rest done e f is s =
     doubled_ends (shifts b.byte) b n rest done refl e parts.0 parts.1 s ∙ ap (λ x. scan rest m.Between (with_symbol done b.place (b.byte ∷ x ∷ []))) (sym (eqb-true n.byte b.byte parts.0))
 two_by false false b n rest done e f is s = absurd cc
 
-three_run : (b n o : Mark) (rest : List Mark) (done : List Token) → are_three b.byte n.byte o.byte ≡ true → scan (n ∷ o ∷ rest) (m.Sign b.place b.byte) done ≡ scan rest m.Between (with_symbol done b.place (b.byte ∷ n.byte ∷ o.byte ∷ []))
+three_run : (b n o : MarkedByte) (rest : List MarkedByte) (done : List Token) → are_three b.byte n.byte o.byte ≡ true → scan (n ∷ o ∷ rest) (m.Sign b.place b.byte) done ≡ scan rest m.Between (with_symbol done b.place (b.byte ∷ n.byte ∷ o.byte ∷ []))
 three_run b n o rest done is =
     let third = both (o.byte == 61) ((n.byte == b.byte) && shifts b.byte) is in
     let second = both (n.byte == b.byte) (shifts b.byte) third.1 in
@@ -535,11 +535,11 @@ none_by c.Dot at b done h = refl
 none_by c.Other at b done h = refl
 none_by _ at b done h = absurd cc
 
-module _ (text : List Mark) where
+module _ (text : List MarkedByte) where
   abbrev All : Result (List Token) Fault
   All = scan text m.Between []
 
-  pub cuts : {done : List Token} {rest : List Mark} → Cut text done rest → All ≡ scan rest m.Between done
+  pub cuts : {done : List Token} {rest : List MarkedByte} → Cut text done rest → All ≡ scan rest m.Between done
   cuts g.begun = refl
   cuts (g.a_blank {done = done} {m = b} {rest = rest} cut is) = cuts cut ∙ begins_by m.Between b rest done done (whitespace_by (class b) b.place b.byte done is)
   cuts (g.a_line {done = done} {a = a} {b = b} {rest = rest} w cut first second each s) =
@@ -574,12 +574,12 @@ module _ (text : List Mark) where
   unfolding scan
   cut_is_scanned tokens cut = cuts cut
 
-prefix_faults : (from x : Place) (rest : List Mark) (done : List Token) → Stops (digit_in 16) rest → scan rest (m.Prefix from x) done ≡ Err (bad_character x)
+prefix_faults : (from x : Place) (rest : List MarkedByte) (done : List Token) → Stops (digit_in 16) rest → scan rest (m.Prefix from x) done ≡ Err (bad_character x)
 unfolding scan
 prefix_faults from x [] done s = refl
 prefix_faults from x (b ∷ rest) done s = faults b rest (m.Prefix from x) done (bad_character x) (ap (λ t. prefix_by t from x b.place b.byte done) s)
 
-bad_is : {rest : List Mark} {x : Fault} → Bad rest x → (done : List Token) → scan rest m.Between done ≡ Err x
+bad_is : {rest : List MarkedByte} {x : Fault} → Bad rest x → (done : List Token) → scan rest m.Between done ≡ Err x
 bad_is (g.no_token {m = b} {rest = rest} is) done = faults b rest m.Between done (bad_character b.place) (begin_is (class b) b done refl ∙ none_by (class b) b.place b.byte done is)
 bad_is (g.large w rest is large) done = (numeral_run is rest done).large large
 bad_is (g.behind_numeral {radix = radix} {from = from} {value = value} w b rest is small no_digit behind) done =
@@ -597,5 +597,5 @@ bad_is (g.string_bad {q = q} {e = e} {fault = fault} {bytes = bytes} {rest = res
     begins c.Quote (m.Text q.place []) q bytes done done is refl ∙ content_run content q.place done ∙ faults e rest (m.Broken q.place fault) done fault (ap (λ k. broken_by k q.place fault done) ends)
 bad_is (g.comment_open {a = a} {b = b} {s = s} {bytes = bytes} first second inside) done = to_block a b bytes done first second ∙ inside_run inside a.place done ∙ blocked_end s a.place done
 
-pub fault_is_scanned : (text : List Mark) (x : Fault) → FailsWith text x → scan text m.Between [] ≡ Err x
+pub fault_is_scanned : (text : List MarkedByte) (x : Fault) → FailsWith text x → scan text m.Between [] ≡ Err x
 fault_is_scanned text x h = cuts text h.cut ∙ bad_is h.bad h.done

@@ -10,7 +10,7 @@ use Rattle.asl_lexer.specs.declared.token.Token.{Token}
 use Rattle.asl_lexer.specs.declared.token.TokenKind.{TokenKind}
 use Rattle.asl_lexer.specs.declared.token.TokenKind.TheVariants as k
 use Rattle.asl_lexer.specs.declared.mode.Fault.{Fault}
-use Rattle.asl_lexer.specs.Scan.{Mark, is_plain, escaped, with, with_symbol, name_kind}
+use Rattle.asl_lexer.specs.Scan.{MarkedByte, is_plain, escaped, with, with_symbol, name_kind}
 use Rattle.asl_lexer.specs.Marks.{joined}
 use Rattle.asl_lexer.specs.Cut.{Content, Cut, IsCut}
 use Rattle.asl_lexer.specs.Cut as g
@@ -30,7 +30,7 @@ abbrev Plain : Result (List ℕ) Fault → Type 0
 Plain (Ok string) = All (λ b. is_plain b ≡ true) string
 Plain (Err fault) = Unit {0}
 
-content_plain : {s : Result (List ℕ) Fault} {bytes rest : List Mark} → Content s bytes rest → Plain s
+content_plain : {s : Result (List ℕ) Fault} {bytes rest : List MarkedByte} → Content s bytes rest → Plain s
 content_plain g.no_bytes = λ i d h. absurd (omega arith)
 content_plain (g.plain {text = string} {m = b} content is plain) = All-push (λ b. is_plain b ≡ true) string b.byte (content_plain content) plain
 content_plain (g.bad_byte content is plain) = tt
@@ -52,7 +52,7 @@ name_no_text false e = cc
 a_symbol : (done : List Token) (place : Place) (text : List ℕ) → All IsFine done → All IsFine (with_symbol done place text)
 a_symbol done place text all = one_more done k.Symbol place _ 0 text all (omega arith) (λ e. absurd cc)
 
-fine : (text : List Mark) {done : List Token} {rest : List Mark} → Cut text done rest → All IsFine done
+fine : (text : List MarkedByte) {done : List Token} {rest : List MarkedByte} → Cut text done rest → All IsFine done
 fine text g.begun = λ i d h. absurd (omega arith)
 fine text (g.a_blank cut is) = fine text cut
 fine text (g.a_line w cut first second each s) = fine text cut

@@ -18,7 +18,7 @@ use Rattle.asl_lexer.specs.declared.token.Token.{Token}
 use Rattle.asl_lexer.specs.declared.mode.Mode.{Mode}
 use Rattle.asl_lexer.specs.declared.mode.Mode.TheVariants as m
 use Rattle.asl_lexer.specs.Class.{class_of, base_of, takes_equals, doubles, shifts}
-use Rattle.asl_lexer.specs.Scan.{Mark, end_at, column_after, with_name, with_number, with_string, with_symbol, begin, step, scan, is_plain, more, plain_by, text_by, zero_by, prefix_by}
+use Rattle.asl_lexer.specs.Scan.{MarkedByte, end_at, column_after, with_name, with_number, with_string, with_symbol, begin, step, scan, is_plain, more, plain_by, text_by, zero_by, prefix_by}
 use Rattle.asl_lexer.specs.Marks.{mark_at, marks_from}
 use Rattle.asl_lexer.specs.Cut.{in_name_class, begins_name_class, begins_sign_class, behind_number_class, are_two, are_three, Stops, EndsName, digit_in, behind_number}
 use Rattle.asl_lexer.specs.Runs.{is_whitespace, in_word, begins_word, in_string, adjoins_number, in_comment, in_block, in_block_class, is_alone, is_dot, is_dot_class, number_of, AtBreak, Passes}
@@ -58,15 +58,15 @@ break_is = refl
 class_at : (b : ℕ) → b ≡ 10 → class_of b ≡ c.Break
 class_at b e = ap class_of e ∙ break_is
 
-ends_name : (rest : List Mark) → AtBreak rest → EndsName rest
+ends_name : (rest : List MarkedByte) → AtBreak rest → EndsName rest
 ends_name [] e = tt
 ends_name (x ∷ xs) e = (ap in_name_class (class_at x.byte e), λ dot. absurd (let no : c.Break ≡ c.Dot = sym (class_at x.byte e) ∙ dot in cc))
 
-no_digit_at : (base : ℕ) (rest : List Mark) → base ≤ 36 → AtBreak rest → Stops (digit_in base) rest
+no_digit_at : (base : ℕ) (rest : List MarkedByte) → base ≤ 36 → AtBreak rest → Stops (digit_in base) rest
 no_digit_at base [] small e = tt
 no_digit_at base (x ∷ xs) small e = ap (λ b. is_digit b base) e ∙ le-ltb 36 base small
 
-no_letter_at : (rest : List Mark) → AtBreak rest → Stops behind_number rest
+no_letter_at : (rest : List MarkedByte) → AtBreak rest → Stops behind_number rest
 no_letter_at [] e = tt
 no_letter_at (x ∷ xs) e = ap behind_number_class (class_at x.byte e)
 
@@ -83,8 +83,8 @@ none_marked file line column bs e = ap (marks_from file line column) e
 
 -- ---- runs that change nothing but the mode
 
-module _ (file line : ℕ) (rest : List Mark) where
-  abbrev marked : ℕ → List ℕ → List Mark
+module _ (file line : ℕ) (rest : List MarkedByte) where
+  abbrev marked : ℕ → List ℕ → List MarkedByte
   marked column bs = marks_from file line column bs ++ rest
 
   one : (column b : ℕ) (bs : List ℕ) → marked column (b ∷ bs) ≡ mark_at file line column b ∷ marked (column + 1) bs
@@ -179,19 +179,29 @@ module _ (file line : ℕ) (rest : List Mark) where
       to_sign (mark_at file line column b) (marked (column + 1) (n ∷ bs)) done is
       ∙ sign_ends (mark_at file line column b).place b (marked (column + 1) (n ∷ bs)) done apart
 
-  double_is : (b n : ℕ) (bs : List ℕ) (column : ℕ) (done : List Token) → begins_sign_class (class_of b) ≡ true → are_two b n ≡ true → ((n == b) && shifts b) ≡ false
+  two_is : (b n : ℕ) (bs : List ℕ) (column : ℕ) (done : List Token) → begins_sign_class (class_of b) ≡ true → are_two b n ≡ true → Stops (λ o. are_three b n o.byte) (marked (column + 1 + 1) bs)
       → scan (marked column (b ∷ n ∷ bs)) m.Between done ≡ scan (marked (column + 2) bs) m.Between (with_symbol done (mark_at file line column b).place (b ∷ n ∷ []))
   unfolding marks_from
-  double_is b n bs column done is two no_shift =
+  two_is b n bs column done is two no_third =
       let done' = with_symbol done (mark_at file line column b).place (b ∷ n ∷ []) in
       to_sign (mark_at file line column b) (marked (column + 1) (n ∷ bs)) done is
-      ∙ two_by ((n == 61) && takes_equals b) ((n == b) && doubles b) (mark_at file line column b) (mark_at file line (column + 1) n) (marked (column + 1 + 1) bs) done refl refl two
-      (Stops-all (λ o. are_three b n o.byte) (marked (column + 1 + 1) bs) (λ o. no_third (o.byte == 61) ((n == b) && shifts b) no_shift))
+      ∙ two_by ((n == 61) && takes_equals b) ((n == b) && doubles b) (mark_at file line column b) (mark_at file line (column + 1) n) (marked (column + 1 + 1) bs) done refl refl two no_third
       ∙ ap (λ k. scan (marked k bs) m.Between done') (let e : column + 1 + 1 ≡ column + 2 = omega arith in e)
-    where
-      no_third : (t u : Bool) → u ≡ false → (t && u) ≡ false
-      no_third true u e = e
-      no_third false u e = refl
+
+  no_third : (t u : Bool) → u ≡ false → (t && u) ≡ false
+  no_third true u e = e
+  no_third false u e = refl
+
+  double_is : (b n : ℕ) (bs : List ℕ) (column : ℕ) (done : List Token) → begins_sign_class (class_of b) ≡ true → are_two b n ≡ true → ((n == b) && shifts b) ≡ false
+      → scan (marked column (b ∷ n ∷ bs)) m.Between done ≡ scan (marked (column + 2) bs) m.Between (with_symbol done (mark_at file line column b).place (b ∷ n ∷ []))
+  double_is b n bs column done is two no_shift =
+      two_is b n bs column done is two (Stops-all (λ o. are_three b n o.byte) (marked (column + 1 + 1) bs) (λ o. no_third (o.byte == 61) ((n == b) && shifts b) no_shift))
+
+  -- two characters before one that they do not go on with
+  apart_is : (b n o : ℕ) (bs : List ℕ) (column : ℕ) (done : List Token) → begins_sign_class (class_of b) ≡ true → are_two b n ≡ true → (o == 61) ≡ false
+      → scan (marked column (b ∷ n ∷ o ∷ bs)) m.Between done ≡ scan (marked (column + 2) (o ∷ bs)) m.Between (with_symbol done (mark_at file line column b).place (b ∷ n ∷ []))
+  unfolding marks_from
+  apart_is b n o bs column done is two apart = two_is b n (o ∷ bs) column done is two (ap (λ t. t && ((n == b) && shifts b)) apart)
 
   string_is : (q e : ℕ) (w vs : List ℕ) (column : ℕ) (done : List Token) → class_of q ≡ c.Quote → Every in_string w → class_of e ≡ c.Quote
       → scan (marked column (q ∷ w ++ e ∷ vs)) m.Between done
@@ -275,6 +285,13 @@ passes_double at [] done some is two no_shift = absurd (omega arith)
 passes_double at (b ∷ []) done some is two no_shift = absurd (omega arith)
 passes_double at (b ∷ n ∷ bs) done some is two no_shift = λ rest ends. double_is at.file at.line rest b n bs at.column done is two no_shift
 
+pub passes_shift : (at : Place) (bs : List ℕ) (done : List Token) → 2 < length bs → begins_sign_class (class_of (get_or bs 0 0)) ≡ true → are_two (get_or bs 0 0) (get_or bs 1 0) ≡ true → (get_or bs 2 0 == 61) ≡ false
+    → Passes at bs 2 m.Between done m.Between (with_symbol done at (take 2 bs))
+passes_shift at [] done some is two apart = absurd (omega arith)
+passes_shift at (b ∷ []) done some is two apart = absurd (omega arith)
+passes_shift at (b ∷ n ∷ []) done some is two apart = absurd (omega arith)
+passes_shift at (b ∷ n ∷ o ∷ bs) done some is two apart = λ rest ends. apart_is at.file at.line rest b n o bs at.column done is two apart
+
 dots : (k : Class) → is_dot_class k ≡ false → k ≡ c.Dot → ⊥
 dots c.Dot h e = absurd cc
 dots k h e = let g : is_dot_class c.Dot ≡ false = subst (λ j. is_dot_class j ≡ false) e h in absurd cc
@@ -350,7 +367,7 @@ passes_string at (b ∷ bs) n done some opens is more closes = λ rest ends.
 
 -- ---- numbers
 
-digits : (file line : ℕ) (rest : List Mark) (radix : Radix) (from : Place) (b s : ℕ) (w vs : List ℕ) (column : ℕ) (done : List Token) → Every (λ d. is_digit d (base_of radix)) w → number_of (base_of radix) 0 (b ∷ w) < 2 ^ 64
+digits : (file line : ℕ) (rest : List MarkedByte) (radix : Radix) (from : Place) (b s : ℕ) (w vs : List ℕ) (column : ℕ) (done : List Token) → Every (λ d. is_digit d (base_of radix)) w → number_of (base_of radix) 0 (b ∷ w) < 2 ^ 64
     → is_digit s (base_of radix) ≡ false → adjoins_number s ≡ false
     → scan (marks_from file line (column + 1) (w ++ s ∷ vs) ++ rest) (m.Number from radix (digit_value b) (column_after column 1)) done
     ≡ scan (marks_from file line (column + suc (length w)) (s ∷ vs) ++ rest) m.Between (with_number done from (number_of (base_of radix) 0 (b ∷ w)) (column_after (column + suc (length w)) 0))
@@ -368,7 +385,7 @@ digits file line rest radix from b s w vs column done each small stop free =
     no_front : (base d : ℕ) → d ≡ 0 * base + d
     no_front base d = omega arith
 
-decimal_is : (file line : ℕ) (rest : List Mark) (b s : ℕ) (w vs : List ℕ) (column : ℕ) (done : List Token) → class_of b ≡ c.Digit → Every (λ d. is_digit d 10) w → number_of 10 0 (b ∷ w) < 2 ^ 64
+decimal_is : (file line : ℕ) (rest : List MarkedByte) (b s : ℕ) (w vs : List ℕ) (column : ℕ) (done : List Token) → class_of b ≡ c.Digit → Every (λ d. is_digit d 10) w → number_of 10 0 (b ∷ w) < 2 ^ 64
     → is_digit s 10 ≡ false → adjoins_number s ≡ false
     → scan (marks_from file line column (b ∷ w ++ s ∷ vs) ++ rest) m.Between done
     ≡ scan (marks_from file line (column + suc (length w)) (s ∷ vs) ++ rest) m.Between (with_number done (mark_at file line column b).place (number_of 10 0 (b ∷ w)) (column_after column (suc (length w))))
@@ -379,7 +396,7 @@ decimal_is file line rest b s w vs column done is each small stop free =
     ∙ digits file line rest Decimal at b s w vs column done each small stop free
     ∙ ap (λ n. scan (marks_from file line (column + suc (length w)) (s ∷ vs) ++ rest) m.Between (with_number done at (number_of 10 0 (b ∷ w)) (min n (2 ^ 32 - 1)))) (let e : column + suc (length w) + 0 ≡ column + suc (length w) = omega arith in e)
 
-hexadecimal_is : (file line : ℕ) (rest : List Mark) (z x b s : ℕ) (w vs : List ℕ) (column : ℕ) (done : List Token) → class_of z ≡ c.Zero → (x == 120) ≡ true → is_digit b 16 ≡ true → Every (λ d. is_digit d 16) w → number_of 16 0 (b ∷ w) < 2 ^ 64
+hexadecimal_is : (file line : ℕ) (rest : List MarkedByte) (z x b s : ℕ) (w vs : List ℕ) (column : ℕ) (done : List Token) → class_of z ≡ c.Zero → (x == 120) ≡ true → is_digit b 16 ≡ true → Every (λ d. is_digit d 16) w → number_of 16 0 (b ∷ w) < 2 ^ 64
     → is_digit s 16 ≡ false → adjoins_number s ≡ false
     → scan (marks_from file line column (z ∷ x ∷ b ∷ w ++ s ∷ vs) ++ rest) m.Between done
     ≡ scan (marks_from file line (column + (suc (length w) + 2)) (s ∷ vs) ++ rest) m.Between (with_number done (mark_at file line column z).place (number_of 16 0 (b ∷ w)) (column_after column (suc (length w) + 2)))
@@ -401,7 +418,7 @@ hexadecimal_is file line rest z x b s w vs column done is is_x is_first each sma
     ∙ ap (λ n. scan (marks_from file line (column + (suc (length w) + 2)) (s ∷ vs) ++ rest) m.Between (with_number done at (number_of 16 0 (b ∷ w)) (min n (2 ^ 32 - 1)))) (let e : column + (suc (length w) + 2) + 0 ≡ column + (suc (length w) + 2) = omega arith in e)
 
 -- the same at the end of a line
-digits_end : (file line : ℕ) (rest : List Mark) (radix : Radix) (from : Place) (b : ℕ) (w : List ℕ) (column : ℕ) (done : List Token) → base_of radix ≤ 36 → Every (λ d. is_digit d (base_of radix)) w → number_of (base_of radix) 0 (b ∷ w) < 2 ^ 64
+digits_end : (file line : ℕ) (rest : List MarkedByte) (radix : Radix) (from : Place) (b : ℕ) (w : List ℕ) (column : ℕ) (done : List Token) → base_of radix ≤ 36 → Every (λ d. is_digit d (base_of radix)) w → number_of (base_of radix) 0 (b ∷ w) < 2 ^ 64
     → AtBreak rest
     → scan (marks_from file line (column + 1) w ++ rest) (m.Number from radix (digit_value b) (column_after column 1)) done
     ≡ scan rest m.Between (with_number done from (number_of (base_of radix) 0 (b ∷ w)) (column_after (column + suc (length w)) 0))
@@ -420,7 +437,7 @@ digits_end file line rest radix from b w column done small_base each small ends 
     no_front : (base d : ℕ) → d ≡ 0 * base + d
     no_front base d = omega arith
 
-decimal_end_is : (file line : ℕ) (rest : List Mark) (b : ℕ) (w : List ℕ) (column : ℕ) (done : List Token) → class_of b ≡ c.Digit → Every (λ d. is_digit d 10) w → number_of 10 0 (b ∷ w) < 2 ^ 64 → AtBreak rest
+decimal_end_is : (file line : ℕ) (rest : List MarkedByte) (b : ℕ) (w : List ℕ) (column : ℕ) (done : List Token) → class_of b ≡ c.Digit → Every (λ d. is_digit d 10) w → number_of 10 0 (b ∷ w) < 2 ^ 64 → AtBreak rest
     → scan (marks_from file line column (b ∷ w) ++ rest) m.Between done ≡ scan rest m.Between (with_number done (mark_at file line column b).place (number_of 10 0 (b ∷ w)) (column_after column (suc (length w))))
 decimal_end_is file line rest b w column done is each small ends =
     let at = (mark_at file line column b).place in
@@ -429,7 +446,7 @@ decimal_end_is file line rest b w column done is each small ends =
     ∙ digits_end file line rest Decimal at b w column done (omega arith) each small ends
     ∙ ap (λ n. scan rest m.Between (with_number done at (number_of 10 0 (b ∷ w)) (min n (2 ^ 32 - 1)))) (let e : column + suc (length w) + 0 ≡ column + suc (length w) = omega arith in e)
 
-hexadecimal_end_is : (file line : ℕ) (rest : List Mark) (z x b : ℕ) (w : List ℕ) (column : ℕ) (done : List Token) → class_of z ≡ c.Zero → (x == 120) ≡ true → is_digit b 16 ≡ true → Every (λ d. is_digit d 16) w → number_of 16 0 (b ∷ w) < 2 ^ 64
+hexadecimal_end_is : (file line : ℕ) (rest : List MarkedByte) (z x b : ℕ) (w : List ℕ) (column : ℕ) (done : List Token) → class_of z ≡ c.Zero → (x == 120) ≡ true → is_digit b 16 ≡ true → Every (λ d. is_digit d 16) w → number_of 16 0 (b ∷ w) < 2 ^ 64
     → AtBreak rest
     → scan (marks_from file line column (z ∷ x ∷ b ∷ w) ++ rest) m.Between done ≡ scan rest m.Between (with_number done (mark_at file line column z).place (number_of 16 0 (b ∷ w)) (column_after column (suc (length w) + 2)))
 hexadecimal_end_is file line rest z x b w column done is is_x is_first each small ends =

@@ -7,36 +7,36 @@ use Rattle.iasl_messages.specs.declared.place.Place.{Place}
 use Rattle.iasl_messages.specs.declared.place.Line.{Line}
 use Rattle.asl_lexer.specs.declared.token.Token.{Token}
 use Rattle.asl_lexer.specs.declared.mode.Fault.{Fault}
-use Rattle.asl_lexer.specs.declared.mode.Stop.{Stop}
-use Rattle.asl_lexer.specs.declared.mode.Stop.TheVariants as stop
+use Rattle.asl_lexer.specs.declared.mode.LexerStop.{LexerStop}
+use Rattle.asl_lexer.specs.declared.mode.LexerStop.TheVariants as stop
 use Rattle.asl_lexer.specs.declared.mode.Mode.{Mode}
-use Rattle.asl_lexer.specs.Scan.{Mark, Moved, step, scan, finish, Fails, caret_text}
+use Rattle.asl_lexer.specs.Scan.{MarkedByte, Moved, step, scan, finish, Fails, caret_text}
 use Rattle.asl_lexer.specs.Runs.{AtBreak}
 use Rattle.asl_lexer.specs.Marks.{mark_at, marks_from, line_marks, break_mark, following, joined, tokens_of}
 use Rattle.asl_lexer.specs.declared.mode.Mode.TheVariants as m
 
-unfoldable pub then_scan : List Mark → Moved → Result (List Token) Fault
+unfoldable pub then_scan : List MarkedByte → Moved → Result (List Token) Fault
 then_scan bs m = elim m [ Ok r ↦ scan bs r.0 r.1 | Err x ↦ Err x ]
 
-pub scan_steps : (b : Mark) (bs : List Mark) (mode : Mode) (done : List Token) (r : Moved) → step mode b.place b.byte done ≡ r → scan (b ∷ bs) mode done ≡ then_scan bs r
+pub scan_steps : (b : MarkedByte) (bs : List MarkedByte) (mode : Mode) (done : List Token) (r : Moved) → step mode b.place b.byte done ≡ r → scan (b ∷ bs) mode done ≡ then_scan bs r
 unfolding scan then_scan
 scan_steps b bs mode done r e = ap (then_scan bs) e
 
-pub scan_goes : (b : Mark) (bs : List Mark) (mode next : Mode) (done more : List Token) → step mode b.place b.byte done ≡ Ok (next, more) → scan (b ∷ bs) mode done ≡ scan bs next more
+pub scan_goes : (b : MarkedByte) (bs : List MarkedByte) (mode next : Mode) (done more : List Token) → step mode b.place b.byte done ≡ Ok (next, more) → scan (b ∷ bs) mode done ≡ scan bs next more
 unfolding then_scan
 scan_goes b bs mode next done more e = scan_steps b bs mode done (Ok (next, more)) e
 
-pub scan_fails : (x : Stop) (b : Mark) (bs : List Mark) (mode : Mode) (done : List Token) → Fails x (step mode b.place b.byte done) → Fails x (scan (b ∷ bs) mode done)
+pub scan_fails : (x : LexerStop) (b : MarkedByte) (bs : List MarkedByte) (mode : Mode) (done : List Token) → Fails x (step mode b.place b.byte done) → Fails x (scan (b ∷ bs) mode done)
 unfolding then_scan
 scan_fails stop.Memory b bs mode done f = tt
 scan_fails (stop.Fault x) b bs mode done f = scan_steps b bs mode done (Err x) f
 
 -- the marks of what is left of a line begin with the byte at its place
-pub marks_next : (file line : ℕ) (bs : List ℕ) (i : ℕ) (rest : List Mark) → i < length bs → marks_from file line (i + 1) (drop i bs) ++ rest ≡ mark_at file line (i + 1) (get_or bs i 0) ∷ (marks_from file line ((i + 1) + 1) (drop (i + 1) bs) ++ rest)
+pub marks_next : (file line : ℕ) (bs : List ℕ) (i : ℕ) (rest : List MarkedByte) → i < length bs → marks_from file line (i + 1) (drop i bs) ++ rest ≡ mark_at file line (i + 1) (get_or bs i 0) ∷ (marks_from file line ((i + 1) + 1) (drop (i + 1) bs) ++ rest)
 unfolding marks_from
 marks_next file line bs i rest h = ap (λ us. marks_from file line (i + 1) us ++ rest) (drop-cons bs i 0 h) ∙ ap (λ n. mark_at file line (i + 1) (get_or bs i 0) ∷ (marks_from file line ((i + 1) + 1) (drop n bs) ++ rest)) (let e : suc i ≡ i + 1 = omega arith in e)
 
-pub marks_none : (file line : ℕ) (bs : List ℕ) (i : ℕ) (rest : List Mark) → length bs ≤ i → marks_from file line (i + 1) (drop i bs) ++ rest ≡ rest
+pub marks_none : (file line : ℕ) (bs : List ℕ) (i : ℕ) (rest : List MarkedByte) → length bs ≤ i → marks_from file line (i + 1) (drop i bs) ++ rest ≡ rest
 unfolding marks_from
 marks_none file line bs i rest h = ap (λ us. marks_from file line (i + 1) us ++ rest) (drop_all i bs h)
 
@@ -93,7 +93,7 @@ All-first P ls l h e all = subst P (sym e) (all 0 l (omega arith))
 
 -- ---- what comes of two parts
 
-pub fails_through : (x : Stop) (rest : List Mark) (y z : Result (List Token) Fault) → z ≡ y → Fails x y → Fails x z
+pub fails_through : (x : LexerStop) (rest : List MarkedByte) (y z : Result (List Token) Fault) → z ≡ y → Fails x y → Fails x z
 fails_through x rest y z e f = subst (Fails x) (sym e) f
 
 -- ---- carets

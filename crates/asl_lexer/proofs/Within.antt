@@ -12,7 +12,7 @@ use Rattle.asl_lexer.specs.declared.token.Token.{Token}
 use Rattle.asl_lexer.specs.declared.token.TokenKind.{TokenKind}
 use Rattle.asl_lexer.specs.declared.token.TokenKind.TheVariants as k
 use Rattle.asl_lexer.specs.declared.mode.Fault.{Fault}
-use Rattle.asl_lexer.specs.Scan.{Mark, with, name_kind, first_of}
+use Rattle.asl_lexer.specs.Scan.{MarkedByte, with, name_kind, first_of}
 use Rattle.asl_lexer.specs.Marks.{marks_from, line_marks, following, joined, tokens_of, message_of, Answers}
 use Rattle.asl_lexer.specs.Cut.{IsNumeral, IsName, Content, Inside, Cut, Bad, places}
 use Rattle.asl_lexer.specs.Cut as g
@@ -20,25 +20,25 @@ use Rattle.asl_lexer.specs.Within.{IsWithin}
 use Rattle.asl_lexer.proofs.Told.{fault_is, tokens_are_cut}
 
 module _ (files : ℕ) where
-  abbrev Home : Mark → Type 0
+  abbrev Home : MarkedByte → Type 0
   Home m = m.place.file < files
 
-  abbrev Homes : List Mark → Type 0
+  abbrev Homes : List MarkedByte → Type 0
   Homes [] = Unit {0}
   Homes (m ∷ ms) = Home m × Homes ms
 
-  first : (m : Mark) (ms : List Mark) → Homes (m ∷ ms) → Home m
+  first : (m : MarkedByte) (ms : List MarkedByte) → Homes (m ∷ ms) → Home m
   first m ms h = h.0
 
-  behind : (w rest : List Mark) → Homes (w ++ rest) → Homes rest
+  behind : (w rest : List MarkedByte) → Homes (w ++ rest) → Homes rest
   behind [] rest h = h
   behind (m ∷ ms) rest h = behind ms rest h.1
 
-  front : (w rest : List Mark) → Homes (w ++ rest) → Homes w
+  front : (w rest : List MarkedByte) → Homes (w ++ rest) → Homes w
   front [] rest h = tt
   front (m ∷ ms) rest h = (h.0, front ms rest h.1)
 
-  join : (w rest : List Mark) → Homes w → Homes rest → Homes (w ++ rest)
+  join : (w rest : List MarkedByte) → Homes w → Homes rest → Homes (w ++ rest)
   join [] rest a b = b
   join (m ∷ ms) rest a b = (a.0, join ms rest a.1 b)
 
@@ -69,19 +69,19 @@ module _ (files : ℕ) where
 
   -- ---- what is left behind tokens
 
-  numeral_home : {radix : Radix} {from : Place} {value : ℕ} {w : List Mark} → IsNumeral radix from value w → Homes w → from.file < files
+  numeral_home : {radix : Radix} {from : Place} {value : ℕ} {w : List MarkedByte} → IsNumeral radix from value w → Homes w → from.file < files
   numeral_home (g.IsNumeral.decimal {m = b} is) h = first b [] h
   numeral_home (g.IsNumeral.octal {z = z} {m = b} is_zero is) h = first z (b ∷ []) h
   numeral_home (g.IsNumeral.hexadecimal {z = z} {x = x} {m = b} is_zero is_x is) h = first z (x ∷ b ∷ []) h
   numeral_home (g.IsNumeral.more {w = w} b numeral is) h = numeral_home numeral (front w (b ∷ []) h)
 
-  inside_home : {s : Bool} {bytes rest : List Mark} → Inside s bytes rest → Homes bytes → Homes rest
+  inside_home : {s : Bool} {bytes rest : List MarkedByte} → Inside s bytes rest → Homes bytes → Homes rest
   inside_home g.opened h = h
   inside_home (g.a_star {m = b} {rest = rest} inside is) h = behind (b ∷ []) rest (inside_home inside h)
   inside_home (g.no_star {m = b} {rest = rest} inside apart) h = behind (b ∷ []) rest (inside_home inside h)
   inside_home (g.behind_star {m = b} {rest = rest} inside apart no_slash) h = behind (b ∷ []) rest (inside_home inside h)
 
-  content_home : {s : Result (List ℕ) Fault} {bytes rest : List Mark} → Content s bytes rest → Homes bytes → Homes rest
+  content_home : {s : Result (List ℕ) Fault} {bytes rest : List MarkedByte} → Content s bytes rest → Homes bytes → Homes rest
   content_home g.no_bytes h = h
   content_home (g.plain {m = b} {rest = rest} content is plain) h = behind (b ∷ []) rest (content_home content h)
   content_home (g.bad_byte {m = b} {rest = rest} content is plain) h = behind (b ∷ []) rest (content_home content h)
@@ -97,7 +97,7 @@ module _ (files : ℕ) where
   AtHome (Ok string) = Unit {0}
   AtHome (Err fault) = fault.place.file < files
 
-  content_fault : {s : Result (List ℕ) Fault} {bytes rest : List Mark} → Content s bytes rest → Homes bytes → AtHome s
+  content_fault : {s : Result (List ℕ) Fault} {bytes rest : List MarkedByte} → Content s bytes rest → Homes bytes → AtHome s
   content_fault g.no_bytes h = tt
   content_fault (g.plain content is plain) h = tt
   content_fault (g.bad_byte {m = b} {rest = rest} content is plain) h = first b rest (content_home content h)
@@ -109,7 +109,7 @@ module _ (files : ℕ) where
   content_fault (g.passed content is) h = content_fault content h
   content_fault (g.passed_escape content slash line) h = content_fault content h
 
-  cut_home : (text : List Mark) {done : List Token} {rest : List Mark} → Homes text → Cut text done rest → Homes rest
+  cut_home : (text : List MarkedByte) {done : List Token} {rest : List MarkedByte} → Homes text → Cut text done rest → Homes rest
   cut_home text h g.begun = h
   cut_home text h (g.a_blank {m = b} {rest = rest} cut is) = behind (b ∷ []) rest (cut_home text h cut)
   cut_home text h (g.a_line {a = a} {b = b} {rest = rest} w cut one two each s) = behind w rest (behind (a ∷ b ∷ []) (w ++ rest) (cut_home text h cut))
@@ -127,7 +127,7 @@ module _ (files : ℕ) where
   cut_home text h (g.two_signs {m = b} {n = n} {rest = rest} cut is two s) = behind (b ∷ n ∷ []) rest (cut_home text h cut)
   cut_home text h (g.three_signs {m = b} {n = n} {o = o} {rest = rest} cut is three) = behind (b ∷ n ∷ o ∷ []) rest (cut_home text h cut)
 
-  bad_home : {rest : List Mark} {fault : Fault} → Bad rest fault → Homes rest → fault.place.file < files
+  bad_home : {rest : List MarkedByte} {fault : Fault} → Bad rest fault → Homes rest → fault.place.file < files
   bad_home (g.no_token {m = b} {rest = rest} is) h = first b rest h
   bad_home (g.large w rest is large) h = numeral_home is (front w rest h)
   bad_home (g.behind_numeral w b rest is small no_digit more) h = first b rest (behind w (b ∷ rest) h)
@@ -144,7 +144,7 @@ module _ (files : ℕ) where
 
   -- ---- tokens
 
-  first_home : (before : List Place) (last : Place) (cs : List Mark) → places cs ≡ before ++ last ∷ [] → Homes cs → (first_of before last).file < files
+  first_home : (before : List Place) (last : Place) (cs : List MarkedByte) → places cs ≡ before ++ last ∷ [] → Homes cs → (first_of before last).file < files
   first_home before last [] e h = none before e
     where
       none : (before : List Place) → [] ≡ before ++ last ∷ [] → (first_of before last).file < files
@@ -156,7 +156,7 @@ module _ (files : ℕ) where
       some [] e = let same : c.place ≡ last = cc in subst (λ (p : Place). p.file < files) same h.0
       some (p ∷ ps) e = let same : c.place ≡ p = cc in subst (λ (p : Place). p.file < files) same h.0
 
-  name_home : {path : Bool} {from : Place} {text : List ℕ} {w : List Mark} → IsName path from text w → Homes w → from.file < files
+  name_home : {path : Bool} {from : Place} {text : List ℕ} {w : List MarkedByte} → IsName path from text w → Homes w → from.file < files
   name_home (g.IsName.word {m = b} is) h = first b [] h
   name_home (g.IsName.rooted {r = r} {m = b} is begins) h = first r (b ∷ []) h
   name_home (g.IsName.raised before last cs b each at begins) h = first_home before last cs at (front cs (b ∷ []) h)
@@ -169,7 +169,7 @@ module _ (files : ℕ) where
   one_more : (done : List Token) (kind : TokenKind) (place : Place) (end number : ℕ) (text : List ℕ) → All TokenHome done → place.file < files → All TokenHome (with done kind place end number text)
   one_more done kind place end number text all home = All-push TokenHome done (record { kind = kind; place = place; end = end; number = number; text = text }) all home
 
-  tokens_home : (text : List Mark) {done : List Token} {rest : List Mark} → Homes text → Cut text done rest → All TokenHome done
+  tokens_home : (text : List MarkedByte) {done : List Token} {rest : List MarkedByte} → Homes text → Cut text done rest → All TokenHome done
   tokens_home text h g.begun = λ i d lt. absurd (omega arith)
   tokens_home text h (g.a_blank cut is) = tokens_home text h cut
   tokens_home text h (g.a_line w cut one two each s) = tokens_home text h cut

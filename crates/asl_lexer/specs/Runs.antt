@@ -9,7 +9,7 @@ use Rattle.asl_lexer.specs.declared.token.Token.{Token}
 use Rattle.asl_lexer.specs.declared.mode.Mode.{Mode}
 use Rattle.asl_lexer.specs.Class.{class_of, takes_equals, doubles}
 use Rattle.asl_lexer.specs.Cut.{in_name_class, begins_name_class, behind_number_class, is_whitespace_class, in_text_class, in_line_class}
-use Rattle.asl_lexer.specs.Scan.{Mark, scan, is_plain}
+use Rattle.asl_lexer.specs.Scan.{MarkedByte, scan, is_plain}
 use Rattle.asl_lexer.specs.Marks.{marks_from}
 
 -- a blank, or the end of a line
@@ -60,15 +60,15 @@ abbrev pub number_of : ℕ → ℕ → List ℕ → ℕ
 number_of base value digits = fold (λ v b. v * base + digit_value b) value digits
 
 -- the end of a line, or of all lines
-abbrev pub AtBreak : List Mark → Type 0
+abbrev pub AtBreak : List MarkedByte → Type 0
 AtBreak [] = Unit {0}
 AtBreak (m ∷ ms) = m.byte ≡ 10
 
 -- what is left of a line behind so many of its bytes
-abbrev pub marks_behind : Line → ℕ → List Mark
+abbrev pub marks_behind : Line → ℕ → List MarkedByte
 marks_behind l i = marks_from l.file l.number (i + 1) (drop i l.text)
 
 -- Whatever lines stand behind the line, the reading comes over so many of these bytes of it to this mode and these tokens.
 abbrev pub Passes : Place → List ℕ → ℕ → Mode → List Token → Mode → List Token → Type 0
-Passes at bytes width mode old next new = (rest : List Mark) → AtBreak rest
+Passes at bytes width mode old next new = (rest : List MarkedByte) → AtBreak rest
     → scan (marks_from at.file at.line at.column bytes ++ rest) mode old ≡ scan (marks_from at.file at.line (at.column + width) (drop width bytes) ++ rest) next new

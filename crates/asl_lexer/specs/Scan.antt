@@ -10,14 +10,14 @@ use Rattle.asl_lexer.specs.declared.token.Token.{Token}
 use Rattle.asl_lexer.specs.declared.token.TokenKind.{TokenKind}
 use Rattle.asl_lexer.specs.declared.token.TokenKind.TheVariants as k
 use Rattle.asl_lexer.specs.declared.mode.Fault.{Fault}
-use Rattle.asl_lexer.specs.declared.mode.Stop.{Stop}
-use Rattle.asl_lexer.specs.declared.mode.Stop.TheVariants as stop
+use Rattle.asl_lexer.specs.declared.mode.LexerStop.{LexerStop}
+use Rattle.asl_lexer.specs.declared.mode.LexerStop.TheVariants as stop
 use Rattle.asl_lexer.specs.declared.mode.Mode.{Mode}
 use Rattle.asl_lexer.specs.declared.mode.Mode.TheVariants as m
 use Rattle.asl_lexer.specs.Class.{class_of, base_of, takes_equals, doubles, shifts}
 
 -- a byte and its place
-pub record Mark : Type 0 where
+pub record MarkedByte : Type 0 where
   pub place : Place
   pub byte : ℕ
 
@@ -298,20 +298,20 @@ finish (m.Sign from first) done = Ok (with_symbol done from (first ∷ []))
 finish (m.Shift from first) done = Ok (with_symbol done from (first ∷ first ∷ []))
 
 -- the tokens of all marks, or the first fault
-unfoldable pub scan : List Mark → Mode → List Token → Result (List Token) Fault
+unfoldable pub scan : List MarkedByte → Mode → List Token → Result (List Token) Fault
 scan [] mode done = finish mode done
 scan (b ∷ bs) mode done = elim (step mode b.place b.byte done) [ Ok r ↦ scan bs r.0 r.1 | Err x ↦ Err x ]
 
 -- ---- what the code ensures
 
-abbrev pub Fails : {Y : Type 0} → Stop → Result Y Fault → Type 0
+abbrev pub Fails : {Y : Type 0} → LexerStop → Result Y Fault → Type 0
 Fails stop.Memory y = Unit {0}
 Fails (stop.Fault x) y = y ≡ Err x
 
-abbrev pub Moves : Result Mode Stop → List Token → Moved → Type 0
+abbrev pub Moves : Result Mode LexerStop → List Token → Moved → Type 0
 Moves (Ok mode) new moved = moved ≡ Ok (mode, new)
 Moves (Err x) new moved = Fails x moved
 
-abbrev pub Gives : Result (List Token) Stop → Result (List Token) Fault → Type 0
+abbrev pub Gives : Result (List Token) LexerStop → Result (List Token) Fault → Type 0
 Gives (Ok tokens) y = y ≡ Ok tokens
 Gives (Err x) y = Fails x y

@@ -2,14 +2,14 @@
 ghost use Rattle.std.specs.Prelude.{◌≡◌, ℕ, ◌++◌, ◌∷◌, ◌<◌, ◌≤◌, ◌^◌, [], List as AList, length, All, OnOk, IfOk, IfErr, Ok, Err};
 ghost use Rattle.asl_lexer.specs.declared.token.Token.{Token};
 ghost use Rattle.asl_lexer.specs.Scan as spec;
-ghost use Rattle.asl_lexer.specs.Scan.{Mark, Moves, Gives};
+ghost use Rattle.asl_lexer.specs.Scan.{MarkedByte, Moves, Gives};
 ghost use Rattle.asl_lexer.specs.Cut.{IsCut, HasFault, Explains};
 ghost use Rattle.asl_lexer.specs.Fine.{IsFine};
 ghost use Rattle.asl_lexer.specs.Within.{IsWithin};
 ghost use Rattle.asl_lexer.specs.Runs.{AtBreak, marks_behind};
 ghost use Rattle.asl_lexer.specs.Marks.{line_marks, break_mark, following, tokens_of, Leads, Answers};
 
-use crate::mode::{Fault, Mode, Stop};
+use crate::mode::{Fault, LexerStop, Mode};
 use crate::numbers::Numeral;
 use crate::run::runs;
 use crate::start::{add_name, add_number, add_symbol, begin, end_at, refuse};
@@ -22,7 +22,13 @@ use iasl_messages::place::{Line, Lines, Place};
 use iasl_ports::list::{List, Text, behind};
 use std::alloc::{AllocError, Global};
 
-fn step(alloc: Global, tokens: &mut Tokens, mode: Mode, at: Place, byte: u8) -> Result<Mode, Stop>
+fn step(
+    alloc: Global,
+    tokens: &mut Tokens,
+    mode: Mode,
+    at: Place,
+    byte: u8,
+) -> Result<Mode, LexerStop>
     ensures { Moves result tokens.new (spec.step mode at byte tokens.old) }
 {
     match mode {
@@ -78,7 +84,7 @@ fn step(alloc: Global, tokens: &mut Tokens, mode: Mode, at: Place, byte: u8) -> 
     }
 }
 
-fn finish(alloc: Global, mut tokens: Tokens, mode: Mode) -> Result<Tokens, Stop>
+fn finish(alloc: Global, mut tokens: Tokens, mode: Mode) -> Result<Tokens, LexerStop>
     ensures { Gives result (spec.finish mode tokens) }
 {
     match mode {
@@ -127,7 +133,7 @@ fn over_runs(
 ) -> Result<usize, AllocError>
     requires { length line.now.text < 2 ^ 32 }
     ensures within { IfOk result (λ index. from ≤ index) }
-    ensures passes { IfOk result (λ index. (rest : AList Mark) → AtBreak rest → spec.scan (marks_behind line.now from ++ rest) mode.now tokens.old ≡ spec.scan (marks_behind line.now index ++ rest) mode.now tokens.new) }
+    ensures passes { IfOk result (λ index. (rest : AList MarkedByte) → AtBreak rest → spec.scan (marks_behind line.now from ++ rest) mode.now tokens.old ≡ spec.scan (marks_behind line.now index ++ rest) mode.now tokens.new) }
 {
     let bytes = line.text.as_bytes();
     if from >= bytes.len() {
@@ -150,9 +156,9 @@ fn scan_behind(
     mut mode: Mode,
     line: &Line,
     from: usize,
-) -> Result<Mode, Stop>
+) -> Result<Mode, LexerStop>
     requires { length line.now.text < 2 ^ 32 }
-    ensures { (rest : AList Mark) → AtBreak rest → Leads result tokens.new rest (spec.scan (marks_behind line.now from ++ rest) mode tokens.old) }
+    ensures { (rest : AList MarkedByte) → AtBreak rest → Leads result tokens.new rest (spec.scan (marks_behind line.now from ++ rest) mode tokens.old) }
 {
     let bytes = line.text.as_bytes();
     let mut index = from;
@@ -169,9 +175,9 @@ fn scan_behind(
 }
 
 #[inline(always)]
-fn scan_line(alloc: Global, tokens: &mut Tokens, mode: Mode, line: &Line) -> Result<Mode, Stop>
+fn scan_line(alloc: Global, tokens: &mut Tokens, mode: Mode, line: &Line) -> Result<Mode, LexerStop>
     requires { length line.now.text < 2 ^ 32 }
-    ensures { (rest : AList Mark) → AtBreak rest → Leads result tokens.new rest (spec.scan (line_marks line.now ++ rest) mode tokens.old) }
+    ensures { (rest : AList MarkedByte) → AtBreak rest → Leads result tokens.new rest (spec.scan (line_marks line.now ++ rest) mode tokens.old) }
 {
     let index = over_runs(alloc, tokens, &mode, line, 0)?;
     if index >= line.text.as_bytes().len() {
@@ -183,7 +189,7 @@ fn scan_line(alloc: Global, tokens: &mut Tokens, mode: Mode, line: &Line) -> Res
 // What stands open behind the end of a line.
 #[inline(always)]
 #[tactic(auto, unfolding(crate::specs::Scan::begin, crate::specs::Class::class_of))]
-fn at_break(alloc: Global, tokens: &mut Tokens, mode: Mode, at: Place) -> Result<Mode, Stop>
+fn at_break(alloc: Global, tokens: &mut Tokens, mode: Mode, at: Place) -> Result<Mode, LexerStop>
     ensures { Moves result tokens.new (spec.step mode at 10 tokens.old) }
 {
     if let Mode::Between = mode {
@@ -194,9 +200,9 @@ fn at_break(alloc: Global, tokens: &mut Tokens, mode: Mode, at: Place) -> Result
 
 // The end of the line before, and a line.
 #[inline(always)]
-fn next_line(alloc: Global, tokens: &mut Tokens, mode: Mode, line: &Line) -> Result<Mode, Stop>
+fn next_line(alloc: Global, tokens: &mut Tokens, mode: Mode, line: &Line) -> Result<Mode, LexerStop>
     requires { length line.now.text < 2 ^ 32 }
-    ensures { (rest : AList Mark) → AtBreak rest → Leads result tokens.new rest (spec.scan (break_mark line.now ∷ line_marks line.now ++ rest) mode tokens.old) }
+    ensures { (rest : AList MarkedByte) → AtBreak rest → Leads result tokens.new rest (spec.scan (break_mark line.now ∷ line_marks line.now ++ rest) mode tokens.old) }
 {
     let at = Place {
         file: line.file,
@@ -212,7 +218,7 @@ fn next_lines(
     tokens: &mut Tokens,
     mut mode: Mode,
     lines: &[Line],
-) -> Result<Mode, Stop>
+) -> Result<Mode, LexerStop>
     requires { All (λ line. length line.text < 2 ^ 32) lines.now }
     ensures { Leads result tokens.new [] (spec.scan (following lines.now) mode tokens.old) }
 {
@@ -222,7 +228,7 @@ fn next_lines(
     Ok(mode)
 }
 
-fn all(alloc: Global, lines: &[Line]) -> Result<Tokens, Stop>
+fn all(alloc: Global, lines: &[Line]) -> Result<Tokens, LexerStop>
     requires { All (λ line. length line.text < 2 ^ 32) lines.now }
     ensures { Gives result (tokens_of lines.now) }
 {
@@ -257,8 +263,8 @@ fn answer(alloc: Global, lines: &[Line]) -> Result<Tokens, Stage>
 {
     match all(alloc, lines) {
         Ok(tokens) => Ok(tokens),
-        Err(Stop::Memory) => Err(Stage::Memory),
-        Err(Stop::Fault(fault)) => Err(refused(alloc, fault)),
+        Err(LexerStop::Memory) => Err(Stage::Memory),
+        Err(LexerStop::Fault(fault)) => Err(refused(alloc, fault)),
     }
 }
 

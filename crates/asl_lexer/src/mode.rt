@@ -1,5 +1,5 @@
 //! Faults, and what the last bytes are a part of.
-ghost use Rattle.asl_lexer.specs.declared.mode.Stop.TheVariants.{Memory};
+ghost use Rattle.asl_lexer.specs.declared.mode.LexerStop.TheVariants.{Memory};
 ghost use Rattle.std.specs.Prelude.{◌≡◌};
 
 use crate::class::Radix;
@@ -16,16 +16,16 @@ pub struct Fault {
 
 /// Why there are no tokens.
 #[derive(Clone, Copy, Debug)]
-pub enum Stop {
+pub enum LexerStop {
     Memory,
     Fault(Fault),
 }
 
-impl From<AllocError> for Stop {
+impl From<AllocError> for LexerStop {
     ghost from_gives = { λ _ e. e ≡ Memory };
 
-    fn from(_e: AllocError) -> Stop {
-        Stop::Memory
+    fn from(_e: AllocError) -> LexerStop {
+        LexerStop::Memory
     }
 }
 

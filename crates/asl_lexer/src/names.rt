@@ -6,7 +6,7 @@ ghost use Rattle.asl_lexer.specs.Scan.{Moves};
 ghost use Rattle.asl_lexer.specs.Class.{class_of as class_by};
 
 use crate::class::{Class, class_of};
-use crate::mode::{Mode, Stop};
+use crate::mode::{LexerStop, Mode};
 use crate::start::{add_name, add_symbol, begin, longer, refuse};
 use crate::token::Tokens;
 use iasl_messages::number::BAD_CHARACTER;
@@ -23,7 +23,7 @@ pub fn name(
     text: List<u8>,
     at: Place,
     byte: u8,
-) -> Result<Mode, Stop>
+) -> Result<Mode, LexerStop>
     ensures { Moves result tokens.new (spec.name_by (class_by byte) from path text at byte tokens.old) }
 {
     match class_of(byte) {
@@ -45,7 +45,7 @@ pub fn name(
 }
 
 /// A byte behind a word or path and a dot.
-pub fn dot(from: Place, text: List<u8>, dot: Place, byte: u8) -> Result<Mode, Stop>
+pub fn dot(from: Place, text: List<u8>, dot: Place, byte: u8) -> Result<Mode, LexerStop>
     ensures { (tokens : AList Token) → Moves result tokens (spec.dot_by (class_by byte) from text dot byte tokens) }
 {
     match class_of(byte) {
@@ -68,7 +68,7 @@ pub fn root(
     from: Place,
     at: Place,
     byte: u8,
-) -> Result<Mode, Stop>
+) -> Result<Mode, LexerStop>
     ensures { Moves result tokens.new (spec.root_by (class_by byte) from at byte tokens.old) }
 {
     let text = longer(List::new(alloc), b'\\')?;
@@ -125,7 +125,7 @@ pub fn carets(
     last: Place,
     at: Place,
     byte: u8,
-) -> Result<Mode, Stop>
+) -> Result<Mode, LexerStop>
     ensures { Moves result tokens.new (spec.carets_by (class_by byte) before last at byte tokens.old) }
 {
     match class_of(byte) {

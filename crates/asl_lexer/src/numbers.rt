@@ -7,7 +7,7 @@ ghost use Rattle.asl_lexer.specs.Scan.{Moves};
 ghost use Rattle.asl_lexer.specs.Class.{class_of as class_by, base_of as base_by};
 
 use crate::class::{Class, Radix, base_of, class_of, value_of};
-use crate::mode::{Mode, Stop};
+use crate::mode::{LexerStop, Mode};
 use crate::start::{add_number, begin, end_at, refuse};
 use crate::token::Tokens;
 use iasl_messages::number::{BAD_CHARACTER, NUMBER_IS_TOO_LARGE};
@@ -32,7 +32,7 @@ fn behind(
     end: u32,
     at: Place,
     byte: u8,
-) -> Result<Mode, Stop>
+) -> Result<Mode, LexerStop>
     ensures { Moves result tokens.new (spec.behind_by (class_by byte) from value end at byte tokens.old) }
 {
     match class_of(byte) {
@@ -51,7 +51,7 @@ pub fn number(
     numeral: Numeral,
     at: Place,
     byte: u8,
-) -> Result<Mode, Stop>
+) -> Result<Mode, LexerStop>
     ensures { Moves result tokens.new (spec.number_by (is_digit byte (base_by numeral.radix)) numeral.from numeral.radix numeral.value numeral.end at byte tokens.old) }
 {
     let Numeral {
@@ -87,7 +87,7 @@ pub fn zero(
     from: Place,
     at: Place,
     byte: u8,
-) -> Result<Mode, Stop>
+) -> Result<Mode, LexerStop>
     ensures { Moves result tokens.new (spec.zero_by (is_digit byte 8) (byte == 120) from at byte tokens.old) }
 {
     let value = value_of(byte);
@@ -106,7 +106,7 @@ pub fn zero(
 }
 
 /// A byte behind a zero and an `x`.
-pub fn prefix(from: Place, x: Place, at: Place, byte: u8) -> Result<Mode, Stop>
+pub fn prefix(from: Place, x: Place, at: Place, byte: u8) -> Result<Mode, LexerStop>
     ensures { (tokens : AList Token) → Moves result tokens (spec.prefix_by (is_digit byte 16) from x at byte tokens) }
 {
     let value = value_of(byte);

@@ -1,6 +1,6 @@
 //! Runs of bytes of a line, read at once.
 ghost use Rattle.std.specs.Prelude.{◌≡◌, ◌+◌, ◌^◌, ◌<◌, ◌≤◌, ◌==◌, ◌&&◌, length, take, codes, IfOk, IfSome, slice_index, true, false};
-ghost use Rattle.std.specs.List.{take_while};
+ghost use Rattle.std.specs.List.{take_while, prefix_len};
 ghost use Rattle.std.specs.Char.{is_digit as is_digit_by};
 ghost use Rattle.asl_lexer.specs.Class.{class_of as class_by, shifts as shifts_by};
 ghost use Rattle.asl_lexer.specs.Cut.{begins_sign_class, are_two as are_two_by};
@@ -45,6 +45,7 @@ fn few_whitespaces(bytes: &[u8]) -> usize
         .count()
 }
 
+// How many blanks stand at the front of some bytes.
 fn whitespace_width(bytes: &[u8]) -> usize
     ensures { result ≡ length (take_while spec.is_whitespace bytes.now) }
 {
@@ -53,6 +54,18 @@ fn whitespace_width(bytes: &[u8]) -> usize
         width += 4;
     }
     width + few_whitespaces(&bytes[width..])
+}
+
+// The same where the first byte is a blank, which mostly stands alone.
+fn blank_width(bytes: &[u8]) -> usize
+    requires some { 0 < length bytes.now }
+    requires blank { spec.is_whitespace (slice_index bytes.now 0) ≡ true }
+    ensures { result ≡ length (take_while spec.is_whitespace bytes.now) }
+{
+    if bytes.len() > 1 && !is_whitespace(bytes[1]) {
+        return 1;
+    }
+    whitespace_width(bytes)
 }
 
 fn in_word(byte: u8) -> bool
@@ -110,15 +123,6 @@ fn block_width(bytes: &[u8]) -> usize
     bytes.iter().take_while(|byte| in_block(**byte)).count()
 }
 
-fn digit_width(bytes: &[u8], base: u64) -> usize
-    ensures { result ≡ length (take_while (λ b. is_digit_by b base) bytes.now) }
-{
-    bytes
-        .iter()
-        .take_while(|byte| value_of(**byte) < base)
-        .count()
-}
-
 fn adjoins_number(byte: u8) -> bool
     ensures { result ≡ spec.adjoins_number byte }
 {
@@ -148,15 +152,23 @@ fn is_dot(byte: u8) -> bool
     matches!(class_of(byte), Class::Dot)
 }
 
-// The number that digits write, where it is below 2^64.
-fn value_in(digits: &[u8], base: u64) -> Option<u64>
-    ensures { IfSome result (λ value. value ≡ spec.number_of base 0 digits.now) }
+// The number that the digits at the front of some bytes write, where it is below 2^64, and how many they are.
+#[inline(always)]
+fn front_number(bytes: &[u8], base: u64) -> Option<(u64, usize)>
+    ensures value { IfSome result (λ read. read.0 ≡ spec.number_of base 0 (take read.1 bytes.now)) }
+    ensures width { IfSome result (λ read. read.1 ≡ prefix_len (λ b. is_digit_by b base) bytes.now) }
+    ensures within { IfSome result (λ read. read.1 ≤ length bytes.now) }
+    ensures fits { IfSome result (λ read. read.0 < 2 ^ 64) }
 {
     let mut value = 0u64;
-    for digit in digits {
-        value = value.checked_mul(base)?.checked_add(value_of(*digit))?;
+    for (width, byte) in bytes.iter().enumerate() {
+        let digit = value_of(*byte);
+        if digit >= base {
+            return Some((value, width));
+        }
+        value = value.checked_mul(base)?.checked_add(digit)?;
     }
-    Some(value)
+    Some((value, bytes.len()))
 }
 
 // Whether a word of this width goes on with no dot.
@@ -212,13 +224,12 @@ fn decimal(alloc: Global, tokens: &mut Tokens, at: Place, bytes: &[u8]) -> Resul
     ensures within { IfOk result (λ width. width ≤ length bytes.now) }
     ensures passes { IfOk result (λ width. Passes at bytes.now width modes.Between tokens.old modes.Between tokens.new) }
 {
-    let width = digit_width(bytes, 10);
+    let Some((value, width)) = front_number(bytes, 10) else {
+        return Ok(0);
+    };
     if width == 0 || !ends_number(bytes, width) {
         return Ok(0);
     }
-    let Some(value) = value_in(front(bytes, width), 10) else {
-        return Ok(0);
-    };
     add_number(alloc, tokens, at, value, column_after(at.column, width))?;
     Ok(width)
 }
@@ -238,13 +249,12 @@ fn hexadecimal(
         return Ok(0);
     }
     let digits = behind(bytes, 2);
-    let width = digit_width(digits, 16);
+    let Some((value, width)) = front_number(digits, 16) else {
+        return Ok(0);
+    };
     if width == 0 || !ends_number(digits, width) {
         return Ok(0);
     }
-    let Some(value) = value_in(front(digits, width), 16) else {
-        return Ok(0);
-    };
     let end = column_after(at.column, width + 2);
     add_number(alloc, tokens, at, value, end)?;
     Ok(width + 2)
@@ -262,6 +272,21 @@ fn are_shift(first: u8, second: u8) -> bool
     ensures { result ≡ (second == first && shifts_by first) }
 {
     second == first && shifts(first)
+}
+
+// A shift that does not go on with `=`.
+fn shift(alloc: Global, tokens: &mut Tokens, at: Place, bytes: &[u8]) -> Result<usize, AllocError>
+    requires some { 1 < length bytes.now }
+    requires begins { begins_sign_class (class_by (slice_index bytes.now 0)) ≡ true }
+    requires two { are_two_by (slice_index bytes.now 0) (slice_index bytes.now 1) ≡ true }
+    ensures within { IfOk result (λ width. width ≤ length bytes.now) }
+    ensures passes { IfOk result (λ width. Passes at bytes.now width modes.Between tokens.old modes.Between tokens.new) }
+{
+    if bytes.len() < 3 || bytes[2] == b'=' {
+        return Ok(0);
+    }
+    add_symbol(alloc, tokens, at, front(bytes, 2))?;
+    Ok(2)
 }
 
 // A symbol of one character or of two that goes on with no other one, where the first may be the front of a longer one.
@@ -282,7 +307,7 @@ fn joined(alloc: Global, tokens: &mut Tokens, at: Place, bytes: &[u8]) -> Result
         return Ok(1);
     }
     if are_shift(first, second) {
-        return Ok(0);
+        return shift(alloc, tokens, at, bytes);
     }
     add_symbol(alloc, tokens, at, &[first, second])?;
     Ok(2)
@@ -310,7 +335,7 @@ fn between(alloc: Global, tokens: &mut Tokens, at: Place, bytes: &[u8]) -> Resul
     ensures passes { IfOk result (λ width. Passes at bytes.now width modes.Between tokens.old modes.Between tokens.new) }
 {
     match class_of(bytes[0]) {
-        Class::Blank => Ok(whitespace_width(bytes)),
+        Class::Blank => Ok(blank_width(bytes)),
         Class::Letter | Class::Underscore => word(alloc, tokens, at, bytes),
         Class::Zero => hexadecimal(alloc, tokens, at, bytes),
         Class::Digit => decimal(alloc, tokens, at, bytes),

@@ -6,7 +6,7 @@ ghost use Rattle.asl_lexer.specs.Scan as spec;
 ghost use Rattle.asl_lexer.specs.Scan.{Moves};
 
 use crate::class::{Class, Radix, class_of, value_of};
-use crate::mode::{Fault, Mode, Stop};
+use crate::mode::{Fault, LexerStop, Mode};
 use crate::token::{Token, TokenKind, Tokens};
 use iasl_messages::number::BAD_CHARACTER;
 use iasl_messages::place::Place;
@@ -14,10 +14,10 @@ use iasl_ports::list::{List, Text};
 use std::alloc::{AllocError, Global};
 
 /// The refusal of a message at a place.
-pub fn refuse(number: u16, place: Place) -> Stop
-    ensures { result ≡ Stop.Fault (record { number = number; place = place }) }
+pub fn refuse(number: u16, place: Place) -> LexerStop
+    ensures { result ≡ LexerStop.Fault (record { number = number; place = place }) }
 {
-    Stop::Fault(Fault { number, place })
+    LexerStop::Fault(Fault { number, place })
 }
 
 /// The list with one more byte.
@@ -156,7 +156,7 @@ pub fn add_symbol(
 
 /// A byte between tokens.
 #[tactic(auto, unfolding(crate::specs::Scan::begin))]
-pub fn begin(alloc: Global, at: Place, byte: u8) -> Result<Mode, Stop>
+pub fn begin(alloc: Global, at: Place, byte: u8) -> Result<Mode, LexerStop>
     ensures { (tokens : AList Token) → Moves result tokens (spec.begin at byte tokens) }
 {
     match class_of(byte) {

@@ -7,7 +7,7 @@ ghost use Rattle.asl_lexer.specs.Scan.{Moves};
 ghost use Rattle.asl_lexer.specs.Class.{class_of as class_by, base_of as base_by};
 
 use crate::class::{Class, Radix, base_of, class_of, value_of};
-use crate::mode::{Fault, Mode, Stop};
+use crate::mode::{Fault, LexerStop, Mode};
 use crate::start::{add_string, end_at, longer, refuse};
 use crate::token::Tokens;
 use iasl_messages::number::{BAD_CHARACTER, BAD_ESCAPE, OPEN_STRING};
@@ -16,19 +16,19 @@ use iasl_ports::list::List;
 use std::alloc::Global;
 
 /// A byte in a string that is bad already.
-pub fn broken(from: Place, fault: Fault, byte: u8) -> Result<Mode, Stop>
+pub fn broken(from: Place, fault: Fault, byte: u8) -> Result<Mode, LexerStop>
     ensures { (tokens : AList Token) → Moves result tokens (spec.broken_by (class_by byte) from fault tokens) }
 {
     match class_of(byte) {
         Class::Break => Err(refuse(OPEN_STRING, from)),
-        Class::Quote => Err(Stop::Fault(fault)),
+        Class::Quote => Err(LexerStop::Fault(fault)),
         Class::Backslash => Ok(Mode::BrokenEscape { from, fault }),
         _ => Ok(Mode::Broken { from, fault }),
     }
 }
 
 /// A byte behind a backslash in such a string.
-pub fn broken_escape(from: Place, fault: Fault, byte: u8) -> Result<Mode, Stop>
+pub fn broken_escape(from: Place, fault: Fault, byte: u8) -> Result<Mode, LexerStop>
     ensures { (tokens : AList Token) → Moves result tokens (spec.broken_escape_by (class_by byte) from fault tokens) }
 {
     match class_of(byte) {
@@ -51,7 +51,7 @@ pub fn text(
     text: List<u8>,
     at: Place,
     byte: u8,
-) -> Result<Mode, Stop>
+) -> Result<Mode, LexerStop>
     ensures { Moves result tokens.new (spec.text_by (class_by byte) from text at byte tokens.old) }
 {
     match class_of(byte) {
@@ -130,7 +130,7 @@ fn digits(from: Place, text: List<u8>, slash: Place, byte: u8) -> Mode
 }
 
 /// A byte behind a backslash in a string.
-pub fn escape(from: Place, text: List<u8>, slash: Place, byte: u8) -> Result<Mode, Stop>
+pub fn escape(from: Place, text: List<u8>, slash: Place, byte: u8) -> Result<Mode, LexerStop>
     ensures { (tokens : AList Token) → Moves result tokens (spec.escape_by (class_by byte) from text slash byte tokens) }
 {
     match class_of(byte) {
@@ -146,7 +146,7 @@ pub fn escape(from: Place, text: List<u8>, slash: Place, byte: u8) -> Result<Mod
 }
 
 /// A byte behind `\x` in a string.
-pub fn coded(from: Place, text: List<u8>, slash: Place, byte: u8) -> Result<Mode, Stop>
+pub fn coded(from: Place, text: List<u8>, slash: Place, byte: u8) -> Result<Mode, LexerStop>
     ensures { (tokens : AList Token) → Moves result tokens (spec.coded_by (is_digit byte 16) from text slash byte tokens) }
 {
     let value = value_of(byte);
@@ -188,7 +188,7 @@ fn behind_digits(
     value: u8,
     at: Place,
     byte: u8,
-) -> Result<Mode, Stop>
+) -> Result<Mode, LexerStop>
     ensures { Moves result tokens.new (spec.value_by (spec.is_plain value) front.from front.text front.slash value at byte tokens.old) }
 {
     if is_plain(value) {
@@ -207,7 +207,7 @@ pub fn escape_digit(
     code: Code,
     at: Place,
     byte: u8,
-) -> Result<Mode, Stop>
+) -> Result<Mode, LexerStop>
     ensures { Moves result tokens.new (spec.escape_digit_by (nat_lt 0 code.left && is_digit byte (base_by code.radix)) front.from front.text front.slash code.radix code.value code.left at byte tokens.old) }
 {
     let digit = value_of(byte);

@@ -6,7 +6,7 @@ ghost use Rattle.asl_lexer.specs.Scan.{Moves};
 ghost use Rattle.asl_lexer.specs.Class.{class_of as class_by, takes_equals as takes_equals_by, doubles as doubles_by, shifts as shifts_by};
 
 use crate::class::{Class, class_of, doubles, shifts, takes_equals};
-use crate::mode::{Mode, Stop};
+use crate::mode::{LexerStop, Mode};
 use crate::start::{add_symbol, begin};
 use crate::token::Tokens;
 use iasl_messages::place::Place;
@@ -19,7 +19,7 @@ pub fn slash(
     from: Place,
     at: Place,
     byte: u8,
-) -> Result<Mode, Stop>
+) -> Result<Mode, LexerStop>
     ensures { Moves result tokens.new (spec.slash_by (class_by byte) from at byte tokens.old) }
 {
     match class_of(byte) {
@@ -75,7 +75,7 @@ pub fn sign(
     first: u8,
     at: Place,
     byte: u8,
-) -> Result<Mode, Stop>
+) -> Result<Mode, LexerStop>
     ensures { Moves result tokens.new (spec.sign_by (byte == 61 && takes_equals_by first) (byte == first && doubles_by first) from first at byte tokens.old) }
 {
     if byte == b'=' && takes_equals(first) {
@@ -89,7 +89,7 @@ pub fn sign(
     }
 }
 
-fn doubled(alloc: Global, tokens: &mut Tokens, from: Place, first: u8) -> Result<Mode, Stop>
+fn doubled(alloc: Global, tokens: &mut Tokens, from: Place, first: u8) -> Result<Mode, LexerStop>
     ensures { Moves result tokens.new (spec.doubled_by (shifts_by first) from first tokens.old) }
 {
     if shifts(first) {
@@ -108,7 +108,7 @@ pub fn shift(
     first: u8,
     at: Place,
     byte: u8,
-) -> Result<Mode, Stop>
+) -> Result<Mode, LexerStop>
     ensures { Moves result tokens.new (spec.shift_by (byte == 61) from first at byte tokens.old) }
 {
     if byte == b'=' {

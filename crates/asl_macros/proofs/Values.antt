@@ -9,14 +9,14 @@ use Rattle.std.specs.Str.{bytes_eq}
 use Rattle.asl_fragments.specs.declared.fragment.Fragment.{Fragment}
 use Rattle.asl_fragments.specs.Fragments.{piece_of, first_fragment, fragments}
 use Rattle.asl_fragments.proofs.FragmentLaws.{fragments_step, no_fragments}
-use Rattle.asl_macros.specs.declared.spot.Within.{Within}
-use Rattle.asl_macros.specs.declared.spot.Spot.{Spot}
+use Rattle.asl_macros.specs.declared.context.Within.{Within}
+use Rattle.asl_macros.specs.declared.context.FragmentContext.{FragmentContext}
 use Rattle.asl_macros.specs.declared.names.ReplaceStop.{ReplaceStop}
 use Rattle.asl_macros.specs.declared.names.ReplaceStop.TheVariants.{TooLong, Memory}
 use Rattle.asl_macros.specs.declared.table.Macros.{Macros}
 use Rattle.asl_macros.specs.History.{History}
 use Rattle.asl_macros.specs.Table.{Tells, text_at}
-use Rattle.asl_macros.specs.Replacement.{replaced, Gives, with_values, value_of, value_or_itself, text_with_values, is_name, spot_behind, is_active, Adds}
+use Rattle.asl_macros.specs.Replacement.{replaced, Gives, with_values, value_of, value_or_itself, text_with_values, is_name, context_behind, is_active, Adds}
 
 -- ---- values
 
@@ -59,26 +59,26 @@ active_map (x ∷ xs) name = ap (λ b. bytes_eq x.now name || b) (active_map xs 
 -- ---- texts
 
 -- the value of the first fragment, and the rest with values
-pub values_step : (within : Within) (value : List ℕ → List ℕ) (spot : Spot) (inside : Bool) (text front rest : List ℕ) (f : Fragment) → f ≡ first_fragment inside text → 0 < length text → 0 < f.length
+pub values_step : (within : Within) (value : List ℕ → List ℕ) (context : FragmentContext) (inside : Bool) (text front rest : List ℕ) (f : Fragment) → f ≡ first_fragment inside text → 0 < length text → 0 < f.length
     → front ≡ take f.length text → rest ≡ drop f.length text
-    → with_values within value spot (fragments inside text) ≡ value_or_itself value (is_name within spot f.kind front) front ++ with_values within value (spot_behind spot f.kind front) (fragments false rest)
-values_step within value spot inside text front rest f is h forward e1 e2 =
+    → with_values within value context (fragments inside text) ≡ value_or_itself value (is_name within context f.kind front) front ++ with_values within value (context_behind context f.kind front) (fragments false rest)
+values_step within value context inside text front rest f is h forward e1 e2 =
     let first : 0 < (first_fragment inside text).length = subst (λ g. 0 < g.length) is forward in
-    ap (with_values within value spot) (fragments_step inside text h first)
-    ∙ ap (λ g. with_values within value spot (piece_of g text ∷ fragments false (drop g.length text))) (sym is)
-    ∙ ap (λ t. value_or_itself value (is_name within spot f.kind t) t ++ with_values within value (spot_behind spot f.kind t) (fragments false (drop f.length text))) (sym e1)
-    ∙ ap (λ r. value_or_itself value (is_name within spot f.kind front) front ++ with_values within value (spot_behind spot f.kind front) (fragments false r)) (sym e2)
+    ap (with_values within value context) (fragments_step inside text h first)
+    ∙ ap (λ g. with_values within value context (piece_of g text ∷ fragments false (drop g.length text))) (sym is)
+    ∙ ap (λ t. value_or_itself value (is_name within context f.kind t) t ++ with_values within value (context_behind context f.kind t) (fragments false (drop f.length text))) (sym e1)
+    ∙ ap (λ r. value_or_itself value (is_name within context f.kind front) front ++ with_values within value (context_behind context f.kind front) (fragments false r)) (sym e2)
 
 -- what is still to come behind a text, where its first fragment is added next
-pub piece_more : (within : Within) (levels : ℕ) (text_of : List ℕ → Option (List ℕ)) (active now : List (Bor (List ℕ))) (spot next : Spot) (inside named : Bool) (text front rest out whole : List ℕ) (f : Fragment)
-    → f ≡ first_fragment inside text → 0 < length text → 0 < f.length → front ≡ take f.length text → rest ≡ drop f.length text → named ≡ is_name within spot f.kind front → next ≡ spot_behind spot f.kind front → now ≡ active
-    → out ++ with_values within (value_of levels within text_of (map (λ other. other.now) active)) spot (fragments inside text) ≡ whole
+pub piece_more : (within : Within) (levels : ℕ) (text_of : List ℕ → Option (List ℕ)) (active now : List (Bor (List ℕ))) (context next : FragmentContext) (inside named : Bool) (text front rest out whole : List ℕ) (f : Fragment)
+    → f ≡ first_fragment inside text → 0 < length text → 0 < f.length → front ≡ take f.length text → rest ≡ drop f.length text → named ≡ is_name within context f.kind front → next ≡ context_behind context f.kind front → now ≡ active
+    → out ++ with_values within (value_of levels within text_of (map (λ other. other.now) active)) context (fragments inside text) ≡ whole
     → out ++ (value_or_itself (value_of levels within text_of (map (λ other. other.now) now)) named front ++ with_values within (value_of levels within text_of (map (λ other. other.now) active)) next (fragments false rest)) ≡ whole
-piece_more within levels text_of active now spot next inside named text front rest out whole f is h forward e1 e2 e3 e4 e5 e =
+piece_more within levels text_of active now context next inside named text front rest out whole f is h forward e1 e2 e3 e4 e5 e =
     ap (λ a. out ++ (value_or_itself (value_of levels within text_of (map (λ other. other.now) a)) named front ++ with_values within (value_of levels within text_of (map (λ other. other.now) active)) next (fragments false rest))) e5
     ∙ ap (λ b. out ++ (value_or_itself (value_of levels within text_of (map (λ other. other.now) active)) b front ++ with_values within (value_of levels within text_of (map (λ other. other.now) active)) next (fragments false rest))) e3
-    ∙ ap (λ s. out ++ (value_or_itself (value_of levels within text_of (map (λ other. other.now) active)) (is_name within spot f.kind front) front ++ with_values within (value_of levels within text_of (map (λ other. other.now) active)) s (fragments false rest))) e4
-    ∙ ap (λ t. out ++ t) (sym (values_step within (value_of levels within text_of (map (λ other. other.now) active)) spot inside text front rest f is h forward e1 e2)) ∙ e
+    ∙ ap (λ s. out ++ (value_or_itself (value_of levels within text_of (map (λ other. other.now) active)) (is_name within context f.kind front) front ++ with_values within (value_of levels within text_of (map (λ other. other.now) active)) s (fragments false rest))) e4
+    ∙ ap (λ t. out ++ t) (sym (values_step within (value_of levels within text_of (map (λ other. other.now) active)) context inside text front rest f is h forward e1 e2)) ∙ e
 
 -- ---- what was added
 
@@ -92,8 +92,8 @@ too_long_more TooLong limit out new more rest old new2 whole h e =
     omega (arith, h, total, length-append out (more ++ rest), length-append more rest, length-append out more)
 too_long_more Memory limit out new more rest old new2 whole h e = tt
 
-pub none_left : (within : Within) (value : List ℕ → List ℕ) (spot : Spot) (inside : Bool) (out text whole : List ℕ) → length text ≡ 0 → out ++ with_values within value spot (fragments inside text) ≡ whole → out ≡ whole
-none_left within value spot inside out text whole h e = sym (append-nil out) ∙ ap (λ ps. out ++ with_values within value spot ps) (sym (no_fragments inside text h)) ∙ e
+pub none_left : (within : Within) (value : List ℕ → List ℕ) (context : FragmentContext) (inside : Bool) (out text whole : List ℕ) → length text ≡ 0 → out ++ with_values within value context (fragments inside text) ≡ whole → out ≡ whole
+none_left within value context inside out text whole h e = sym (append-nil out) ∙ ap (λ ps. out ++ with_values within value context ps) (sym (no_fragments inside text h)) ∙ e
 
 -- the names that are being replaced, with one more and without it again
 pub one_less : {X : Type 0} (new pushed old : List X) (x : X) (n : ℕ) → n ≡ length old → pushed ≡ old ++ x ∷ [] → new ≡ take n pushed → new ≡ old

@@ -1,7 +1,7 @@
 -- Lines worked out by computation.
 use Rattle.std.proofs.Common.{◌≡◌, false, [], ◌∷◌, codes, refl}
 use Rattle.asl_fragments.specs.Fragments.{fragment_of_slash, fragment_of, fragments_behind, fragments}
-use Rattle.asl_macros.specs.declared.spot.Within.TheVariants.{InLine, InCondition}
+use Rattle.asl_macros.specs.declared.context.Within.TheVariants.{InLine, InCondition}
 use Rattle.asl_macros.specs.History.{History, Defines, Undefines}
 use Rattle.asl_macros.specs.Replacement.{text_with_values, value_of, replaced}
 

@@ -8,10 +8,10 @@ use Rattle.asl_fragments.specs.declared.fragment.FragmentKind.{FragmentKind}
 use Rattle.asl_fragments.specs.declared.fragment.FragmentKind.TheVariants.{Identifier, Comment}
 use Rattle.asl_fragments.specs.Bytes.{is_blank_text}
 use Rattle.asl_fragments.specs.Fragments.{Piece, fragments}
-use Rattle.asl_macros.specs.declared.spot.Within.{Within}
-use Rattle.asl_macros.specs.declared.spot.Within.TheVariants.{InLine, InCondition}
-use Rattle.asl_macros.specs.declared.spot.Spot.{Spot}
-use Rattle.asl_macros.specs.declared.spot.Spot.TheVariants.{Anywhere, BehindDefined, BehindParenthesis}
+use Rattle.asl_macros.specs.declared.context.Within.{Within}
+use Rattle.asl_macros.specs.declared.context.Within.TheVariants.{InLine, InCondition}
+use Rattle.asl_macros.specs.declared.context.FragmentContext.{FragmentContext}
+use Rattle.asl_macros.specs.declared.context.FragmentContext.TheVariants.{Anywhere, BehindDefined, BehindParenthesis}
 use Rattle.asl_macros.specs.declared.names.ReplaceStop.{ReplaceStop}
 use Rattle.asl_macros.specs.declared.names.ReplaceStop.TheVariants.{TooLong, Memory}
 use Rattle.asl_macros.specs.History.{History, text_in}
@@ -36,21 +36,21 @@ is_identifier _ = false
 
 -- Whether a fragment is a name to be replaced. In a condition the word `defined` is none, nor is what stands
 -- behind it.
-abbrev pub is_name_at : Within → Spot → List ℕ → Bool
-is_name_at InLine spot text = true
+abbrev pub is_name_at : Within → FragmentContext → List ℕ → Bool
+is_name_at InLine context text = true
 is_name_at InCondition Anywhere text = not (is_defined text)
 is_name_at InCondition BehindDefined text = false
 is_name_at InCondition BehindParenthesis text = false
 
-abbrev pub is_name : Within → Spot → FragmentKind → List ℕ → Bool
-is_name within spot kind text = is_identifier kind && is_name_at within spot text
+abbrev pub is_name : Within → FragmentContext → FragmentKind → List ℕ → Bool
+is_name within context kind text = is_identifier kind && is_name_at within context text
 
 -- Where the next fragment stands: behind `defined` and blanks, behind a parenthesis there and blanks, or
 -- anywhere else.
-abbrev pub spot_behind : Spot → FragmentKind → List ℕ → Spot
-spot_behind Anywhere kind text = if is_identifier kind && is_defined text then BehindDefined else Anywhere
-spot_behind BehindDefined kind text = if stands_for_blanks kind text then BehindDefined else (if is_parenthesis text then BehindParenthesis else Anywhere)
-spot_behind BehindParenthesis kind text = if stands_for_blanks kind text then BehindParenthesis else Anywhere
+abbrev pub context_behind : FragmentContext → FragmentKind → List ℕ → FragmentContext
+context_behind Anywhere kind text = if is_identifier kind && is_defined text then BehindDefined else Anywhere
+context_behind BehindDefined kind text = if stands_for_blanks kind text then BehindDefined else (if is_parenthesis text then BehindParenthesis else Anywhere)
+context_behind BehindParenthesis kind text = if stands_for_blanks kind text then BehindParenthesis else Anywhere
 
 -- ---- replacement
 
@@ -59,10 +59,10 @@ value_or_itself value true text = value text
 value_or_itself value false text = text
 
 -- fragments, each name with its value in its place
-abbrev pub with_values : Within → (List ℕ → List ℕ) → Spot → List Piece → List ℕ
-with_values within value spot [] = []
-with_values within value spot (piece ∷ pieces) =
-    value_or_itself value (is_name within spot piece.kind piece.text) piece.text ++ with_values within value (spot_behind spot piece.kind piece.text) pieces
+abbrev pub with_values : Within → (List ℕ → List ℕ) → FragmentContext → List Piece → List ℕ
+with_values within value context [] = []
+with_values within value context (piece ∷ pieces) =
+    value_or_itself value (is_name within context piece.kind piece.text) piece.text ++ with_values within value (context_behind context piece.kind piece.text) pieces
 
 -- the same of a text
 unfoldable pub text_with_values : Within → (List ℕ → List ℕ) → Bool → List ℕ → List ℕ

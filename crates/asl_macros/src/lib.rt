@@ -1,10 +1,10 @@
 //! Definitions of names, and the replacement of names by their texts.
 #![tactic(auto)]
 
+mod context;
 mod names;
-mod spot;
 mod table;
 
+pub use context::Within;
 pub use names::{ReplaceStop, replace, replace_names, stays};
-pub use spot::Within;
 pub use table::Macros;

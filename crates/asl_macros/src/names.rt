@@ -9,7 +9,7 @@ ghost use Rattle.asl_macros.specs.Table.{Tells, AreFree, text_at};
 ghost use Rattle.asl_macros.specs.Replacement as spec;
 ghost use Rattle.asl_macros.specs.Replacement.{Adds, Gives};
 
-use crate::spot::{Spot, Within, is_name, spot_behind};
+use crate::context::{FragmentContext, Within, context_behind, is_name};
 use crate::table::Macros;
 use asl_fragments::bytes::in_identifier;
 use asl_fragments::first_identifier;
@@ -148,13 +148,13 @@ fn add_text<'a>(
 {
     let mut rest = text;
     let mut inside = in_comment;
-    let mut spot = Spot::Anywhere;
+    let mut context = FragmentContext::Anywhere;
     while !rest.is_empty() {
         let fragment = first_fragment(rest, inside);
         let (piece, behind) = rest.split_at(fragment.length);
-        let named = is_name(rule.within, spot, fragment.kind, piece);
+        let named = is_name(rule.within, context, fragment.kind, piece);
         add_piece(rule, out, active, levels, named, piece)?;
-        spot = spot_behind(spot, fragment.kind, piece);
+        context = context_behind(context, fragment.kind, piece);
         rest = behind;
         inside = false;
     }

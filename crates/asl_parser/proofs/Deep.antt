@@ -20,7 +20,7 @@ use Rattle.asl_parser.specs.Grammar as g
 use Rattle.std.proofs.Common.{length, take, drop, zero}
 use Rattle.std.proofs.lemmas.List.{take_at, length-append, length-drop, append-nil, take-append-le}
 use Rattle.std.proofs.lemmas.Bool.{leb-false}
-use Rattle.asl_parser.specs.Front.{Hole, TakesList, TakesExpression, Suits, FirstArgument, FirstElement, NextArgument, Held, IsFront}
+use Rattle.asl_parser.specs.Front.{LeavesOpen, TakesList, TakesExpression, Suits, FirstArgument, FirstElement, NextArgument, IsFrontIn, IsFront}
 use Rattle.asl_parser.specs.Front as h
 use Rattle.asl_parser.specs.Depth.{IsDeeper, OpensTooMuch, IsShallow}
 use Rattle.asl_parser.proofs.Ends.{Ends}
@@ -28,9 +28,9 @@ use Rattle.asl_parser.proofs.Complete.{Same, same, cut, ◌▸◌, go, goes_on, 
 use Rattle.asl_parser.proofs.Sound.{start_held, room_takes}
 use Rattle.asl_parser.proofs.Stops.{reach, reach_held, reached_is_front}
 
-proper : {fs : List Frame} {ts rest : List Mark} → Hole fs ts rest → Proper fs
-proper (h.in_prefix low hole) = inr (refl, inl refl)
-proper (h.in_infix {i = i} {o = o} is low hole left) = (is_strength i o is).binds
+proper : {fs : List Frame} {ts rest : List Mark} → LeavesOpen fs ts rest → Proper fs
+proper (h.in_prefix low leaves) = inr (refl, inl refl)
+proper (h.in_infix {i = i} {o = o} is low leaves left) = (is_strength i o is).binds
 proper (h.in_source row may) = tt
 proper (h.in_arguments a b c) = tt
 proper (h.in_body a b c d i) = tt
@@ -168,42 +168,42 @@ module _ (ok : ℕ → Bool) (mono : (m n : ℕ) → m ≤ n → ok n ≡ true �
         lists = λ takes r inside is. same (ap (λ (us : List Mark). go ok mono us st.Argument here) is) ▸ (list_opens ok mono r inside here (go ok mono inside st.FirstElement (f.List r no_branches ∷ here)) (same refl)).0;
       }
 
-  entered : {fs : List Frame} {ts rest : List Mark} → Hole fs ts rest → Comes fs rest → Entered fs ts rest
+  entered : {fs : List Frame} {ts rest : List Mark} → LeavesOpen fs ts rest → Comes fs rest → Entered fs ts rest
   entered (h.in_source {done = row} {last = last} {ms = ts} {rest = rest} reads may) comes =
       row_entered 0 of_source row last [] ts rest may (complete ok mono reads of_source [] (follow_row 0 of_source last rest may comes)) (λ b. b) refl
-  entered (h.in_body {p = p} {q = q} {path = path} {w = w} {args = args} {done = row} {last = last} {fs = fs} {ms = ts} {mid = mid} {then = then} {rest = rest} inner hole asked reads may) comes =
-      let k = entered hole (starts_comes fs (word p path w ∷ mid) refl) in
+  entered (h.in_body {p = p} {q = q} {path = path} {w = w} {args = args} {done = row} {last = last} {fs = fs} {ms = ts} {mid = mid} {then = then} {rest = rest} inner leaves asked reads may) comes =
+      let k = entered leaves (starts_comes fs (word p path w ∷ mid) refl) in
       row_entered 13 (of_body p w (grown_in args)) row last fs ts rest may
       (k.comes ▸ k.begins inner refl ▸ stepped ok mono (word p path w) mid st.Operand (st.Word p w) fs fs (word_begins p path w fs) ▸ complete ok mono asked p w fs ▸ body_opens ok mono q p w args then fs
       ▸ complete ok mono reads (of_body p w (grown_in args)) fs (follow_row 13 (of_body p w (grown_in args)) last rest may comes))
       (λ b. b) refl
-  entered (h.in_arguments {p = p} {q = q} {path = path} {w = w} {done = xs} {fs = fs} {ms = ts} {mid = mid} {rest = rest} inner hole front) comes =
-      let k = entered hole (starts_comes fs (word p path w ∷ sign q s.LeftParen ∷ mid) refl) in
+  entered (h.in_arguments {p = p} {q = q} {path = path} {w = w} {done = xs} {fs = fs} {ms = ts} {mid = mid} {rest = rest} inner leaves front) comes =
+      let k = entered leaves (starts_comes fs (word p path w ∷ sign q s.LeftParen ∷ mid) refl) in
       args_entered p w xs fs ts rest
       (k.comes ▸ k.begins inner refl ▸ stepped ok mono (word p path w) (sign q s.LeftParen ∷ mid) st.Operand (st.Word p w) fs fs (word_begins p path w fs)
       ▸ stepped ok mono (sign q s.LeftParen) mid (st.Word p w) st.FirstArgument fs (f.Args p w no_branches ∷ fs) (word_opens q p w fs) ▸ complete ok mono front p w fs)
-  entered (h.in_bracket {q = q} {fs = fs} {ms = ts} {rest = rest} low hole) comes =
-      let k = entered hole (starts_comes fs (sign q s.LeftParen ∷ rest) refl) in
+  entered (h.in_bracket {q = q} {fs = fs} {ms = ts} {rest = rest} low leaves) comes =
+      let k = entered leaves (starts_comes fs (sign q s.LeftParen ∷ rest) refl) in
       simply (f.Bracket ∷ fs) ts rest (k.comes ▸ k.begins (room_takes 0 fs low) refl ▸ stepped ok mono (sign q s.LeftParen) rest st.Operand st.Operand fs (f.Bracket ∷ fs) (bracket_opens q fs low)) (λ b. b)
-  entered (h.in_index {p = p} {a = a} {fs = fs} {ms = ts} {mid = mid} {rest = rest} low hole left) comes =
+  entered (h.in_index {p = p} {a = a} {fs = fs} {ms = ts} {mid = mid} {rest = rest} low leaves left) comes =
       let c = complete ok mono left in
-      let k = entered hole (starts_comes fs mid c.0) in
-      simply (f.Index p (grown a) ∷ fs) ts rest (k.comes ▸ k.begins (room_takes 0 fs low) c.0 ▸ c.1 fs low (proper hole) (list_ends p rest)
+      let k = entered leaves (starts_comes fs mid c.0) in
+      simply (f.Index p (grown a) ∷ fs) ts rest (k.comes ▸ k.begins (room_takes 0 fs low) c.0 ▸ c.1 fs low (proper leaves) (list_ends p rest)
       ▸ stepped ok mono (sign p s.LeftBracket) rest (st.Whole (grown a)) st.Operand fs (f.Index p (grown a) ∷ fs) (index_opens p (grown a) fs low)) (λ b. b)
-  entered (h.in_prefix {p = p} {o = o} {fs = fs} {ms = ts} {rest = rest} low hole) comes =
-      let k = entered hole (starts_comes fs (sign p (s.Prefix o) ∷ rest) refl) in
+  entered (h.in_prefix {p = p} {o = o} {fs = fs} {ms = ts} {rest = rest} low leaves) comes =
+      let k = entered leaves (starts_comes fs (sign p (s.Prefix o) ∷ rest) refl) in
       let here = f.Pending 2 2 p o no_branches ∷ fs in
       simply here ts rest (k.comes ▸ k.begins (room_takes 1 fs low) refl ▸ stepped ok mono (sign p (s.Prefix o)) rest st.Operand st.Operand fs here (prefix_opens p o fs low)) (λ b. b)
-  entered (h.in_infix {p = p} {i = i} {o = o} {a = a} {fs = fs} {ms = ts} {mid = mid} {rest = rest} is low hole left) comes =
+  entered (h.in_infix {p = p} {i = i} {o = o} {a = a} {fs = fs} {ms = ts} {mid = mid} {rest = rest} is low leaves left) comes =
       let so = is_strength i o is in
       let some : suc (o.level - 1) ≤ room fs = omega (arith, so.low) in
       let here = f.Pending o.level o.room p i (joined no_branches (grown a)) ∷ fs in
       let c = complete ok mono left in
-      let k = entered hole (starts_comes fs mid c.0) in
-      simply here ts rest (k.comes ▸ k.begins (room_takes (o.level - 1) fs some) c.0 ▸ c.1 fs (omega (arith, so.pull_high)) (proper hole) (infix_ends i o is)
-      ▸ stepped ok mono (sign p (s.Binary i)) rest (st.Whole (grown a)) st.Operand fs here (infix_step p i o (grown a) fs is low (proper hole))) (λ b. b)
-  entered (h.in_list {p = p} {done = xs} {fs = fs} {ms = ts} {mid = mid} {rest = rest} takes hole others) comes =
-      let k = entered hole (list_comes fs (sign p s.LeftBrace ∷ mid) takes) in
+      let k = entered leaves (starts_comes fs mid c.0) in
+      simply here ts rest (k.comes ▸ k.begins (room_takes (o.level - 1) fs some) c.0 ▸ c.1 fs (omega (arith, so.pull_high)) (proper leaves) (infix_ends i o is)
+      ▸ stepped ok mono (sign p (s.Binary i)) rest (st.Whole (grown a)) st.Operand fs here (infix_step p i o (grown a) fs is low (proper leaves))) (λ b. b)
+  entered (h.in_list {p = p} {done = xs} {fs = fs} {ms = ts} {mid = mid} {rest = rest} takes leaves others) comes =
+      let k = entered leaves (list_comes fs (sign p s.LeftBrace ∷ mid) takes) in
       list_entered p xs fs ts rest (k.comes ▸ k.lists takes p mid refl ▸ complete ok mono others p fs)
 
   -- ---- a front with too much open is not walked
@@ -221,29 +221,29 @@ module _ (ok : ℕ → Bool) (mono : (m n : ℕ) → m ≤ n → ok n ≡ true �
 
   record Within (fs : List Frame) (ts : List Mark) : Type 0 where
     mid : List Mark
-    hole : Hole fs ts mid
+    leaves : LeavesOpen fs ts mid
     comes : Comes fs mid
 
   first_argument_within : {fs : List Frame} {ts rest : List Mark} → FirstArgument fs ts rest → Within fs ts
-  first_argument_within (h.first_argument {rest = rest} inner hole) = record { mid = rest; hole = h.in_arguments inner hole g.none_before; comes = tt }
+  first_argument_within (h.first_argument {rest = rest} inner leaves) = record { mid = rest; leaves = h.in_arguments inner leaves g.none_before; comes = tt }
 
   argument_within : {fs : List Frame} {ts rest : List Mark} → NextArgument fs ts rest → Within fs ts
-  argument_within (h.next_argument {rest = rest} inner hole front) = record { mid = rest; hole = h.in_arguments inner hole front; comes = tt }
+  argument_within (h.next_argument {rest = rest} inner leaves front) = record { mid = rest; leaves = h.in_arguments inner leaves front; comes = tt }
 
   first_element_within : {fs : List Frame} {ts rest : List Mark} → FirstElement fs ts rest → Within fs ts
-  first_element_within (h.first_element {rest = rest} takes hole) = record { mid = rest; hole = h.in_list takes hole g.no_members; comes = tt }
+  first_element_within (h.first_element {rest = rest} takes leaves) = record { mid = rest; leaves = h.in_list takes leaves g.no_members; comes = tt }
 
-  held_within : (a : State) (fs : List Frame) (ts : List Mark) → Held a fs ts [] → Within fs ts
-  held_within st.Operand fs ts held = record { mid = []; hole = held.0; comes = comes_nil fs }
+  held_within : (a : State) (fs : List Frame) (ts : List Mark) → IsFrontIn a fs ts [] → Within fs ts
+  held_within st.Operand fs ts held = record { mid = []; leaves = held.0; comes = comes_nil fs }
   held_within st.FirstArgument fs ts held = first_argument_within held
   held_within st.Argument fs ts held = argument_within held
   held_within st.FirstElement fs ts held = first_element_within held
-  held_within st.Element fs ts held = record { mid = []; hole = held.0; comes = comes_nil fs }
-  held_within st.Sequence fs ts held = record { mid = []; hole = held.0; comes = comes_nil fs }
-  held_within (st.Word p w) fs ts held = record { mid = word p held.path w ∷ []; hole = held.hole; comes = starts_comes fs (word p held.path w ∷ []) refl }
-  held_within (st.Called p w args) fs ts held = record { mid = word p held.path w ∷ held.mid; hole = held.hole; comes = starts_comes fs (word p held.path w ∷ held.mid) refl }
-  held_within (st.Whole b) fs ts held = record { mid = held.ready.mid; hole = held.ready.hole; comes = starts_comes fs held.ready.mid (complete ok mono held.ready.reads).0 }
-  held_within (st.Listed b) fs ts held = record { mid = held.mid; hole = held.hole; comes = suits_comes fs held.tree held.mid [] held.suits }
+  held_within st.Element fs ts held = record { mid = []; leaves = held.0; comes = comes_nil fs }
+  held_within st.Sequence fs ts held = record { mid = []; leaves = held.0; comes = comes_nil fs }
+  held_within (st.Word p w) fs ts held = record { mid = word p held.path w ∷ []; leaves = held.leaves; comes = starts_comes fs (word p held.path w ∷ []) refl }
+  held_within (st.Called p w args) fs ts held = record { mid = word p held.path w ∷ held.mid; leaves = held.leaves; comes = starts_comes fs (word p held.path w ∷ held.mid) refl }
+  held_within (st.Whole b) fs ts held = record { mid = held.ready.mid; leaves = held.ready.leaves; comes = starts_comes fs held.ready.mid (complete ok mono held.ready.reads).0 }
+  held_within (st.Listed b) fs ts held = record { mid = held.mid; leaves = held.leaves; comes = suits_comes fs held.tree held.mid [] held.suits }
 
   walk_bad : (ts : List Mark) (a : State) (fs : List Frame) → ok (depth fs) ≡ false → walk ok ts a fs ≡ deep ts
   unfolding walk
@@ -254,10 +254,10 @@ module _ (ok : ℕ → Bool) (mono : (m n : ℕ) → m ≤ n → ok n ≡ true �
   same_deep x y us (same p) e n = subst NotDeep (p ∙ e) n
   same_deep x y us (cut d) e n = subst NotDeep d.is n
 
-  deeper_is_deep : (a : State) (fs : List Frame) (ts : List Mark) → Held a fs ts [] → ok (depth fs) ≡ false → NotDeep (walk ok ts st.Sequence start) → ⊥
+  deeper_is_deep : (a : State) (fs : List Frame) (ts : List Mark) → IsFrontIn a fs ts [] → ok (depth fs) ≡ false → NotDeep (walk ok ts st.Sequence start) → ⊥
   deeper_is_deep a fs ts held bad n =
       let w = held_within a fs ts held in
-      let k = entered w.hole w.comes in
+      let k = entered w.leaves w.comes in
       same_deep (walk ok ts st.Sequence start) (walk ok w.mid k.state k.stack) w.mid k.comes (walk_bad w.mid k.state k.stack (ap ok k.depth-is ∙ bad)) n
 
   -- ---- where a walk meets too much
@@ -352,7 +352,7 @@ is_too_deep limit ts k below e =
     let s = sinks (within limit) (within_mono limit) ts st.Sequence start (drop (suc k) ts) e in
     let len : length s.front ≡ suc k = omega (arith, ap length s.parts, length-append s.front (drop (suc k) ts), length-drop (suc k) ts) in
     let front-is : take (suc k) ts ≡ s.front = ap (take (suc k)) s.parts ∙ take_at s.front (drop (suc k) ts) (suc k) len in
-    let begun : Held st.Sequence start s.front (s.front ++ []) = subst (λ (us : List Mark). Held st.Sequence start s.front us) (sym (append-nil s.front)) (start_held s.front) in
+    let begun : IsFrontIn st.Sequence start s.front (s.front ++ []) = subst (λ (us : List Mark). IsFrontIn st.Sequence start s.front us) (sym (append-nil s.front)) (start_held s.front) in
     let held = reach_held s.front [] st.Sequence start s.front s.at begun s.reached in
     let deeper : IsDeeper limit s.front = record { state = s.at.0; fs = s.at.1; front = held; above = leb-false (depth s.at.1) limit s.bad } in
     record {

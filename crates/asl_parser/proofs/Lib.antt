@@ -13,3 +13,5 @@ pub mod Settled
 pub mod Told
 pub mod Views
 pub mod Homes
+pub mod Skipped
+pub mod Onward

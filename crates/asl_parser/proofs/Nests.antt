@@ -1,6 +1,6 @@
 -- What is open, as the code keeps it.
-use Rattle.std.proofs.Common.{◌≡◌, ℕ, suc, ◌+◌, ◌-◌, ◌≤◌, Bool, true, false, List, [], ◌∷◌, ◌++◌, Option, Some, None, length, take, drop, refl, sym, ap, ◌∙◌, arith, subst, cond, length-drop}
-use Rattle.std.proofs.lemmas.List.{drop-append-le, take_all, drop_all, length-take-le, take-take, take-append-drop}
+use Rattle.std.proofs.Common.{◌≡◌, ℕ, suc, ◌+◌, ◌-◌, ◌≤◌, Bool, true, false, List, [], ◌∷◌, ◌++◌, Option, Some, None, length, take, drop, refl, sym, ap, ◌∙◌, arith, subst, cond, length-drop, length-append}
+use Rattle.std.proofs.lemmas.List.{drop-append-le, take-append-le, take_all, drop_all, length-take-le, take-take, take-append-drop}
 use Rattle.std.specs.Prelude.{nat_eq, ◌&&◌}
 use Rattle.asl_parser.specs.declared.raw.Raw.{Raw}
 use Rattle.asl_parser.specs.declared.branch.Branch.{Branch}
@@ -13,7 +13,7 @@ use Rattle.asl_parser.specs.declared.open.Open.{Open}
 use Rattle.std.specs.Prelude.{is_some, nat_le}
 use Rattle.std.specs.Option.{option_to_list}
 use Rattle.asl_parser.specs.declared.mark.Spot.{Spot}
-use Rattle.asl_parser.specs.Grow.{join, joined, no_branches, merged, cut, limit, node_over, item_raw, some_raws, raws_given, levels_given, item}
+use Rattle.asl_parser.specs.Grow.{leaf, join, joined, no_branches, merged, cut, limit, node_over, item_raw, some_raws, raws_given, levels_given, item}
 use Rattle.asl_parser.proofs.Heights.{merged_same}
 use Rattle.asl_parser.specs.Machine.{depth}
 use Rattle.asl_parser.specs.Opens.{kept, trees_of, first_raw, tree_of, are_one, IsOne, single, frame_on, frames_of, kind_of, done_of, around, added, lists, has_trees, Begins, weight, Lies, AreLaid, weigh, weights, remaining, IsNest}
@@ -291,3 +291,29 @@ pub block_item : (p : Spot) (w : List ℕ) (args : Option Branches) (trees : Bra
 unfolding item
 block_item p w args trees r levels raw_is levels_are =
     ap (λ (x : Option Raw). node_over p.token x levels) raw_is ∙ ap (node_over p.token (item_raw p w (raws_given args) (some_raws trees.raws))) levels_are
+
+-- ---- a node is put behind all nodes
+
+and_true : (b : Bool) → (b && true) ≡ b
+and_true true = refl
+and_true false = refl
+
+pub kept_true : (b : Bool) (xs : List Raw) → kept b xs ≡ Some [] → b ≡ true
+kept_true true xs h = refl
+kept_true false xs h = absurd cc
+
+pub frames_appended : (nodes more : List Raw) (hand g : Group) (o : Open) (os : List Open) (d first : ℕ) (raw : Raw) → IsNest nodes hand (o ∷ os) d → lists o.kind ≡ true → trees_of hand nodes ≡ no_branches → more ≡ nodes ++ raw ∷ [] → g.start ≡ o.group.start → g.kept ≡ o.group.kept → g.levels ≡ merged o.group.levels (first ∷ [])
+    → frames_of (record { kind = o.kind; group = g } ∷ os) more ≡ added (leaf first raw) (frames_of (o ∷ os) (take hand.start nodes))
+frames_appended nodes more hand g o os d first raw h trees none is start kept_is levels =
+    let n = length nodes in let now = nodes ++ raw ∷ [] in
+    let all : take hand.start nodes ≡ nodes = all_taken hand.kept hand.start nodes (ap (λ (t : Branches). t.raws) none) in
+    let front : take n now ≡ nodes = take-append-le n nodes (raw ∷ []) (omega arith) ∙ take_all n nodes (omega arith) in
+    let last : drop n now ≡ raw ∷ [] = drop-append-le n nodes (raw ∷ []) (omega arith) ∙ ap (λ (us : List Raw). us ++ raw ∷ []) (drop_all n nodes (omega arith)) in
+    let one : Group = record { start = n; kept = true; levels = first ∷ [] } in
+    let size : length now ≡ n + 1 = length-append nodes (raw ∷ []) in
+    let nest : IsNest now one (o ∷ os) d = record { held = omega (arith, size); laid = subst (AreLaid (o ∷ os)) (all ∙ sym front) h.laid; deep = h.deep } in
+    let is_one : IsOne (trees_of one now) = ap (λ (us : List Raw). are_one (Some us)) last in
+    ap (frames_of (record { kind = o.kind; group = g } ∷ os)) is
+    ∙ frames_added now one g o os d nest trees is_one start (kept_is ∙ sym (and_true o.group.kept)) levels
+    ∙ ap (λ (us : List Raw). added (tree_of (record { raws = Some us; levels = first ∷ [] })) (frames_of (o ∷ os) (take n now))) last
+    ∙ ap (λ (us : List Raw). added (leaf first raw) (frames_of (o ∷ os) us)) (front ∙ sym all)

@@ -21,7 +21,7 @@ use Rattle.asl_parser.specs.Grammar as g
 use Rattle.std.proofs.Common.{length, take, drop, append_assoc}
 use Rattle.std.proofs.lemmas.List.{take_at, length-append, length-drop}
 use Rattle.std.proofs.Math.Seq.{take-append-add}
-use Rattle.asl_parser.specs.Front.{Hole, TakesList, TakesExpression, Suits, TakesElement, FirstArgument, FirstElement, NextArgument, Ready, Grew, Part, Named, Asked, Held, IsFront, IsStop}
+use Rattle.asl_parser.specs.Front.{LeavesOpen, TakesList, TakesExpression, Suits, TakesElement, FirstArgument, FirstElement, NextArgument, Ready, ReadyBranch, Part, Named, CalledWord, IsFrontIn, IsFront, IsStop}
 use Rattle.asl_parser.specs.Front as h
 use Rattle.asl_parser.proofs.Ends.{Ends, Ends-less, then_run, run_more}
 use Rattle.asl_parser.proofs.Complete.{is_strength, run_item_done, spelled_is_read}
@@ -54,34 +54,34 @@ applied_closing : (level most : ℕ) (p : Spot) (o : Infix) (xs : Branches) (e :
     → Closing (st.Whole e) (f.Pending level most p o xs ∷ fs)
 applied_closing level most p o xs e fs low high c = record { behind = c.behind; items = c.items; is = run_more c.behind level most p o xs e fs low high (Ends-less level 13 c.behind high c.ends) ∙ c.is; ends = c.ends }
 
-whole_closes : {fs : List Frame} {ts mid : List Mark} → Hole fs ts mid → TakesExpression fs → (e : Tree) → Closing (st.Whole (grown e)) fs
+whole_closes : {fs : List Frame} {ts mid : List Mark} → LeavesOpen fs ts mid → TakesExpression fs → (e : Tree) → Closing (st.Whole (grown e)) fs
 unfolding walk after settle finish_whole sequence listed
 whole_closes (h.in_source {done = done} {last = last} row may) takes e = record { behind = []; items = grown_all (more (all done last) e); is = refl; ends = tt }
-whole_closes (h.in_arguments {p = p} {w = w} {done = done} {fs = fs} inner hole front) takes e =
+whole_closes (h.in_arguments {p = p} {w = w} {done = done} {fs = fs} inner leaves front) takes e =
     closed_by s.RightParen (st.Whole (grown e)) (st.Called p w (grown_all (more done e))) (f.Args p w (grown_all done) ∷ fs) fs refl (λ ts. omega arith)
-    (called_closing p w (more done e) fs (whole_closes hole inner (t.an_item p w (t.given (more done e)) absent)))
-whole_closes (h.in_body {p = p} {w = w} {args = args} {done = done} {last = last} {fs = fs} inner hole asked row may) takes e =
+    (called_closing p w (more done e) fs (whole_closes leaves inner (t.an_item p w (t.given (more done e)) absent)))
+whole_closes (h.in_body {p = p} {w = w} {args = args} {done = done} {last = last} {fs = fs} inner leaves asked row may) takes e =
     closed_by s.RightBrace (st.Whole (grown e)) (st.Whole (grown (t.an_item p w args (t.given (more (all done last) e))))) (f.Body p w (grown_in args) (grown_all (all done last)) ∷ fs) fs refl (λ ts. omega arith)
-    (whole_closes hole inner (t.an_item p w args (t.given (more (all done last) e))))
-whole_closes (h.in_bracket {fs = fs} low hole) takes e =
-    closed_by s.RightParen (st.Whole (grown e)) (st.Whole (grown e)) (f.Bracket ∷ fs) fs refl (λ ts. omega arith) (whole_closes hole (room_takes 0 fs low) e)
-whole_closes (h.in_index {p = p} {a = a} {fs = fs} low hole left) takes e =
-    closed_by s.RightBracket (st.Whole (grown e)) (st.Whole (grown (t.a_pair p op.Index a e))) (f.Index p (grown a) ∷ fs) fs refl (λ ts. omega arith) (whole_closes hole (room_takes 0 fs low) (t.a_pair p op.Index a e))
-whole_closes (h.in_prefix {p = p} {o = o} {fs = fs} low hole) takes e =
-    applied_closing 2 2 p o no_branches (grown e) fs (omega arith) (omega arith) (whole_closes hole (room_takes 1 fs low) (t.a_prefix p o e))
-whole_closes (h.in_infix {p = p} {i = i} {o = o} {a = a} {fs = fs} is low hole left) takes e =
+    (whole_closes leaves inner (t.an_item p w args (t.given (more (all done last) e))))
+whole_closes (h.in_bracket {fs = fs} low leaves) takes e =
+    closed_by s.RightParen (st.Whole (grown e)) (st.Whole (grown e)) (f.Bracket ∷ fs) fs refl (λ ts. omega arith) (whole_closes leaves (room_takes 0 fs low) e)
+whole_closes (h.in_index {p = p} {a = a} {fs = fs} low leaves left) takes e =
+    closed_by s.RightBracket (st.Whole (grown e)) (st.Whole (grown (t.a_pair p op.Index a e))) (f.Index p (grown a) ∷ fs) fs refl (λ ts. omega arith) (whole_closes leaves (room_takes 0 fs low) (t.a_pair p op.Index a e))
+whole_closes (h.in_prefix {p = p} {o = o} {fs = fs} low leaves) takes e =
+    applied_closing 2 2 p o no_branches (grown e) fs (omega arith) (omega arith) (whole_closes leaves (room_takes 1 fs low) (t.a_prefix p o e))
+whole_closes (h.in_infix {p = p} {i = i} {o = o} {a = a} {fs = fs} is low leaves left) takes e =
     let so = is_strength i o is in
     let some : suc (o.level - 1) ≤ room fs = omega (arith, so.low) in
-    applied_closing o.level o.room p i (joined no_branches (grown a)) (grown e) fs (omega (arith, so.low)) so.high (whole_closes hole (room_takes (o.level - 1) fs some) (t.a_pair p i a e))
-whole_closes (h.in_list takes-list hole others) takes e = absurd takes
+    applied_closing o.level o.room p i (joined no_branches (grown a)) (grown e) fs (omega (arith, so.low)) so.high (whole_closes leaves (room_takes (o.level - 1) fs some) (t.a_pair p i a e))
+whole_closes (h.in_list takes-list leaves others) takes e = absurd takes
 
-listed_closes : {fs : List Frame} {ts mid : List Mark} → Hole fs ts mid → TakesList fs → (e : Tree) → Closing (st.Listed (grown e)) fs
+listed_closes : {fs : List Frame} {ts mid : List Mark} → LeavesOpen fs ts mid → TakesList fs → (e : Tree) → Closing (st.Listed (grown e)) fs
 unfolding listed
-listed_closes (h.in_arguments {p = p} {w = w} {done = done} {fs = fs} inner hole front) takes e =
+listed_closes (h.in_arguments {p = p} {w = w} {done = done} {fs = fs} inner leaves front) takes e =
     closed_by s.RightParen (st.Listed (grown e)) (st.Called p w (grown_all (more done e))) (f.Args p w (grown_all done) ∷ fs) fs refl (λ ts. omega arith)
-    (called_closing p w (more done e) fs (whole_closes hole inner (t.an_item p w (t.given (more done e)) absent)))
-listed_closes (h.in_list {p = p} {done = done} {fs = fs} takes-list hole others) takes e =
-    closed_by s.RightBrace (st.Listed (grown e)) (st.Listed (grown (t.a_list p (more done e)))) (f.List p (grown_all done) ∷ fs) fs refl (λ ts. omega arith) (listed_closes hole takes-list (t.a_list p (more done e)))
+    (called_closing p w (more done e) fs (whole_closes leaves inner (t.an_item p w (t.given (more done e)) absent)))
+listed_closes (h.in_list {p = p} {done = done} {fs = fs} takes-list leaves others) takes e =
+    closed_by s.RightBrace (st.Listed (grown e)) (st.Listed (grown (t.a_list p (more done e)))) (f.List p (grown_all done) ∷ fs) fs refl (λ ts. omega arith) (listed_closes leaves takes-list (t.a_list p (more done e)))
 listed_closes (h.in_source row may) takes e = absurd takes
 listed_closes (h.in_body a b c d i) takes e = absurd takes
 listed_closes (h.in_bracket a b) takes e = absurd takes
@@ -115,31 +115,31 @@ suits_takes _ e ts rest h = absurd h
 
 first_element_accepts : {fs : List Frame} {ts rest : List Mark} → FirstElement fs ts rest → Accepted st.FirstElement fs
 unfolding first_element
-first_element_accepts (h.first_element {p = p} {fs = fs} takes hole) =
-    with_step (sign nowhere s.RightBrace) st.FirstElement (st.Listed (grown (t.a_list p none))) (f.List p no_branches ∷ fs) fs refl (listed_closes hole takes (t.a_list p none))
+first_element_accepts (h.first_element {p = p} {fs = fs} takes leaves) =
+    with_step (sign nowhere s.RightBrace) st.FirstElement (st.Listed (grown (t.a_list p none))) (f.List p no_branches ∷ fs) fs refl (listed_closes leaves takes (t.a_list p none))
 
 first_argument_accepts : {fs : List Frame} {ts rest : List Mark} → FirstArgument fs ts rest → Accepted st.FirstArgument fs
 unfolding first_argument argument begin
-first_argument_accepts (h.first_argument {p = p} {w = w} {fs = fs} inner hole) =
-    with_word st.FirstArgument (f.Args p w no_branches ∷ fs) refl (whole_closes (h.in_arguments inner hole g.none_before) tt (t.an_item nowhere [] absent absent))
+first_argument_accepts (h.first_argument {p = p} {w = w} {fs = fs} inner leaves) =
+    with_word st.FirstArgument (f.Args p w no_branches ∷ fs) refl (whole_closes (h.in_arguments inner leaves g.none_before) tt (t.an_item nowhere [] absent absent))
 
 argument_accepts : {fs : List Frame} {ts rest : List Mark} → NextArgument fs ts rest → Accepted st.Argument fs
 unfolding argument begin
-argument_accepts (h.next_argument {p = p} {w = w} {done = done} {x = x} {fs = fs} inner hole front) =
-    with_word st.Argument (f.Args p w (grown_all (more done x)) ∷ fs) refl (whole_closes (h.in_arguments inner hole front) tt (t.an_item nowhere [] absent absent))
+argument_accepts (h.next_argument {p = p} {w = w} {done = done} {x = x} {fs = fs} inner leaves front) =
+    with_word st.Argument (f.Args p w (grown_all (more done x)) ∷ fs) refl (whole_closes (h.in_arguments inner leaves front) tt (t.an_item nowhere [] absent absent))
 
-element_accepts : (fs : List Frame) (ts rest : List Mark) → Hole fs ts rest → TakesElement fs → Accepted st.Element fs
+element_accepts : (fs : List Frame) (ts rest : List Mark) → LeavesOpen fs ts rest → TakesElement fs → Accepted st.Element fs
 unfolding element
-element_accepts (f.List p done ∷ fs) ts rest hole takes =
-    with_step (word nowhere false []) st.Element (st.Listed (grown (t.an_item nowhere [] absent absent))) (f.List p done ∷ fs) (f.List p done ∷ fs) refl (listed_closes hole tt (t.an_item nowhere [] absent absent))
-element_accepts _ ts rest hole takes = absurd takes
+element_accepts (f.List p done ∷ fs) ts rest leaves takes =
+    with_step (word nowhere false []) st.Element (st.Listed (grown (t.an_item nowhere [] absent absent))) (f.List p done ∷ fs) (f.List p done ∷ fs) refl (listed_closes leaves tt (t.an_item nowhere [] absent absent))
+element_accepts _ ts rest leaves takes = absurd takes
 
-called_accepts : (p : Spot) (w : List ℕ) (args : Branches) (fs : List Frame) (ts rest : List Mark) → Asked p w args fs ts rest → Accepted (st.Called p w args) fs
+called_accepts : (p : Spot) (w : List ℕ) (args : Branches) (fs : List Frame) (ts rest : List Mark) → CalledWord p w args fs ts rest → Accepted (st.Called p w args) fs
 called_accepts p w args fs ts rest asked =
     subst (λ (b : Branches). Accepted (st.Called p w b) fs) asked.are
-    (accepted (st.Called p w (grown_all asked.trees)) fs (called_closing p w asked.trees fs (whole_closes asked.hole asked.takes (t.an_item p w (t.given asked.trees) absent))))
+    (accepted (st.Called p w (grown_all asked.trees)) fs (called_closing p w asked.trees fs (whole_closes asked.leaves asked.takes (t.an_item p w (t.given asked.trees) absent))))
 
-accepts : (a : State) (fs : List Frame) (ts rest : List Mark) → Held a fs ts rest → Accepted a fs
+accepts : (a : State) (fs : List Frame) (ts rest : List Mark) → IsFrontIn a fs ts rest → Accepted a fs
 unfolding begin sequence
 accepts st.Operand fs ts rest held = with_word st.Operand fs refl (whole_closes held.0 held.1 (t.an_item nowhere [] absent absent))
 accepts st.Sequence fs ts rest held = with_word st.Sequence fs refl (whole_closes held.0 held.1 (t.an_item nowhere [] absent absent))
@@ -147,11 +147,11 @@ accepts st.FirstArgument fs ts rest held = first_argument_accepts held
 accepts st.Argument fs ts rest held = argument_accepts held
 accepts st.FirstElement fs ts rest held = first_element_accepts held
 accepts st.Element fs ts rest held = element_accepts fs ts rest held.0 held.1
-accepts (st.Word p w) fs ts rest held = accepted (st.Word p w) fs (word_closing p w fs (whole_closes held.hole held.takes (t.an_item p w absent absent)))
+accepts (st.Word p w) fs ts rest held = accepted (st.Word p w) fs (word_closing p w fs (whole_closes held.leaves held.takes (t.an_item p w absent absent)))
 accepts (st.Called p w args) fs ts rest held = called_accepts p w args fs ts rest held
-accepts (st.Whole b) fs ts rest held = subst (λ (x : Branch). Accepted (st.Whole x) fs) held.is (accepted (st.Whole (grown held.tree)) fs (whole_closes held.ready.hole held.ready.takes held.tree))
+accepts (st.Whole b) fs ts rest held = subst (λ (x : Branch). Accepted (st.Whole x) fs) held.is (accepted (st.Whole (grown held.tree)) fs (whole_closes held.ready.leaves held.ready.takes held.tree))
 accepts (st.Listed b) fs ts rest held =
-    subst (λ (x : Branch). Accepted (st.Listed x) fs) held.is (accepted (st.Listed (grown held.tree)) fs (listed_closes held.hole (suits_takes fs held.tree held.mid rest held.suits) held.tree))
+    subst (λ (x : Branch). Accepted (st.Listed x) fs) held.is (accepted (st.Listed (grown held.tree)) fs (listed_closes held.leaves (suits_takes fs held.tree held.mid rest held.suits) held.tree))
 
 -- ---- where a run stops
 
@@ -175,14 +175,14 @@ reach_run [] behind a fs c e = let e' : c ≡ (a, fs) = cc in ap (λ (d : Config
 reach_run (t ∷ front) behind a fs c e = run_on t front behind (step t a fs) c e (λ b gs h. reach_run front behind b gs c h)
 
 held_on : (front rest : List Mark) (m : Option Config) (ts : List Mark) (c : Config) → Keeps m ts (front ++ rest) → then_reach front m ≡ Some c
-    → ((a : State) (fs : List Frame) → Held a fs ts (front ++ rest) → reach front a fs ≡ Some c → Held c.0 c.1 ts rest) → Held c.0 c.1 ts rest
+    → ((a : State) (fs : List Frame) → IsFrontIn a fs ts (front ++ rest) → reach front a fs ≡ Some c → IsFrontIn c.0 c.1 ts rest) → IsFrontIn c.0 c.1 ts rest
 unfolding then_reach
 held_on front rest None ts c keeps e ih = absurd cc
 held_on front rest (Some d) ts c keeps e ih = ih d.0 d.1 keeps e
 
-pub reach_held : (front rest : List Mark) (a : State) (fs : List Frame) (ts : List Mark) (c : Config) → Held a fs ts (front ++ rest) → reach front a fs ≡ Some c → Held c.0 c.1 ts rest
+pub reach_held : (front rest : List Mark) (a : State) (fs : List Frame) (ts : List Mark) (c : Config) → IsFrontIn a fs ts (front ++ rest) → reach front a fs ≡ Some c → IsFrontIn c.0 c.1 ts rest
 unfolding reach then_reach
-reach_held [] rest a fs ts c held e = let e' : (a, fs) ≡ c = cc in subst (λ (d : Config). Held d.0 d.1 ts rest) e' held
+reach_held [] rest a fs ts c held e = let e' : (a, fs) ≡ c = cc in subst (λ (d : Config). IsFrontIn d.0 d.1 ts rest) e' held
 reach_held (t ∷ front) rest a fs ts c held e = held_on front rest (step t a fs) ts c (step_keeps t a fs ts (front ++ rest) held) e (λ b gs others h. reach_held front rest b gs ts c others h)
 
 abbrev pub Refused : Config → List Mark → Type 0

@@ -9,6 +9,7 @@ use Rattle.asl_parser.specs.declared.frame.Frame.{Frame}
 use Rattle.asl_parser.specs.declared.frame.State.{State}
 use Rattle.asl_parser.specs.declared.frame.Refusal.{Refusal}
 use Rattle.asl_parser.specs.declared.frame.Refusal.TheVariants as r
+use Rattle.asl_parser.specs.declared.stage.Stage.{Stage}
 use Rattle.asl_parser.specs.Marks.{mark, marks}
 use Rattle.asl_parser.specs.Stages.{Moves}
 use Rattle.asl_parser.specs.Machine.{Finishes, Answer, stop, deep, Config, step, walk, within, depth, finish}
@@ -56,8 +57,8 @@ pub walk_ends : (bound : ℕ) (ms : List Mark) (i : ℕ) (a : State) (fs : List 
 unfolding walk
 walk_ends bound ms i a fs h low = ap (λ (us : List Mark). walk (within bound) us a fs) (drop_all i ms h) ∙ rw (le-leb (depth fs) bound low) refl
 
-pub moves_refused : (x : Refusal) (new : Branches × List Frame) (m : Option Config) → x ≡ r.Refused → Moves (Err x) new m → m ≡ None
-moves_refused x new m e h = subst (λ (y : Refusal). Moves (Err y) new m) e h
+pub moves_refused : (x : Refusal) (stage : Stage) (new : Branches × List Frame) (m : Option Config) → x ≡ r.Refused → Moves (Err x) stage new m → m ≡ None
+moves_refused x stage new m e h = subst (λ (y : Refusal). Moves (Err y) stage new m) e h
 
 pub finishes_refused : (x : Refusal) (m : Answer) → x ≡ r.Refused → Finishes (Err x) m → m ≡ stop []
 finishes_refused x m e h = subst (λ (y : Refusal). Finishes (Err y) m) e h

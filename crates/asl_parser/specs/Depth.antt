@@ -6,13 +6,13 @@ use Rattle.asl_parser.specs.declared.frame.State.{State}
 use Rattle.asl_parser.specs.Trees.{Trees, nodes_of, first_below}
 use Rattle.asl_parser.specs.Machine.{depth}
 use Rattle.asl_parser.specs.Grammar.{IsSource}
-use Rattle.asl_parser.specs.Front.{Held, IsFront}
+use Rattle.asl_parser.specs.Front.{IsFrontIn, IsFront}
 
 -- The tokens are a front that ends where more than the limit is open.
 pub record IsDeeper (limit : ℕ) (ms : List Mark) : Type 0 where
   pub state : State
   pub fs : List Frame
-  pub front : Held state fs ms []
+  pub front : IsFrontIn state fs ms []
   pub above : limit < depth fs
 
 -- No front of the tokens has more than the limit open.

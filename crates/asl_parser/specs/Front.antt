@@ -29,21 +29,21 @@ TakesExpression (f.List p done ∷ fs) = ⊥
 TakesExpression _ = Unit {0}
 
 -- the tokens of the first list, up to those of the second, are a front that leaves these frames open
-pub data Hole : List Frame → List Mark → List Mark → Type 0 where
-  in_source : {done : Trees} {last : Option Tree} {ms rest : List Mark} → Reads (sequence 0 done last) ms rest → MayFollow last rest → Hole (f.Unit (grown_all (all done last)) ∷ []) ms rest
+pub data LeavesOpen : List Frame → List Mark → List Mark → Type 0 where
+  in_source : {done : Trees} {last : Option Tree} {ms rest : List Mark} → Reads (sequence 0 done last) ms rest → MayFollow last rest → LeavesOpen (f.Unit (grown_all (all done last)) ∷ []) ms rest
   in_arguments : {p q : Spot} {path : Bool} {w : List ℕ} {done : Trees} {fs : List Frame} {ms mid rest : List Mark} → TakesExpression fs
-      → Hole fs ms (word p path w ∷ sign q s.LeftParen ∷ mid) → Reads (before done) mid rest → Hole (f.Args p w (grown_all done) ∷ fs) ms rest
+      → LeavesOpen fs ms (word p path w ∷ sign q s.LeftParen ∷ mid) → Reads (before done) mid rest → LeavesOpen (f.Args p w (grown_all done) ∷ fs) ms rest
   in_body : {p q : Spot} {path : Bool} {w : List ℕ} {args : Group} {done : Trees} {last : Option Tree} {fs : List Frame} {ms mid then rest : List Mark} → TakesExpression fs
-      → Hole fs ms (word p path w ∷ mid) → Reads (arguments args) mid (sign q s.LeftBrace ∷ then) → Reads (sequence 13 done last) then rest → MayFollow last rest
-      → Hole (f.Body p w (grown_in args) (grown_all (all done last)) ∷ fs) ms rest
-  in_bracket : {q : Spot} {fs : List Frame} {ms rest : List Mark} → 1 ≤ room fs → Hole fs ms (sign q s.LeftParen ∷ rest) → Hole (f.Bracket ∷ fs) ms rest
-  in_index : {p : Spot} {a : Tree} {fs : List Frame} {ms mid rest : List Mark} → 1 ≤ room fs → Hole fs ms mid → Reads (expression 1 a) mid (sign p s.LeftBracket ∷ rest)
-      → Hole (f.Index p (grown a) ∷ fs) ms rest
-  in_prefix : {p : Spot} {o : Infix} {fs : List Frame} {ms rest : List Mark} → 2 ≤ room fs → Hole fs ms (sign p (s.Prefix o) ∷ rest) → Hole (f.Pending 2 2 p o no_branches ∷ fs) ms rest
-  in_infix : {p : Spot} {i : Infix} {o : Strength} {a : Tree} {fs : List Frame} {ms mid rest : List Mark} → strength i ≡ Some o → o.level ≤ room fs → Hole fs ms mid
-      → Reads (expression o.pull a) mid (sign p (s.Binary i) ∷ rest) → Hole (f.Pending o.level o.room p i (joined no_branches (grown a)) ∷ fs) ms rest
-  in_list : {p : Spot} {done : Trees} {fs : List Frame} {ms mid rest : List Mark} → TakesList fs → Hole fs ms (sign p s.LeftBrace ∷ mid) → Reads (members done) mid rest
-      → Hole (f.List p (grown_all done) ∷ fs) ms rest
+      → LeavesOpen fs ms (word p path w ∷ mid) → Reads (arguments args) mid (sign q s.LeftBrace ∷ then) → Reads (sequence 13 done last) then rest → MayFollow last rest
+      → LeavesOpen (f.Body p w (grown_in args) (grown_all (all done last)) ∷ fs) ms rest
+  in_bracket : {q : Spot} {fs : List Frame} {ms rest : List Mark} → 1 ≤ room fs → LeavesOpen fs ms (sign q s.LeftParen ∷ rest) → LeavesOpen (f.Bracket ∷ fs) ms rest
+  in_index : {p : Spot} {a : Tree} {fs : List Frame} {ms mid rest : List Mark} → 1 ≤ room fs → LeavesOpen fs ms mid → Reads (expression 1 a) mid (sign p s.LeftBracket ∷ rest)
+      → LeavesOpen (f.Index p (grown a) ∷ fs) ms rest
+  in_prefix : {p : Spot} {o : Infix} {fs : List Frame} {ms rest : List Mark} → 2 ≤ room fs → LeavesOpen fs ms (sign p (s.Prefix o) ∷ rest) → LeavesOpen (f.Pending 2 2 p o no_branches ∷ fs) ms rest
+  in_infix : {p : Spot} {i : Infix} {o : Strength} {a : Tree} {fs : List Frame} {ms mid rest : List Mark} → strength i ≡ Some o → o.level ≤ room fs → LeavesOpen fs ms mid
+      → Reads (expression o.pull a) mid (sign p (s.Binary i) ∷ rest) → LeavesOpen (f.Pending o.level o.room p i (joined no_branches (grown a)) ∷ fs) ms rest
+  in_list : {p : Spot} {done : Trees} {fs : List Frame} {ms mid rest : List Mark} → TakesList fs → LeavesOpen fs ms (sign p s.LeftBrace ∷ mid) → Reads (members done) mid rest
+      → LeavesOpen (f.List p (grown_all done) ∷ fs) ms rest
 
 -- a member of what is open
 abbrev pub Suits : List Frame → Tree → List Mark → List Mark → Type 0
@@ -61,30 +61,30 @@ TakesArgument _ = ⊥
 
 -- directly behind the parenthesis that opens arguments
 pub data FirstArgument : List Frame → List Mark → List Mark → Type 0 where
-  first_argument : {p q : Spot} {path : Bool} {w : List ℕ} {fs : List Frame} {ms rest : List Mark} → TakesExpression fs → Hole fs ms (word p path w ∷ sign q s.LeftParen ∷ rest)
+  first_argument : {p q : Spot} {path : Bool} {w : List ℕ} {fs : List Frame} {ms rest : List Mark} → TakesExpression fs → LeavesOpen fs ms (word p path w ∷ sign q s.LeftParen ∷ rest)
       → FirstArgument (f.Args p w no_branches ∷ fs) ms rest
 
 -- directly behind the brace that opens a list
 pub data FirstElement : List Frame → List Mark → List Mark → Type 0 where
-  first_element : {p : Spot} {fs : List Frame} {ms rest : List Mark} → TakesList fs → Hole fs ms (sign p s.LeftBrace ∷ rest) → FirstElement (f.List p no_branches ∷ fs) ms rest
+  first_element : {p : Spot} {fs : List Frame} {ms rest : List Mark} → TakesList fs → LeavesOpen fs ms (sign p s.LeftBrace ∷ rest) → FirstElement (f.List p no_branches ∷ fs) ms rest
 
 -- behind a comma of arguments
 pub data NextArgument : List Frame → List Mark → List Mark → Type 0 where
   next_argument : {p q : Spot} {path : Bool} {w : List ℕ} {done : Trees} {x : Tree} {fs : List Frame} {ms mid rest : List Mark} → TakesExpression fs
-      → Hole fs ms (word p path w ∷ sign q s.LeftParen ∷ mid) → Reads (before (more done x)) mid rest → NextArgument (f.Args p w (grown_all (more done x)) ∷ fs) ms rest
+      → LeavesOpen fs ms (word p path w ∷ sign q s.LeftParen ∷ mid) → Reads (before (more done x)) mid rest → NextArgument (f.Args p w (grown_all (more done x)) ∷ fs) ms rest
 
 -- an expression, no operator of which is applied yet that one behind it could take a part of
 pub record Ready (n : ℕ) (e : Tree) (fs : List Frame) (ms rest : List Mark) : Type 0 where
   pub mid : List Mark
   pub level : ℕ
-  pub hole : Hole fs ms mid
+  pub leaves : LeavesOpen fs ms mid
   pub reads : Reads (expression level e) mid rest
   pub low : level ≤ n
   pub fits : level ≤ room fs
   pub takes : TakesExpression fs
 
--- the same of what grew of the expression
-pub record Grew (n : ℕ) (b : Branch) (fs : List Frame) (ms rest : List Mark) : Type 0 where
+-- the same of the branch that grew of the expression
+pub record ReadyBranch (n : ℕ) (b : Branch) (fs : List Frame) (ms rest : List Mark) : Type 0 where
   pub tree : Tree
   pub is : grown tree ≡ b
   pub ready : Ready n tree fs ms rest
@@ -93,35 +93,35 @@ pub record Part (b : Branch) (fs : List Frame) (ms rest : List Mark) : Type 0 wh
   pub tree : Tree
   pub is : grown tree ≡ b
   pub mid : List Mark
-  pub hole : Hole fs ms mid
+  pub leaves : LeavesOpen fs ms mid
   pub suits : Suits fs tree mid rest
 
 pub record Named (p : Spot) (w : List ℕ) (fs : List Frame) (ms rest : List Mark) : Type 0 where
   pub path : Bool
-  pub hole : Hole fs ms (word p path w ∷ rest)
+  pub leaves : LeavesOpen fs ms (word p path w ∷ rest)
   pub takes : TakesExpression fs
 
-pub record Asked (p : Spot) (w : List ℕ) (args : Branches) (fs : List Frame) (ms rest : List Mark) : Type 0 where
+pub record CalledWord (p : Spot) (w : List ℕ) (args : Branches) (fs : List Frame) (ms rest : List Mark) : Type 0 where
   pub trees : Trees
   pub are : grown_all trees ≡ args
   pub path : Bool
   pub mid : List Mark
-  pub hole : Hole fs ms (word p path w ∷ mid)
+  pub leaves : LeavesOpen fs ms (word p path w ∷ mid)
   pub reads : Reads (arguments (t.given trees)) mid rest
   pub takes : TakesExpression fs
 
 -- The tokens of the first list, up to those of the second, are a front: what stands open, and what was read last in it.
-abbrev pub Held : State → List Frame → List Mark → List Mark → Type 0
-Held st.Operand fs ms rest = Hole fs ms rest × TakesExpression fs
-Held st.FirstArgument fs ms rest = FirstArgument fs ms rest
-Held st.Argument fs ms rest = NextArgument fs ms rest
-Held st.FirstElement fs ms rest = FirstElement fs ms rest
-Held st.Element fs ms rest = Hole fs ms rest × TakesElement fs
-Held st.Sequence fs ms rest = Hole fs ms rest × TakesExpression fs
-Held (st.Word p w) fs ms rest = Named p w fs ms rest
-Held (st.Called p w args) fs ms rest = Asked p w args fs ms rest
-Held (st.Whole b) fs ms rest = Grew 1 b fs ms rest
-Held (st.Listed b) fs ms rest = Part b fs ms rest
+abbrev pub IsFrontIn : State → List Frame → List Mark → List Mark → Type 0
+IsFrontIn st.Operand fs ms rest = LeavesOpen fs ms rest × TakesExpression fs
+IsFrontIn st.FirstArgument fs ms rest = FirstArgument fs ms rest
+IsFrontIn st.Argument fs ms rest = NextArgument fs ms rest
+IsFrontIn st.FirstElement fs ms rest = FirstElement fs ms rest
+IsFrontIn st.Element fs ms rest = LeavesOpen fs ms rest × TakesElement fs
+IsFrontIn st.Sequence fs ms rest = LeavesOpen fs ms rest × TakesExpression fs
+IsFrontIn (st.Word p w) fs ms rest = Named p w fs ms rest
+IsFrontIn (st.Called p w args) fs ms rest = CalledWord p w args fs ms rest
+IsFrontIn (st.Whole b) fs ms rest = ReadyBranch 1 b fs ms rest
+IsFrontIn (st.Listed b) fs ms rest = Part b fs ms rest
 
 -- The tokens can go on to a source.
 pub record IsFront (ms : List Mark) : Type 0 where

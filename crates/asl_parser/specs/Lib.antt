@@ -15,3 +15,5 @@ pub mod Parse
 pub mod Place
 pub mod Written
 pub mod Within
+pub mod Pairs
+pub mod Reading

@@ -1,5 +1,5 @@
 -- Tokens as the grammar reads them: numbered, and symbols told apart.
-use Rattle.std.specs.Prelude.{ℕ, suc, List, [], ◌∷◌, Option, Some, None, true, false}
+use Rattle.std.specs.Prelude.{ℕ, suc, List, [], ◌∷◌, Option, Some, None, Bool, true, false}
 use Rattle.asl_lexer.specs.declared.token.TokenKind.{TokenKind}
 use Rattle.asl_lexer.specs.declared.token.TokenKind.TheVariants as k
 use Rattle.asl_lexer.specs.declared.token.Token.{Token}
@@ -25,6 +25,12 @@ lexeme t = lexeme_by t.kind t.number t.text
 
 abbrev pub mark : ℕ → Token → Mark
 mark n t = record { spot = record { token = n; place = t.place }; lexeme = lexeme t }
+
+-- a word or path
+abbrev pub is_word : TokenKind → Bool
+is_word k.Word = true
+is_word k.Path = true
+is_word _ = false
 
 -- the tokens, the first of which has this number
 abbrev pub marks : ℕ → List Token → List Mark

@@ -6,11 +6,11 @@ use Rattle.asl_parser.specs.declared.sign.Sign.{Sign}
 use Rattle.asl_parser.specs.declared.sign.Sign.TheVariants as s
 use Rattle.asl_parser.specs.declared.sign.Strength.{Strength}
 
-pub record Row : Type 0 where
+pub record SignRow : Type 0 where
   pub text : List ℕ
   pub sign : Sign
 
-abbrev pub row : List ℕ → Sign → Row
+abbrev pub row : List ℕ → Sign → SignRow
 row text sign = record { text = text; sign = sign }
 
 abbrev pub same : List ℕ → List ℕ → Bool
@@ -18,11 +18,11 @@ same [] [] = true
 same (a ∷ xs) (b ∷ ys) = same xs ys && nat_eq a b
 same _ _ = false
 
-abbrev pub found : List ℕ → List Row → Option Sign
+abbrev pub found : List ℕ → List SignRow → Option Sign
 found text [] = None
 found text (r ∷ rs) = if same text r.text then Some r.sign else found text rs
 
-abbrev pub signs : List Row
+abbrev pub signs : List SignRow
 signs = row (codes "(") s.LeftParen ∷ row (codes ")") s.RightParen ∷ row (codes "{") s.LeftBrace ∷ row (codes "}") s.RightBrace
     ∷ row (codes "[") s.LeftBracket ∷ row (codes "]") s.RightBracket ∷ row (codes ",") s.Comma ∷ row (codes ";") s.Semicolon
     ∷ row (codes "++") (s.Postfix op.Increment) ∷ row (codes "--") (s.Postfix op.Decrement)

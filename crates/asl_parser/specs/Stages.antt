@@ -1,5 +1,5 @@
 -- What was read last, as the code keeps it: the trees of it are held.
-use Rattle.std.specs.Prelude.{◌≡◌, List, Option, Some, None, Result, Ok, Err}
+use Rattle.std.specs.Prelude.{◌≡◌, Bool, true, false, List, Option, Some, None, Result, Ok, Err}
 use Rattle.asl_parser.specs.declared.branch.Branches.{Branches}
 use Rattle.asl_parser.specs.declared.frame.Frame.{Frame}
 use Rattle.asl_parser.specs.declared.frame.State.{State}
@@ -32,8 +32,16 @@ Holds g.Whole hand = IsOne hand
 Holds g.Listed hand = IsOne hand
 Holds _ hand = hand ≡ no_branches
 
+-- an expression may begin, or has to
+abbrev pub begins : Stage → Bool
+begins g.Operand = true
+begins g.FirstArgument = true
+begins g.Argument = true
+begins g.Sequence = true
+begins _ = false
+
 -- what a step of the code ensures
-abbrev pub Moves : Result Stage Refusal → Branches × List Frame → Option Config → Type 0
-Moves (Ok s) new move = (move ≡ Some (state_of s new.0, new.1)) × Holds s new.0
-Moves (Err r.Memory) new move = Unit {0}
-Moves (Err r.Refused) new move = move ≡ None
+abbrev pub Moves : Result (Unit {0}) Refusal → Stage → Branches × List Frame → Option Config → Type 0
+Moves (Ok u) s new move = (move ≡ Some (state_of s new.0, new.1)) × Holds s new.0
+Moves (Err r.Memory) s new move = Unit {0}
+Moves (Err r.Refused) s new move = move ≡ None

@@ -10,7 +10,8 @@ use iasl_ports::list::Text;
 /// The most nodes that a node may stand under.
 pub const TALLEST: usize = 128;
 
-/// A tree. One that is too tall is not kept, but for its levels.
+/// A tree. One that is too tall is not kept, but for its levels. Only definitions speak of a single one: the code keeps
+/// `Branches`.
 #[derive(Drop)]
 pub struct Branch {
     pub raw: Option<Raw>,
@@ -25,6 +26,7 @@ pub struct Branches {
 }
 
 /// An operator over its operands.
+#[inline(always)]
 pub fn apply_raw(spot: Spot, op: Infix, raws: Option<Raws>) -> Option<Raw>
     ensures { result ≡ spec.apply_raw spot op raws }
 {
@@ -36,6 +38,7 @@ pub fn apply_raw(spot: Spot, op: Infix, raws: Option<Raws>) -> Option<Raw>
 }
 
 /// A list.
+#[inline(always)]
 pub fn list_raw(spot: Spot, raws: Option<Raws>) -> Option<Raw>
     ensures { result ≡ spec.list_raw spot raws }
 {
@@ -53,6 +56,7 @@ pub fn given(raws: Option<Raws>) -> Option<Option<Raws>>
 }
 
 /// A word or path with its arguments and its body.
+#[inline(always)]
 pub fn item_raw(
     spot: Spot,
     word: Text,

@@ -11,7 +11,8 @@ use std::alloc::AllocError;
 /// The level of assignments, the loosest operators.
 pub const LOOSEST: u8 = 13;
 
-/// What stands open around the place where the reader is, and what was read of it.
+/// What stands open around the place where the reader is, and what was read of it. Only definitions speak of it: the code
+/// keeps what stands open in a `Nest`.
 #[derive(Drop)]
 pub enum Frame {
     /// The source, and its items so far.
@@ -53,7 +54,8 @@ pub enum Frame {
     },
 }
 
-/// What was read last, and so what may come.
+/// What was read last, and so what may come. Only definitions speak of it: in the code it is a `Stage`, and a `Nest` holds
+/// the trees.
 #[derive(Drop)]
 pub enum State {
     /// An expression has to begin.

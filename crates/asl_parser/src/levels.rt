@@ -1,5 +1,5 @@
 //! The levels of trees.
-ghost use Rattle.std.specs.Prelude.{◌≡◌, ◌∷◌, [], ◌++◌, ◌+◌, ◌≤◌, take, length, IfOk, OnOk};
+ghost use Rattle.std.specs.Prelude.{◌≡◌, ◌∷◌, [], ◌++◌, ◌+◌, ◌<◌, ◌≤◌, take, length, IfOk, OnOk};
 ghost use Rattle.asl_parser.specs.Levels.{firsts_of};
 ghost use Rattle.asl_parser.specs.Grow as spec;
 
@@ -66,6 +66,16 @@ fn few(alloc: Global, front: &[u32], back: &[u32]) -> Firsts
     }
 }
 
+// The first so many numbers, and one behind them.
+#[inline(always)]
+fn with(mut firsts: [u32; FEW], count: usize, first: u32) -> [u32; FEW]
+    requires { count < 5 }
+    ensures { take (count + 1) result ≡ take count firsts ++ first ∷ [] }
+{
+    firsts[count] = first;
+    firsts
+}
+
 // Numbers, and others behind them.
 fn both(alloc: Global, front: &[u32], back: &[u32]) -> Result<Levels, AllocError>
     ensures { IfOk result (λ levels. levels ≡ front.now ++ back.now) }
@@ -130,23 +140,45 @@ impl Levels {
     pub fn cover(&mut self, alloc: Global, first: u32) -> Result<(), AllocError>
         ensures { OnOk result (self.new ≡ self.old ++ first ∷ []) }
     {
+        if let Firsts::Few { firsts, count, .. } = &self.firsts {
+            let count = *count;
+            if (count as usize) < FEW {
+                let firsts = with(*firsts, count as usize, first);
+                let count = count + 1;
+                *self = Levels {
+                    firsts: Firsts::Few {
+                        firsts,
+                        count,
+                        alloc,
+                    },
+                };
+                return Ok(());
+            }
+        }
         let levels = replace(self, Levels::new(alloc));
         *self = levels.under(first)?;
         Ok(())
     }
 
     /// Puts trees behind these.
-    #[tactic(auto, using(crate::proofs::Heights::merged_same))]
+    #[inline(always)]
+    #[tactic(auto, unfolding(crate::specs::Grow::merged), using(crate::proofs::Heights::merged_same, crate::proofs::Merged::merged_none))]
     pub fn join(&mut self, alloc: Global, later: Levels) -> Result<(), AllocError>
         ensures { OnOk result (self.new ≡ spec.merged self.old later) }
     {
-        if later.len() <= self.len() {
+        let few = self.len();
+        if later.len() <= few {
+            return Ok(());
+        }
+        if few == 0 {
+            *self = later;
             return Ok(());
         }
         self.lift(alloc, later)
     }
 
     // Puts trees of more levels behind these.
+    #[inline(never)]
     fn lift(&mut self, alloc: Global, later: Levels) -> Result<(), AllocError>
         ensures { OnOk result (self.new ≡ spec.merged self.old later) }
     {
@@ -156,28 +188,17 @@ impl Levels {
     }
 
     // With a node above all, with this first token.
+    #[inline(never)]
     fn under(self, first: u32) -> Result<Levels, AllocError>
         ensures { IfOk result (λ levels. levels ≡ self ++ first ∷ []) }
     {
         let Levels { firsts } = self;
         match firsts {
             Firsts::Few {
-                mut firsts,
+                firsts,
                 count,
                 alloc,
-            } => {
-                if count as usize >= FEW {
-                    return both(alloc, front(&firsts, count as usize), &[first]);
-                }
-                firsts[count as usize] = first;
-                Ok(Levels {
-                    firsts: Firsts::Few {
-                        firsts,
-                        count: count + 1,
-                        alloc,
-                    },
-                })
-            }
+            } => both(alloc, front(&firsts, count as usize), &[first]),
             Firsts::Many(mut firsts) => {
                 firsts.push(first)?;
                 Ok(Levels {

@@ -8,6 +8,7 @@ mod machine;
 mod mark;
 mod nest;
 mod open;
+mod pairs;
 mod place;
 mod raw;
 mod reader;

@@ -1,5 +1,5 @@
 //! A token as the machine reads it.
-ghost use Rattle.std.specs.Prelude.{◌≡◌, IfOk};
+ghost use Rattle.std.specs.Prelude.{◌≡◌};
 ghost use Rattle.asl_parser.specs.Looks.{lexeme_of};
 ghost use Rattle.asl_parser.specs.Marks as spec;
 
@@ -7,7 +7,6 @@ use crate::sign::{Sign, sign_of};
 use asl_lexer::token::{Token, TokenKind};
 use iasl_messages::place::Place;
 use iasl_ports::list::Text;
-use std::alloc::{AllocError, Global};
 
 /// A token's number, from 0, and its place.
 #[derive(Clone, Copy)]
@@ -16,7 +15,7 @@ pub struct Spot {
     pub place: Place,
 }
 
-/// What a token is to the grammar.
+/// What a token is to the grammar. Only definitions speak of it: in the code it is a `Look`.
 #[derive(Drop)]
 pub enum Lexeme {
     Word { path: bool, word: Text },
@@ -27,7 +26,7 @@ pub enum Lexeme {
     Other,
 }
 
-/// A token as the machine reads it.
+/// A token as the machine reads it. Only definitions speak of it: the code reads the lexer's tokens.
 #[derive(Drop)]
 pub struct Mark {
     pub spot: Spot,
@@ -45,14 +44,18 @@ pub enum Look {
     Other,
 }
 
-/// A text of its own.
-pub fn copy(alloc: Global, text: &Text) -> Result<Text, AllocError>
-    ensures { IfOk result (λ copied. copied ≡ text.now) }
+/// Whether a token of this kind is a word or path.
+pub fn is_word(kind: TokenKind) -> bool
+    ensures { result ≡ spec.is_word kind }
 {
-    Text::from_bytes(alloc, text.as_bytes())
+    match kind {
+        TokenKind::Word | TokenKind::Path => true,
+        _ => false,
+    }
 }
 
 /// What the token is.
+#[inline(always)]
 pub fn look_of(token: &Token) -> Look
     ensures { lexeme_of result token.now ≡ spec.lexeme token.now }
 {

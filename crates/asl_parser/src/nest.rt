@@ -1,13 +1,14 @@
 //! What stands open, and the trees that were read last.
-ghost use Rattle.std.specs.Prelude.{◌≡◌, ◌&&◌, ◌+◌, ◌∷◌, [], ◌<◌, ◌++◌, Some, None, true, IfOk, OnOk, OnErr, length, is_some, reverse};
+ghost use Rattle.std.specs.Prelude.{◌≡◌, ◌&&◌, ◌+◌, ◌∷◌, ◌<◌, ◌++◌, Some, None, true, IfOk, OnOk, OnErr, length, is_some, reverse};
 ghost use Rattle.std.specs.Option.{option_to_list};
 ghost use Rattle.std.specs.Vec.{vec_len, vec_capacity};
 ghost use Rattle.asl_parser.specs.declared.frame.Frame.TheVariants as frames;
 ghost use Rattle.asl_parser.specs.declared.open.Kind.TheVariants as kinds;
+ghost use Rattle.asl_parser.specs.declared.raw.Raw.TheVariants as raws;
 ghost use Rattle.asl_parser.specs.Grow as grow;
 ghost use Rattle.asl_parser.specs.Grow.{no_branches, joined, merged};
 ghost use Rattle.asl_parser.specs.Machine as spec;
-ghost use Rattle.asl_parser.specs.Opens.{IsOne, Begins, tree_of, single, cleared, frame_on, kind_of, done_of, around, added, lists, has_trees, remaining};
+ghost use Rattle.asl_parser.specs.Opens.{IsOne, Begins, tree_of, cleared, frame_on, kind_of, done_of, around, added, lists, has_trees, remaining};
 
 use crate::branch::{Branches, TALLEST, apply_raw, given, item_raw, list_raw};
 use crate::levels::Levels;
@@ -32,7 +33,7 @@ pub struct Nest {
 }
 
 impl Model for Nest {
-    ghost use Rattle.std.specs.Prelude.{List, ◌≡◌, ◌∷◌, reverse, take};
+    ghost use Rattle.std.specs.Prelude.{List, ◌∷◌, reverse, take};
     ghost use Rattle.std.specs.Coded.{coded_list, coded×};
     ghost use Rattle.asl_parser.specs.contracts.branch.Branches as branches_row;
     ghost use Rattle.asl_parser.specs.contracts.frame.Frame as frame_row;
@@ -61,7 +62,20 @@ fn count(nodes: &Vec<Raw>) -> usize
     nodes.as_slice().len()
 }
 
+// A word with neither arguments nor a body.
+fn named(spot: Spot, word: Text) -> Raw
+    ensures { result ≡ raws.Item spot.place word None None }
+{
+    Raw::Item {
+        place: spot.place,
+        word,
+        args: None,
+        body: None,
+    }
+}
+
 // Adds a node, unless it would be too tall. Answers whether it is kept.
+#[inline(always)]
 fn keep(nodes: &mut Vec<Raw>, low: bool, raw: Option<Raw>) -> Result<bool, AllocError>
     ensures nodes { OnOk result (nodes.new.items ≡ nodes.old.items ++ option_to_list (grow.cut low raw)) }
     ensures kept { IfOk result (λ is_kept. is_kept ≡ is_some (grow.cut low raw)) }
@@ -131,9 +145,12 @@ impl Nest {
         }
     }
 
-    /// Where memory comes from.
-    pub fn alloc(&self) -> Global {
-        self.alloc
+    /// A text of its own.
+    #[inline(always)]
+    pub fn copy(&self, text: &Text) -> Result<Text, AllocError>
+        ensures { IfOk result (λ copied. copied ≡ text.now) }
+    {
+        Text::from_bytes(self.alloc, text.as_bytes())
     }
 
     /// How many brackets, prefix operators and assignments stand open.
@@ -174,6 +191,7 @@ impl Nest {
     }
 
     /// Holds a tree of one node.
+    #[inline(always)]
     pub fn hold(&mut self, first: u32, raw: Raw) -> Result<(), AllocError>
         requires { self.old.0 ≡ no_branches }
         ensures tree { OnOk result (tree_of self.new.0 ≡ grow.leaf first raw) }
@@ -186,6 +204,7 @@ impl Nest {
     }
 
     /// Opens a frame of this kind behind what is held, which becomes the first of its trees.
+    #[inline(always)]
     pub fn open(&mut self, kind: Kind) -> Result<(), AllocError>
         requires { Begins kind self.old.0 }
         ensures { OnOk result (self.new ≡ (no_branches, frame_on kind self.old.0 self.old.1)) }
@@ -235,7 +254,34 @@ impl Nest {
         Ok(())
     }
 
+    /// Adds a tree of one node to the innermost frame.
+    #[inline(always)]
+    pub fn append(&mut self, first: u32, raw: Raw) -> Result<(), AllocError>
+        requires none { self.old.0 ≡ no_branches }
+        requires lists { lists (kind_of self.old.1) ≡ true }
+        ensures { OnOk result (self.new ≡ (no_branches, added (grow.leaf first raw) self.old.1)) }
+    {
+        self.nodes.push(raw)?;
+        let one = Levels::of_one(self.alloc, first);
+        self.innermost.group.levels.join(self.alloc, one)?;
+        self.hand.start = count(&self.nodes);
+        Ok(())
+    }
+
+    /// Adds a word with neither arguments nor a body to the innermost frame.
+    #[inline(always)]
+    #[tactic(auto, unfolding(crate::specs::Grow::item, crate::specs::Grow::node_over, crate::specs::Grow::merged))]
+    pub fn append_name(&mut self, spot: Spot, word: Text) -> Result<(), AllocError>
+        requires none { self.old.0 ≡ no_branches }
+        requires lists { lists (kind_of self.old.1) ≡ true }
+        ensures { OnOk result (self.new ≡ (no_branches, added (grow.item spot word None None) self.old.1)) }
+    {
+        self.append(spot.token, named(spot, word))?;
+        Ok(())
+    }
+
     /// Ends the innermost frame, whose trees are held.
+    #[inline(always)]
     pub fn end(&mut self) -> Kind
         requires none { self.old.0 ≡ no_branches }
         requires trees { has_trees (kind_of self.old.1) ≡ true }
@@ -249,6 +295,7 @@ impl Nest {
     }
 
     /// Ends the innermost frame, whose trees are held with the one that was held behind them.
+    #[inline(always)]
     pub fn end_with(&mut self) -> Result<Kind, AllocError>
         requires one { IsOne self.old.0 }
         requires trees { has_trees (kind_of self.old.1) ≡ true }
@@ -276,6 +323,7 @@ impl Nest {
     }
 
     // Holds a node over what is held.
+    #[inline(always)]
     fn put(&mut self, first: u32, raw: Option<Raw>) -> Result<(), AllocError>
         ensures tree { OnOk result (tree_of self.new.0 ≡ grow.node_over first raw self.old.0.levels) }
         ensures one { OnOk result (IsOne self.new.0) }
@@ -289,6 +337,7 @@ impl Nest {
     }
 
     // Puts these levels before those of what is held.
+    #[inline(always)]
     fn go_before(&mut self, levels: Levels) -> Result<(), AllocError>
         ensures raws { OnOk result (self.new.0.raws ≡ self.old.0.raws) }
         ensures levels { OnOk result (self.new.0.levels ≡ merged levels self.old.0.levels) }
@@ -300,6 +349,7 @@ impl Nest {
     }
 
     // The nodes of a part of an item, whose levels go before those of what is held.
+    #[inline(always)]
     #[tactic(auto, using(crate::proofs::Merged::merged_none))]
     fn go_behind(&mut self, part: Option<Branches>) -> Result<Option<Option<Raws>>, AllocError>
         ensures raws { IfOk result (λ raws. raws ≡ grow.raws_given part) }
@@ -316,6 +366,7 @@ impl Nest {
     }
 
     /// Takes what is held away.
+    #[inline(always)]
     pub fn take(&mut self) -> Result<Branches, AllocError>
         ensures trees { IfOk result (λ trees. trees ≡ self.old.0) }
         ensures rest { OnOk result (self.new ≡ (no_branches, self.old.1)) }
@@ -328,6 +379,7 @@ impl Nest {
     }
 
     /// Holds an operator over what was held, its operands.
+    #[inline(always)]
     pub fn apply(&mut self, first: u32, spot: Spot, op: Infix) -> Result<(), AllocError>
         ensures tree { OnOk result (tree_of self.new.0 ≡ grow.node_over first (grow.apply_raw spot op self.old.0.raws) self.old.0.levels) }
         ensures one { OnOk result (IsOne self.new.0) }
@@ -358,17 +410,12 @@ impl Nest {
         ensures one { OnOk result (IsOne self.new.0) }
         ensures frames { OnOk result (self.new.1 ≡ self.old.1) }
     {
-        let raw = Raw::Item {
-            place: spot.place,
-            word,
-            args: None,
-            body: None,
-        };
-        self.hold(spot.token, raw)?;
+        self.hold(spot.token, named(spot, word))?;
         Ok(())
     }
 
     /// Holds a word with what was held as its arguments.
+    #[inline(always)]
     pub fn call(&mut self, spot: Spot, word: Text) -> Result<(), AllocError>
         ensures tree { OnOk result (tree_of self.new.0 ≡ grow.item spot word (Some self.old.0) None) }
         ensures one { OnOk result (IsOne self.new.0) }

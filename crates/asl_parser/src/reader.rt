@@ -1,8 +1,10 @@
 //! From tokens to the tree.
-ghost use Rattle.std.specs.Prelude.{◌≡◌, ◌<◌, ◌^◌, ℕ, length, List, All, IfOk, OnOk, IfErr};
+ghost use Rattle.std.specs.Prelude.{◌≡◌, ◌+◌, ◌<◌, ◌≤◌, ◌^◌, ℕ, length, List, All, IfOk, OnOk, IfErr};
 ghost use Rattle.asl_parser.specs.Machine as spec;
 ghost use Rattle.asl_parser.specs.Marks.{marks};
 ghost use Rattle.asl_parser.specs.Parse.{Answers, Reaches, Gives, Fails, outcome};
+ghost use Rattle.asl_parser.specs.Reading.{Advances, FailsAt, ComesTo};
+ghost use Rattle.asl_parser.specs.Stages.{state_of, Holds};
 ghost use Rattle.asl_parser.specs.Grammar.{Spells};
 ghost use Rattle.asl_parser.specs.Depth.{IsShallow, IsLow};
 ghost use Rattle.asl_parser.specs.Grow.{limit};
@@ -12,11 +14,13 @@ ghost use Rattle.asl_parser.specs.declared.raw.Raw.{Raw};
 
 use crate::branch::{Branches, TALLEST};
 use crate::frame::Refusal;
-use crate::machine::{finish, step};
+use crate::machine::{begins, finish, step, word_on};
+use crate::mark::{is_word, look_of};
 use crate::nest::Nest;
+use crate::pairs::skip_pair;
 use crate::raw::RawUnit;
 use crate::stage::Stage;
-use asl_lexer::token::{Token, Tokens};
+use asl_lexer::token::{Token, TokenKind, Tokens};
 use std::alloc::{AllocError, Global};
 
 /// The most brackets, prefix operators and assignments that may be open.
@@ -45,20 +49,104 @@ impl From<AllocError> for Syntax {
     }
 }
 
+// Whether a token is to be read with the one behind it, where that can be.
+fn looks_ahead(stage: &Stage, token: &Token) -> bool {
+    match token.kind {
+        TokenKind::Word | TokenKind::Path => true,
+        TokenKind::Number | TokenKind::Text => match stage {
+            Stage::Operand => false,
+            _ => true,
+        },
+        TokenKind::Symbol => false,
+    }
+}
+
+// What the token at a place came to: the place behind it, or why the reading ends there.
+#[inline(always)]
+fn moved(nest: &Nest, made: Result<(), Refusal>, at: usize) -> Result<usize, Syntax>
+    requires few { at < 2 ^ 32 }
+    ensures { ComesTo made (spec.depth nest.now.1) at result }
+{
+    match made {
+        Ok(()) => {}
+        Err(Refusal::Refused) => return Err(Syntax::Stop { token: at as u32 }),
+        Err(Refusal::Memory) => return Err(Syntax::Memory),
+    }
+    if nest.depth() > DEEPEST {
+        return Err(Syntax::TooDeep { token: at as u32 });
+    }
+    Ok(at + 1)
+}
+
+// Reads the token at a place.
+#[inline(always)]
+fn single(nest: &mut Nest, stage: &mut Stage, tokens: &[Token], at: usize) -> Result<usize, Syntax>
+    requires few { length tokens.now < 2 ^ 32 }
+    requires within { at < length tokens.now }
+    requires holds { Holds stage.old nest.old.0 }
+    requires low { spec.depth nest.old.1 ≤ limit }
+    ensures advances { IfOk result (λ next. Advances (marks 0 tokens.now) at next (state_of stage.old nest.old.0, nest.old.1) (state_of stage.new nest.new.0, nest.new.1)) }
+    ensures holds { OnOk result (Holds stage.new nest.new.0) }
+    ensures fails { IfErr result (λ fault. FailsAt fault (marks 0 tokens.now) at (state_of stage.old nest.old.0, nest.old.1)) }
+{
+    let made = step(nest, stage, at as u32, &tokens[at]);
+    moved(nest, made, at)
+}
+
+// Reads the token at a place with the one behind it, or alone where they are no pair.
+#[inline(always)]
+fn ahead(nest: &mut Nest, stage: &mut Stage, tokens: &[Token], at: usize) -> Result<usize, Syntax>
+    requires few { length tokens.now < 2 ^ 32 }
+    requires within { at + 1 < length tokens.now }
+    requires holds { Holds stage.old nest.old.0 }
+    requires low { spec.depth nest.old.1 ≤ limit }
+    ensures advances { IfOk result (λ next. Advances (marks 0 tokens.now) at next (state_of stage.old nest.old.0, nest.old.1) (state_of stage.new nest.new.0, nest.new.1)) }
+    ensures holds { OnOk result (Holds stage.new nest.new.0) }
+    ensures fails { IfErr result (λ fault. FailsAt fault (marks 0 tokens.now) at (state_of stage.old nest.old.0, nest.old.1)) }
+{
+    let first = &tokens[at];
+    let second = &tokens[at + 1];
+    let look = look_of(second);
+    match skip_pair(nest, stage, at as u32, first, look, second) {
+        Ok(true) => return Ok(at + 2),
+        Ok(false) => {}
+        Err(_) => return Err(Syntax::Memory),
+    }
+    if is_word(first.kind) && begins(stage) {
+        let made = word_on(nest, stage, at as u32, first, look, second);
+        return moved(nest, made, at + 1);
+    }
+    single(nest, stage, tokens, at)
+}
+
+// Reads the token at a place, or two of them at once. Answers the place behind them.
+#[inline(always)]
+fn advance(nest: &mut Nest, stage: &mut Stage, tokens: &[Token], at: usize) -> Result<usize, Syntax>
+    requires few { length tokens.now < 2 ^ 32 }
+    requires within { at < length tokens.now }
+    requires holds { Holds stage.old nest.old.0 }
+    requires low { spec.depth nest.old.1 ≤ limit }
+    ensures advances { IfOk result (λ next. Advances (marks 0 tokens.now) at next (state_of stage.old nest.old.0, nest.old.1) (state_of stage.new nest.new.0, nest.new.1)) }
+    ensures holds { OnOk result (Holds stage.new nest.new.0) }
+    ensures fails { IfErr result (λ fault. FailsAt fault (marks 0 tokens.now) at (state_of stage.old nest.old.0, nest.old.1)) }
+{
+    if looks_ahead(stage, &tokens[at]) && 1 < tokens.len() - at {
+        return ahead(nest, stage, tokens, at);
+    }
+    single(nest, stage, tokens, at)
+}
+
 fn read(alloc: Global, tokens: &[Token]) -> Result<Branches, Syntax>
     requires { length tokens.now < 2 ^ 32 }
     ensures { Reaches result (marks 0 tokens.now) (spec.reading (marks 0 tokens.now)) }
 {
     let mut nest = Nest::new(alloc);
     let mut stage = Stage::Sequence;
-    for (at, token) in tokens.iter().enumerate() {
-        stage = match step(&mut nest, stage, at as u32, token) {
-            Ok(next) => next,
-            Err(Refusal::Refused) => return Err(Syntax::Stop { token: at as u32 }),
-            Err(Refusal::Memory) => return Err(Syntax::Memory),
-        };
-        if nest.depth() > DEEPEST {
-            return Err(Syntax::TooDeep { token: at as u32 });
+    let mut at = 0;
+    while at < tokens.len() {
+        match advance(&mut nest, &mut stage, tokens, at) {
+            Ok(next) => at = next,
+            Err(fault) => return Err(fault),
         }
     }
     match finish(&mut nest, stage) {

@@ -12,24 +12,24 @@ use Rattle.asl_macros.specs.History.{History}
 use Rattle.asl_directives.specs.declared.kind.Kind.{Kind}
 use Rattle.asl_directives.specs.declared.kind.Kind.TheVariants as k
 use Rattle.asl_directives.specs.declared.branches.Branch.{Branch}
-use Rattle.asl_directives.specs.Forms.{Asked, name_alone, definition_of, message_of, include_of, file_name_of}
+use Rattle.asl_directives.specs.Forms.{IncludedFile, name_alone, definition_of, message_of, include_of, file_name_of}
 use Rattle.asl_directives.specs.Branches.{is_read, asks, at_else, at_end_if}
 use Rattle.asl_directives.specs.Words.{trimmed, blanks_before, word_of, behind_word}
 use Rattle.asl_directives.specs.Kinds.{is_conditional, kind_of}
 use Rattle.asl_fragments.specs.Fragments.{ends_in_comment, without_comments}
 use Rattle.asl_preprocess.specs.Rows.{Row, Directive, Ordinary}
 use Rattle.asl_preprocess.specs.State.{State, Pass, Outcome, stopped, message_at, at, total_size, with_lines, with_history}
-use Rattle.asl_preprocess.specs.Lines.{Deed, Goes, Asks, goes, with_line, text_left, asked_by_line, word_place, asks_for, of_asked, of_line}
+use Rattle.asl_preprocess.specs.Lines.{RowEffect, Goes, Asks, goes, with_line, text_left, asked_by_line, word_place, asks_for, of_asked, of_line}
 use Rattle.asl_preprocess.specs.Directives as d
 use Rattle.asl_preprocess.specs.Preprocess.{of_row}
 use Rattle.asl_preprocess.specs.Sound.{IsSound, IsGoodLine, IsGoodNote}
 
-abbrev pub FineDeed : ℕ → State → Deed → Type 0
-FineDeed file state (Goes pass) = IsSound pass.state × (pass.state.files ≡ state.files)
-FineDeed file state (Asks asked place pass) = (place.file ≡ file) × IsSound pass.state × (pass.state.files ≡ state.files)
+abbrev pub FineEffect : ℕ → State → RowEffect → Type 0
+FineEffect file state (Goes pass) = IsSound pass.state × (pass.state.files ≡ state.files)
+FineEffect file state (Asks asked place pass) = (place.file ≡ file) × IsSound pass.state × (pass.state.files ≡ state.files)
 
-abbrev pub Fine : ℕ → State → Outcome Deed → Type 0
-Fine file state (Ok deed) = FineDeed file state deed
+abbrev pub Fine : ℕ → State → Outcome RowEffect → Type 0
+Fine file state (Ok effect) = FineEffect file state effect
 Fine file state (Err stop) = (stop.0.place.file ≡ file) × (stop.1 ≡ state.files)
 
 All_one : {X : Type 0} (P : X → Type 0) (x : X) → P x → All P (x ∷ [])
@@ -128,7 +128,7 @@ module _ (file : ℕ) (pass : Pass) (sound : IsSound pass.state) (known : file <
     fine_else_if rest (Some false) = (sound, refl)
     fine_else_if rest (Some true) = fine_turns_if (d.truth_of pass.state.history rest)
 
-    fine_includes : (o : Option Asked) → Fine file pass.state (d.includes place pass o)
+    fine_includes : (o : Option IncludedFile) → Fine file pass.state (d.includes place pass o)
     fine_includes None = (here, refl)
     fine_includes (Some asked) = (here, sound, refl)
 

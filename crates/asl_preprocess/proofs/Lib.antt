@@ -12,3 +12,6 @@ pub mod Starts
 pub mod Mains
 mod Worked
 pub mod Plain
+pub mod Everywhere
+pub mod Unmarked
+pub mod OwnName

@@ -5,14 +5,14 @@ use Rattle.std.specs.Result.{IfErr}
 use Rattle.iasl_ports.specs.Gained.{Named}
 use Rattle.asl_directives.specs.declared.branches.Branch.{Branch}
 use Rattle.asl_preprocess.specs.declared.work.Work.{Work}
-use Rattle.asl_preprocess.specs.declared.halt.Halt.{Halt}
-use Rattle.asl_preprocess.specs.declared.halt.Halt.TheVariants.{At, ReadFault, Memory}
+use Rattle.asl_preprocess.specs.declared.stop.ReadingStop.{ReadingStop}
+use Rattle.asl_preprocess.specs.declared.stop.ReadingStop.TheVariants.{At, ReadFault, Memory}
 use Rattle.asl_preprocess.specs.Rows.{Row, rows_of}
 use Rattle.asl_preprocess.specs.State.{State, Pass, Outcome, then, number_of}
 use Rattle.asl_preprocess.specs.Preprocess.{setting_of, reading_at, of_row, done, of_rows, at_end, of_file}
 use Rattle.asl_preprocess.specs.Told.{Shows}
 use Rattle.asl_preprocess.specs.Sound.{IsSound}
-use Rattle.asl_preprocess.specs.Reached.{Stands, StandsIn, StopsAt, Reaches, Ends, Counts}
+use Rattle.asl_preprocess.specs.Reached.{Stands, StandsIn, StopsAt, Reaches, EndsFile, Counts}
 
 abbrev pub first_pass : State → Pass
 first_pass state = record { state = state; branches = [] }
@@ -64,9 +64,9 @@ module _ (contents : Option (List Named)) (directories : List (List ℕ)) (enabl
       same = λ told h. left_by told h ∙ ap (λ o. then o (left_of directories enabled levels file own told rest)) (is told h);
     }
 
-    pub passed_stops : (halt : Halt) (files : List (List ℕ)) (bytes : List ℕ) → all ≡ rows_of enabled bytes → file ≡ number_of own state.files
-        → StopsAt halt contents files (λ told. one_of directories enabled levels file own told row here)
-        → StopsAt halt contents files (λ told. of_file (setting_of told directories enabled) levels state own bytes)
+    pub passed_stops : (stop : ReadingStop) (files : List (List ℕ)) (bytes : List ℕ) → all ≡ rows_of enabled bytes → file ≡ number_of own state.files
+        → StopsAt stop contents files (λ told. one_of directories enabled levels file own told row here)
+        → StopsAt stop contents files (λ told. of_file (setting_of told directories enabled) levels state own bytes)
     passed_stops (At message) files bytes a f stops = (
       stops.0,
       λ told h.
@@ -88,7 +88,7 @@ module _ (contents : Option (List Named)) (directories : List (List ℕ)) (enabl
       ∙ ap (λ (b : List Branch). at_end file (record { state = p.now.state; branches = b })) (sym p.stands_in.branches_are)
 
   pub passed_end : {work : Work} {branches : List Branch} {state : State} {all left : List Row} (p : Passed contents directories enabled levels file own work branches state all left) (bytes : List ℕ) → left ≡ [] → all ≡ rows_of enabled bytes → file ≡ number_of own state.files → file < length state.files
-      → (result : Result (Unit {0}) Halt) (files : List (List ℕ)) → work.files ≡ files → Ends result file (at_end file (record { state = p.now.state; branches = branches })) p.now.state
+      → (result : Result (Unit {0}) ReadingStop) (files : List (List ℕ)) → work.files ≡ files → EndsFile result file (at_end file (record { state = p.now.state; branches = branches })) p.now.state
       → Reaches result contents files (λ later. Stands work later (length state.files)) (λ told. of_file (setting_of told directories enabled) levels state own bytes)
   passed_end p bytes e a f known (Ok u) files w ends = (p.now.state, p.stands_in.stands, λ told h. passed_all p bytes e a f told h ∙ ends)
   passed_end {work} {branches} {state} p bytes e a f known (Err (At message)) files w ends =
@@ -98,7 +98,7 @@ module _ (contents : Option (List Named)) (directories : List (List ℕ)) (enabl
   passed_end p bytes e a f known (Err Memory) files w ends = tt
 
 -- the count of faults stays where rows end
-pub end_counts : (r : Result (Unit {0}) Halt) (file : ℕ) (outcome : Outcome State) (state : State) (before now : ℕ) → now ≡ before → Ends r file outcome state → IfErr r (λ halt. Counts halt before now)
+pub end_counts : (r : Result (Unit {0}) ReadingStop) (file : ℕ) (outcome : Outcome State) (state : State) (before now : ℕ) → now ≡ before → EndsFile r file outcome state → IfErr r (λ stop. Counts stop before now)
 end_counts (Ok u) file outcome state before now e h = tt
 end_counts (Err (At message)) file outcome state before now e h = e
 end_counts (Err ReadFault) file outcome state before now e h = absurd h.0

@@ -7,17 +7,17 @@ use Rattle.iasl_ports.specs.Gained.{Named}
 use Rattle.iasl_ports.specs.Fetched.{same_name}
 use Rattle.iasl_messages.specs.declared.place.Place.{Place}
 use Rattle.asl_directives.specs.declared.branches.Branch.{Branch}
-use Rattle.asl_directives.specs.Forms.{Asked}
+use Rattle.asl_directives.specs.Forms.{IncludedFile}
 use Rattle.asl_preprocess.specs.declared.work.Work.{Work}
 use Rattle.asl_preprocess.specs.declared.directives.Wanted.{Wanted}
-use Rattle.asl_preprocess.specs.declared.halt.Halt.{Halt}
-use Rattle.asl_preprocess.specs.declared.halt.Halt.TheVariants.{At, ReadFault, Memory}
+use Rattle.asl_preprocess.specs.declared.stop.ReadingStop.{ReadingStop}
+use Rattle.asl_preprocess.specs.declared.stop.ReadingStop.TheVariants.{At, ReadFault, Memory}
 use Rattle.asl_preprocess.specs.Rows.{Row}
-use Rattle.asl_preprocess.specs.Search.{Found, Missing, Large, Whole, search, names_for}
+use Rattle.asl_preprocess.specs.Search.{SearchResult, Missing, Large, Whole, search, names_for}
 use Rattle.asl_preprocess.specs.State.{State, Pass, Outcome, then, with_file, with_files}
-use Rattle.asl_preprocess.specs.Lines.{Deed, Goes, Asks}
+use Rattle.asl_preprocess.specs.Lines.{RowEffect, Goes, Asks}
 use Rattle.asl_preprocess.specs.Preprocess.{Setting, setting_of, reading_at, of_row, of_file, in_pass, included, read_found, done}
-use Rattle.asl_preprocess.specs.Told.{Shows, Halts, ShowsGoing, ShowsAsking, asked_for}
+use Rattle.asl_preprocess.specs.Told.{Shows, StopsWith, ShowsGoing, ShowsAsking, asked_for}
 use Rattle.asl_preprocess.specs.Searching.{SeekStops, RefusesFound}
 use Rattle.asl_preprocess.specs.Sound.{IsSound}
 use Rattle.asl_preprocess.specs.Reached.{Stands, StandsIn, StopsAt, Reaches}
@@ -25,14 +25,14 @@ use Rattle.asl_preprocess.proofs.Fine.{Fine, fine_row}
 use Rattle.asl_preprocess.proofs.Passing.{one_of}
 
 -- the same in other words
-pub reaches_by : {X : Type 0} (r : Result (Unit {0}) Halt) (contents contents' : Option (List Named)) (files : List (List ℕ)) (Is Is' : X → Type 0) (f f' : List Named → Outcome X)
+pub reaches_by : {X : Type 0} (r : Result (Unit {0}) ReadingStop) (contents contents' : Option (List Named)) (files : List (List ℕ)) (Is Is' : X → Type 0) (f f' : List Named → Outcome X)
     → contents' ≡ contents → ((x : X) → Is' x → Is x) → ((told : List Named) → contents ≡ Some told → f told ≡ f' told) → Reaches r contents' files Is' f' → Reaches r contents files Is f
 reaches_by (Ok u) contents contents' files Is Is' f f' e weak same h = (h.0, weak h.0 h.1, λ told k. same told k ∙ h.2 told (e ∙ k))
 reaches_by (Err (At message)) contents contents' files Is Is' f f' e weak same h = (h.0, λ told k. same told k ∙ h.1 told (e ∙ k))
 reaches_by (Err ReadFault) contents contents' files Is Is' f f' e weak same h = tt
 reaches_by (Err Memory) contents contents' files Is Is' f f' e weak same h = tt
 
-pub stops_by : {X : Type 0} (halt : Halt) (contents contents' : Option (List Named)) (files : List (List ℕ)) (f : List Named → Outcome X) → contents' ≡ contents → StopsAt halt contents' files f → StopsAt halt contents files f
+pub stops_by : {X : Type 0} (stop : ReadingStop) (contents contents' : Option (List Named)) (files : List (List ℕ)) (f : List Named → Outcome X) → contents' ≡ contents → StopsAt stop contents' files f → StopsAt stop contents files f
 stops_by (At message) contents contents' files f e h = (h.0, λ told k. h.1 told (e ∙ k))
 stops_by ReadFault contents contents' files f e h = tt
 stops_by Memory contents contents' files f e h = tt
@@ -59,7 +59,7 @@ module _ (contents : Option (List Named)) (directories : List (List ℕ)) (enabl
     abbrev pass : Pass
     pass = record { state = state; branches = branches }
 
-    abbrev outcome : Outcome Deed
+    abbrev outcome : Outcome RowEffect
     outcome = of_row enabled file row pass
 
     abbrev one : List Named → Outcome Pass
@@ -69,7 +69,7 @@ module _ (contents : Option (List Named)) (directories : List (List ℕ)) (enabl
     pub row_goes : (work' : Work) (branches' : List Branch) (files : List (List ℕ)) → IsOkAnd outcome (ShowsGoing work' branches') → Reaches (Ok tt) contents files (λ later. StandsIn work' branches' later (length state.files)) one
     row_goes work' branches' files h = by_outcome outcome refl (fine_row file pass sound known enabled row) h
       where
-        by_outcome : (o : Outcome Deed) → outcome ≡ o → Fine file state o → IsOkAnd o (ShowsGoing work' branches') → Reaches (Ok tt) contents files (λ later. StandsIn work' branches' later (length state.files)) one
+        by_outcome : (o : Outcome RowEffect) → outcome ≡ o → Fine file state o → IsOkAnd o (ShowsGoing work' branches') → Reaches (Ok tt) contents files (λ later. StandsIn work' branches' later (length state.files)) one
         by_outcome (Ok (Goes later)) e fine h = (
           later,
           record { stands = record { shows = h.0; sound = fine.0; grows = omega (arith, ap length fine.1) }; branches_are = h.1 },
@@ -79,9 +79,9 @@ module _ (contents : Option (List Named)) (directories : List (List ℕ)) (enabl
         by_outcome (Err stop) e fine h = absurd h
 
     -- a stop
-    pub row_stops : (halt : Halt) (files : List (List ℕ)) → Halts halt files outcome → StopsAt halt contents files one
+    pub row_stops : (stop : ReadingStop) (files : List (List ℕ)) → StopsWith stop files outcome → StopsAt stop contents files one
     row_stops (At message) files h =
-        let F : Outcome Deed → Type 0 = λ o. Fine file state o in
+        let F : Outcome RowEffect → Type 0 = λ o. Fine file state o in
         let fine : Fine file state (Err (message, files)) = subst F h (fine_row file pass sound known enabled row) in
         (omega (arith, fine.0, ap length fine.1), λ told k. ap (λ o. then o (done (reading_at (setting told) levels) (setting told) own)) h)
     row_stops ReadFault files h = absurd h
@@ -93,14 +93,14 @@ module _ (contents : Option (List Named)) (directories : List (List ℕ)) (enabl
       pub shows : Shows work' now
       pub is_sound : IsSound now
       pub within : wanted.place.file < length now.files
-      pub next : (r : Result (Unit {0}) Halt) (files : List (List ℕ)) (work2 : Work)
+      pub next : (r : Result (Unit {0}) ReadingStop) (files : List (List ℕ)) (work2 : Work)
           → Reaches r contents files (λ later. Stands work2 later (length now.files)) (λ told. included (reading_at (setting told) levels) (setting told) own (asked_for wanted) wanted.place now)
           → Reaches r contents files (λ later. StandsIn work2 branches' later (length state.files)) one
 
     pub row_asks : (work' : Work) (branches' : List Branch) (wanted : Wanted) → IsOkAnd outcome (ShowsAsking wanted work' branches') → Asking work' branches' wanted
     row_asks work' branches' wanted h = by_outcome outcome refl (fine_row file pass sound known enabled row) h
       where
-        by_outcome : (o : Outcome Deed) → outcome ≡ o → Fine file state o → IsOkAnd o (ShowsAsking wanted work' branches') → Asking work' branches' wanted
+        by_outcome : (o : Outcome RowEffect) → outcome ≡ o → Fine file state o → IsOkAnd o (ShowsAsking wanted work' branches') → Asking work' branches' wanted
         by_outcome (Ok (Goes later)) e fine h = absurd h
         by_outcome (Err stop) e fine h = absurd h
         by_outcome (Ok (Asks asked place later)) e fine h = record {
@@ -114,10 +114,10 @@ module _ (contents : Option (List Named)) (directories : List (List ℕ)) (enabl
             same : (told : List Named) → one told ≡ in_pass later (included (reading_at (setting told) levels) (setting told) own (asked_for wanted) wanted.place later.state)
             same told =
                 ap (λ o. then o (done (reading_at (setting told) levels) (setting told) own)) e
-                ∙ ap (λ (a : Asked). in_pass later (included (reading_at (setting told) levels) (setting told) own a place later.state)) (sym h.0)
+                ∙ ap (λ (a : IncludedFile). in_pass later (included (reading_at (setting told) levels) (setting told) own a place later.state)) (sym h.0)
                 ∙ ap (λ (p : Place). in_pass later (included (reading_at (setting told) levels) (setting told) own (asked_for wanted) p later.state)) (sym h.1)
 
-            go : (r : Result (Unit {0}) Halt) (files : List (List ℕ)) (work2 : Work)
+            go : (r : Result (Unit {0}) ReadingStop) (files : List (List ℕ)) (work2 : Work)
                 → Reaches r contents files (λ later'. Stands work2 later' (length later.state.files)) (λ told. included (reading_at (setting told) levels) (setting told) own (asked_for wanted) wanted.place later.state)
                 → Reaches r contents files (λ later'. StandsIn work2 branches' later' (length state.files)) one
             go (Ok u) files work2 g = (
@@ -139,14 +139,14 @@ module _ (contents : Option (List Named)) (directories : List (List ℕ)) (enabl
         let e : levels ≡ suc (levels - 1) = omega arith in
         ap (λ n. included (reading_at (setting told) n) (setting told) own (asked_for wanted) wanted.place state) e
 
-    pub seek_stops : (halt : Halt) (old new : List (List ℕ)) → old ≡ state.files → wanted.place.file < length state.files
-        → SeekStops halt wanted old new contents (λ told. search told (names_for directories own (asked_for wanted)))
-        → StopsAt halt contents new (λ told. included (reading_at (setting told) levels) (setting told) own (asked_for wanted) wanted.place state)
+    pub seek_stops : (stop : ReadingStop) (old new : List (List ℕ)) → old ≡ state.files → wanted.place.file < length state.files
+        → SeekStops stop wanted old new contents (λ told. search told (names_for directories own (asked_for wanted)))
+        → StopsAt stop contents new (λ told. included (reading_at (setting told) levels) (setting told) own (asked_for wanted) wanted.place state)
     seek_stops (At message) old new f known h =
         let same : new ≡ state.files = h.1 ∙ f in
         (omega (arith, h.0, ap length same, known), λ told k. looks told ∙ by_found told (search told (names_for directories own (asked_for wanted))) (h.2 told k) ∙ ap (λ names. Err (message, names)) (sym same))
       where
-        by_found : (told : List Named) (found : Found) → RefusesFound message wanted found → read_found (of_file (setting told) (levels - 1)) (asked_for wanted) wanted.place state found ≡ Err (message, state.files)
+        by_found : (told : List Named) (found : SearchResult) → RefusesFound message wanted found → read_found (of_file (setting told) (levels - 1)) (asked_for wanted) wanted.place state found ≡ Err (message, state.files)
         by_found told Missing h = ap (λ m. Err (m, state.files)) (sym h)
         by_found told Large h = ap (λ m. Err (m, state.files)) (sym h)
         by_found told (Whole name bytes) h = absurd h

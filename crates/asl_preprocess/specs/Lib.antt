@@ -1,5 +1,6 @@
 pub mod Rows
 pub mod Cuts
+pub mod OwnName
 pub mod Search
 pub mod State
 pub mod Lines

@@ -9,23 +9,23 @@ use Rattle.iasl_messages.specs.declared.place.Line.{Line}
 use Rattle.asl_fragments.specs.Fragments.{ends_in_comment, without_comments}
 use Rattle.asl_macros.specs.History.{History}
 use Rattle.asl_macros.specs.Replacement.{replaced}
-use Rattle.asl_macros.specs.declared.spot.Within.TheVariants.{InLine}
+use Rattle.asl_macros.specs.declared.context.Within.TheVariants.{InLine}
 use Rattle.asl_directives.specs.Words.{blanks_before, past_blanks}
-use Rattle.asl_directives.specs.Forms.{Asked, file_name_of, include_line}
+use Rattle.asl_directives.specs.Forms.{IncludedFile, file_name_of, include_line}
 use Rattle.asl_directives.specs.Branches.{is_read}
 use Rattle.asl_preprocess.specs.State.{State, Pass, Outcome, at, stopped, total_size, with_lines}
 
 -- What a row does: what is known behind it, or that a file is asked for at a place.
-pub data Deed : Type 0 where
-  Goes : Pass → Deed
-  Asks : Asked → Place → Pass → Deed
+pub data RowEffect : Type 0 where
+  Goes : Pass → RowEffect
+  Asks : IncludedFile → Place → Pass → RowEffect
 
 -- with a state in place of the former one
-abbrev pub goes : Pass → State → Outcome Deed
+abbrev pub goes : Pass → State → Outcome RowEffect
 goes pass state = Ok (Goes (record { state = state; branches = pass.branches }))
 
 -- a line more, where the lines joined by LF then have at most 16 MiB; else it is the first stop, in column 1
-abbrev pub with_line : Pass → Line → Outcome Deed
+abbrev pub with_line : Pass → Line → Outcome RowEffect
 with_line pass line =
     cond (nat_le (total_size (pass.state.lines ++ line ∷ [])) (most_bytes + 1))
     (goes pass (with_lines pass.state (pass.state.lines ++ line ∷ [])))
@@ -60,15 +60,15 @@ word_place file n text = at file n (blanks_before (without_comments false text) 
 abbrev pub with_column : List ℕ → Option (ℕ × List ℕ)
 with_column text = option_map (λ name. (blanks_before text + 1, name)) (include_line text)
 
-abbrev pub asks_for : Place → Pass → Option (List ℕ) → Outcome Deed
+abbrev pub asks_for : Place → Pass → Option (List ℕ) → Outcome RowEffect
 asks_for place pass None = stopped pass.state 6003 place []
 asks_for place pass (Some name) = Ok (Asks (record { quoted = true; name = name }) place pass)
 
-abbrev pub of_asked : Bool → ℕ → ℕ → Bool → List ℕ → Pass → Option (List ℕ) → Outcome Deed
+abbrev pub of_asked : Bool → ℕ → ℕ → Bool → List ℕ → Pass → Option (List ℕ) → Outcome RowEffect
 of_asked enabled file n in_comment text pass (Some name) = asks_for (word_place file n text) pass (file_name_of name)
 of_asked enabled file n in_comment text pass None = with_line pass (record { file = file; number = n; text = text_left enabled pass.state.history in_comment text })
 
 -- a line of the file with this number
-abbrev pub of_line : Bool → ℕ → ℕ → Bool → List ℕ → Pass → Outcome Deed
+abbrev pub of_line : Bool → ℕ → ℕ → Bool → List ℕ → Pass → Outcome RowEffect
 of_line enabled file n in_comment text pass =
     cond (is_read pass.branches) (of_asked enabled file n in_comment text pass (asked_by_line in_comment text)) (Ok (Goes pass))

@@ -6,14 +6,14 @@ use Rattle.iasl_messages.specs.declared.place.Place.{Place}
 use Rattle.iasl_messages.specs.declared.place.Line.{Line}
 use Rattle.iasl_messages.specs.declared.message.Message.{Message}
 use Rattle.asl_macros.specs.History.{History, Definition, Defines}
-use Rattle.asl_directives.specs.Forms.{Asked}
+use Rattle.asl_directives.specs.Forms.{IncludedFile}
 use Rattle.asl_directives.specs.Branches.{outermost}
 use Rattle.asl_directives.specs.declared.branches.Branch.{Branch}
 use Rattle.asl_preprocess.specs.declared.define.Define.{Define}
 use Rattle.asl_preprocess.specs.Rows.{Row, Directive, Ordinary, rows_of}
-use Rattle.asl_preprocess.specs.Search.{Found, Missing, Large, Whole, names_for, search}
+use Rattle.asl_preprocess.specs.Search.{SearchResult, Missing, Large, Whole, names_for, search}
 use Rattle.asl_preprocess.specs.State.{State, Pass, Outcome, then, at, message_at, stopped, number_of, with_file, with_files}
-use Rattle.asl_preprocess.specs.Lines.{Deed, Goes, Asks, of_line}
+use Rattle.asl_preprocess.specs.Lines.{RowEffect, Goes, Asks, of_line}
 use Rattle.asl_preprocess.specs.Directives.{of_directive}
 
 -- the files that there are, the further directories, and whether the preprocessor is enabled
@@ -27,19 +27,19 @@ abbrev pub Reading : Type 0
 Reading = Option (State → List ℕ → List ℕ → Outcome State)
 
 -- what a row of the file with this number does
-abbrev pub of_row : Bool → ℕ → Row → Pass → Outcome Deed
+abbrev pub of_row : Bool → ℕ → Row → Pass → Outcome RowEffect
 of_row enabled file (Directive n text) pass = of_directive file n text pass
 of_row enabled file (Ordinary n in_comment text) pass = of_line enabled file n in_comment text pass
 
 -- a file that was found is read in place of the line that asks for it
-abbrev pub read_found : (State → List ℕ → List ℕ → Outcome State) → Asked → Place → State → Found → Outcome State
+abbrev pub read_found : (State → List ℕ → List ℕ → Outcome State) → IncludedFile → Place → State → SearchResult → Outcome State
 read_found read asked place state Missing = stopped state 6001 place asked.name
 read_found read asked place state Large = stopped state 6007 (at place.file place.line 1) []
 read_found read asked place state (Whole name bytes) =
     read (with_files state (with_file name state.files)) name bytes
 
 -- the file that the file of the name `own` asks for; too deep a one is not looked for
-abbrev pub included : Reading → Setting → List ℕ → Asked → Place → State → Outcome State
+abbrev pub included : Reading → Setting → List ℕ → IncludedFile → Place → State → Outcome State
 included None setting own asked place state = stopped state 6002 place asked.name
 included (Some read) setting own asked place state = read_found read asked place state (search setting.told (names_for setting.directories own asked))
 
@@ -47,7 +47,7 @@ abbrev pub in_pass : Pass → Outcome State → Outcome Pass
 in_pass pass (Ok state) = Ok (record { state = state; branches = pass.branches })
 in_pass pass (Err stop) = Err stop
 
-abbrev pub done : Reading → Setting → List ℕ → Deed → Outcome Pass
+abbrev pub done : Reading → Setting → List ℕ → RowEffect → Outcome Pass
 done reading setting own (Goes pass) = Ok pass
 done reading setting own (Asks asked place pass) = in_pass pass (included reading setting own asked place pass.state)
 

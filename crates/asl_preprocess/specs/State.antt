@@ -34,11 +34,11 @@ pub record Pass : Type 0 where
   pub branches : List Branch
 
 -- a first stop: its message, and the names of the files that were fetched so far
-abbrev pub Stop : Type 0
-Stop = Message × List (List ℕ)
+abbrev pub FirstStop : Type 0
+FirstStop = Message × List (List ℕ)
 
 abbrev pub Outcome : Type 0 → Type 0
-Outcome X = Result X Stop
+Outcome X = Result X FirstStop
 
 -- one thing and then another, up to the first stop
 abbrev pub then : {X Y : Type 0} → Outcome X → (X → Outcome Y) → Outcome Y

@@ -7,7 +7,7 @@ ghost use Rattle.asl_preprocess.specs.State.{State, message_at};
 ghost use Rattle.asl_preprocess.specs.Directives as spec;
 ghost use Rattle.asl_preprocess.specs.Told.{Shows, Refuses, Tests, Steps, Does, Includes};
 
-use crate::halt::{Halt, refusal};
+use crate::stop::{ReadingStop, refusal};
 use crate::work::Work;
 use asl_conditions::{ConditionStop, condition};
 use asl_directives::branches::{BranchFault, Branches};
@@ -31,19 +31,19 @@ pub(crate) struct Wanted {
     pub(crate) place: Place,
 }
 
-fn wrong(alloc: Global, place: Place) -> Halt
+fn wrong(alloc: Global, place: Place) -> ReadingStop
     ensures { Refuses result (message_at 6003 place []) }
 {
     refusal(alloc, BAD_DIRECTIVE, place, b"")
 }
 
-fn unbalanced(alloc: Global, place: Place) -> Halt
+fn unbalanced(alloc: Global, place: Place) -> ReadingStop
     ensures { Refuses result (message_at 6004 place []) }
 {
     refusal(alloc, UNBALANCED_CONDITIONALS, place, b"")
 }
 
-fn define(alloc: Global, work: &mut Work, place: Place, rest: &[u8]) -> Result<(), Halt>
+fn define(alloc: Global, work: &mut Work, place: Place, rest: &[u8]) -> Result<(), ReadingStop>
     ensures { (state : State) (branches : List Branch) → Shows work.old state → Steps result work.new branches (spec.defines place (record { state = state; branches = branches }) (definition_in rest.now)) }
 {
     match definition_of(rest) {
@@ -55,7 +55,7 @@ fn define(alloc: Global, work: &mut Work, place: Place, rest: &[u8]) -> Result<(
     }
 }
 
-fn undefine(alloc: Global, work: &mut Work, place: Place, rest: &[u8]) -> Result<(), Halt>
+fn undefine(alloc: Global, work: &mut Work, place: Place, rest: &[u8]) -> Result<(), ReadingStop>
     ensures { (state : State) (branches : List Branch) → Shows work.old state → Steps result work.new branches (spec.undefines place (record { state = state; branches = branches }) (name_in rest.now)) }
 {
     match name_alone(rest) {
@@ -68,17 +68,22 @@ fn undefine(alloc: Global, work: &mut Work, place: Place, rest: &[u8]) -> Result
 }
 
 // The value of a condition.
-fn test(alloc: Global, work: &Work, place: Place, rest: &[u8]) -> Result<bool, Halt>
+fn test(alloc: Global, work: &Work, place: Place, rest: &[u8]) -> Result<bool, ReadingStop>
     ensures { (state : State) → Shows work.now state → Tests result (message_at 6006 place []) (spec.truth_of state.history rest.now) }
 {
     match condition(alloc, &work.macros, rest) {
         Ok(value) => Ok(value != 0),
         Err(ConditionStop::Bad) => Err(refusal(alloc, BAD_CONDITION, place, b"")),
-        Err(ConditionStop::Memory) => Err(Halt::Memory),
+        Err(ConditionStop::Memory) => Err(ReadingStop::Memory),
     }
 }
 
-fn open_branch(work: &Work, branches: &mut Branches, place: Place, value: bool) -> Result<(), Halt>
+fn open_branch(
+    work: &Work,
+    branches: &mut Branches,
+    place: Place,
+    value: bool,
+) -> Result<(), ReadingStop>
     ensures { (state : State) → Shows work.now state → Steps result work.now branches.new (spec.opens place (record { state = state; branches = branches.old }) value) }
 {
     branches.open(place.line, place.column, value)?;
@@ -91,12 +96,12 @@ fn open_if(
     branches: &mut Branches,
     place: Place,
     rest: &[u8],
-) -> Result<(), Halt>
+) -> Result<(), ReadingStop>
     ensures { (state : State) → Shows work.now state → Steps result work.now branches.new (spec.opens_if place (record { state = state; branches = branches.old }) (spec.truth_of state.history rest.now)) }
 {
     match test(alloc, work, place, rest) {
         Ok(value) => open_branch(work, branches, place, value),
-        Err(halt) => Err(halt),
+        Err(stop) => Err(stop),
     }
 }
 
@@ -116,7 +121,7 @@ fn open_defined(
     sign: bool,
     place: Place,
     rest: &[u8],
-) -> Result<(), Halt>
+) -> Result<(), ReadingStop>
     ensures { (state : State) → Shows work.now state → Steps result work.now branches.new (spec.opens_defined sign place (record { state = state; branches = branches.old }) (name_in rest.now)) }
 {
     match name_alone(rest) {
@@ -128,7 +133,7 @@ fn open_defined(
     }
 }
 
-fn turn(work: &Work, branches: &mut Branches, value: bool) -> Result<(), Halt>
+fn turn(work: &Work, branches: &mut Branches, value: bool) -> Result<(), ReadingStop>
     ensures { (state : State) → Shows work.now state → Steps result work.now branches.new (spec.turns_to (record { state = state; branches = branches.old }) value) }
 {
     branches.else_if(value)?;
@@ -141,12 +146,12 @@ fn turn_if(
     branches: &mut Branches,
     place: Place,
     rest: &[u8],
-) -> Result<(), Halt>
+) -> Result<(), ReadingStop>
     ensures { (state : State) → Shows work.now state → Steps result work.now branches.new (spec.turns_if place (record { state = state; branches = branches.old }) (spec.truth_of state.history rest.now)) }
 {
     match test(alloc, work, place, rest) {
         Ok(value) => turn(work, branches, value),
-        Err(halt) => Err(halt),
+        Err(stop) => Err(stop),
     }
 }
 
@@ -156,7 +161,7 @@ fn else_if(
     branches: &mut Branches,
     place: Place,
     rest: &[u8],
-) -> Result<(), Halt>
+) -> Result<(), ReadingStop>
     ensures { (state : State) → Shows work.now state → Steps result work.now branches.new (spec.obeyed Kind.ElseIf place rest.now (record { state = state; branches = branches.old })) }
 {
     match branches.asks() {
@@ -166,17 +171,27 @@ fn else_if(
     }
 }
 
-fn else_(alloc: Global, work: &Work, branches: &mut Branches, place: Place) -> Result<(), Halt>
+fn else_(
+    alloc: Global,
+    work: &Work,
+    branches: &mut Branches,
+    place: Place,
+) -> Result<(), ReadingStop>
     ensures { (state : State) → Shows work.now state → Steps result work.now branches.new (spec.balanced place (record { state = state; branches = branches.old }) (at_else branches.old)) }
 {
     match branches.else_() {
         Ok(()) => Ok(()),
         Err(BranchFault::Unbalanced) => Err(unbalanced(alloc, place)),
-        Err(BranchFault::Memory) => Err(Halt::Memory),
+        Err(BranchFault::Memory) => Err(ReadingStop::Memory),
     }
 }
 
-fn end_if(alloc: Global, work: &Work, branches: &mut Branches, place: Place) -> Result<(), Halt>
+fn end_if(
+    alloc: Global,
+    work: &Work,
+    branches: &mut Branches,
+    place: Place,
+) -> Result<(), ReadingStop>
     ensures { (state : State) → Shows work.now state → Steps result work.now branches.new (spec.balanced place (record { state = state; branches = branches.old }) (at_end_if branches.old)) }
 {
     if branches.end_if() {
@@ -186,14 +201,14 @@ fn end_if(alloc: Global, work: &Work, branches: &mut Branches, place: Place) -> 
     }
 }
 
-fn warn(alloc: Global, work: &mut Work, place: Place, rest: &[u8]) -> Result<(), Halt>
+fn warn(alloc: Global, work: &mut Work, place: Place, rest: &[u8]) -> Result<(), ReadingStop>
     ensures { (state : State) (branches : List Branch) → Shows work.old state → Steps result work.new branches (spec.obeyed Kind.Warning place rest.now (record { state = state; branches = branches })) }
 {
     work.note(alloc, WARNING_DIRECTIVE, place, trimmed(rest))?;
     Ok(())
 }
 
-fn pragma(alloc: Global, work: &mut Work, place: Place, rest: &[u8]) -> Result<(), Halt>
+fn pragma(alloc: Global, work: &mut Work, place: Place, rest: &[u8]) -> Result<(), ReadingStop>
     ensures { (state : State) (branches : List Branch) → Shows work.old state → Steps result work.new branches (spec.notes_message place (record { state = state; branches = branches }) (message_in rest.now)) }
 {
     match message_of(rest) {
@@ -205,7 +220,7 @@ fn pragma(alloc: Global, work: &mut Work, place: Place, rest: &[u8]) -> Result<(
     }
 }
 
-fn include(alloc: Global, place: Place, rest: &[u8]) -> Result<Wanted, Halt>
+fn include(alloc: Global, place: Place, rest: &[u8]) -> Result<Wanted, ReadingStop>
     ensures { Includes result place (include_in rest.now) }
 {
     match include_of(rest) {
@@ -226,7 +241,7 @@ fn step(
     kind: Kind,
     place: Place,
     rest: &[u8],
-) -> Result<(), Halt>
+) -> Result<(), ReadingStop>
     requires { kind ≢ Kind.Include }
     ensures { (state : State) → Shows work.old state → Steps result work.new branches.new (spec.obeyed kind place rest.now (record { state = state; branches = branches.old })) }
 {
@@ -254,7 +269,7 @@ fn obey(
     kind: Kind,
     place: Place,
     rest: &[u8],
-) -> Result<Option<Wanted>, Halt>
+) -> Result<Option<Wanted>, ReadingStop>
     ensures { (state : State) → Shows work.old state → Does result work.new branches.new (spec.obeyed kind place rest.now (record { state = state; branches = branches.old })) }
 {
     if kind == Kind::Include {
@@ -272,7 +287,7 @@ fn skip(
     kind: Kind,
     place: Place,
     rest: &[u8],
-) -> Result<(), Halt>
+) -> Result<(), ReadingStop>
     ensures { (state : State) → Shows work.now state → Steps result work.now branches.new (spec.skipped kind place rest.now (record { state = state; branches = branches.old })) }
 {
     match kind {
@@ -299,7 +314,7 @@ fn obey_or_refuse(
     kind: Option<Kind>,
     place: Place,
     rest: &[u8],
-) -> Result<Option<Wanted>, Halt>
+) -> Result<Option<Wanted>, ReadingStop>
     ensures { (state : State) → Shows work.old state → Does result work.new branches.new (spec.obeyed_or_open left_open kind place rest.now (record { state = state; branches = branches.old })) }
 {
     match kind {
@@ -316,7 +331,7 @@ fn skip_or_refuse(
     kind: Option<Kind>,
     place: Place,
     rest: &[u8],
-) -> Result<(), Halt>
+) -> Result<(), ReadingStop>
     ensures { (state : State) → Shows work.now state → Steps result work.now branches.new (spec.skipped_or_open left_open kind place rest.now (record { state = state; branches = branches.old })) }
 {
     match kind {
@@ -355,7 +370,7 @@ fn blanked(
     file: u32,
     line: u32,
     text: &[u8],
-) -> Result<Option<Wanted>, Halt>
+) -> Result<Option<Wanted>, ReadingStop>
     ensures { (state : State) → Shows work.old state → Does result work.new branches.new (spec.of_blanked left_open file line text.now (record { state = state; branches = branches.old })) }
 {
     let place = Place {
@@ -380,7 +395,7 @@ pub(crate) fn directive(
     file: u32,
     line: u32,
     text: &[u8],
-) -> Result<Option<Wanted>, Halt>
+) -> Result<Option<Wanted>, ReadingStop>
     ensures { (state : State) → Shows work.old state → Does result work.new branches.new (spec.of_directive file line text.now (record { state = state; branches = branches.old })) }
 {
     let left_open = ends_in_comment(text, false);

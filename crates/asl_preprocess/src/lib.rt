@@ -4,13 +4,13 @@
 mod define;
 mod directives;
 mod files;
-mod halt;
 mod line_text;
 mod lines;
 mod main_file;
 mod reading;
 mod rows;
 mod search;
+mod stop;
 mod work;
 
 pub use define::{Define, Defines};

@@ -1,16 +1,19 @@
 //! The text of a line.
-ghost use Rattle.std.specs.Prelude.{◌≡◌, ◌≤◌, true, length, slice_index};
+ghost use Rattle.std.specs.Prelude.{◌≡◌, ◌≤◌, true, false, length, slice_index};
 ghost use Rattle.asl_directives.specs.Words.{past_blanks as past_blanks_of};
 ghost use Rattle.asl_preprocess.specs.Cuts.{AsksNothing};
+ghost use Rattle.asl_preprocess.specs.OwnName.{LacksOwnName};
 
 use asl_directives::words::past_blanks;
 
-/// The text of a line, and whether it is plain: it has neither a `"` nor a `/`.
+/// The text of a line; whether it is plain: it has neither a `"` nor a `/`; and whether `__IASL__` may stand in it.
 #[derive(Clone, Copy)]
 pub(crate) struct LineText<'a> {
     pub(crate) whole: &'a [u8],
     pub(crate) plain: bool,
+    pub(crate) names_own: bool,
     ghost asks_nothing: { AsksNothing plain whole.now },
+    ghost lacks: { names_own ≡ false → LacksOwnName whole.now },
 }
 
 // Whether four spaces stand at the front of a text.

@@ -8,8 +8,8 @@ ghost use Rattle.asl_directives.specs.Forms.{file_name_of, include_line as inclu
 ghost use Rattle.asl_preprocess.specs.Told.{Shows, Does, IncludesName};
 
 use crate::directives::{Wanted, column_behind};
-use crate::halt::{Halt, refusal};
 use crate::line_text::LineText;
+use crate::stop::{ReadingStop, refusal};
 use crate::work::Work;
 use asl_directives::branches::Branches;
 use asl_directives::forms::{file_name, include_line};
@@ -30,7 +30,7 @@ pub(crate) struct OrdinaryLine<'a> {
 }
 
 // The file that a line of its own `Include ("f")` asks for.
-fn wanted(alloc: Global, place: Place, name: &[u8]) -> Result<Wanted, Halt>
+fn wanted(alloc: Global, place: Place, name: &[u8]) -> Result<Wanted, ReadingStop>
     ensures { IncludesName result place (file_name_of name.now) }
 {
     match file_name(name) {
@@ -85,7 +85,7 @@ pub(crate) fn line(
     work: &mut Work,
     branches: &Branches,
     line: &OrdinaryLine<'_>,
-) -> Result<Option<Wanted>, Halt>
+) -> Result<Option<Wanted>, ReadingStop>
     ensures { (state : State) → Shows work.old state → Does result work.new branches.now (spec.of_line enabled line.now.file line.now.number line.now.in_comment line.now.text.whole.now (record { state = state; branches = branches.now })) }
 {
     if !branches.is_read() {

@@ -8,9 +8,9 @@ ghost use Rattle.asl_preprocess.specs.Told.{Shows};
 ghost use Rattle.asl_preprocess.specs.Stops.{IsStop, HasPlace, Causes, MainCauses, Keeps};
 
 use crate::define::Defines;
-use crate::halt::Halt;
 use crate::reading::{OpenFile, Setting, read_file};
-use crate::work::Work;
+use crate::stop::ReadingStop;
+use crate::work::{OWN_NAME, Work};
 use iasl_messages::message::{Message, Messages};
 use iasl_messages::number::TEXT_IS_TOO_LARGE;
 use iasl_messages::place::{Lines, Place};
@@ -58,7 +58,7 @@ fn first_work(alloc: Global, name: &str, defines: &Defines) -> Result<Work, Allo
 {
     let mut work = Work::new(alloc);
     work.add_file(alloc, name.as_bytes())?;
-    work.define(alloc, b"__IASL__", b"1")?;
+    work.define(alloc, &OWN_NAME, b"1")?;
     for define in defines.as_slice() {
         work.define(alloc, define.name.as_bytes(), define.text.as_bytes())?;
     }
@@ -125,9 +125,9 @@ fn read_main<F: Files>(
     };
     match read_file(alloc, files, &setting, &main, bytes, &mut work) {
         Ok(()) => Ok(last_work(alloc, work)?),
-        Err(Halt::At(message)) => Err(refused(alloc, message, &work)),
-        Err(Halt::ReadFault) => Err(PreStop::ReadFault),
-        Err(Halt::Memory) => Err(PreStop::Memory),
+        Err(ReadingStop::At(message)) => Err(refused(alloc, message, &work)),
+        Err(ReadingStop::ReadFault) => Err(PreStop::ReadFault),
+        Err(ReadingStop::Memory) => Err(PreStop::Memory),
     }
 }
 

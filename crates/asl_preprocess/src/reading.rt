@@ -9,14 +9,14 @@ ghost use Rattle.asl_preprocess.specs.State.{State, Pass, number_of, with_file, 
 ghost use Rattle.asl_preprocess.specs.Preprocess as spec;
 ghost use Rattle.asl_preprocess.specs.Told.{Shows, Does, asked_for, setting_by};
 ghost use Rattle.asl_preprocess.specs.Sound.{IsSound};
-ghost use Rattle.asl_preprocess.specs.Reached.{Stands, StandsIn, Reaches, Counts, Ends};
+ghost use Rattle.asl_preprocess.specs.Reached.{Stands, StandsIn, Reaches, Counts, EndsFile};
 ghost use Rattle.asl_preprocess.specs.Searching.{SeekStops};
 
 use crate::directives::{Wanted, directive};
-use crate::halt::{Halt, refusal};
 use crate::lines::{OrdinaryLine, line as ordinary};
 use crate::rows::{Row, Rows};
-use crate::search::{Found, names_for, search};
+use crate::search::{SearchResult, names_for, search};
+use crate::stop::{ReadingStop, refusal};
 use crate::work::Work;
 use asl_directives::branches::Branches;
 use iasl_messages::number::{
@@ -49,7 +49,7 @@ fn take_row(
     branches: &mut Branches,
     file: u32,
     row: Row<'_>,
-) -> Result<Option<Wanted>, Halt>
+) -> Result<Option<Wanted>, ReadingStop>
     ensures { (state : State) → Shows work.old state → Does result work.new branches.new (spec.of_row enabled file (row_by row.entry) (record { state = state; branches = branches.old })) }
 {
     match row {
@@ -86,21 +86,21 @@ fn seek<F: Files>(
     own: &[u8],
     work: &mut Work,
     wanted: &Wanted,
-) -> Result<Fetched, Halt>
+) -> Result<Fetched, ReadingStop>
     ensures shows { IfOk result (λ found. (state : State) → Shows work.old state → Shows work.new (with_files state (with_file found.name state.files))) }
     ensures number { IfOk result (λ found. found.number ≡ number_of found.name work.new.files) }
     ensures within { IfOk result (λ found. found.number < length work.new.files) }
     ensures size { IfOk result (λ found. length found.bytes.items ≤ most_bytes) }
     ensures found { IfOk result (λ found. ForSome (F.contents files.old) (λ told. searched told (names_of directories.now own.now (asked_for wanted.now)) ≡ Whole found.name found.bytes.items)) }
-    ensures refused { IfErr result (λ halt. SeekStops halt wanted.now work.old.files work.new.files (F.contents files.old) (λ told. searched told (names_of directories.now own.now (asked_for wanted.now)))) }
-    ensures fault { IfErr result (λ halt. Counts halt (F.faults files.old) (F.faults files.new)) }
+    ensures refused { IfErr result (λ stop. SeekStops stop wanted.now work.old.files work.new.files (F.contents files.old) (λ told. searched told (names_of directories.now own.now (asked_for wanted.now)))) }
+    ensures fault { IfErr result (λ stop. Counts stop (F.faults files.old) (F.faults files.new)) }
     ensures faults { OnOk result (F.faults files.new ≡ F.faults files.old) }
     ensures contents { F.contents files.new ≡ F.contents files.old }
     ensures later { F.faults files.old ≤ F.faults files.new }
 {
     let names = names_for(alloc, directories, own, wanted)?;
     match search(alloc, files, names.as_slice()) {
-        Ok(Found::Whole { name, bytes }) => {
+        Ok(SearchResult::Whole { name, bytes }) => {
             let number = work.add_file(alloc, name.as_bytes())?;
             Ok(Fetched {
                 number,
@@ -108,13 +108,13 @@ fn seek<F: Files>(
                 bytes,
             })
         }
-        Ok(Found::Missing) => Err(refusal(
+        Ok(SearchResult::Missing) => Err(refusal(
             alloc,
             INCLUDE_IS_ABSENT,
             wanted.place,
             wanted.name.as_bytes(),
         )),
-        Ok(Found::Large) => {
+        Ok(SearchResult::Large) => {
             let place = Place {
                 file: wanted.place.file,
                 line: wanted.place.line,
@@ -122,7 +122,7 @@ fn seek<F: Files>(
             };
             Err(refusal(alloc, TEXT_IS_TOO_LARGE, place, b""))
         }
-        Err(halt) => Err(halt),
+        Err(stop) => Err(stop),
     }
 }
 
@@ -135,11 +135,11 @@ fn include<F: Files>(
     own: &OpenFile<'_>,
     work: &mut Work,
     wanted: &Wanted,
-) -> Result<(), Halt>
+) -> Result<(), ReadingStop>
     ensures reached { (state : State) → Shows work.old state → IsSound state → wanted.now.place.file < length state.files
         → Reaches result (F.contents files.old) work.new.files (λ later. Stands work.new later (length state.files))
         (λ told. spec.included (spec.reading_at (setting_by told setting.now) own.now.levels) (setting_by told setting.now) own.now.name.now (asked_for wanted.now) wanted.now.place state) }
-    ensures fault { (state : State) → Shows work.old state → IsSound state → wanted.now.place.file < length state.files → IfErr result (λ halt. Counts halt (F.faults files.old) (F.faults files.new)) }
+    ensures fault { (state : State) → Shows work.old state → IsSound state → wanted.now.place.file < length state.files → IfErr result (λ stop. Counts stop (F.faults files.old) (F.faults files.new)) }
     ensures faults { OnOk result (F.faults files.new ≡ F.faults files.old) }
     ensures contents { F.contents files.new ≡ F.contents files.old }
     ensures later { F.faults files.old ≤ F.faults files.new }
@@ -161,7 +161,7 @@ fn include<F: Files>(
             };
             read_file(alloc, files, setting, &file, &found.bytes, work)
         }
-        Err(halt) => Err(halt),
+        Err(stop) => Err(stop),
     }
 }
 
@@ -175,11 +175,11 @@ fn pass_row<F: Files>(
     row: Row<'_>,
     work: &mut Work,
     branches: &mut Branches,
-) -> Result<(), Halt>
+) -> Result<(), ReadingStop>
     ensures reached { (state : State) → Shows work.old state → IsSound state → file.now.number < length state.files
         → Reaches result (F.contents files.old) work.new.files (λ later. StandsIn work.new branches.new later (length state.files))
         (λ told. and_then (spec.of_row setting.now.enabled file.now.number (row_by row.entry) (record { state = state; branches = branches.old })) (spec.done (spec.reading_at (setting_by told setting.now) file.now.levels) (setting_by told setting.now) file.now.name.now)) }
-    ensures fault { (state : State) → Shows work.old state → IsSound state → file.now.number < length state.files → IfErr result (λ halt. Counts halt (F.faults files.old) (F.faults files.new)) }
+    ensures fault { (state : State) → Shows work.old state → IsSound state → file.now.number < length state.files → IfErr result (λ stop. Counts stop (F.faults files.old) (F.faults files.new)) }
     ensures faults { OnOk result (F.faults files.new ≡ F.faults files.old) }
     ensures contents { F.contents files.new ≡ F.contents files.old }
     ensures later { F.faults files.old ≤ F.faults files.new }
@@ -187,13 +187,13 @@ fn pass_row<F: Files>(
     match take_row(alloc, setting.enabled, work, branches, file.number, row) {
         Ok(Some(wanted)) => include(alloc, files, setting, file, work, &wanted),
         Ok(None) => Ok(()),
-        Err(halt) => Err(halt),
+        Err(stop) => Err(stop),
     }
 }
 
 // Where the rows of a file end, no `#if` may be open.
-fn end(alloc: Global, file: u32, branches: &Branches) -> Result<(), Halt>
-    ensures { (state : State) → Ends result file (spec.at_end file (record { state = state; branches = branches.now })) state }
+fn end(alloc: Global, file: u32, branches: &Branches) -> Result<(), ReadingStop>
+    ensures { (state : State) → EndsFile result file (spec.at_end file (record { state = state; branches = branches.now })) state }
 {
     match branches.outermost() {
         None => Ok(()),
@@ -217,12 +217,12 @@ pub(crate) fn read_file<F: Files>(
     file: &OpenFile<'_>,
     bytes: &[u8],
     work: &mut Work,
-) -> Result<(), Halt>
+) -> Result<(), ReadingStop>
     requires { length bytes.now ≤ most_bytes }
     ensures reached { (state : State) → Shows work.old state → IsSound state → file.now.number < length state.files → file.now.number ≡ number_of file.now.name.now state.files
         → Reaches result (F.contents files.old) work.new.files (λ later. Stands work.new later (length state.files))
         (λ told. spec.of_file (setting_by told setting.now) file.now.levels state file.now.name.now bytes.now) }
-    ensures fault { (state : State) → Shows work.old state → IsSound state → file.now.number < length state.files → IfErr result (λ halt. Counts halt (F.faults files.old) (F.faults files.new)) }
+    ensures fault { (state : State) → Shows work.old state → IsSound state → file.now.number < length state.files → IfErr result (λ stop. Counts stop (F.faults files.old) (F.faults files.new)) }
     ensures faults { OnOk result (F.faults files.new ≡ F.faults files.old) }
     ensures contents { F.contents files.new ≡ F.contents files.old }
     ensures later { F.faults files.old ≤ F.faults files.new }
@@ -232,7 +232,7 @@ pub(crate) fn read_file<F: Files>(
     while let Some(row) = rows.next(alloc)? {
         match pass_row(alloc, files, setting, file, row, work, &mut branches) {
             Ok(()) => {}
-            Err(halt) => return Err(halt),
+            Err(stop) => return Err(stop),
         }
     }
     end(alloc, file.number, &branches)

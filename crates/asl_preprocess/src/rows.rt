@@ -1,16 +1,18 @@
 //! The rows of a file: its lines, where a directive that goes on in further lines is one row with them.
-ghost use Rattle.std.specs.Prelude.{◌≡◌, ◌∷◌, ◌++◌, ◌+◌, ◌≤◌, ◌<◌, ◌^◌, ◌==◌, [], ℕ, length, take, position, Some, IfOk, IfSome, IfNone, OnSome, MatchOption};
+ghost use Rattle.std.specs.Prelude.{◌≡◌, ◌∷◌, ◌++◌, ◌+◌, ◌≤◌, ◌<◌, ◌^◌, ◌==◌, [], ℕ, length, take, position, Some, false, All, IfOk, IfSome, IfNone, OnSome, MatchOption};
 ghost use Rattle.std.specs.Option.{option_copied};
 ghost use Rattle.iasl_ports.specs.Fetched.{most_bytes};
 ghost use Rattle.iasl_messages.specs.Cut.{without_cr as without_cr_of};
 ghost use Rattle.asl_fragments.specs.Fragments.{ends_in_comment as ends_in_comment_of};
 ghost use Rattle.asl_preprocess.specs.Rows as spec;
+ghost use Rattle.asl_preprocess.specs.OwnName.{LacksOwnName};
 ghost use Rattle.asl_preprocess.specs.Cuts.{IsClosed, IsPlainBelow, AsksNothing};
 
 use crate::line_text::{LineText, behind_blanks};
+use crate::work::OWN_NAME;
 use asl_fragments::ends_in_comment;
 use iasl_messages::cut::cut_line;
-use memchr::memchr3;
+use memchr::{memchr, memchr3, memmem};
 use std::alloc::{AllocError, Global};
 
 /// A row, with the number of its first line: a directive; or any other line, which may begin inside a block comment.
@@ -123,13 +125,29 @@ fn without_backslash(text: &[u8]) -> Option<&[u8]>
     text.strip_suffix(b"\\")
 }
 
-/// What is left of a file to be read.
+// Whether a file may have directives: it has a `#`, and they are enabled.
+fn may_direct(bytes: &[u8], enabled: bool) -> bool
+    ensures { spec.rows_of result bytes.now ≡ spec.rows_of enabled bytes.now }
+{
+    enabled && memchr(b'#', bytes).is_some()
+}
+
+// Whether `__IASL__` may stand in a line of a file.
+fn names_own(bytes: &[u8]) -> bool
+    ensures { result ≡ false → All LacksOwnName (spec.file_lines bytes.now) }
+{
+    memmem::find(bytes, &OWN_NAME).is_some()
+}
+
+/// What is left of a file to be read, whether directives are looked for, and whether `__IASL__` may stand in it.
 #[derive(Drop)]
 pub(crate) struct Rows<'a> {
     rest: &'a [u8],
     number: u32,
     in_comment: bool,
     enabled: bool,
+    names_own: bool,
+    ghost lack: { names_own ≡ false → All LacksOwnName (spec.file_lines rest.now) },
 }
 
 impl<'a> Rows<'a> {
@@ -147,7 +165,8 @@ impl<'a> Rows<'a> {
             rest: bytes,
             number: 0,
             in_comment: false,
-            enabled,
+            enabled: may_direct(bytes, enabled),
+            names_own: names_own(bytes),
         }
     }
 
@@ -157,6 +176,7 @@ impl<'a> Rows<'a> {
         ensures line { MatchOption result (spec.file_lines self.old.rest.now ≡ []) (λ line. spec.file_lines self.old.rest.now ≡ line.0.now ∷ spec.file_lines self.new.rest.now) }
         ensures closed { IfSome result (λ line. IsClosed line.1 line.0.now) }
         ensures asks_nothing { IfSome result (λ line. AsksNothing line.1 line.0.now) }
+        ensures lacks { IfSome result (λ line. self.new.names_own ≡ false → LacksOwnName line.0.now) }
         ensures none { IfNone result (self.new ≡ self.old) }
         ensures number { OnSome result (self.new.number ≡ self.old.number + 1) }
         ensures in_comment { self.new.in_comment ≡ self.old.in_comment }
@@ -209,7 +229,11 @@ impl<'a> Rows<'a> {
         Ok(Some(Row::Ordinary {
             line,
             in_comment,
-            text: LineText { whole, plain },
+            text: LineText {
+                whole,
+                plain,
+                names_own: self.names_own,
+            },
         }))
     }
 }

@@ -7,7 +7,7 @@ ghost use Rattle.asl_preprocess.specs.Told.{asked_for};
 ghost use Rattle.asl_preprocess.specs.Searching.{found_by, found_or_rest, FoundHasRoom, HasRoom, SearchStops};
 
 use crate::directives::Wanted;
-use crate::halt::Halt;
+use crate::stop::ReadingStop;
 use iasl_ports::files::{FetchFault, Files};
 use iasl_ports::list::{Text, Texts};
 use std::alloc::{AllocError, Global};
@@ -15,7 +15,7 @@ use std::str::from_utf8;
 
 /// What a search comes to: no file; one of more than 16 MiB; or one with its name and its bytes.
 #[derive(Drop)]
-pub(crate) enum Found {
+pub(crate) enum SearchResult {
     Missing,
     Large,
     Whole { name: Text, bytes: Vec<u8> },
@@ -122,10 +122,14 @@ pub(crate) fn names_for(
 }
 
 // The file of a name; none where there is none, or where the name is not UTF-8.
-fn fetch<F: Files>(alloc: Global, files: &mut F, name: &Text) -> Result<Option<Found>, Halt>
-    ensures found { IfOk result (λ found. ForSome (F.contents files.old) (λ told. (rest : spec.Found) → found_or_rest found rest ≡ spec.search_first told name.now rest)) }
+fn fetch<F: Files>(
+    alloc: Global,
+    files: &mut F,
+    name: &Text,
+) -> Result<Option<SearchResult>, ReadingStop>
+    ensures found { IfOk result (λ found. ForSome (F.contents files.old) (λ told. (rest : spec.SearchResult) → found_or_rest found rest ≡ spec.search_first told name.now rest)) }
     ensures size { IfOk result HasRoom }
-    ensures fault { IfErr result (λ halt. SearchStops halt (Rose (F.faults files.old) (F.faults files.new))) }
+    ensures fault { IfErr result (λ stop. SearchStops stop (Rose (F.faults files.old) (F.faults files.new))) }
     ensures faults { OnOk result (F.faults files.new ≡ F.faults files.old) }
     ensures contents { F.contents files.new ≡ F.contents files.old }
     ensures later { F.faults files.old ≤ F.faults files.new }
@@ -134,22 +138,26 @@ fn fetch<F: Files>(alloc: Global, files: &mut F, name: &Text) -> Result<Option<F
         return Ok(None);
     };
     match files.fetch(alloc, text) {
-        Ok(bytes) => Ok(Some(Found::Whole {
+        Ok(bytes) => Ok(Some(SearchResult::Whole {
             name: Text::from_bytes(alloc, name.as_bytes())?,
             bytes,
         })),
-        Err(FetchFault::TooLarge) => Ok(Some(Found::Large)),
+        Err(FetchFault::TooLarge) => Ok(Some(SearchResult::Large)),
         Err(FetchFault::Absent) => Ok(None),
-        Err(FetchFault::Failed) => Err(Halt::ReadFault),
-        Err(FetchFault::Memory) => Err(Halt::Memory),
+        Err(FetchFault::Failed) => Err(ReadingStop::ReadFault),
+        Err(FetchFault::Memory) => Err(ReadingStop::Memory),
     }
 }
 
 /// The first of the names that there is a file of.
-pub(crate) fn search<F: Files>(alloc: Global, files: &mut F, names: &[Text]) -> Result<Found, Halt>
+pub(crate) fn search<F: Files>(
+    alloc: Global,
+    files: &mut F,
+    names: &[Text],
+) -> Result<SearchResult, ReadingStop>
     ensures found { IfOk result (λ found. ForSome (F.contents files.old) (λ told. spec.search told names.now ≡ found_by found)) }
     ensures size { IfOk result FoundHasRoom }
-    ensures fault { IfErr result (λ halt. SearchStops halt (Rose (F.faults files.old) (F.faults files.new))) }
+    ensures fault { IfErr result (λ stop. SearchStops stop (Rose (F.faults files.old) (F.faults files.new))) }
     ensures faults { OnOk result (F.faults files.new ≡ F.faults files.old) }
     ensures contents { F.contents files.new ≡ F.contents files.old }
     ensures later { F.faults files.old ≤ F.faults files.new }
@@ -158,8 +166,8 @@ pub(crate) fn search<F: Files>(alloc: Global, files: &mut F, names: &[Text]) -> 
         match fetch(alloc, files, name) {
             Ok(Some(found)) => return Ok(found),
             Ok(None) => {}
-            Err(halt) => return Err(halt),
+            Err(stop) => return Err(stop),
         }
     }
-    Ok(Found::Missing)
+    Ok(SearchResult::Missing)
 }

@@ -1,13 +1,15 @@
 //! What is known between two rows.
-ghost use Rattle.std.specs.Prelude.{◌≡◌, ◌∷◌, ◌++◌, ◌≤◌, ◌<◌, [], ℕ, List, length, OnOk, IfErr, IfOk, true, false};
+ghost use Rattle.std.specs.Prelude.{◌≡◌, ◌∷◌, ◌++◌, ◌≤◌, ◌<◌, [], ℕ, Bool, List, length, OnOk, IfErr, IfOk, true, false};
 ghost use Rattle.iasl_ports.specs.Fetched.{most_bytes};
-ghost use Rattle.asl_macros.specs.History.{History};
+ghost use Rattle.std.specs.Str.{bytes_eq};
+ghost use Rattle.asl_preprocess.specs.OwnName.{own_name};
 ghost use Rattle.asl_preprocess.specs.State.{message_at, total_size};
 ghost use Rattle.asl_preprocess.specs.Left.{Leaves};
 
 use crate::files::FileNames;
-use crate::halt::{Halt, refusal};
+use crate::line_text::LineText;
 use crate::lines::OrdinaryLine;
+use crate::stop::{ReadingStop, refusal};
 use asl_macros::{Macros, ReplaceStop, Within, replace_names, stays};
 use iasl_messages::message::{Message, Messages};
 use iasl_messages::number::TEXT_IS_TOO_LARGE;
@@ -16,11 +18,15 @@ use iasl_ports::files::MOST_BYTES;
 use iasl_ports::list::Text;
 use std::alloc::{AllocError, Global};
 
-/// The definitions; the lines so far, with their size joined and an LF behind each; the notes so far; and the names of
-/// the files that were fetched.
+/// The name that is defined before the first line.
+pub(crate) const OWN_NAME: [u8; 8] = *b"__IASL__";
+
+/// The definitions, and whether there were any but that of `__IASL__`; the lines so far, with their size joined and an
+/// LF behind each; the notes so far; and the names of the files that were fetched.
 #[derive(Drop)]
 pub(crate) struct Work {
     pub(crate) macros: Macros,
+    pub(crate) others: bool,
     pub(crate) lines: LineList,
     pub(crate) size: usize,
     pub(crate) notes: Messages,
@@ -37,10 +43,16 @@ fn whole(alloc: Global, text: &[u8], room: usize) -> Result<Text, ReplaceStop>
     Ok(Text::from_bytes(alloc, text)?)
 }
 
+fn is_own(name: &[u8]) -> bool
+    ensures { result ≡ bytes_eq name.now own_name }
+{
+    name == OWN_NAME.as_slice()
+}
+
 impl Work {
     ghost use Rattle.asl_macros.specs.History.{Defines, Undefines};
     ghost use Rattle.asl_macros.specs.Replacement.{replaced};
-    ghost use Rattle.asl_macros.specs.Table.{Tells};
+    ghost use Rattle.asl_macros.specs.declared.context.Within.TheVariants.{InLine};
     ghost use Rattle.asl_directives.specs.declared.branches.Branch.{Branch};
     ghost use Rattle.asl_preprocess.specs.State.{State, with_history, with_notes, with_file, with_files, number_of};
     ghost use Rattle.asl_preprocess.specs.Lines.{with_line, text_left};
@@ -52,6 +64,7 @@ impl Work {
     {
         Work {
             macros: Macros::new(alloc),
+            others: false,
             lines: LineList::new(alloc),
             size: 0,
             notes: Messages::new(alloc),
@@ -68,6 +81,7 @@ impl Work {
     ) -> Result<(), AllocError>
         ensures { OnOk result ((state : State) → Shows self.old state → Shows self.new (with_history state (Defines name.now text.now ∷ state.history))) }
     {
+        self.others |= !is_own(name);
         self.macros.define(alloc, name, text)
     }
 
@@ -104,12 +118,21 @@ impl Work {
         self.files.add(alloc, name)
     }
 
+    // Whether a line can have no name that is defined: there is `__IASL__` alone, which does not stand in it.
+    fn lacks_names(&self, text: &LineText<'_>) -> bool
+        ensures { result ≡ true → (state : State) (in_comment : Bool) → Shows self.now state → replaced InLine state.history in_comment text.now.whole.now ≡ text.now.whole.now }
+    {
+        !self.others && !text.names_own
+    }
+
     // Whether a line stays as it is.
     fn stays(&self, enabled: bool, line: &OrdinaryLine<'_>) -> bool
-        ensures yes { result ≡ true → (history : History) → Tells self.now.macros history → text_left enabled history line.now.in_comment line.now.text.whole.now ≡ line.now.text.whole.now }
+        ensures yes { result ≡ true → (state : State) → Shows self.now state → text_left enabled state.history line.now.in_comment line.now.text.whole.now ≡ line.now.text.whole.now }
         ensures no { result ≡ false → enabled ≡ true }
     {
-        !enabled || stays(&self.macros, line.text.whole, line.in_comment)
+        !enabled
+            || self.lacks_names(&line.text)
+            || stays(&self.macros, line.text.whole, line.in_comment)
     }
 
     // The text that is left of a line, if it has room.
@@ -120,7 +143,7 @@ impl Work {
         line: &OrdinaryLine<'_>,
         room: usize,
     ) -> Result<Text, ReplaceStop>
-        ensures { (history : History) → Tells self.now.macros history → Leaves result room (text_left enabled history line.now.in_comment line.now.text.whole.now) }
+        ensures { (state : State) → Shows self.now state → Leaves result room (text_left enabled state.history line.now.in_comment line.now.text.whole.now) }
     {
         if self.stays(enabled, line) {
             return whole(alloc, line.text.whole, room);
@@ -142,7 +165,7 @@ impl Work {
         alloc: Global,
         enabled: bool,
         line: &OrdinaryLine<'_>,
-    ) -> Result<(), Halt>
+    ) -> Result<(), ReadingStop>
         ensures { (state : State) (branches : List Branch) → Shows self.old state → Steps result self.new branches
             (with_line (record { state = state; branches = branches }) (record { file = line.now.file; number = line.now.number; text = text_left enabled state.history line.now.in_comment line.now.text.whole.now })) }
     {
@@ -166,7 +189,7 @@ impl Work {
                 Ok(())
             }
             Err(ReplaceStop::TooLong) => Err(refusal(alloc, TEXT_IS_TOO_LARGE, place, b"")),
-            Err(ReplaceStop::Memory) => Err(Halt::Memory),
+            Err(ReplaceStop::Memory) => Err(ReadingStop::Memory),
         }
     }
 }

@@ -51,8 +51,6 @@ pub separator_empty : is_separator_at (raw.Empty) ≡ false
 unfolding is_separator_at
 separator_empty = ap is_separator (written_empty)
 
-pub ruleset separator_rules = (separator_number, separator_text, separator_item, separator_apply, separator_list, separator_comma, separator_semicolon, separator_empty)
-
 pub comma_number : (place : Place) (n : ℕ) → is_comma_at (raw.Number place n) ≡ false
 unfolding is_comma_at
 comma_number place n = ap is_comma (written_number place n)
@@ -84,8 +82,6 @@ comma_semicolon = ap is_comma (written_semicolon)
 pub comma_empty : is_comma_at (raw.Empty) ≡ false
 unfolding is_comma_at
 comma_empty = ap is_comma (written_empty)
-
-pub ruleset comma_rules = (comma_number, comma_text, comma_item, comma_apply, comma_list, comma_comma, comma_semicolon, comma_empty)
 
 pub run_number : (run : Option ℕ) (place : Place) (n : ℕ) → run_after_at run (raw.Number place n) ≡ None
 unfolding run_after_at
@@ -200,8 +196,6 @@ text_semicolon = ap is_text (written_semicolon)
 pub text_empty : is_text_at (raw.Empty) ≡ false
 unfolding is_text_at
 text_empty = ap is_text (written_empty)
-
-pub ruleset is_text_rules = (text_number, text_text, text_item, text_apply, text_list, text_comma, text_semicolon, text_empty)
 
 pub bytes_none : byte_slot_at [] ≡ slot.Constant 0 255
 unfolding byte_slot_at writtens

@@ -1,5 +1,5 @@
 -- What the nodes of a descriptor give.
-use Rattle.std.proofs.Common.{◌≡◌, ℕ, ◌+◌, ◌<◌, ◌≤◌, length, get_or, drop, List, [], ◌∷◌, ◌++◌, refl, ap, ◌∙◌, sym, append_assoc, append-nil, length-append, add-one, drop-cons, Vec, Global, Option, Some, None}
+use Rattle.std.proofs.Common.{◌≡◌, ℕ, ◌+◌, ◌<◌, ◌≤◌, length, get_or, drop, List, [], ◌∷◌, ◌++◌, refl, ap, ◌∙◌, sym, append_assoc, append-nil, length-append, add-one, drop-cons, Option, Some, None}
 use Rattle.std.specs.Prelude.{map, if◌then◌else◌}
 use Rattle.std.proofs.lemmas.List.{drop_all}
 use Rattle.acpi_values.specs.Paths.{NameSeg}
@@ -9,10 +9,7 @@ use Rattle.asl_tree.specs.Names.{single_segment}
 use Rattle.asl_tree.specs.declared.path.Path.{Path}
 use Rattle.asl_tree.specs.declared.term.NamedDescriptor.{NamedDescriptor}
 use Rattle.resource_layout.specs.declared.descriptor.Descriptor.{Descriptor}
-use Rattle.asl_tree.specs.declared.term.Op.{Op}
 use Rattle.asl_tree.specs.declared.term.Node.{Node}
-use Rattle.asl_tree.specs.declared.term.Term as D
-use Rattle.resource_layout.specs.declared.descriptor.Giver.{Giver}
 use Rattle.resource_layout.specs.declared.descriptor.Field.{Field}
 use Rattle.resource_macros.specs.declared.node.Node.{Node as Given}
 use Rattle.resource_macros.specs.declared.node.Term as R
@@ -20,16 +17,6 @@ use Rattle.asl_shape.specs.Plans.{Plan, a_name, plan_of, plans_of, number_of}
 use Rattle.asl_shape.specs.Shapes.{named_unit}
 use Rattle.asl_shape.specs.declared.fields.UnitName.{UnitName}
 use Rattle.asl_shape.specs.Descriptors.{node, argument_term, argument_nodes, member_nodes, fill_of, fills_of, is_name, segment_of, named_as, own_name, named_of, moved, names_from}
-use Rattle.asl_shape.proofs.Plans.{plan_form, plan_call}
-use Rattle.asl_shape.proofs.Terms.{term_rules}
-
-pub argument_form : (giver : Giver) (o : Op) (args body : Vec Node Global) → argument_term giver (plan_of (D.Form o args body)) ≡ R.Omitted
-argument_form giver o args body = ap (argument_term giver) (plan_form o args body)
-
-pub argument_call : (giver : Giver) (path : Path) (args : Vec Node Global) → argument_term giver (plan_of (D.Call path args)) ≡ R.Omitted
-argument_call giver path args = ap (argument_term giver) (plan_call path args)
-
-pub ruleset argument_rules = (term_rules, argument_form, argument_call)
 
 pub no_fields : (nodes : List Node) → argument_nodes [] (plans_of nodes) ≡ []
 no_fields nodes = refl
@@ -67,19 +54,7 @@ next_members old new all nodes i d lt is e inv =
 pub last_member : (old all : List Given) (nodes : List Node) (i : ℕ) → length nodes ≤ i → old ++ member_nodes (plans_of (drop i nodes)) ≡ all → old ≡ all
 last_member old all nodes i le inv = sym (ap (λ ns. old ++ member_nodes (plans_of ns)) (drop_all i nodes le) ∙ ap (λ ns. old ++ ns) no_members ∙ append-nil old) ∙ inv
 
-pub fill_form : (o : Op) (args body : Vec Node Global) → fill_of (plan_of (D.Form o args body)) ≡ []
-fill_form o args body = ap fill_of (plan_form o args body)
-
-pub fill_call : (path : Path) (args : Vec Node Global) → fill_of (plan_of (D.Call path args)) ≡ []
-fill_call path args = ap fill_of (plan_call path args)
-
-pub named_form : (o : Op) (args body : Vec Node Global) → named_of (plan_of (D.Form o args body)) ≡ []
-named_form o args body = ap named_of (plan_form o args body)
-
-pub named_call : (path : Path) (args : Vec Node Global) → named_of (plan_of (D.Call path args)) ≡ []
-named_call path args = ap named_of (plan_call path args)
-
-pub ruleset fill_rules = (term_rules, fill_form, fill_call, named_form, named_call, append-nil)
+pub ruleset fill_rules = (append-nil)
 
 no_fills : fills_of (plans_of []) ≡ []
 unfolding plans_of

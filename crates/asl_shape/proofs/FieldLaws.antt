@@ -1,5 +1,5 @@
 -- The list of a field, member by member.
-use Rattle.std.proofs.Common.{◌≡◌, ℕ, ◌+◌, ◌<◌, ◌≤◌, length, get_or, drop, List, [], ◌∷◌, refl, ap, ◌∙◌, Option, Some, None, true, false, Vec, Global}
+use Rattle.std.proofs.Common.{◌≡◌, ℕ, ◌+◌, ◌<◌, ◌≤◌, length, get_or, drop, List, [], ◌∷◌, refl, ap, ◌∙◌, Option, Some, None, true, false}
 use Rattle.std.specs.Prelude.{if◌then◌else◌}
 use Rattle.std.proofs.lemmas.List.{drop_all}
 use Rattle.acpi_state.specs.Outcomes.{choose}
@@ -7,20 +7,14 @@ use Rattle.iasl_messages.specs.declared.place.Place.{Place}
 use Rattle.asl_parser.specs.declared.raw.Infix.{Infix}
 use Rattle.asl_parser.specs.declared.raw.Raw.{Raw}
 use Rattle.asl_parser.specs.declared.raw.Raw.TheVariants as raw
-use Rattle.asl_tree.specs.declared.path.Path.{Path}
-use Rattle.asl_tree.specs.declared.term.Op.{Op}
-use Rattle.asl_tree.specs.declared.term.Node.{Node}
-use Rattle.asl_tree.specs.declared.term.Term as D
 use Rattle.asl_words.specs.declared.meaning.Meaning.TheVariants as is
 use Rattle.asl_words.specs.Meanings.{meaning_of}
 use Rattle.asl_shape.specs.declared.fields.Due.{Due}
 use Rattle.asl_parser.specs.Written.{writtens}
-use Rattle.asl_shape.specs.Plans.{Plan, plan_of, no_plans}
-use Rattle.asl_shape.specs.Shapes.{meaning_in, is_offset, next_due, may_stop, named_unit, is_offset_plan, offset_alone, one_plan}
+use Rattle.asl_shape.specs.Plans.{Plan, no_plans}
+use Rattle.asl_shape.specs.Shapes.{meaning_in, is_offset, next_due, may_stop, is_offset_plan, offset_alone, one_plan}
 use Rattle.asl_shape.specs.AtRaw.{is_some, is_comma_at, is_separator_at, meaning_at, goes_on_at, due_behind_at, is_field_list_at}
 use Rattle.asl_parser.proofs.Views.{written_number, written_text, written_item, written_apply, written_list, written_comma, written_semicolon, written_empty}
-use Rattle.asl_shape.proofs.Plans.{plan_form, plan_call}
-use Rattle.asl_shape.proofs.Terms.{term_rules}
 use Rattle.asl_shape.proofs.Settled.{join_nothing}
 use Rattle.asl_shape.proofs.Braces.{given_some, from_item}
 
@@ -95,22 +89,6 @@ list_go due next raws i d lt e = list_step due raws i d lt ∙ ap (λ o. choose 
 pub ruleset list_steps = (list_end, list_stop, list_go, list_over)
 
 -- ---- terms
-
-pub named_form : (place : Place) (o : Op) (args body : Vec Node Global) → named_unit place (plan_of (D.Form o args body)) ≡ None
-named_form place o args body = ap (named_unit place) (plan_form o args body)
-
-pub named_call : (place : Place) (path : Path) (args : Vec Node Global) → named_unit place (plan_of (D.Call path args)) ≡ None
-named_call place path args = ap (named_unit place) (plan_call path args)
-
-pub ruleset named_rules = (term_rules, named_form, named_call)
-
-pub offset_form : (o : Op) (args body : Vec Node Global) → is_offset_plan (plan_of (D.Form o args body)) ≡ false
-offset_form o args body = ap is_offset_plan (plan_form o args body)
-
-pub offset_call : (path : Path) (args : Vec Node Global) → is_offset_plan (plan_of (D.Call path args)) ≡ false
-offset_call path args = ap is_offset_plan (plan_call path args)
-
-pub ruleset offset_rules = (term_rules, offset_form, offset_call)
 
 pub alone_some : (place : Place) (p : Plan) → is_offset_plan p ≡ true → offset_alone place p ≡ one_plan place p
 alone_some place p e = ap (λ b. if b then one_plan place p else no_plans) e

@@ -5,21 +5,17 @@ use Rattle.asl_tree.specs.declared.path.Path.{Path}
 use Rattle.asl_tree.specs.declared.term.Op.{Op}
 use Rattle.asl_tree.specs.declared.term.Literal.{Literal}
 use Rattle.asl_tree.specs.declared.term.Node.{Node}
-use Rattle.asl_tree.specs.declared.term.Term.{Term}
 use Rattle.asl_tree.specs.declared.term.Term as D
 use Rattle.acpi_values.specs.declared.width.Width.{Width}
 use Rattle.asl_shape.specs.Plans.{Plans, no_plans, plan, omitted, a_form, plan_of, plans_of, plan_at, number_of, first_plans, join, constant_of}
-use Rattle.asl_shape.specs.Shapes.{is_stated, one_plan, zero_plan, few_elements, is_default_op, is_default_plan, default_last}
+use Rattle.asl_shape.specs.Shapes.{is_stated, one_plan, zero_plan, few_elements, is_default_plan, default_last}
 use Rattle.asl_shape.proofs.Plans.{plan_form, plan_call}
-use Rattle.asl_shape.proofs.Terms.{term_rules}
 
 pub number_form : (o : Op) (args body : Vec Node Global) → number_of (plan_of (D.Form o args body)) ≡ 0
 number_form o args body = ap number_of (plan_form o args body)
 
 pub number_call : (path : Path) (args : Vec Node Global) → number_of (plan_of (D.Call path args)) ≡ 0
 number_call path args = ap number_of (plan_call path args)
-
-pub ruleset number_rules = (term_rules, number_form, number_call)
 
 pub at_some : (nodes : List Node) (i : ℕ) (d : Node) → i < length nodes → plan_at (plans_of nodes) i ≡ plan_of (get_or nodes i d).term
 unfolding plans_of
@@ -75,8 +71,6 @@ pub join_nothing : (ps : Plans) → join ps no_plans ≡ ps
 join_nothing no_plans = refl
 join_nothing (plan place p ps) = ap (plan place p) (join_nothing ps)
 
-pub ruleset external_rules = (term_rules, join_nothing)
-
 pub no_nodes : plans_of [] ≡ no_plans
 unfolding plans_of
 no_nodes = refl
@@ -92,17 +86,7 @@ join_first ps = refl
 
 pub ruleset single_rules = (join_first, no_nodes)
 
-pub ruleset return_rules = (term_rules)
-
 -- ---- the Default of a Switch
-
-pub default_form : (o : Op) (args body : Vec Node Global) → is_default_plan (plan_of (D.Form o args body)) ≡ is_default_op o
-default_form o args body = ap is_default_plan (plan_form o args body)
-
-pub default_call : (path : Path) (args : Vec Node Global) → is_default_plan (plan_of (D.Call path args)) ≡ false
-default_call path args = ap is_default_plan (plan_call path args)
-
-pub ruleset default_rules = (term_rules, default_form, default_call)
 
 -- the nodes before one of them are no Default, and it moves behind those that follow it
 default_here : (nodes : List Node) (i : ℕ) (d : Node) → i < length nodes → is_default_plan (plan_of (get_or nodes i d).term) ≡ true → plans_of (remove nodes i ++ get_or nodes i d ∷ []) ≡ join (plans_of (take i nodes)) (default_last (plans_of (drop i nodes)))

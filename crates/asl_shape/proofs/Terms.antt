@@ -4,21 +4,13 @@ use Rattle.iasl_messages.specs.declared.message.Message.{Message}
 use Rattle.asl_tree.specs.declared.path.Path.{Path}
 use Rattle.acpi_values.specs.Paths.{NameSeg}
 use Rattle.asl_tree.specs.declared.term.Op.{Op}
-use Rattle.asl_tree.specs.declared.term.Op.TheVariants as op
-use Rattle.asl_tree.specs.declared.term.Declaration.{Declaration}
-use Rattle.asl_tree.specs.declared.term.Control.{Control}
-use Rattle.acpi_values.specs.declared.operator.Plain.{Plain}
-use Rattle.asl_tree.specs.declared.term.Symbolic.{Symbolic}
-use Rattle.asl_tree.specs.declared.term.Special.{Special}
-use Rattle.asl_tree.specs.declared.term.Literal.{Literal}
 use Rattle.asl_tree.specs.declared.term.Word.{Word}
 use Rattle.asl_tree.specs.declared.term.Node.{Node}
-use Rattle.asl_tree.specs.declared.term.Term.{Term}
 use Rattle.asl_tree.specs.declared.term.NamedDescriptor.{NamedDescriptor}
 use Rattle.asl_tree.specs.declared.term.Term as D
-use Rattle.asl_shape.specs.Plans.{plan_of, an_integer, a_text, a_fill, a_word, a_local, an_arg, debug, omitted, a_name, a_unit, a_skip, an_offset, is_omitted, plans_of, how_many}
+use Rattle.asl_shape.specs.Plans.{plan_of, an_integer, a_text, a_fill, a_word, a_local, an_arg, debug, omitted, a_name, a_unit, a_skip, an_offset, plans_of, how_many}
 use Rattle.asl_shape.proofs.Plans.{plan_form, plan_call}
-use Rattle.asl_shape.specs.Shapes.{is_member, is_element, is_buffer, is_package, is_case_member, member_count}
+use Rattle.asl_shape.specs.Shapes.{is_package, member_count}
 
 pub omitted_term : plan_of D.Omitted ≡ omitted
 unfolding plan_of
@@ -73,43 +65,6 @@ pub ruleset term_rules = (omitted_term, integer_term, text_term, word_term, loca
 pub nothing_more : (ms : List Message) → ms ++ [] ≡ ms
 nothing_more ms = append-nil ms
 
-pub member_declaration : (o : Declaration) (args body : Vec Node Global) → is_member (plan_of (D.Form (op.Declaration o) args body)) ≡ false
-member_declaration o args body = ap is_member (plan_form (op.Declaration o) args body)
-
-pub member_control : (o : Control) (args body : Vec Node Global) → is_member (plan_of (D.Form (op.Control o) args body)) ≡ false
-member_control o args body = ap is_member (plan_form (op.Control o) args body)
-
-pub member_symbol : (o : Symbolic) (args body : Vec Node Global) → is_member (plan_of (D.Form (op.Symbolic o) args body)) ≡ false
-member_symbol o args body = ap is_member (plan_form (op.Symbolic o) args body)
-
-pub member_plain : (o : Plain) (args body : Vec Node Global) → is_member (plan_of (D.Form (op.Plain o) args body)) ≡ false
-member_plain o args body = ap is_member (plan_form (op.Plain o) args body)
-
-pub member_literal : (o : Literal) (args body : Vec Node Global) → is_member (plan_of (D.Form (op.Literal o) args body)) ≡ true
-member_literal o args body = ap is_member (plan_form (op.Literal o) args body)
-
-pub member_buffer : (args body : Vec Node Global) → is_member (plan_of (D.Form (op.Special Special.Buffer) args body)) ≡ true
-member_buffer args body = ap is_member (plan_form (op.Special Special.Buffer) args body)
-
-pub member_package : (args body : Vec Node Global) → is_member (plan_of (D.Form (op.Special Special.Package) args body)) ≡ true
-member_package args body = ap is_member (plan_form (op.Special Special.Package) args body)
-
-pub member_reference : (args body : Vec Node Global) → is_member (plan_of (D.Form (op.Special Special.CondRefOf) args body)) ≡ false
-member_reference args body = ap is_member (plan_form (op.Special Special.CondRefOf) args body)
-
-pub member_call : (path : Path) (args : Vec Node Global) → is_member (plan_of (D.Call path args)) ≡ false
-member_call path args = ap is_member (plan_call path args)
-
-pub ruleset member_rules = (term_rules, member_declaration, member_control, member_symbol, member_plain, member_literal, member_buffer, member_package, member_reference, member_call)
-
-pub case_member_form : (o : Op) (args body : Vec Node Global) → is_case_member (plan_of (D.Form o args body)) ≡ is_buffer o
-case_member_form o args body = ap is_case_member (plan_form o args body)
-
-pub case_member_call : (path : Path) (args : Vec Node Global) → is_case_member (plan_of (D.Call path args)) ≡ false
-case_member_call path args = ap is_case_member (plan_call path args)
-
-pub ruleset case_member_rules = (term_rules, case_member_form, case_member_call)
-
 -- as many plans as nodes
 pub plan_count : (nodes : List Node) → how_many (plans_of nodes) ≡ length nodes
 unfolding plans_of
@@ -129,19 +84,3 @@ pub count_call : (path : Path) (args : Vec Node Global) → member_count (plan_o
 count_call path args = ap member_count (plan_call path args)
 
 pub ruleset count_rules = (term_rules, count_package, count_other, count_call)
-
-pub element_form : (o : Op) (args body : Vec Node Global) → is_element (plan_of (D.Form o args body)) ≡ false
-element_form o args body = ap is_element (plan_form o args body)
-
-pub element_call : (path : Path) (args : Vec Node Global) → is_element (plan_of (D.Call path args)) ≡ false
-element_call path args = ap is_element (plan_call path args)
-
-pub ruleset element_rules = (term_rules, element_form, element_call)
-
-pub omitted_form : (o : Op) (args body : Vec Node Global) → is_omitted (plan_of (D.Form o args body)) ≡ false
-omitted_form o args body = ap is_omitted (plan_form o args body)
-
-pub omitted_call : (path : Path) (args : Vec Node Global) → is_omitted (plan_of (D.Call path args)) ≡ false
-omitted_call path args = ap is_omitted (plan_call path args)
-
-pub ruleset omitted_rules = (term_rules, omitted_form, omitted_call)

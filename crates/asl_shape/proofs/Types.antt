@@ -12,7 +12,7 @@ use Rattle.asl_words.specs.Meanings.{unfit}
 use Rattle.asl_shape.specs.Plans.{an_integer}
 use Rattle.asl_shape.specs.Shapes.{is_type, is_bare_type, is_given, is_type_or_list, types_shape, most_types, refused, fine}
 use Rattle.asl_shape.specs.AtRaw.{is_type_at, are_types_at, is_type_or_list_at, are_all_types_at, types_at, listed_at, is_some}
-use Rattle.asl_shape.proofs.Terms.{term_rules, nothing_more}
+use Rattle.asl_shape.proofs.Terms.{nothing_more}
 use Rattle.asl_shape.proofs.Braces.{from_item, given_some}
 use Rattle.asl_shape.proofs.ItemLaws.{counted}
 use Rattle.asl_parser.proofs.Views.{written_number, written_text, written_item, written_apply, written_list, written_comma, written_semicolon, written_empty}
@@ -50,7 +50,7 @@ pub type_empty : is_type_at raw.Empty ≡ false
 unfolding is_type_at
 type_empty = ap is_type written_empty
 
-pub ruleset type_rules = (type_number, type_text, type_word, type_apply, type_list, type_comma, type_semicolon, type_empty)
+pub ruleset type_rules = (type_word)
 
 -- ---- lists of them
 
@@ -120,13 +120,13 @@ pub no_empty : is_type_or_list_at raw.Empty ≡ false
 unfolding is_type_or_list_at
 no_empty = ap is_type_or_list written_empty
 
-pub ruleset list_rules = (list_is, item_is, no_number, no_text, no_apply, no_comma, no_semicolon, no_empty)
+pub ruleset list_rules = (list_is, item_is)
 
 pub types_are : (most : ℕ) (place : Place) (raws : List Raw) → types_at most place raws ≡ (if are_all_types_at raws then (if nat_le (length raws) most then fine (an_integer (length raws)) else refused 6024 place) else refused 6022 place)
 unfolding types_at are_all_types_at
 types_are most place raws = ap (λ n. if are_all_types_at raws then (if nat_le n most then fine (an_integer n) else refused 6024 place) else refused 6022 place) (counted raws)
 
-pub ruleset counted_rules = (types_are, term_rules, nothing_more)
+pub ruleset counted_rules = (types_are, nothing_more)
 
 pub listed_types : (s : Slot) (most : ℕ) (place : Place) (raws : List Raw) → most_types s ≡ Some most → listed_at s place raws ≡ types_at most place raws
 unfolding listed_at types_at

@@ -1,42 +1,27 @@
 -- Blocks and sources.
-use Rattle.std.proofs.Common.{Result, Ok, Err, IfOk, IfErr, ◌≡◌, ℕ, ◌<◌, ◌≤◌, length, get_or, arith, List, [], ◌∷◌, ◌++◌, append_assoc, append-nil, refl, ap, ◌∙◌, sym, subst, Option, Some, None, Bool, true, false, not, if◌then◌else◌, Vec, Global}
+use Rattle.std.proofs.Common.{Result, Ok, Err, IfOk, IfErr, ◌≡◌, ℕ, ◌<◌, ◌≤◌, length, get_or, List, [], ◌∷◌, ◌++◌, append_assoc, refl, ap, ◌∙◌, sym, subst, Option, Some, None, true, false, if◌then◌else◌}
 use Rattle.iasl_messages.specs.declared.place.Place.{Place}
 use Rattle.iasl_messages.specs.declared.message.Stage.{Stage}
 use Rattle.asl_tree.specs.declared.program.Program.{Program}
 use Rattle.asl_parser.specs.declared.raw.Infix.{Infix}
 use Rattle.asl_parser.specs.declared.raw.Raw.{Raw}
 use Rattle.asl_parser.specs.declared.raw.Raw.TheVariants as raw
-use Rattle.asl_tree.specs.declared.path.Path.{Path}
 use Rattle.asl_tree.specs.declared.program.Block.{Block}
-use Rattle.asl_tree.specs.declared.term.Op.{Op}
 use Rattle.asl_tree.specs.declared.term.Node.{Node}
-use Rattle.asl_tree.specs.declared.term.Term.{Term}
-use Rattle.asl_tree.specs.declared.term.Term as D
 use Rattle.asl_parser.specs.Written.{none, more, written, writtens, written_in}
 use Rattle.acpi_values.specs.Revisions.{width_of}
 use Rattle.acpi_values.specs.declared.width.Width.TheVariants.{W64}
 use Rattle.iasl_messages.specs.declared.message.Message.{Message}
-use Rattle.asl_shape.specs.declared.around.Around.{Around}
 use Rattle.asl_shape.specs.Around.{outside}
 use Rattle.asl_shape.specs.Plans.{Plans, plan_of, plans_of, plan_at, text_of, join}
 use Rattle.asl_words.specs.Operators.{block_parameters}
 use Rattle.asl_shape.specs.Shapes.{Shaped, fault_at, takes, inside_of, is_given, terms, place_of}
-use Rattle.asl_shape.specs.AtRaw.{takes_at, inside_at, is_some, terms_at, arguments_at, arguments_in_at, place_at, Refuses}
+use Rattle.asl_shape.specs.AtRaw.{takes_at, inside_at, is_some, terms_at, arguments_at, place_at, Refuses}
 use Rattle.asl_shape.specs.Forms.{revision_in, start, is_block_word, block_fault, errors_inside, block_errors, no_block, errors_before, first_errors, block_place, args_of, terms_of, IsBlock, errors_at, IsBlockOf, args_in, terms_in, errors_in, block_errors_at, item_errors_at, IsItemBlock, Forms}
-use Rattle.asl_shape.proofs.Plans.{plan_form, plan_call}
 use Rattle.asl_shape.proofs.Settled.{at_some, at_none}
-use Rattle.asl_shape.proofs.Terms.{term_rules, nothing_more}
 use Rattle.asl_shape.proofs.Braces.{given_some}
 use Rattle.asl_shape.proofs.Shapes.{inside_written, arguments_are, from_none, none_left, all_made}
 use Rattle.asl_parser.proofs.Views.{written_number, written_text, written_item, written_apply, written_list, written_comma, written_semicolon, written_empty}
-
-pub text_form : (o : Op) (args body : Vec Node Global) → text_of (plan_of (D.Form o args body)) ≡ []
-text_form o args body = ap text_of (plan_form o args body)
-
-pub text_call : (path : Path) (args : Vec Node Global) → text_of (plan_of (D.Call path args)) ≡ []
-text_call path args = ap text_of (plan_call path args)
-
-pub ruleset text_terms = (term_rules, text_form, text_call)
 
 pub text_some : (nodes : List Node) (i : ℕ) (d : Node) → i < length nodes → d ≡ get_or nodes i d → text_of (plan_of d.term) ≡ text_of (plan_at (plans_of nodes) i)
 text_some nodes i d lt e = ap (λ (n : Node). text_of (plan_of n.term)) e ∙ ap text_of (sym (at_some nodes i d lt))

@@ -158,47 +158,23 @@ fn named_by(place: Place, path: &Path) -> Option<UnitName>
 }
 
 /// The unit that a name begins.
-#[tactic(auto, using(crate::proofs::FieldLaws::named_rules))]
+#[tactic(auto, unfolding(crate::specs::Plans::plan_of))]
 pub fn named_unit(place: Place, term: &Term) -> Option<UnitName>
     ensures { result ≡ spec.named_unit place (plan_of term.now) }
 {
     match term {
         Term::Name(path) => named_by(place, path),
-        Term::Text(_) => None,
-        Term::Form { .. } => None,
-        Term::Integer(_) => None,
-        Term::Fill { .. } => None,
-        Term::Word(_) => None,
-        Term::Local(_) => None,
-        Term::Arg(_) => None,
-        Term::Debug => None,
-        Term::Omitted => None,
-        Term::Unit { .. } => None,
-        Term::Skip(_) => None,
-        Term::Offset(_) => None,
-        Term::Call { .. } => None,
+        _ => None,
     }
 }
 
-#[tactic(auto, using(crate::proofs::FieldLaws::offset_rules))]
+#[tactic(auto, unfolding(crate::specs::Plans::plan_of))]
 fn is_offset_term(term: &Term) -> bool
     ensures { result ≡ spec.is_offset_plan (plan_of term.now) }
 {
     match term {
         Term::Offset(_) => true,
-        Term::Name(_) => false,
-        Term::Text(_) => false,
-        Term::Form { .. } => false,
-        Term::Integer(_) => false,
-        Term::Fill { .. } => false,
-        Term::Word(_) => false,
-        Term::Local(_) => false,
-        Term::Arg(_) => false,
-        Term::Debug => false,
-        Term::Omitted => false,
-        Term::Unit { .. } => false,
-        Term::Skip(_) => false,
-        Term::Call { .. } => false,
+        _ => false,
     }
 }
 
@@ -215,7 +191,7 @@ pub fn add_offset(nodes: &mut Vec<Node>, place: Place, term: Term) -> Result<(),
 }
 
 /// Adds a unit at its name, or a gap at this place.
-#[tactic(auto, using(crate::proofs::Terms::term_rules))]
+#[tactic(auto, unfolding(crate::specs::Plans::plan_of))]
 pub fn add_unit(
     nodes: &mut Vec<Node>,
     unit: Option<UnitName>,

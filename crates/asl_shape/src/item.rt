@@ -14,7 +14,6 @@ use asl_words::paths::parts;
 use asl_words::resources::descriptor_parameters;
 use iasl_messages::number::{NOT_ALLOWED_HERE, UNKNOWN_OPERATOR, WRONG_ARGUMENT_COUNT, WRONG_BODY};
 
-#[tactic(auto, using(asl_parser::proofs::Views::written_rules))]
 fn is_empty(raw: &Raw) -> bool
     ensures { result ≡ spec.is_empty (written raw.now) }
 {

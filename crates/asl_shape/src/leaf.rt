@@ -38,7 +38,7 @@ pub fn place_in(place: Place, raw: &Raw) -> Place
     }
 }
 
-#[tactic(auto, using(crate::proofs::Terms::term_rules, crate::proofs::Terms::nothing_more))]
+#[tactic(auto, using(crate::proofs::Terms::nothing_more), unfolding(crate::specs::Plans::plan_of))]
 pub fn number(
     alloc: Global,
     work: &mut Work,
@@ -50,7 +50,7 @@ pub fn number(
     ensures made { IfOk result (λ term. plan_of term ≡ (spec.number_shape slot place value).made) }
 {
     match slot {
-        Slot::Term { .. } => Ok(refuse(alloc, work, NOT_ALLOWED_HERE, place)?),
+        Slot::Term { .. } => refuse(alloc, work, NOT_ALLOWED_HERE, place),
         _ => {
             if takes_expression(slot) {
                 Ok(Term::Integer(wrap(Width::W64, value)))
@@ -61,7 +61,7 @@ pub fn number(
     }
 }
 
-#[tactic(auto, using(crate::proofs::Terms::term_rules))]
+#[tactic(auto, unfolding(crate::specs::Plans::plan_of))]
 fn copied(alloc: Global, bytes: &Text) -> Result<Term, AllocError>
     ensures { IfOk result (λ term. plan_of term ≡ spec.text_plan bytes.now) }
 {
@@ -97,18 +97,18 @@ pub fn text(
     ensures made { IfOk result (λ term. plan_of term ≡ (spec.text_shape slot place bytes.now).made) }
 {
     match slot {
-        Slot::Expression => Ok(string(alloc, work, StringForm::Any, place, bytes)?),
-        Slot::Element => Ok(string(alloc, work, StringForm::Any, place, bytes)?),
-        Slot::CaseValue => Ok(string(alloc, work, StringForm::Any, place, bytes)?),
-        Slot::CaseMember => Ok(string(alloc, work, StringForm::Any, place, bytes)?),
-        Slot::String(form) => Ok(string(alloc, work, form, place, bytes)?),
-        Slot::MacroText(text_macro) => Ok(macro_text(alloc, work, text_macro, place, bytes)?),
-        Slot::Term { .. } => Ok(refuse(alloc, work, NOT_ALLOWED_HERE, place)?),
-        _ => Ok(refuse(alloc, work, unfit(slot), place)?),
+        Slot::Expression => string(alloc, work, StringForm::Any, place, bytes),
+        Slot::Element => string(alloc, work, StringForm::Any, place, bytes),
+        Slot::CaseValue => string(alloc, work, StringForm::Any, place, bytes),
+        Slot::CaseMember => string(alloc, work, StringForm::Any, place, bytes),
+        Slot::String(form) => string(alloc, work, form, place, bytes),
+        Slot::MacroText(text_macro) => macro_text(alloc, work, text_macro, place, bytes),
+        Slot::Term { .. } => refuse(alloc, work, NOT_ALLOWED_HERE, place),
+        _ => refuse(alloc, work, unfit(slot), place),
     }
 }
 
-#[tactic(auto, using(crate::proofs::Terms::term_rules, crate::proofs::Terms::nothing_more))]
+#[tactic(auto, using(crate::proofs::Terms::nothing_more), unfolding(crate::specs::Plans::plan_of))]
 pub fn path(alloc: Global, work: &mut Work, place: Place, text: &[u8]) -> Result<Term, AllocError>
     ensures faults { OnOk result (work.new.faults.items ≡ work.old.faults.items ++ (spec.path_shape place (Paths.path_of text.now)).faults) }
     ensures made { IfOk result (λ term. plan_of term ≡ (spec.path_shape place (Paths.path_of text.now)).made) }
@@ -128,7 +128,7 @@ fn word_number(slot: Slot, number: u64) -> u64
     }
 }
 
-#[tactic(auto, using(crate::proofs::Terms::term_rules))]
+#[tactic(auto, unfolding(crate::specs::Plans::plan_of))]
 pub fn known_term(slot: Slot, known: Known) -> Term
     ensures { plan_of result ≡ spec.known_plan slot known }
 {
@@ -219,7 +219,7 @@ fn are_all_types(raws: &[Raw]) -> bool
     true
 }
 
-#[tactic(auto, using(crate::proofs::Types::counted_rules))]
+#[tactic(auto, using(crate::proofs::Types::counted_rules), unfolding(crate::specs::Plans::plan_of))]
 fn types(
     alloc: Global,
     work: &mut Work,

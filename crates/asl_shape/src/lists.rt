@@ -25,7 +25,6 @@ pub fn within(op: Op, inside: Around) -> Around
 }
 
 /// Whether a member of a list only separates others.
-#[tactic(auto, using(crate::proofs::Braces::separator_rules))]
 pub fn is_separator(raw: &Raw) -> bool
     ensures { result ≡ at.is_separator_at raw.now }
 {
@@ -42,7 +41,6 @@ pub fn is_separator(raw: &Raw) -> bool
 }
 
 /// Whether a member is a comma.
-#[tactic(auto, using(crate::proofs::Braces::comma_rules))]
 pub fn is_comma(raw: &Raw) -> bool
     ensures { result ≡ at.is_comma_at raw.now }
 {
@@ -89,7 +87,6 @@ pub fn is_listed(raws: &[Raw]) -> bool
     true
 }
 
-#[tactic(auto, using(crate::proofs::Braces::is_text_rules))]
 fn is_text(raw: &Raw) -> bool
     ensures { result ≡ at.is_text_at raw.now }
 {

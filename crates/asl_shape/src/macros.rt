@@ -37,7 +37,7 @@ pub fn buffer(
 }
 
 // The number of an EISA identifier.
-#[tactic(auto, using(crate::proofs::TextMacros::text_rules))]
+#[tactic(auto, using(crate::proofs::Terms::nothing_more), unfolding(crate::specs::Plans::plan_of))]
 fn eisa(alloc: Global, work: &mut Work, place: Place, text: &Text) -> Result<Term, AllocError>
     ensures faults { OnOk result (work.new.faults.items ≡ work.old.faults.items ++ (spec.eisa_shape place (eisaid_of text.now)).faults) }
     ensures made { IfOk result (λ term. plan_of term ≡ (spec.eisa_shape place (eisaid_of text.now)).made) }
@@ -49,7 +49,7 @@ fn eisa(alloc: Global, work: &mut Work, place: Place, text: &Text) -> Result<Ter
 }
 
 // The bytes of a UUID.
-#[tactic(auto, using(crate::proofs::TextMacros::text_rules))]
+#[tactic(auto, using(crate::proofs::Terms::nothing_more))]
 fn unique(alloc: Global, work: &mut Work, place: Place, text: &Text) -> Result<Term, AllocError>
     ensures faults { OnOk result (work.new.faults.items ≡ work.old.faults.items ++ (spec.uuid_shape place (uuid_of text.now)).faults) }
     ensures made { IfOk result (λ term. plan_of term ≡ (spec.uuid_shape place (uuid_of text.now)).made) }
@@ -66,7 +66,7 @@ fn unique(alloc: Global, work: &mut Work, place: Place, text: &Text) -> Result<T
 }
 
 // A text of 16-bit characters.
-#[tactic(auto, using(crate::proofs::TextMacros::text_rules))]
+#[tactic(auto, using(crate::proofs::Terms::nothing_more))]
 fn characters(alloc: Global, work: &mut Work, place: Place, text: &Text) -> Result<Term, AllocError>
     ensures faults { OnOk result (work.new.faults.items ≡ work.old.faults.items ++ (spec.unicode_shape place text.now).faults) }
     ensures made { IfOk result (λ term. plan_of term ≡ (spec.unicode_shape place text.now).made) }
@@ -98,9 +98,9 @@ pub fn macro_text(
     ensures made { IfOk result (λ term. plan_of term ≡ (spec.macro_text text_macro place text.now).made) }
 {
     match text_macro {
-        TextMacro::EisaId => Ok(eisa(alloc, work, place, text)?),
-        TextMacro::ToUuid => Ok(unique(alloc, work, place, text)?),
-        TextMacro::Unicode => Ok(characters(alloc, work, place, text)?),
+        TextMacro::EisaId => eisa(alloc, work, place, text),
+        TextMacro::ToUuid => unique(alloc, work, place, text),
+        TextMacro::Unicode => characters(alloc, work, place, text),
     }
 }
 

@@ -31,25 +31,14 @@ fn number_term(giver: Giver, number: u64) -> node::Term
 }
 
 // What an argument gives.
-#[tactic(auto, using(crate::proofs::Descriptors::argument_rules))]
+#[tactic(auto, unfolding(crate::specs::Plans::plan_of))]
 fn argument_term(alloc: Global, giver: Giver, term: &Term) -> Result<node::Term, AllocError>
     ensures { IfOk result (λ made. made ≡ table.argument_term giver (plan_of term.now)) }
 {
     match term {
         Term::Integer(number) => Ok(number_term(giver, *number)),
         Term::Text(bytes) => Ok(node::Term::Text(Text::from_bytes(alloc, bytes.as_bytes())?)),
-        Term::Fill { .. } => Ok(node::Term::Omitted),
-        Term::Word(_) => Ok(node::Term::Omitted),
-        Term::Local(_) => Ok(node::Term::Omitted),
-        Term::Arg(_) => Ok(node::Term::Omitted),
-        Term::Debug => Ok(node::Term::Omitted),
-        Term::Omitted => Ok(node::Term::Omitted),
-        Term::Name(_) => Ok(node::Term::Omitted),
-        Term::Unit { .. } => Ok(node::Term::Omitted),
-        Term::Skip(_) => Ok(node::Term::Omitted),
-        Term::Offset(_) => Ok(node::Term::Omitted),
-        Term::Call { .. } => Ok(node::Term::Omitted),
-        Term::Form { .. } => Ok(node::Term::Omitted),
+        _ => Ok(node::Term::Omitted),
     }
 }
 
@@ -122,7 +111,7 @@ fn add_names(
 }
 
 // Adds the bytes and the names of a descriptor.
-#[tactic(auto, using(crate::proofs::Descriptors::fill_rules))]
+#[tactic(auto, using(crate::proofs::Descriptors::fill_rules), unfolding(crate::specs::Plans::plan_of))]
 fn add_fill(fill: &mut Fill, term: &Term) -> Result<(), AllocError>
     ensures bytes { OnOk result (fill.new.bytes.items ≡ fill.old.bytes.items ++ table.fill_of (plan_of term.now)) }
     ensures names { OnOk result (fill.new.named.items ≡ fill.old.named.items ++ map (table.moved (length fill.old.bytes.items)) (table.named_of (plan_of term.now))) }
@@ -132,19 +121,7 @@ fn add_fill(fill: &mut Fill, term: &Term) -> Result<(), AllocError>
             add_names(&mut fill.named, named.as_slice(), fill.bytes.len())?;
             Ok(fill.bytes.extend_from_slice(bytes.as_bytes())?)
         }
-        Term::Integer(_) => Ok(()),
-        Term::Text(_) => Ok(()),
-        Term::Word(_) => Ok(()),
-        Term::Local(_) => Ok(()),
-        Term::Arg(_) => Ok(()),
-        Term::Debug => Ok(()),
-        Term::Omitted => Ok(()),
-        Term::Name(_) => Ok(()),
-        Term::Unit { .. } => Ok(()),
-        Term::Skip(_) => Ok(()),
-        Term::Offset(_) => Ok(()),
-        Term::Call { .. } => Ok(()),
-        Term::Form { .. } => Ok(()),
+        _ => Ok(()),
     }
 }
 
@@ -239,7 +216,7 @@ fn ask_room(alloc: Global, work: &mut Work, has_room: bool, place: Place) -> Res
 ///
 /// # Errors
 /// 6024 is told at a descriptor whose list is too short, or whose length or count does not fit.
-#[tactic(auto, using(crate::proofs::Terms::term_rules))]
+#[tactic(auto, unfolding(crate::specs::Plans::plan_of))]
 pub fn describe(
     alloc: Global,
     work: &mut Work,

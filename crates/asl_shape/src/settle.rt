@@ -10,25 +10,13 @@ use iasl_messages::place::Place;
 use std::alloc::{AllocError, Global};
 
 /// The number that a term is; 0 where it is none.
-#[tactic(auto, using(crate::proofs::Settled::number_rules))]
+#[tactic(auto, unfolding(crate::specs::Plans::plan_of))]
 pub fn number_in(term: &Term) -> u64
     ensures { result ≡ number_of (plan_of term.now) }
 {
     match term {
         Term::Integer(number) => *number,
-        Term::Text(_) => 0,
-        Term::Name(_) => 0,
-        Term::Form { .. } => 0,
-        Term::Fill { .. } => 0,
-        Term::Word(_) => 0,
-        Term::Local(_) => 0,
-        Term::Arg(_) => 0,
-        Term::Debug => 0,
-        Term::Omitted => 0,
-        Term::Unit { .. } => 0,
-        Term::Skip(_) => 0,
-        Term::Offset(_) => 0,
-        Term::Call { .. } => 0,
+        _ => 0,
     }
 }
 
@@ -76,7 +64,7 @@ fn flags_of(nodes: &[Node]) -> u64
     number_at(nodes, 1) % 8 + 8 * (number_at(nodes, 2) % 2) + 16 * (number_at(nodes, 3) % 16)
 }
 
-#[tactic(auto, using(crate::proofs::Terms::term_rules))]
+#[tactic(auto, unfolding(crate::specs::Plans::plan_of))]
 fn method(nodes: &mut Vec<Node>, place: Place) -> Result<(), AllocError>
     ensures { OnOk result (plans_of nodes.new.items ≡ spec.method_settled place (plans_of nodes.old.items)) }
 {
@@ -85,7 +73,7 @@ fn method(nodes: &mut Vec<Node>, place: Place) -> Result<(), AllocError>
     Ok(push(nodes, place, Term::Integer(flags))?)
 }
 
-#[tactic(auto, using(crate::proofs::Terms::term_rules))]
+#[tactic(auto, unfolding(crate::specs::Plans::plan_of))]
 fn mutex(nodes: &mut Vec<Node>, place: Place) -> Result<(), AllocError>
     ensures { OnOk result (plans_of nodes.new.items ≡ spec.mutex_settled place (plans_of nodes.old.items)) }
 {
@@ -105,7 +93,7 @@ fn field_flags(nodes: &[Node], names: usize) -> u64
 }
 
 // The arguments of a field whose words stand behind so many others.
-#[tactic(auto, using(crate::proofs::Terms::term_rules))]
+#[tactic(auto, unfolding(crate::specs::Plans::plan_of))]
 fn field(nodes: &mut Vec<Node>, place: Place, names: usize) -> Result<(), AllocError>
     requires { names ≤ 3 }
     ensures { OnOk result (plans_of nodes.new.items ≡ spec.field_settled names place (plans_of nodes.old.items)) }
@@ -115,7 +103,7 @@ fn field(nodes: &mut Vec<Node>, place: Place, names: usize) -> Result<(), AllocE
     Ok(push(nodes, place, Term::Integer(flags))?)
 }
 
-#[tactic(auto, using(crate::proofs::Settled::external_rules))]
+#[tactic(auto, using(crate::proofs::Settled::join_nothing), unfolding(crate::specs::Plans::plan_of))]
 fn external(nodes: &mut Vec<Node>, place: Place) -> Result<(), AllocError>
     ensures { OnOk result (plans_of nodes.new.items ≡ spec.external_settled place (plans_of nodes.old.items)) }
 {
@@ -150,7 +138,7 @@ fn only(alloc: Global, nodes: &mut Vec<Node>, place: Place, term: Term) -> Resul
     Ok(push(nodes, place, term)?)
 }
 
-#[tactic(auto, using(crate::proofs::Settled::return_rules))]
+#[tactic(auto)]
 fn returned(alloc: Global, nodes: &mut Vec<Node>, place: Place) -> Result<(), AllocError>
     ensures { OnOk result (plans_of nodes.new.items ≡ spec.return_settled place (plans_of nodes.old.items)) }
 {
@@ -175,7 +163,7 @@ fn few_elements(width: Width, nodes: &[Node]) -> Option<u64>
     }
 }
 
-#[tactic(auto, using(crate::proofs::Terms::term_rules))]
+#[tactic(auto, unfolding(crate::specs::Plans::plan_of))]
 fn package(
     alloc: Global,
     width: Width,
@@ -196,25 +184,13 @@ fn is_default_op(op: Op) -> bool
     matches!(op, Op::Control(Control::Default))
 }
 
-#[tactic(auto, using(crate::proofs::Settled::default_rules))]
+#[tactic(auto, unfolding(crate::specs::Plans::plan_of))]
 fn is_default(term: &Term) -> bool
     ensures { result ≡ spec.is_default_plan (plan_of term.now) }
 {
     match term {
         Term::Form { op, .. } => is_default_op(*op),
-        Term::Integer(_) => false,
-        Term::Text(_) => false,
-        Term::Name(_) => false,
-        Term::Fill { .. } => false,
-        Term::Word(_) => false,
-        Term::Local(_) => false,
-        Term::Arg(_) => false,
-        Term::Debug => false,
-        Term::Omitted => false,
-        Term::Unit { .. } => false,
-        Term::Skip(_) => false,
-        Term::Offset(_) => false,
-        Term::Call { .. } => false,
+        _ => false,
     }
 }
 
@@ -259,14 +235,14 @@ pub fn settle(
     ensures { OnOk result (plans_of nodes.new.items ≡ spec.settled width op place (plans_of nodes.old.items)) }
 {
     match op {
-        Op::Declaration(Declaration::Method) => Ok(method(nodes, place)?),
-        Op::Declaration(Declaration::Mutex) => Ok(mutex(nodes, place)?),
-        Op::Declaration(Declaration::External) => Ok(external(nodes, place)?),
-        Op::Declaration(Declaration::Field) => Ok(field(nodes, place, 1)?),
-        Op::Declaration(Declaration::IndexField) => Ok(field(nodes, place, 2)?),
-        Op::Declaration(Declaration::BankField) => Ok(field(nodes, place, 3)?),
-        Op::Control(Control::Return) => Ok(returned(alloc, nodes, place)?),
-        Op::Special(Special::Package) => Ok(package(alloc, width, nodes, place)?),
+        Op::Declaration(Declaration::Method) => method(nodes, place),
+        Op::Declaration(Declaration::Mutex) => mutex(nodes, place),
+        Op::Declaration(Declaration::External) => external(nodes, place),
+        Op::Declaration(Declaration::Field) => field(nodes, place, 1),
+        Op::Declaration(Declaration::IndexField) => field(nodes, place, 2),
+        Op::Declaration(Declaration::BankField) => field(nodes, place, 3),
+        Op::Control(Control::Return) => returned(alloc, nodes, place),
+        Op::Special(Special::Package) => package(alloc, width, nodes, place),
         _ => Ok(()),
     }
 }

@@ -46,25 +46,13 @@ fn refusal(alloc: Global, number: u16, place: Place) -> Stage
     }
 }
 
-#[tactic(auto, using(crate::proofs::Units::text_terms))]
+#[tactic(auto, unfolding(crate::specs::Plans::plan_of))]
 fn text_in(alloc: Global, term: &Term) -> Result<Text, AllocError>
     ensures { IfOk result (λ text. text ≡ text_of (plan_of term.now)) }
 {
     match term {
-        Term::Text(text) => Ok(Text::from_bytes(alloc, text.as_bytes())?),
-        Term::Integer(_) => Ok(Text::new(alloc)),
-        Term::Name(_) => Ok(Text::new(alloc)),
-        Term::Form { .. } => Ok(Text::new(alloc)),
-        Term::Fill { .. } => Ok(Text::new(alloc)),
-        Term::Word(_) => Ok(Text::new(alloc)),
-        Term::Local(_) => Ok(Text::new(alloc)),
-        Term::Arg(_) => Ok(Text::new(alloc)),
-        Term::Debug => Ok(Text::new(alloc)),
-        Term::Omitted => Ok(Text::new(alloc)),
-        Term::Unit { .. } => Ok(Text::new(alloc)),
-        Term::Skip(_) => Ok(Text::new(alloc)),
-        Term::Offset(_) => Ok(Text::new(alloc)),
-        Term::Call { .. } => Ok(Text::new(alloc)),
+        Term::Text(text) => Text::from_bytes(alloc, text.as_bytes()),
+        _ => Ok(Text::new(alloc)),
     }
 }
 

@@ -42,7 +42,7 @@ pub fn tell(alloc: Global, work: &mut Work, number: u16, place: Place) -> Result
 }
 
 /// An error without a name, in place of a term.
-#[tactic(auto, using(crate::proofs::Terms::term_rules))]
+#[tactic(auto, unfolding(crate::specs::Plans::plan_of))]
 pub fn refuse(alloc: Global, work: &mut Work, number: u16, place: Place) -> Result<Term, AllocError>
     ensures faults { OnOk result (work.new.faults.items ≡ work.old.faults.items ++ (spec.refused number place).faults) }
     ensures made { IfOk result (λ term. plan_of term ≡ (spec.refused number place).made) }
@@ -52,7 +52,7 @@ pub fn refuse(alloc: Global, work: &mut Work, number: u16, place: Place) -> Resu
 }
 
 // What a constant of this range stands as.
-#[tactic(auto, using(crate::proofs::Terms::term_rules, crate::proofs::Terms::nothing_more))]
+#[tactic(auto, using(crate::proofs::Terms::nothing_more), unfolding(crate::specs::Plans::plan_of))]
 fn valued(
     alloc: Global,
     work: &mut Work,
@@ -72,12 +72,12 @@ fn valued(
                 Ok(refuse(alloc, work, VALUE_OUT_OF_RANGE, place)?)
             }
         }
-        Err(NoConstant::Fault) => Ok(refuse(alloc, work, VALUE_OUT_OF_RANGE, place)?),
-        Err(NoConstant::Form) => Ok(refuse(alloc, work, WRONG_ARGUMENT_FORM, place)?),
+        Err(NoConstant::Fault) => refuse(alloc, work, VALUE_OUT_OF_RANGE, place),
+        Err(NoConstant::Form) => refuse(alloc, work, WRONG_ARGUMENT_FORM, place),
     }
 }
 
-#[tactic(auto, using(crate::proofs::Terms::member_rules))]
+#[tactic(auto, unfolding(crate::specs::Plans::plan_of))]
 fn is_member(term: &Term) -> bool
     ensures { result ≡ spec.is_member (plan_of term.now) }
 {
@@ -88,23 +88,10 @@ fn is_member(term: &Term) -> bool
             Op::Literal(_) => true,
             Op::Special(Special::Buffer) => true,
             Op::Special(Special::Package) => true,
-            Op::Special(Special::CondRefOf) => false,
-            Op::Declaration(_) => false,
-            Op::Control(_) => false,
-            Op::Plain(_) => false,
-            Op::Symbolic(_) => false,
+            _ => false,
         },
-        Term::Integer(_) => false,
-        Term::Fill { .. } => false,
         Term::Word(_) => true,
-        Term::Local(_) => false,
-        Term::Arg(_) => false,
-        Term::Debug => false,
-        Term::Omitted => false,
-        Term::Unit { .. } => false,
-        Term::Skip(_) => false,
-        Term::Offset(_) => false,
-        Term::Call { .. } => false,
+        _ => false,
     }
 }
 
@@ -120,25 +107,14 @@ fn is_package(op: Op) -> bool
     matches!(op, Op::Special(Special::Package))
 }
 
-#[tactic(auto, using(crate::proofs::Terms::case_member_rules))]
+#[tactic(auto, unfolding(crate::specs::Plans::plan_of))]
 fn is_case_member(term: &Term) -> bool
     ensures { result ≡ spec.is_case_member (plan_of term.now) }
 {
     match term {
         Term::Text(_) => true,
         Term::Form { op, .. } => is_buffer(*op),
-        Term::Name(_) => false,
-        Term::Integer(_) => false,
-        Term::Fill { .. } => false,
-        Term::Word(_) => false,
-        Term::Local(_) => false,
-        Term::Arg(_) => false,
-        Term::Debug => false,
-        Term::Omitted => false,
-        Term::Unit { .. } => false,
-        Term::Skip(_) => false,
-        Term::Offset(_) => false,
-        Term::Call { .. } => false,
+        _ => false,
     }
 }
 
@@ -230,48 +206,25 @@ fn is_single(path: &Path) -> bool
     !path.root && path.up == 0 && path.segs.len() == 1
 }
 
-#[tactic(auto, using(crate::proofs::Terms::element_rules))]
+#[tactic(auto, unfolding(crate::specs::Plans::plan_of))]
 fn is_element(term: &Term) -> bool
     ensures { result ≡ spec.is_element (plan_of term.now) }
 {
     match term {
         Term::Name(path) => is_single(path),
         Term::Offset(_) => true,
-        Term::Text(_) => false,
-        Term::Form { .. } => false,
-        Term::Integer(_) => false,
-        Term::Fill { .. } => false,
-        Term::Word(_) => false,
-        Term::Local(_) => false,
-        Term::Arg(_) => false,
-        Term::Debug => false,
-        Term::Omitted => false,
-        Term::Unit { .. } => false,
-        Term::Skip(_) => false,
-        Term::Call { .. } => false,
+        _ => false,
     }
 }
 
 /// Whether an argument is left out.
-#[tactic(auto, using(crate::proofs::Terms::omitted_rules))]
+#[tactic(auto, unfolding(crate::specs::Plans::plan_of))]
 pub fn is_omitted(term: &Term) -> bool
     ensures { result ≡ is_left_out (plan_of term.now) }
 {
     match term {
         Term::Omitted => true,
-        Term::Text(_) => false,
-        Term::Name(_) => false,
-        Term::Form { .. } => false,
-        Term::Integer(_) => false,
-        Term::Fill { .. } => false,
-        Term::Word(_) => false,
-        Term::Local(_) => false,
-        Term::Arg(_) => false,
-        Term::Debug => false,
-        Term::Unit { .. } => false,
-        Term::Skip(_) => false,
-        Term::Offset(_) => false,
-        Term::Call { .. } => false,
+        _ => false,
     }
 }
 
@@ -318,8 +271,8 @@ pub fn evaluate(
                 Ok(valued(alloc, work, 0, u64::MAX, place, value_of(width, &term))?)
             }
         }
-        Slot::CaseValue => Ok(case_value(alloc, work, width, place, term)?),
-        Slot::CaseMember => Ok(case_member(alloc, work, width, place, term)?),
+        Slot::CaseValue => case_value(alloc, work, width, place, term),
+        Slot::CaseMember => case_member(alloc, work, width, place, term),
         Slot::FieldElement => {
             if is_element(&term) {
                 Ok(term)

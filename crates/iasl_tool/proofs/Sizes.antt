@@ -13,16 +13,16 @@ use Rattle.iasl_messages.specs.declared.message.Message.{Message}
 use Rattle.asl_directives.specs.declared.kind.Kind.{Kind}
 use Rattle.asl_directives.specs.declared.kind.Kind.TheVariants as k
 use Rattle.asl_directives.specs.declared.branches.Branch.{Branch}
-use Rattle.asl_directives.specs.Forms.{Asked, name_alone, definition_of, message_of, include_of, file_name_of}
+use Rattle.asl_directives.specs.Forms.{IncludedFile, name_alone, definition_of, message_of, include_of, file_name_of}
 use Rattle.asl_directives.specs.Branches.{is_read, asks, at_else, at_end_if, outermost}
 use Rattle.asl_directives.specs.Words.{blanks_before, word_of, behind_word}
 use Rattle.asl_directives.specs.Kinds.{is_conditional, kind_of}
 use Rattle.asl_fragments.specs.Fragments.{ends_in_comment, without_comments}
 use Rattle.asl_preprocess.specs.declared.define.Define.{Define}
 use Rattle.asl_preprocess.specs.Rows.{Row, Directive, Ordinary, rows_of}
-use Rattle.asl_preprocess.specs.Search.{Found, Missing, Large, Whole, names_for, search}
+use Rattle.asl_preprocess.specs.Search.{SearchResult, Missing, Large, Whole, names_for, search}
 use Rattle.asl_preprocess.specs.State.{State, Pass, Outcome, then, stopped, at, total_size, with_lines, number_of}
-use Rattle.asl_preprocess.specs.Lines.{Deed, Goes, Asks, goes, with_line, text_left, asked_by_line, word_place, asks_for, of_asked, of_line}
+use Rattle.asl_preprocess.specs.Lines.{RowEffect, Goes, Asks, goes, with_line, text_left, asked_by_line, word_place, asks_for, of_asked, of_line}
 use Rattle.asl_preprocess.specs.Directives as d
 use Rattle.asl_preprocess.specs.Preprocess.{Setting, Reading, Preprocessed, Given, Stopped, of_row, read_found, included, in_pass, done, of_rows, closed, at_end, of_text, reading_at, of_file, most_levels, first_state, given, of_found, of_main, setting_of, too_large_main, preprocessed}
 use Rattle.generated_lines.proofs.Sizes.{few_bytes}
@@ -31,12 +31,12 @@ use Rattle.iasl_tool.specs.Headline.{Request, ComeFrom, a_file, devices}
 abbrev AreFew : List Line → Type 0
 AreFew lines = total_size lines ≤ 2 ^ 25
 
-abbrev SmallDeed : Deed → Type 0
-SmallDeed (Goes pass) = AreFew pass.state.lines
-SmallDeed (Asks asked place pass) = AreFew pass.state.lines
+abbrev SmallEffect : RowEffect → Type 0
+SmallEffect (Goes pass) = AreFew pass.state.lines
+SmallEffect (Asks asked place pass) = AreFew pass.state.lines
 
-abbrev SmallRow : Outcome Deed → Type 0
-SmallRow (Ok deed) = SmallDeed deed
+abbrev SmallRow : Outcome RowEffect → Type 0
+SmallRow (Ok effect) = SmallEffect effect
 SmallRow (Err stop) = Unit {0}
 
 abbrev SmallPass : Outcome Pass → Type 0
@@ -103,7 +103,7 @@ module _ (pass : Pass) (few : AreFew pass.state.lines) where
     small_else_if rest (Some false) = few
     small_else_if rest (Some true) = small_turns_if (d.truth_of pass.state.history rest)
 
-    small_includes : (o : Option Asked) → SmallRow (d.includes place pass o)
+    small_includes : (o : Option IncludedFile) → SmallRow (d.includes place pass o)
     small_includes None = tt
     small_includes (Some asked) = few
 
@@ -164,13 +164,13 @@ abbrev SmallReading : Reading → Type 0
 SmallReading None = Unit {0}
 SmallReading (Some read) = (state : State) (name bytes : List ℕ) → AreFew state.lines → SmallState (read state name bytes)
 
-small_found : (read : State → List ℕ → List ℕ → Outcome State) (asked : Asked) (place : Place) (state : State) (found : Found) → SmallReading (Some read) → AreFew state.lines
+small_found : (read : State → List ℕ → List ℕ → Outcome State) (asked : IncludedFile) (place : Place) (state : State) (found : SearchResult) → SmallReading (Some read) → AreFew state.lines
     → SmallState (read_found read asked place state found)
 small_found read asked place state Missing keeps few = tt
 small_found read asked place state Large keeps few = tt
 small_found read asked place state (Whole name bytes) keeps few = keeps _ name bytes few
 
-small_included : (reading : Reading) (setting : Setting) (own : List ℕ) (asked : Asked) (place : Place) (state : State) → SmallReading reading → AreFew state.lines → SmallState (included reading setting own asked place state)
+small_included : (reading : Reading) (setting : Setting) (own : List ℕ) (asked : IncludedFile) (place : Place) (state : State) → SmallReading reading → AreFew state.lines → SmallState (included reading setting own asked place state)
 small_included None setting own asked place state keeps few = tt
 small_included (Some read) setting own asked place state keeps few = small_found read asked place state (search setting.told (names_for setting.directories own asked)) keeps few
 
@@ -178,7 +178,7 @@ small_in_pass : (pass : Pass) (outcome : Outcome State) → SmallState outcome �
 small_in_pass pass (Ok state) h = h
 small_in_pass pass (Err stop) h = tt
 
-small_done : (reading : Reading) (setting : Setting) (own : List ℕ) (outcome : Outcome Deed) → SmallReading reading → SmallRow outcome → SmallPass (then outcome (done reading setting own))
+small_done : (reading : Reading) (setting : Setting) (own : List ℕ) (outcome : Outcome RowEffect) → SmallReading reading → SmallRow outcome → SmallPass (then outcome (done reading setting own))
 small_done reading setting own (Ok (Goes pass)) keeps h = h
 small_done reading setting own (Ok (Asks asked place pass)) keeps h = small_in_pass pass (included reading setting own asked place pass.state) (small_included reading setting own asked place pass.state keeps h)
 small_done reading setting own (Err stop) keeps h = tt

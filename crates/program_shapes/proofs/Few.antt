@@ -8,7 +8,7 @@ use Rattle.asl_lexer.specs.declared.class.Radix.{Radix}
 use Rattle.asl_lexer.specs.declared.token.Token.{Token}
 use Rattle.asl_lexer.specs.declared.token.TokenKind.{TokenKind}
 use Rattle.asl_lexer.specs.declared.mode.Fault.{Fault}
-use Rattle.asl_lexer.specs.Scan.{Mark, with}
+use Rattle.asl_lexer.specs.Scan.{MarkedByte, with}
 use Rattle.asl_lexer.specs.Marks.{marks_from, line_marks, following, joined, tokens_of}
 use Rattle.asl_lexer.specs.Cut.{IsName, IsNumeral, Content, Inside, Cut}
 use Rattle.asl_lexer.specs.Cut as g
@@ -16,26 +16,26 @@ use Rattle.asl_lexer.proofs.Told.{tokens_are_cut}
 
 -- ---- what a token takes
 
-name_some : {path : Bool} {from : Place} {text : List ℕ} {w : List Mark} → IsName path from text w → 1 ≤ length w
+name_some : {path : Bool} {from : Place} {text : List ℕ} {w : List MarkedByte} → IsName path from text w → 1 ≤ length w
 name_some (g.IsName.word is) = omega arith
 name_some (g.IsName.rooted is begins) = omega arith
 name_some (g.IsName.raised before last cs b each at begins) = omega (arith, length-append cs (b ∷ []))
 name_some (g.IsName.more {w = w} b name is) = omega (arith, length-append w (b ∷ []))
 name_some (g.IsName.dotted {w = w} d b name dot begins) = omega (arith, length-append w (d ∷ b ∷ []))
 
-numeral_some : {radix : Radix} {from : Place} {value : ℕ} {w : List Mark} → IsNumeral radix from value w → 1 ≤ length w
+numeral_some : {radix : Radix} {from : Place} {value : ℕ} {w : List MarkedByte} → IsNumeral radix from value w → 1 ≤ length w
 numeral_some (g.IsNumeral.decimal is) = omega arith
 numeral_some (g.IsNumeral.octal is_zero is) = omega arith
 numeral_some (g.IsNumeral.hexadecimal is_zero is_x is) = omega arith
 numeral_some (g.IsNumeral.more {w = w} b numeral is) = omega (arith, length-append w (b ∷ []))
 
-inside_less : {s : Bool} {bytes rest : List Mark} → Inside s bytes rest → length rest ≤ length bytes
+inside_less : {s : Bool} {bytes rest : List MarkedByte} → Inside s bytes rest → length rest ≤ length bytes
 inside_less g.opened = omega arith
 inside_less (g.a_star inside is) = let le = inside_less inside in omega (arith, le)
 inside_less (g.no_star inside other) = let le = inside_less inside in omega (arith, le)
 inside_less (g.behind_star inside other no_slash) = let le = inside_less inside in omega (arith, le)
 
-content_less : {s : Result (List ℕ) Fault} {bytes rest : List Mark} → Content s bytes rest → length rest ≤ length bytes
+content_less : {s : Result (List ℕ) Fault} {bytes rest : List MarkedByte} → Content s bytes rest → length rest ≤ length bytes
 content_less g.no_bytes = omega arith
 content_less (g.plain content is plain) = let le = content_less content in omega (arith, le)
 content_less (g.bad_byte content is plain) = let le = content_less content in omega (arith, le)
@@ -57,7 +57,7 @@ taken : (done : List Token) (kind : TokenKind) (place : Place) (end number : ℕ
     → length (with done kind place end number text) + left ≤ all
 taken done kind place end number text before left all le lt = omega (arith, le, lt, one_token done kind place end number text)
 
-cut_few : (text : List Mark) {done : List Token} {rest : List Mark} → Cut text done rest → length done + length rest ≤ length text
+cut_few : (text : List MarkedByte) {done : List Token} {rest : List MarkedByte} → Cut text done rest → length done + length rest ≤ length text
 cut_few text g.begun = omega arith
 cut_few text (g.a_blank cut is) = let le = cut_few text cut in omega (arith, le)
 cut_few text (g.a_line {rest = rest} w cut one two each s) = let le = cut_few text cut in omega (arith, le, length-append w rest)

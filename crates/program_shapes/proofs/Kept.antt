@@ -14,7 +14,7 @@ use Rattle.asl_parser.specs.declared.mark.Lexeme.TheVariants as l
 use Rattle.asl_parser.specs.declared.mark.Mark.{Mark}
 use Rattle.asl_parser.specs.declared.raw.Raw.{Raw}
 use Rattle.asl_parser.specs.Marks.{marks, lexeme_by, symbol}
-use Rattle.asl_parser.specs.Signs.{Row, same, found, signs, sign_of, strength}
+use Rattle.asl_parser.specs.Signs.{SignRow, same, found, signs, sign_of, strength}
 use Rattle.asl_parser.specs.declared.sign.Sign.TheVariants as s
 use Rattle.asl_parser.specs.declared.sign.Strength.{Strength}
 use Rattle.asl_parser.specs.declared.raw.Infix.{Infix}
@@ -364,7 +364,7 @@ source_kept : (ws : Writtens) → EachMember ws → IsKeptSource ws
 source_kept (piece.more (piece.item place word args inner) piece.none) h = h.0
 source_kept _ h = tt
 
-sign_kept : (text : List ℕ) (rows : List Row) → list_all (λ row. has_operands row.sign) rows ≡ true → LexemeKept (symbol (found text rows))
+sign_kept : (text : List ℕ) (rows : List SignRow) → list_all (λ row. has_operands row.sign) rows ≡ true → LexemeKept (symbol (found text rows))
 sign_kept text [] h = tt
 sign_kept text (row ∷ rows) h = by (same text row.text) (sign_kept text rows (both_true (has_operands row.sign) (list_all (λ row. has_operands row.sign) rows) h).1)
   where

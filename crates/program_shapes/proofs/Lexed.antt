@@ -16,7 +16,7 @@ use Rattle.asl_lexer.specs.declared.token.TokenKind.{TokenKind}
 use Rattle.asl_lexer.specs.declared.token.TokenKind.TheVariants as k
 use Rattle.asl_lexer.specs.declared.mode.Fault.{Fault}
 use Rattle.asl_lexer.specs.Class.{class_of, base_of}
-use Rattle.asl_lexer.specs.Scan.{Mark, with, name_kind, caret_text}
+use Rattle.asl_lexer.specs.Scan.{MarkedByte, with, name_kind, caret_text}
 use Rattle.asl_lexer.specs.Marks.{marks_from, following, joined, tokens_of}
 use Rattle.asl_lexer.specs.Cut.{Each, class, in_name, begins_name, in_line, in_text, is_caret, digit_in, in_name_class, begins_name_class, in_line_class, in_text_class, is_caret_class, IsName, IsCode, Content, Inside, Cut, places}
 use Rattle.asl_lexer.specs.Cut as g
@@ -25,33 +25,33 @@ use Rattle.program_shapes.proofs.Kept.{HaveShortTexts}
 
 -- ---- how many bytes stand before the line's end
 
-abbrev row : List Mark → ℕ
+abbrev row : List MarkedByte → ℕ
 row [] = 0
 row (m ∷ ms) = if m.byte == 10 then 0 else suc (row ms)
 
 -- from each place on there are fewer than 2^32
-abbrev AreShort : List Mark → Type 0
+abbrev AreShort : List MarkedByte → Type 0
 AreShort [] = Unit {0}
 AreShort (m ∷ ms) = (row (m ∷ ms) < 2 ^ 32) × AreShort ms
 
-bounded : (ms : List Mark) → AreShort ms → row ms < 2 ^ 32
+bounded : (ms : List MarkedByte) → AreShort ms → row ms < 2 ^ 32
 bounded [] h = omega arith
 bounded (m ∷ ms) h = h.0
 
-behind : (w rest : List Mark) → AreShort (w ++ rest) → AreShort rest
+behind : (w rest : List MarkedByte) → AreShort (w ++ rest) → AreShort rest
 behind [] rest h = h
 behind (m ∷ ms) rest h = behind ms rest h.1
 
 -- none of these bytes ends a line
-abbrev InRow : List Mark → Type 0
+abbrev InRow : List MarkedByte → Type 0
 InRow [] = Unit {0}
 InRow (m ∷ ms) = ((m.byte == 10) ≡ false) × InRow ms
 
-join : (w rest : List Mark) → InRow w → InRow rest → InRow (w ++ rest)
+join : (w rest : List MarkedByte) → InRow w → InRow rest → InRow (w ++ rest)
 join [] rest a b = b
 join (m ∷ ms) rest a b = (a.0, join ms rest a.1 b)
 
-row_of : (w rest : List Mark) → InRow w → row (w ++ rest) ≡ length w + row rest
+row_of : (w rest : List MarkedByte) → InRow w → row (w ++ rest) ≡ length w + row rest
 row_of [] rest h = omega arith
 row_of (m ∷ ms) rest h = ap (λ t. if t then 0 else suc (row (ms ++ rest))) h.0 ∙ (let e : row (ms ++ rest) ≡ length ms + row rest = row_of ms rest h.1 in omega (arith, e))
 
@@ -64,41 +64,41 @@ apart b f refused taken = by (b == 10) refl
     by false e = refl
     by true e = sym taken ∙ ap f (eqb-true b 10 e) ∙ refused
 
-name_apart : (m : Mark) → in_name m ≡ true → (m.byte == 10) ≡ false
+name_apart : (m : MarkedByte) → in_name m ≡ true → (m.byte == 10) ≡ false
 unfolding class_of
 name_apart m h = apart m.byte (λ b. in_name_class (class_of b)) refl h
 
-begins_apart : (m : Mark) → begins_name m ≡ true → (m.byte == 10) ≡ false
+begins_apart : (m : MarkedByte) → begins_name m ≡ true → (m.byte == 10) ≡ false
 unfolding class_of
 begins_apart m h = apart m.byte (λ b. begins_name_class (class_of b)) refl h
 
-line_apart : (m : Mark) → in_line m ≡ true → (m.byte == 10) ≡ false
+line_apart : (m : MarkedByte) → in_line m ≡ true → (m.byte == 10) ≡ false
 unfolding class_of
 line_apart m h = apart m.byte (λ b. in_line_class (class_of b)) refl h
 
-text_apart : (m : Mark) → in_text m ≡ true → (m.byte == 10) ≡ false
+text_apart : (m : MarkedByte) → in_text m ≡ true → (m.byte == 10) ≡ false
 unfolding class_of
 text_apart m h = apart m.byte (λ b. in_text_class (class_of b)) refl h
 
-caret_apart : (m : Mark) → is_caret m ≡ true → (m.byte == 10) ≡ false
+caret_apart : (m : MarkedByte) → is_caret m ≡ true → (m.byte == 10) ≡ false
 unfolding class_of
 caret_apart m h = apart m.byte (λ b. is_caret_class (class_of b)) refl h
 
-class_apart : (m : Mark) (k : Class) → class m ≡ k → in_line_class k ≡ true → (m.byte == 10) ≡ false
+class_apart : (m : MarkedByte) (k : Class) → class m ≡ k → in_line_class k ≡ true → (m.byte == 10) ≡ false
 class_apart m k e h = line_apart m (ap in_line_class e ∙ h)
 
-digit_apart : (radix : Radix) (m : Mark) → digit_in (base_of radix) m ≡ true → (m.byte == 10) ≡ false
+digit_apart : (radix : Radix) (m : MarkedByte) → digit_in (base_of radix) m ≡ true → (m.byte == 10) ≡ false
 digit_apart Octal m h = apart m.byte (λ b. is_digit b 8) refl h
 digit_apart Decimal m h = apart m.byte (λ b. is_digit b 10) refl h
 digit_apart Hexadecimal m h = apart m.byte (λ b. is_digit b 16) refl h
 
 -- ---- words and paths
 
-carets_row : (cs : List Mark) → Each is_caret cs → InRow cs
+carets_row : (cs : List MarkedByte) → Each is_caret cs → InRow cs
 carets_row [] h = tt
 carets_row (m ∷ ms) h = (caret_apart m h.0, carets_row ms h.1)
 
-places_length : (cs : List Mark) → length (places cs) ≡ length cs
+places_length : (cs : List MarkedByte) → length (places cs) ≡ length cs
 places_length [] = refl
 places_length (m ∷ ms) = ap suc (places_length ms)
 
@@ -106,14 +106,14 @@ carets_length : (ps : List Place) → length (caret_text ps) ≡ length ps
 carets_length [] = refl
 carets_length (p ∷ ps) = ap suc (carets_length ps)
 
-name_row : {path : Bool} {from : Place} {text : List ℕ} {w : List Mark} → IsName path from text w → InRow w
+name_row : {path : Bool} {from : Place} {text : List ℕ} {w : List MarkedByte} → IsName path from text w → InRow w
 name_row (g.IsName.word {m = b} is) = (begins_apart b is, tt)
 name_row (g.IsName.rooted {r = r} {m = b} is begins) = (class_apart r c.Backslash is refl, (begins_apart b begins, tt))
 name_row (g.IsName.raised before last cs b each at begins) = join cs (b ∷ []) (carets_row cs each) (begins_apart b begins, tt)
 name_row (g.IsName.more {w = w} b name is) = join w (b ∷ []) (name_row name) (name_apart b is, tt)
 name_row (g.IsName.dotted {w = w} d b name dot begins) = join w (d ∷ b ∷ []) (name_row name) (class_apart d c.Dot dot refl, (begins_apart b begins, tt))
 
-name_length : {path : Bool} {from : Place} {text : List ℕ} {w : List Mark} → IsName path from text w → length text ≤ length w
+name_length : {path : Bool} {from : Place} {text : List ℕ} {w : List MarkedByte} → IsName path from text w → length text ≤ length w
 name_length (g.IsName.word is) = omega arith
 name_length (g.IsName.rooted is begins) = omega arith
 name_length (g.IsName.raised before last cs b each at begins) =
@@ -125,7 +125,7 @@ name_length (g.IsName.dotted {text = text} {w = w} d b name dot begins) =
 
 -- ---- strings
 
-code_row : {radix : Radix} {value left : ℕ} {w : List Mark} → IsCode radix value left w → InRow w
+code_row : {radix : Radix} {value left : ℕ} {w : List MarkedByte} → IsCode radix value left w → InRow w
 code_row (g.IsCode.octal {m = b} line none is) = (line_apart b line, tt)
 code_row (g.IsCode.hexadecimal {x = x} {m = b} line none no_digit is_x is) = (line_apart x line, (digit_apart Hexadecimal b is, tt))
 code_row (g.IsCode.more {radix = radix} {w = w} b code some is) = join w (b ∷ []) (code_row code) (digit_apart radix b is, tt)
@@ -135,7 +135,7 @@ abbrev IsWithin : Result (List ℕ) Fault → ℕ → ℕ → Type 0
 IsWithin (Ok string) rest whole = length string + rest ≤ whole
 IsWithin (Err fault) rest whole = Unit {0}
 
-content_within : {s : Result (List ℕ) Fault} {bytes rest : List Mark} → Content s bytes rest → IsWithin s (row rest) (row bytes)
+content_within : {s : Result (List ℕ) Fault} {bytes rest : List MarkedByte} → Content s bytes rest → IsWithin s (row rest) (row bytes)
 content_within g.no_bytes = omega arith
 content_within (g.plain {text = text} {m = b} {rest = rest} content is plain) =
     let le = content_within content in
@@ -158,13 +158,13 @@ content_within (g.passed_escape content slash line) = tt
 
 -- ---- what is left behind tokens
 
-inside_short : {s : Bool} {bytes rest : List Mark} → Inside s bytes rest → AreShort bytes → AreShort rest
+inside_short : {s : Bool} {bytes rest : List MarkedByte} → Inside s bytes rest → AreShort bytes → AreShort rest
 inside_short g.opened h = h
 inside_short (g.a_star {m = b} {rest = rest} inside is) h = behind (b ∷ []) rest (inside_short inside h)
 inside_short (g.no_star {m = b} {rest = rest} inside other) h = behind (b ∷ []) rest (inside_short inside h)
 inside_short (g.behind_star {m = b} {rest = rest} inside other no_slash) h = behind (b ∷ []) rest (inside_short inside h)
 
-content_short : {s : Result (List ℕ) Fault} {bytes rest : List Mark} → Content s bytes rest → AreShort bytes → AreShort rest
+content_short : {s : Result (List ℕ) Fault} {bytes rest : List MarkedByte} → Content s bytes rest → AreShort bytes → AreShort rest
 content_short g.no_bytes h = h
 content_short (g.plain {m = b} {rest = rest} content is plain) h = behind (b ∷ []) rest (content_short content h)
 content_short (g.bad_byte {m = b} {rest = rest} content is plain) h = behind (b ∷ []) rest (content_short content h)
@@ -176,7 +176,7 @@ content_short (g.no_escape {s = s} {m = b} {rest = rest} content slash line none
 content_short (g.passed {m = b} {rest = rest} content is) h = behind (b ∷ []) rest (content_short content h)
 content_short (g.passed_escape {s = s} {m = b} {rest = rest} content slash line) h = behind (s ∷ b ∷ []) rest (content_short content h)
 
-cut_short : (text : List Mark) {done : List Token} {rest : List Mark} → AreShort text → Cut text done rest → AreShort rest
+cut_short : (text : List MarkedByte) {done : List Token} {rest : List MarkedByte} → AreShort text → Cut text done rest → AreShort rest
 cut_short text h g.begun = h
 cut_short text h (g.a_blank {m = b} {rest = rest} cut is) = behind (b ∷ []) rest (cut_short text h cut)
 cut_short text h (g.a_line {a = a} {b = b} {rest = rest} w cut one two each s) = behind w rest (behind (a ∷ b ∷ []) (w ++ rest) (cut_short text h cut))
@@ -202,13 +202,13 @@ IsShort token = length token.text < 2 ^ 32
 one_more : (done : List Token) (kind : TokenKind) (place : Place) (end number : ℕ) (text : List ℕ) → All IsShort done → length text < 2 ^ 32 → All IsShort (with done kind place end number text)
 one_more done kind place end number text all short = All-push IsShort done (record { kind = kind; place = place; end = end; number = number; text = text }) all short
 
-name_short : {path : Bool} {from : Place} {text : List ℕ} {w : List Mark} (rest : List Mark) → IsName path from text w → AreShort (w ++ rest) → length text < 2 ^ 32
+name_short : {path : Bool} {from : Place} {text : List ℕ} {w : List MarkedByte} (rest : List MarkedByte) → IsName path from text w → AreShort (w ++ rest) → length text < 2 ^ 32
 name_short {w = w} rest name h = let e = row_of w rest (name_row name) in let le = name_length name in let lt = bounded (w ++ rest) h in omega (arith, e, le, lt)
 
-string_short : {string : List ℕ} {bytes rest : List Mark} → Content (Ok string) bytes rest → AreShort bytes → length string < 2 ^ 32
+string_short : {string : List ℕ} {bytes rest : List MarkedByte} → Content (Ok string) bytes rest → AreShort bytes → length string < 2 ^ 32
 string_short {bytes = bytes} content h = let le = content_within content in let lt = bounded bytes h in omega (arith, le, lt)
 
-tokens_short : (text : List Mark) {done : List Token} {rest : List Mark} → AreShort text → Cut text done rest → All IsShort done
+tokens_short : (text : List MarkedByte) {done : List Token} {rest : List MarkedByte} → AreShort text → Cut text done rest → All IsShort done
 tokens_short text h g.begun = λ i d lt. absurd (omega arith)
 tokens_short text h (g.a_blank cut is) = tokens_short text h cut
 tokens_short text h (g.a_line w cut one two each s) = tokens_short text h cut
@@ -240,7 +240,7 @@ at_most : (t : Bool) (n m : ℕ) → n ≤ m → (if t then 0 else suc n) ≤ su
 at_most true n m h = omega arith
 at_most false n m h = omega (arith, h)
 
-line_short : (file line column : ℕ) (bs : List ℕ) (rest : List Mark) → length bs < 2 ^ 32 → row rest ≡ 0 → AreShort rest → (row (marks_from file line column bs ++ rest) ≤ length bs) × AreShort (marks_from file line column bs ++ rest)
+line_short : (file line column : ℕ) (bs : List ℕ) (rest : List MarkedByte) → length bs < 2 ^ 32 → row rest ≡ 0 → AreShort rest → (row (marks_from file line column bs ++ rest) ≤ length bs) × AreShort (marks_from file line column bs ++ rest)
 unfolding marks_from
 line_short file line column [] rest lt e h = (omega (arith, e), h)
 line_short file line column (b ∷ bs) rest lt e h =

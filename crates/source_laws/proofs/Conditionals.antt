@@ -9,14 +9,14 @@ use Rattle.asl_conditions.specs.Condition.{is_known}
 use Rattle.asl_directives.specs.declared.branches.Branch.{Branch}
 use Rattle.asl_directives.specs.declared.kind.Kind.{Kind}
 use Rattle.asl_directives.specs.declared.kind.Kind.TheVariants as k
-use Rattle.asl_directives.specs.Forms.{Asked, name_alone, definition_of, message_of, include_of, file_name_of}
+use Rattle.asl_directives.specs.Forms.{IncludedFile, name_alone, definition_of, message_of, include_of, file_name_of}
 use Rattle.asl_directives.specs.Kinds.{is_conditional}
 use Rattle.asl_directives.specs.Branches.{is_read, asks, at_else_if}
 use Rattle.iasl_ports.specs.Fetched.{most_bytes}
 use Rattle.iasl_messages.specs.declared.place.Line.{Line}
 use Rattle.asl_preprocess.specs.Rows.{Row, Directive, Ordinary, rows_of}
 use Rattle.asl_preprocess.specs.State.{State, Pass, Outcome, then, at, stopped, number_of, total_size, with_lines}
-use Rattle.asl_preprocess.specs.Lines.{Deed, Goes, Asks, goes, text_left, asked_by_line, word_place, asks_for, of_asked}
+use Rattle.asl_preprocess.specs.Lines.{RowEffect, Goes, Asks, goes, text_left, asked_by_line, word_place, asks_for, of_asked}
 use Rattle.asl_preprocess.specs.Directives.{wrong, defines, undefines, includes, notes_message, obeyed, skipped, obeyed_or_open, skipped_or_open, else_if, turns_if, truth_of, balanced, opens_if, opens_defined}
 use Rattle.asl_preprocess.specs.Preprocess.{Reading, Setting, of_row, done, of_rows, at_end, of_text, included}
 use Rattle.source_laws.specs.Conditionals.{Rows, Branches, no_rows, row, conditional, no_branches, branch, listed, listed_branches, kind_in, operand_in, place_in, Is, stands_in_conditional, IsOther, IsNone, AreWhole, AreBranches, AreFurther, condition_by, condition, fault_by, told, chosen, read, read_first, known, alone}
@@ -30,7 +30,7 @@ abbrev pub around : List Branch → Outcome State → Outcome Pass
 around branches (Ok state) = Ok (inside state branches)
 around branches (Err stop) = Err stop
 
-abbrev moved : List Branch → Outcome Deed → Outcome Deed
+abbrev moved : List Branch → Outcome RowEffect → Outcome RowEffect
 moved branches (Ok (Goes pass)) = Ok (Goes (inside pass.state branches))
 moved branches (Ok (Asks asked place pass)) = Ok (Asks asked place (inside pass.state branches))
 moved branches (Err stop) = Err stop
@@ -64,7 +64,7 @@ undefined : (place : Place) (state : State) (bs : List Branch) (d : Option (List
 undefined place state bs None = refl
 undefined place state bs (Some d) = refl
 
-included_alone : (place : Place) (state : State) (bs : List Branch) (d : Option Asked) → includes place (inside state bs) d ≡ moved bs (includes place (inside state []) d)
+included_alone : (place : Place) (state : State) (bs : List Branch) (d : Option IncludedFile) → includes place (inside state bs) d ≡ moved bs (includes place (inside state []) d)
 included_alone place state bs None = refl
 included_alone place state bs (Some d) = refl
 
@@ -119,7 +119,7 @@ then_then (Ok v) f g = refl
 then_then (Err stop) f g = refl
 
 -- a directive of a conditional, that is read or not
-abbrev pub turned : Bool → Kind → Place → List ℕ → Pass → Outcome Deed
+abbrev pub turned : Bool → Kind → Place → List ℕ → Pass → Outcome RowEffect
 turned t kind place rest pass = cond t (obeyed_or_open false (Some kind) place rest pass) (skipped_or_open false (Some kind) place rest pass)
 
 -- ---- branches
@@ -158,7 +158,7 @@ module _ (reading : Reading) (setting : Setting) (file : ℕ) (own : List ℕ) w
   abbrev pub run : List Row → Pass → Outcome Pass
   run = of_rows reading setting file own
 
-  done_moved : (bs : List Branch) (x : Outcome Deed) → then (moved bs x) (done reading setting own) ≡ around bs (known (then x (done reading setting own)))
+  done_moved : (bs : List Branch) (x : Outcome RowEffect) → then (moved bs x) (done reading setting own) ≡ around bs (known (then x (done reading setting own)))
   done_moved bs (Ok (Goes pass)) = refl
   done_moved bs (Ok (Asks asked place pass)) = by (included reading setting own asked place pass.state)
     where

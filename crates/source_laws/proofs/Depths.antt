@@ -16,7 +16,7 @@ use Rattle.asl_parser.specs.Machine.{Config, Answer, source, stop, depth, walk, 
 use Rattle.asl_parser.specs.Machine as m
 use Rattle.asl_parser.specs.Grammar.{sign, word, all, MayFollow, Reads, IsSource}
 use Rattle.asl_parser.specs.Grammar as g
-use Rattle.asl_parser.specs.Front.{Held, IsFront}
+use Rattle.asl_parser.specs.Front.{IsFrontIn, IsFront}
 use Rattle.asl_parser.specs.Depth.{IsShallow, OpensTooMuch}
 use Rattle.asl_parser.proofs.Ends.{then_run}
 use Rattle.asl_parser.proofs.Complete.{Proper, is_strength, Starts, allowed, Holder, of_source, of_body, holds, expects, wants, infix_ends, infix_step, spelled_is_read}
@@ -249,7 +249,7 @@ read_reaches (t ∷ front) behind a fs items e = read_on t front behind a fs ite
 pub front_opens : (ms : List Mark) → IsFront ms → (d : ℕ) × OpensInSource ms d
 front_opens ms front =
     let r = read_reaches ms front.behind st.Sequence start (grown_all front.trees) (spelled_is_read front.trees (ms ++ front.behind) front.source) in
-    let begun : Held st.Sequence start ms (ms ++ []) = subst (λ us. Held st.Sequence start ms us) (sym (append-nil ms)) (start_held ms) in
+    let begun : IsFrontIn st.Sequence start ms (ms ++ []) = subst (λ us. IsFrontIn st.Sequence start ms us) (sym (append-nil ms)) (start_held ms) in
     let k = held_filled r.at.0 r.at.1 ms (reach_held ms [] st.Sequence start ms r.at begun r.is) in
     (k.depth_is, k.opens)
 

@@ -20,7 +20,7 @@ use Rattle.asl_parser.specs.Machine.{depth, room, unlimited}
 use Rattle.asl_parser.specs.declared.mark.Lexeme.TheVariants as l
 use Rattle.asl_parser.specs.Grammar.{at, sign, word, all, MayFollow, Reads}
 use Rattle.asl_parser.specs.Grammar as g
-use Rattle.asl_parser.specs.Front.{Hole, TakesList, TakesExpression, Suits, TakesElement, FirstArgument, FirstElement, NextArgument, Held}
+use Rattle.asl_parser.specs.Front.{LeavesOpen, TakesList, TakesExpression, Suits, TakesElement, FirstArgument, FirstElement, NextArgument, IsFrontIn}
 use Rattle.asl_parser.specs.Front as h
 use Rattle.asl_parser.specs.Depth.{IsDeeper}
 use Rattle.asl_parser.proofs.Complete.{complete, Starts, is_strength}
@@ -33,7 +33,7 @@ use Rattle.source_laws.specs.Opens as o
 pub record Found (ms : List Mark) (much : ℕ) : Type 0 where
   pub state : State
   pub fs : List Frame
-  pub held : Held state fs ms []
+  pub held : IsFrontIn state fs ms []
   pub is : depth fs ≡ much
 
 found_as : (ms : List Mark) (n m : ℕ) → n ≡ m → Found ms n → Found ms m
@@ -92,65 +92,65 @@ count_is op.LogicalNot x e = absurd cc
 count_is op.Not x e = absurd cc
 
 abbrev Claim : Production → List Mark → ℕ → Type 0
-Claim (expression n) rest d = (fs : List Frame) (ms : List Mark) → Hole fs ms rest → n ≤ room fs → TakesExpression fs → Found ms (d + depth fs)
-Claim behind_word rest d = (p : Spot) (path : Bool) (w : List ℕ) (fs : List Frame) (ms : List Mark) → Hole fs ms (word p path w ∷ rest) → TakesExpression fs → Found ms (d + depth fs)
-Claim arguments rest d = (p q : Spot) (path : Bool) (w : List ℕ) (fs : List Frame) (ms : List Mark) → Hole fs ms (word p path w ∷ sign q s.LeftParen ∷ rest) → TakesExpression fs → Found ms (d + (1 + depth fs))
-Claim argument rest d = (p : Spot) (w : List ℕ) (done : Branches) (fs : List Frame) (ms : List Mark) → Hole (f.Args p w done ∷ fs) ms rest → Found ms (d + (1 + depth fs))
-Claim brace_list rest d = (fs : List Frame) (ms : List Mark) → Hole fs ms rest → TakesList fs → Found ms (d + depth fs)
-Claim member rest d = (p : Spot) (done : Branches) (fs : List Frame) (ms : List Mark) → Hole (f.List p done ∷ fs) ms rest → Found ms (d + (1 + depth fs))
+Claim (expression n) rest d = (fs : List Frame) (ms : List Mark) → LeavesOpen fs ms rest → n ≤ room fs → TakesExpression fs → Found ms (d + depth fs)
+Claim behind_word rest d = (p : Spot) (path : Bool) (w : List ℕ) (fs : List Frame) (ms : List Mark) → LeavesOpen fs ms (word p path w ∷ rest) → TakesExpression fs → Found ms (d + depth fs)
+Claim arguments rest d = (p q : Spot) (path : Bool) (w : List ℕ) (fs : List Frame) (ms : List Mark) → LeavesOpen fs ms (word p path w ∷ sign q s.LeftParen ∷ rest) → TakesExpression fs → Found ms (d + (1 + depth fs))
+Claim argument rest d = (p : Spot) (w : List ℕ) (done : Branches) (fs : List Frame) (ms : List Mark) → LeavesOpen (f.Args p w done ∷ fs) ms rest → Found ms (d + (1 + depth fs))
+Claim brace_list rest d = (fs : List Frame) (ms : List Mark) → LeavesOpen fs ms rest → TakesList fs → Found ms (d + depth fs)
+Claim member rest d = (p : Spot) (done : Branches) (fs : List Frame) (ms : List Mark) → LeavesOpen (f.List p done ∷ fs) ms rest → Found ms (d + (1 + depth fs))
 Claim (row n) rest d = (frame : Branches → Frame) (fs : List Frame) (ms : List Mark) (much : ℕ) → ((done : Branches) → n ≤ room (frame done ∷ fs)) → ((done : Branches) → TakesExpression (frame done ∷ fs))
     → ((done : Branches) → depth (frame done ∷ fs) ≡ much)
-    → ((done : Trees) (last : Option Tree) (mid : List Mark) → Reads (g.sequence n done last) rest mid → MayFollow last mid → Hole (frame (grown_all (all done last)) ∷ fs) ms mid) → Found ms (d + much)
+    → ((done : Trees) (last : Option Tree) (mid : List Mark) → Reads (g.sequence n done last) rest mid → MayFollow last mid → LeavesOpen (frame (grown_all (all done last)) ∷ fs) ms mid) → Found ms (d + much)
 
 found : {production : Production} {rest : List Mark} {d : ℕ} → Opens production rest d → Claim production rest d
-found o.no_expression = λ fs ms hole low takes. record { state = st.Operand; fs = fs; held = (hole, takes); is = omega arith }
-found (o.an_expression {m = m} {e = e} {ms = rest} small less reads) = λ fs ms hole low takes. record {
+found o.no_expression = λ fs ms leaves low takes. record { state = st.Operand; fs = fs; held = (leaves, takes); is = omega arith }
+found (o.an_expression {m = m} {e = e} {ms = rest} small less reads) = λ fs ms leaves low takes. record {
   state = st.Whole (grown e);
   fs = fs;
-  held = record { tree = e; is = refl; ready = record { mid = rest; level = m; hole = hole; reads = reads; low = small; fits = omega arith; takes = takes } };
+  held = record { tree = e; is = refl; ready = record { mid = rest; level = m; leaves = leaves; reads = reads; low = small; fits = omega arith; takes = takes } };
   is = omega arith;
 }
-found (o.in_item {p = p} {path = path} {w = w} inner) = λ fs ms hole low takes. found inner p path w fs ms hole takes
-found (o.in_brackets {d = d} small inner) = λ fs ms hole low takes.
-    found_as ms (d + (1 + depth fs)) (suc d + depth fs) (omega arith) (found inner (f.Bracket ∷ fs) ms (h.in_bracket (omega arith) hole) (omega arith) tt)
-found (o.in_index {d = d} {p = p} {a = a} small reads inner) = λ fs ms hole low takes.
-    found_as ms (d + (1 + depth fs)) (suc d + depth fs) (omega arith) (found inner (f.Index p (grown a) ∷ fs) ms (h.in_index (omega arith) hole reads) (omega arith) tt)
-found (o.in_prefix {d = d} {p = p} {o = x} small inner) = λ fs ms hole low takes.
-    found_as ms (d + (1 + depth fs)) (suc d + depth fs) (omega arith) (found inner (f.Pending 2 2 p x no_branches ∷ fs) ms (h.in_prefix (omega arith) hole) (omega arith) tt)
-found (o.in_infix {d = d} {p = p} {i = i} {o = x} {a = a} is small reads inner) = λ fs ms hole low takes.
+found (o.in_item {p = p} {path = path} {w = w} inner) = λ fs ms leaves low takes. found inner p path w fs ms leaves takes
+found (o.in_brackets {d = d} small inner) = λ fs ms leaves low takes.
+    found_as ms (d + (1 + depth fs)) (suc d + depth fs) (omega arith) (found inner (f.Bracket ∷ fs) ms (h.in_bracket (omega arith) leaves) (omega arith) tt)
+found (o.in_index {d = d} {p = p} {a = a} small reads inner) = λ fs ms leaves low takes.
+    found_as ms (d + (1 + depth fs)) (suc d + depth fs) (omega arith) (found inner (f.Index p (grown a) ∷ fs) ms (h.in_index (omega arith) leaves reads) (omega arith) tt)
+found (o.in_prefix {d = d} {p = p} {o = x} small inner) = λ fs ms leaves low takes.
+    found_as ms (d + (1 + depth fs)) (suc d + depth fs) (omega arith) (found inner (f.Pending 2 2 p x no_branches ∷ fs) ms (h.in_prefix (omega arith) leaves) (omega arith) tt)
+found (o.in_infix {d = d} {p = p} {i = i} {o = x} {a = a} is small reads inner) = λ fs ms leaves low takes.
     (let same : weight_of x ≡ count i = count_is i x is in
-    found_as ms (d + (weight_of x + depth fs)) (count i + d + depth fs) (omega arith) (found inner (f.Pending x.level x.room p i (joined no_branches (grown a)) ∷ fs) ms (h.in_infix is (omega arith) hole reads) (omega arith) tt))
-found (o.in_arguments {d = d} {p = q} inner) = λ p path w fs ms hole takes. found_as ms (d + (1 + depth fs)) (suc d + depth fs) (omega arith) (found inner p q path w fs ms hole takes)
-found (o.in_body {d = d} {args = args} reads inner) = λ p path w fs ms hole takes.
+    found_as ms (d + (weight_of x + depth fs)) (count i + d + depth fs) (omega arith) (found inner (f.Pending x.level x.room p i (joined no_branches (grown a)) ∷ fs) ms (h.in_infix is (omega arith) leaves reads) (omega arith) tt))
+found (o.in_arguments {d = d} {p = q} inner) = λ p path w fs ms leaves takes. found_as ms (d + (1 + depth fs)) (suc d + depth fs) (omega arith) (found inner p q path w fs ms leaves takes)
+found (o.in_body {d = d} {args = args} reads inner) = λ p path w fs ms leaves takes.
     found_as ms (d + (1 + depth fs)) (suc d + depth fs) (omega arith)
-    (found inner (λ done. f.Body p w (grown_in args) done) fs ms (1 + depth fs) (λ done. omega arith) (λ done. tt) (λ done. refl) (λ done last mid row_reads may. h.in_body takes hole reads row_reads may))
-found (o.next_argument {xs = xs} reads inner) = λ p q path w fs ms hole takes. found inner p w (grown_all xs) fs ms (h.in_arguments takes hole reads)
-found (o.an_argument {d = d} inner) = λ p w done fs ms hole. found inner (f.Args p w done ∷ fs) ms hole (omega arith) tt
-found (o.a_list_argument {d = d} inner) = λ p w done fs ms hole. found inner (f.Args p w done ∷ fs) ms hole tt
-found (o.a_list {e = e} {ms = rest} reads) = λ fs ms hole takes. record {
+    (found inner (λ done. f.Body p w (grown_in args) done) fs ms (1 + depth fs) (λ done. omega arith) (λ done. tt) (λ done. refl) (λ done last mid row_reads may. h.in_body takes leaves reads row_reads may))
+found (o.next_argument {xs = xs} reads inner) = λ p q path w fs ms leaves takes. found inner p w (grown_all xs) fs ms (h.in_arguments takes leaves reads)
+found (o.an_argument {d = d} inner) = λ p w done fs ms leaves. found inner (f.Args p w done ∷ fs) ms leaves (omega arith) tt
+found (o.a_list_argument {d = d} inner) = λ p w done fs ms leaves. found inner (f.Args p w done ∷ fs) ms leaves tt
+found (o.a_list {e = e} {ms = rest} reads) = λ fs ms leaves takes. record {
   state = st.Listed (grown e);
   fs = fs;
-  held = record { tree = e; is = refl; mid = rest; hole = hole; suits = whole_list fs e rest takes reads };
+  held = record { tree = e; is = refl; mid = rest; leaves = leaves; suits = whole_list fs e rest takes reads };
   is = omega arith;
 }
-found (o.in_list {d = d} {p = p} {xs = xs} reads inner) = λ fs ms hole takes. found_as ms (d + (1 + depth fs)) (suc d + depth fs) (omega arith) (found inner p (grown_all xs) fs ms (h.in_list takes hole reads))
-found o.no_member = λ p done fs ms hole. record { state = st.Element; fs = f.List p done ∷ fs; held = (hole, tt); is = omega arith }
-found (o.a_word {p = q} {w = w}) = λ p done fs ms hole. record {
+found (o.in_list {d = d} {p = p} {xs = xs} reads inner) = λ fs ms leaves takes. found_as ms (d + (1 + depth fs)) (suc d + depth fs) (omega arith) (found inner p (grown_all xs) fs ms (h.in_list takes leaves reads))
+found o.no_member = λ p done fs ms leaves. record { state = st.Element; fs = f.List p done ∷ fs; held = (leaves, tt); is = omega arith }
+found (o.a_word {p = q} {w = w}) = λ p done fs ms leaves. record {
   state = st.Listed (grown (t.an_item q w absent absent));
   fs = f.List p done ∷ fs;
-  held = record { tree = t.an_item q w absent absent; is = refl; mid = word q false w ∷ []; hole = hole; suits = g.a_word };
+  held = record { tree = t.an_item q w absent absent; is = refl; mid = word q false w ∷ []; leaves = leaves; suits = g.a_word };
   is = omega arith;
 }
-found (o.an_inner_list inner) = λ p done fs ms hole. found inner (f.List p done ∷ fs) ms hole tt
-found (o.no_next {done = done} reads) = λ frame fs ms much low takes much_is holes. record {
+found (o.an_inner_list inner) = λ p done fs ms leaves. found inner (f.List p done ∷ fs) ms leaves tt
+found (o.no_next {done = done} reads) = λ frame fs ms much low takes much_is leaving. record {
   state = st.Sequence;
   fs = frame (grown_all done) ∷ fs;
-  held = (holes done None [] reads tt, takes (grown_all done));
+  held = (leaving done None [] reads tt, takes (grown_all done));
   is = omega (arith, much_is (grown_all done));
 }
-found (o.next_expression {d = d} {done = done} {last = last} {m = m} {rest = rest} reads may inner) = λ frame fs ms much low takes much_is holes.
+found (o.next_expression {d = d} {done = done} {last = last} {m = m} {rest = rest} reads may inner) = λ frame fs ms much low takes much_is leaving.
     (let here : Branches = grown_all (all done last) in
-    found_as ms (d + depth (frame here ∷ fs)) (d + much) (ap (λ n. d + n) (much_is here)) (found inner (frame here ∷ fs) ms (holes done last (m ∷ rest) reads may) (low here) (takes here)))
+    found_as ms (d + depth (frame here ∷ fs)) (d + much) (ap (λ n. d + n) (much_is here)) (found inner (frame here ∷ fs) ms (leaving done last (m ∷ rest) reads may) (low here) (takes here)))
 
 -- ---- what is held leaves as much open, or more
 
@@ -248,47 +248,47 @@ list_fits (f.Args p w done ∷ fs) rest d takes opens = o.a_list_argument opens
 list_fits (f.List p done ∷ fs) rest d takes opens = o.an_inner_list opens
 list_fits _ rest d takes opens = absurd takes
 
-fill : {fs : List Frame} {ms rest : List Mark} → Hole fs ms rest → (d : ℕ) → Fits fs rest d → Filled ms (d + depth fs)
+fill : {fs : List Frame} {ms rest : List Mark} → LeavesOpen fs ms rest → (d : ℕ) → Fits fs rest d → Filled ms (d + depth fs)
 fill (h.in_source {done = done} {last = last} {ms = ms} {rest = rest} reads may) d fits =
     let k = row_opens 0 d done last ms rest reads may fits in
     record { depth_is = k.much; least = omega (arith, k.enough); opens = k.opens }
-fill (h.in_arguments {p = p} {q = q} {path = path} {w = w} {fs = fs} {ms = ms} {mid = mid} takes hole front) d fits =
-    filled_as ms (suc d + depth fs) (d + (1 + depth fs)) (omega arith) (fill hole (suc d) (expression_fits fs (word p path w ∷ sign q s.LeftParen ∷ mid) (suc d) takes (o.in_item (o.in_arguments (o.next_argument front fits)))))
-fill (h.in_body {p = p} {path = path} {w = w} {done = done} {last = last} {fs = fs} {ms = ms} {mid = mid} {rest = rest} takes hole asked reads may) d fits =
+fill (h.in_arguments {p = p} {q = q} {path = path} {w = w} {fs = fs} {ms = ms} {mid = mid} takes leaves front) d fits =
+    filled_as ms (suc d + depth fs) (d + (1 + depth fs)) (omega arith) (fill leaves (suc d) (expression_fits fs (word p path w ∷ sign q s.LeftParen ∷ mid) (suc d) takes (o.in_item (o.in_arguments (o.next_argument front fits)))))
+fill (h.in_body {p = p} {path = path} {w = w} {done = done} {last = last} {fs = fs} {ms = ms} {mid = mid} {rest = rest} takes leaves asked reads may) d fits =
     let k = row_opens 13 d done last _ rest reads may fits in
-    filled_as ms (suc k.much + depth fs) (d + (1 + depth fs)) (omega (arith, k.enough)) (fill hole (suc k.much) (expression_fits fs (word p path w ∷ mid) (suc k.much) takes (o.in_item (o.in_body asked k.opens))))
-fill (h.in_bracket {q = q} {fs = fs} {ms = ms} {rest = rest} low hole) d fits =
-    filled_as ms (suc d + depth fs) (d + (1 + depth fs)) (omega arith) (fill hole (suc d) (expression_fits fs (sign q s.LeftParen ∷ rest) (suc d) (room_takes 0 fs low) (o.in_brackets low fits)))
-fill (h.in_index {fs = fs} {ms = ms} {mid = mid} low hole left) d fits =
-    filled_as ms (suc d + depth fs) (d + (1 + depth fs)) (omega arith) (fill hole (suc d) (expression_fits fs mid (suc d) (room_takes 0 fs low) (o.in_index low left fits)))
-fill (h.in_prefix {p = p} {o = x} {fs = fs} {ms = ms} {rest = rest} low hole) d fits =
-    filled_as ms (suc d + depth fs) (d + (1 + depth fs)) (omega arith) (fill hole (suc d) (expression_fits fs (sign p (s.Prefix x) ∷ rest) (suc d) (room_takes 1 fs low) (o.in_prefix low fits)))
-fill (h.in_infix {i = i} {o = x} {fs = fs} {ms = ms} {mid = mid} is low hole left) d fits =
+    filled_as ms (suc k.much + depth fs) (d + (1 + depth fs)) (omega (arith, k.enough)) (fill leaves (suc k.much) (expression_fits fs (word p path w ∷ mid) (suc k.much) takes (o.in_item (o.in_body asked k.opens))))
+fill (h.in_bracket {q = q} {fs = fs} {ms = ms} {rest = rest} low leaves) d fits =
+    filled_as ms (suc d + depth fs) (d + (1 + depth fs)) (omega arith) (fill leaves (suc d) (expression_fits fs (sign q s.LeftParen ∷ rest) (suc d) (room_takes 0 fs low) (o.in_brackets low fits)))
+fill (h.in_index {fs = fs} {ms = ms} {mid = mid} low leaves left) d fits =
+    filled_as ms (suc d + depth fs) (d + (1 + depth fs)) (omega arith) (fill leaves (suc d) (expression_fits fs mid (suc d) (room_takes 0 fs low) (o.in_index low left fits)))
+fill (h.in_prefix {p = p} {o = x} {fs = fs} {ms = ms} {rest = rest} low leaves) d fits =
+    filled_as ms (suc d + depth fs) (d + (1 + depth fs)) (omega arith) (fill leaves (suc d) (expression_fits fs (sign p (s.Prefix x) ∷ rest) (suc d) (room_takes 1 fs low) (o.in_prefix low fits)))
+fill (h.in_infix {i = i} {o = x} {fs = fs} {ms = ms} {mid = mid} is low leaves left) d fits =
     let so = is_strength i x is in
     let some : suc (x.level - 1) ≤ room fs = omega (arith, so.low) in
     let same : weight_of x ≡ count i = count_is i x is in
-    filled_as ms (count i + d + depth fs) (d + (weight_of x + depth fs)) (omega arith) (fill hole (count i + d) (expression_fits fs mid (count i + d) (room_takes (x.level - 1) fs some) (o.in_infix is low left fits)))
-fill (h.in_list {p = p} {fs = fs} {ms = ms} {mid = mid} takes hole others) d fits =
-    filled_as ms (suc d + depth fs) (d + (1 + depth fs)) (omega arith) (fill hole (suc d) (list_fits fs (sign p s.LeftBrace ∷ mid) (suc d) takes (o.in_list others fits)))
+    filled_as ms (count i + d + depth fs) (d + (weight_of x + depth fs)) (omega arith) (fill leaves (count i + d) (expression_fits fs mid (count i + d) (room_takes (x.level - 1) fs some) (o.in_infix is low left fits)))
+fill (h.in_list {p = p} {fs = fs} {ms = ms} {mid = mid} takes leaves others) d fits =
+    filled_as ms (suc d + depth fs) (d + (1 + depth fs)) (omega arith) (fill leaves (suc d) (list_fits fs (sign p s.LeftBrace ∷ mid) (suc d) takes (o.in_list others fits)))
 
 -- what is held
 abbrev Told : List Frame → List Mark → Type 0
 Told fs ms = Filled ms (depth fs)
 
-simply : (fs : List Frame) (ms rest : List Mark) → Hole fs ms rest → (d : ℕ) → Fits fs rest d → Told fs ms
-simply fs ms rest hole d fits = filled_as ms (d + depth fs) (depth fs) (omega arith) (fill hole d fits)
+simply : (fs : List Frame) (ms rest : List Mark) → LeavesOpen fs ms rest → (d : ℕ) → Fits fs rest d → Told fs ms
+simply fs ms rest leaves d fits = filled_as ms (d + depth fs) (depth fs) (omega arith) (fill leaves d fits)
 
 first_argument_filled : {fs : List Frame} {ms rest : List Mark} → FirstArgument fs ms rest → rest ≡ [] → Told fs ms
-first_argument_filled (h.first_argument {p = p} {w = w} {fs = fs} {ms = ms} {rest = rest} inner hole) is =
-    simply (f.Args p w no_branches ∷ fs) ms rest (h.in_arguments inner hole g.none_before) 0 (subst (λ r. Opens argument r 0) (sym is) (o.an_argument o.no_expression))
+first_argument_filled (h.first_argument {p = p} {w = w} {fs = fs} {ms = ms} {rest = rest} inner leaves) is =
+    simply (f.Args p w no_branches ∷ fs) ms rest (h.in_arguments inner leaves g.none_before) 0 (subst (λ r. Opens argument r 0) (sym is) (o.an_argument o.no_expression))
 
 next_argument_filled : {fs : List Frame} {ms rest : List Mark} → NextArgument fs ms rest → rest ≡ [] → Told fs ms
-next_argument_filled (h.next_argument {p = p} {w = w} {done = done} {x = x} {fs = fs} {ms = ms} {rest = rest} inner hole front) is =
-    simply (f.Args p w (grown_all (more done x)) ∷ fs) ms rest (h.in_arguments inner hole front) 0 (subst (λ r. Opens argument r 0) (sym is) (o.an_argument o.no_expression))
+next_argument_filled (h.next_argument {p = p} {w = w} {done = done} {x = x} {fs = fs} {ms = ms} {rest = rest} inner leaves front) is =
+    simply (f.Args p w (grown_all (more done x)) ∷ fs) ms rest (h.in_arguments inner leaves front) 0 (subst (λ r. Opens argument r 0) (sym is) (o.an_argument o.no_expression))
 
 first_element_filled : {fs : List Frame} {ms rest : List Mark} → FirstElement fs ms rest → rest ≡ [] → Told fs ms
-first_element_filled (h.first_element {p = p} {fs = fs} {ms = ms} {rest = rest} takes hole) is =
-    simply (f.List p no_branches ∷ fs) ms rest (h.in_list takes hole g.no_members) 0 (subst (λ r. Opens member r 0) (sym is) o.no_member)
+first_element_filled (h.first_element {p = p} {fs = fs} {ms = ms} {rest = rest} takes leaves) is =
+    simply (f.List p no_branches ∷ fs) ms rest (h.in_list takes leaves g.no_members) 0 (subst (λ r. Opens member r 0) (sym is) o.no_member)
 
 element_fits : (fs : List Frame) → TakesElement fs → Fits fs [] 0
 element_fits (f.List p done ∷ fs) takes = o.no_member
@@ -311,7 +311,7 @@ suited (f.Args p w done ∷ fs) e mid suits = let k = argument_suited suits refl
 suited (f.List p done ∷ fs) e mid suits = let k = member_suited suits refl in record { much = k.0; fits = k.1 }
 suited _ e mid suits = absurd suits
 
-pub held_filled : (a : State) (fs : List Frame) (ms : List Mark) → Held a fs ms [] → Told fs ms
+pub held_filled : (a : State) (fs : List Frame) (ms : List Mark) → IsFrontIn a fs ms [] → Told fs ms
 held_filled st.Operand fs ms held = simply fs ms [] held.0 0 (expression_fits fs [] 0 held.1 o.no_expression)
 held_filled st.FirstArgument fs ms held = first_argument_filled held refl
 held_filled st.Argument fs ms held = next_argument_filled held refl
@@ -319,14 +319,14 @@ held_filled st.FirstElement fs ms held = first_element_filled held refl
 held_filled st.Element fs ms held = simply fs ms [] held.0 0 (element_fits fs held.1)
 held_filled st.Sequence fs ms held = simply fs ms [] held.0 0 (expression_fits fs [] 0 held.1 o.no_expression)
 held_filled (st.Word p w) fs ms held =
-    simply fs ms (word p held.path w ∷ []) held.hole 0 (expression_fits fs (word p held.path w ∷ []) 0 held.takes (o.an_expression {m = 0} (omega arith) (omega arith) (g.an_item g.no_arguments g.no_body)))
+    simply fs ms (word p held.path w ∷ []) held.leaves 0 (expression_fits fs (word p held.path w ∷ []) 0 held.takes (o.an_expression {m = 0} (omega arith) (omega arith) (g.an_item g.no_arguments g.no_body)))
 held_filled (st.Called p w args) fs ms held =
-    simply fs ms (word p held.path w ∷ held.mid) held.hole 0 (expression_fits fs (word p held.path w ∷ held.mid) 0 held.takes (o.an_expression {m = 0} (omega arith) (omega arith) (g.an_item held.reads g.no_body)))
+    simply fs ms (word p held.path w ∷ held.mid) held.leaves 0 (expression_fits fs (word p held.path w ∷ held.mid) 0 held.takes (o.an_expression {m = 0} (omega arith) (omega arith) (g.an_item held.reads g.no_body)))
 held_filled (st.Whole b) fs ms held =
-    simply fs ms held.ready.mid held.ready.hole 0 (expression_fits fs held.ready.mid 0 held.ready.takes (o.an_expression {m = held.ready.level} held.ready.low held.ready.fits held.ready.reads))
+    simply fs ms held.ready.mid held.ready.leaves 0 (expression_fits fs held.ready.mid 0 held.ready.takes (o.an_expression {m = held.ready.level} held.ready.low held.ready.fits held.ready.reads))
 held_filled (st.Listed b) fs ms held =
     let k = suited fs held.tree held.mid held.suits in
-    simply fs ms held.mid held.hole k.much k.fits
+    simply fs ms held.mid held.leaves k.much k.fits
 
 -- ---- the laws
 

@@ -7,7 +7,7 @@ use Rattle.std.proofs.lemmas.Bool.{eqb-true, ne_eqb}
 use Rattle.std.proofs.Math.Seq.{take-length, drop-length}
 use Rattle.std.proofs.lemmas.List.Elements.{All-head, All-tail}
 use Rattle.iasl_messages.specs.declared.place.Line.{Line}
-use Rattle.asl_lexer.specs.Scan.{Mark}
+use Rattle.asl_lexer.specs.Scan.{MarkedByte}
 use Rattle.asl_lexer.specs.Marks.{marks_from, line_marks, following, joined}
 use Rattle.asl_fragments.specs.declared.fragment.Fragment.{Fragment}
 use Rattle.asl_fragments.specs.declared.fragment.FragmentKind.TheVariants.{Identifier, Number, Quoted, Comment, Other}
@@ -349,7 +349,7 @@ no_end_of : (text : List ℕ) → All (λ b. b ≢ 10) text → HasNoEnd text
 no_end_of [] h = tt
 no_end_of (b ∷ bs) h = (ne_eqb b 10 (All-head (λ c. c ≢ 10) b bs h), no_end_of bs (All-tail (λ c. c ≢ 10) b bs h))
 
-bytes_on : (xs ys : List Mark) → bytes (xs ++ ys) ≡ bytes xs ++ bytes ys
+bytes_on : (xs ys : List MarkedByte) → bytes (xs ++ ys) ≡ bytes xs ++ bytes ys
 bytes_on [] ys = refl
 bytes_on (x ∷ xs) ys = ap (λ l. x.byte ∷ l) (bytes_on xs ys)
 
@@ -358,7 +358,7 @@ unfolding marks_from
 bytes_marks file n column [] = refl
 bytes_marks file n column (b ∷ bs) = ap (λ l. b ∷ l) (bytes_marks file n (column + 1) bs)
 
-bytes_line : (l : Line) (ms : List Mark) → bytes (line_marks l ++ ms) ≡ l.text ++ bytes ms
+bytes_line : (l : Line) (ms : List MarkedByte) → bytes (line_marks l ++ ms) ≡ l.text ++ bytes ms
 bytes_line l ms = bytes_on (line_marks l) ms ∙ ap (λ t. t ++ bytes ms) (bytes_marks l.file l.number 1 l.text)
 
 following_ends : (ls : List Line) → AtEnd (bytes (following ls))

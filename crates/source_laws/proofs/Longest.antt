@@ -9,7 +9,7 @@ use Rattle.asl_lexer.specs.declared.class.Radix.{Radix}
 use Rattle.asl_lexer.specs.declared.class.Radix.TheVariants.{Octal, Decimal, Hexadecimal}
 use Rattle.asl_lexer.specs.declared.token.Token.{Token}
 use Rattle.asl_lexer.specs.Class.{base_of, doubles, shifts, takes_equals}
-use Rattle.asl_lexer.specs.Scan.{Mark}
+use Rattle.asl_lexer.specs.Scan.{MarkedByte}
 use Rattle.asl_lexer.specs.Cut.{Each, Stops, class, in_name_class, begins_name_class, behind_slash_class, begins_sign_class, is_caret_class, is_equals_class, in_name, begins_name, behind_slash, is_caret, is_equals, is_x, digit_in, places, IsName, EndsName, no_name_by, no_name_behind, IsNumeral, Content, Inside, are_two, are_three, Cut, is_whitespace_class}
 use Rattle.asl_lexer.specs.Cut as g
 use Rattle.asl_lexer.proofs.Bits.{both, x_no_digit, either_true, both_true, shift_doubles}
@@ -44,7 +44,7 @@ abbrev is_dot : Class → Bool
 is_dot c.Dot = true
 is_dot _ = false
 
-abbrev next : Way → Mark → Way
+abbrev next : Way → MarkedByte → Way
 next start m = begin (class m) m.byte
 next name m = cond (in_name m) name (cond (is_dot (class m)) dot none)
 next dot m = cond (begins_name m) name none
@@ -63,11 +63,11 @@ next closed m = none
 next whole m = none
 next none m = none
 
-abbrev go : Way → List Mark → Way
+abbrev go : Way → List MarkedByte → Way
 go s [] = s
 go s (m ∷ ms) = go (next s m) ms
 
-go_on : (s : Way) (xs ys : List Mark) → go s (xs ++ ys) ≡ go (go s xs) ys
+go_on : (s : Way) (xs ys : List MarkedByte) → go s (xs ++ ys) ≡ go (go s xs) ys
 go_on s [] ys = refl
 go_on s (x ∷ xs) ys = go_on (next s x) xs ys
 
@@ -91,7 +91,7 @@ Ends (digits radix) = Unit {0}
 Ends (sign b) = Unit {0}
 Ends (two b n) = Unit {0}
 
-never : (ms : List Mark) → Ends (go none ms) → ⊥
+never : (ms : List MarkedByte) → Ends (go none ms) → ⊥
 never [] h = h
 never (m ∷ ms) h = never ms h
 
@@ -116,17 +116,17 @@ caret_class : (k : Class) → is_caret_class k ≡ true → k ≡ c.Caret
 caret_class c.Caret h = refl
 caret_class _ h = absurd cc
 
-more_carets : (ms : List Mark) → Each is_caret ms → go carets ms ≡ carets
+more_carets : (ms : List MarkedByte) → Each is_caret ms → go carets ms ≡ carets
 more_carets [] h = refl
 more_carets (m ∷ ms) h = ap (λ t. go (cond t carets (cond (begins_name m) name none)) ms) h.0 ∙ more_carets ms h.1
 
-carets_to_name : (m : Mark) → begins_name m ≡ true → next carets m ≡ name
+carets_to_name : (m : MarkedByte) → begins_name m ≡ true → next carets m ≡ name
 carets_to_name m h = ap (λ t. cond t carets (cond (begins_name m) name none)) (begins_no_caret (class m) h) ∙ ap (λ t. cond t name none) h
 
-caret_to_name : (m : Mark) → begins_name m ≡ true → next caret m ≡ name
+caret_to_name : (m : MarkedByte) → begins_name m ≡ true → next caret m ≡ name
 caret_to_name m h = ap (λ t. cond t carets (cond (begins_name m) name (cond (is_equals m) whole none))) (begins_no_caret (class m) h) ∙ ap (λ t. cond t name (cond (is_equals m) whole none)) h
 
-raised_way : (before : List Place) (last : Place) (cs : List Mark) (m : Mark) → Each is_caret cs → places cs ≡ before ++ last ∷ [] → begins_name m ≡ true → go start (cs ++ m ∷ []) ≡ name
+raised_way : (before : List Place) (last : Place) (cs : List MarkedByte) (m : MarkedByte) → Each is_caret cs → places cs ≡ before ++ last ∷ [] → begins_name m ≡ true → go start (cs ++ m ∷ []) ≡ name
 raised_way [] last [] m each at h = absurd cc
 raised_way (q ∷ before) last [] m each at h = absurd cc
 raised_way before last (x ∷ []) m each at h = ap (λ k. next (begin k x.byte) m) (caret_class (class x) each.0) ∙ caret_to_name m h
@@ -135,7 +135,7 @@ raised_way before last (x ∷ y ∷ cs) m each at h =
     ∙ ap (λ t. go (cond t carets (cond (begins_name y) name (cond (is_equals y) whole none))) (cs ++ m ∷ [])) each.1.0
     ∙ go_on carets cs (m ∷ []) ∙ ap (λ s. next s m) (more_carets cs each.1.1) ∙ carets_to_name m h
 
-name_way : {path : Bool} {from : Place} {text : List ℕ} {w : List Mark} → IsName path from text w → go start w ≡ name
+name_way : {path : Bool} {from : Place} {text : List ℕ} {w : List MarkedByte} → IsName path from text w → go start w ≡ name
 name_way (g.IsName.word {m = m} is) = begin_name (class m) m.byte is
 name_way (g.IsName.rooted {r = r} {m = m} root_is is) = ap (λ k. next (begin k r.byte) m) root_is ∙ ap (λ t. cond t name none) is
 name_way (g.IsName.raised before last cs m each at is) = raised_way before last cs m each at is
@@ -144,7 +144,7 @@ name_way (g.IsName.dotted {w = w} d m front dot_is is) =
     go_on start w (d ∷ m ∷ []) ∙ ap (λ s. next (next s d) m) (name_way front)
     ∙ ap (λ k. next (cond (in_name_class k) name (cond (is_dot k) dot none)) m) dot_is ∙ ap (λ t. cond t name none) is
 
-number_way : {radix : Radix} {from : Place} {value : ℕ} {w : List Mark} → IsNumeral radix from value w → go start w ≡ digits radix
+number_way : {radix : Radix} {from : Place} {value : ℕ} {w : List MarkedByte} → IsNumeral radix from value w → go start w ≡ digits radix
 number_way (g.IsNumeral.decimal {m = m} is) = ap (λ k. begin k m.byte) is
 number_way (g.IsNumeral.octal {z = z} {m = m} zero_is is) = ap (λ k. next (begin k z.byte) m) zero_is ∙ ap (λ t. cond t (digits Octal) (cond (is_x m) prefix none)) is
 number_way (g.IsNumeral.hexadecimal {z = z} {x = x} {m = m} zero_is is_x is) =
@@ -155,12 +155,12 @@ number_way (g.IsNumeral.more {radix = radix} {w = w} m front is) = go_on start w
 abbrev inside : Bool → Way
 inside protected = cond protected escape string
 
-inner_way : (protected : Bool) (w : List Mark) → Inner protected w → go (inside protected) w ≡ string
+inner_way : (protected : Bool) (w : List MarkedByte) → Inner protected w → go (inside protected) w ≡ string
 inner_way protected [] h = ap inside h
 inner_way true (m ∷ w) h = inner_way false w h.1
 inner_way false (m ∷ w) h = ap (λ t. go (cond t closed (inside (m.byte == 92))) w) h.1 ∙ inner_way (m.byte == 92) w h.2
 
-string_way : (q e : Mark) (w : List Mark) → class q ≡ c.Quote → Inner false w → class e ≡ c.Quote → go start (q ∷ w ++ e ∷ []) ≡ closed
+string_way : (q e : MarkedByte) (w : List MarkedByte) → class q ≡ c.Quote → Inner false w → class e ≡ c.Quote → go start (q ∷ w ++ e ∷ []) ≡ closed
 string_way q e w opens inner closes =
     ap (λ k. go (begin k q.byte) (w ++ e ∷ [])) opens ∙ go_on string w (e ∷ []) ∙ ap (λ s. next s e) (inner_way false w inner)
     ∙ ap (λ t. cond t closed (cond (e.byte == 92) escape string)) (byte_is c.Quote e.byte closes)
@@ -168,7 +168,7 @@ string_way q e w opens inner closes =
 ends_at : (s t : Way) → s ≡ t → Ends t → Ends s
 ends_at s t e h = subst Ends (sym e) h
 
-two_way : (m n : Mark) → begins_sign_class (class m) ≡ true → are_two m.byte n.byte ≡ true → go start (m ∷ n ∷ []) ≡ two m.byte n.byte
+two_way : (m n : MarkedByte) → begins_sign_class (class m) ≡ true → are_two m.byte n.byte ≡ true → go start (m ∷ n ∷ []) ≡ two m.byte n.byte
 two_way m n sign_is both_are = ap (λ s. next s n) (begin_sign (class m) m.byte sign_is) ∙ ap (λ t. cond t (two m.byte n.byte) none) both_are
 
 pub three_are_two : (b n o : ℕ) → are_three b n o ≡ true → are_two b n ≡ true
@@ -177,7 +177,7 @@ three_are_two b n o h =
     let same = both (n == b) (shifts b) parts.1 in
     either_true (n == 61 && takes_equals b) (n == b && doubles b) (both_true (n == b) (doubles b) same.0 (shift_doubles b same.1))
 
-token_ends : {t : Token} {w : List Mark} → IsToken t w → Ends (go start w)
+token_ends : {t : Token} {w : List MarkedByte} → IsToken t w → Ends (go start w)
 token_ends (p.a_name {w = w} is) = ends_at (go start w) name (name_way is) tt
 token_ends (p.a_root {m = m} is) = ends_at (begin (class m) m.byte) root (ap (λ k. begin k m.byte) is) tt
 token_ends (p.a_zero {m = m} is) = ends_at (begin (class m) m.byte) zero (ap (λ k. begin k m.byte) is) tt
@@ -197,35 +197,35 @@ token_ends (p.three_signs {m = m} {n = n} {o = o} is all_are) =
 -- ---- and where one is cut off, the way goes on to no end
 
 -- the bytes behind lead to no end
-abbrev Stuck : Way → List Mark → Type 0
-Stuck s rest = (m : Mark) (ms behind : List Mark) → rest ≡ m ∷ ms ++ behind → Ends (go s (m ∷ ms)) → ⊥
+abbrev Stuck : Way → List MarkedByte → Type 0
+Stuck s rest = (m : MarkedByte) (ms behind : List MarkedByte) → rest ≡ m ∷ ms ++ behind → Ends (go s (m ∷ ms)) → ⊥
 
-longest : (w rest : List Mark) (s : Way) → go start w ≡ s → Stuck s rest → NoLonger w rest
+longest : (w rest : List MarkedByte) (s : Way) → go start w ≡ s → Stuck s rest → NoLonger w rest
 longest w rest s at stuck [] behind other e is = refl
 longest w rest s at stuck (m ∷ ms) behind other e is =
     absurd (stuck m ms behind e (subst Ends (go_on start w (m ∷ ms) ∙ ap (λ z. go z (m ∷ ms)) at) (token_ends is)))
 
 -- where the next byte leads nowhere
-nowhere : (s : Way) (rest : List Mark) (q : Mark → Bool) → Stops q rest → ((m : Mark) → q m ≡ false → next s m ≡ none) → Stuck s rest
+nowhere : (s : Way) (rest : List MarkedByte) (q : MarkedByte → Bool) → Stops q rest → ((m : MarkedByte) → q m ≡ false → next s m ≡ none) → Stuck s rest
 nowhere s rest q stops leads m ms behind e h =
     let no : q m ≡ false = subst (Stops q) e stops in
     never ms (subst (λ z. Ends (go z ms)) (leads m no) h)
 
-closed_stuck : (rest : List Mark) → Stuck closed rest
+closed_stuck : (rest : List MarkedByte) → Stuck closed rest
 closed_stuck rest m ms behind e h = never ms h
 
-whole_stuck : (rest : List Mark) → Stuck whole rest
+whole_stuck : (rest : List MarkedByte) → Stuck whole rest
 whole_stuck rest m ms behind e h = never ms h
 
 dot_class : (k : Class) → is_dot k ≡ true → k ≡ c.Dot
 dot_class c.Dot h = refl
 dot_class _ h = absurd cc
 
-dot_stuck : (ms behind : List Mark) → Stops begins_name (ms ++ behind) → Ends (go dot ms) → ⊥
+dot_stuck : (ms behind : List MarkedByte) → Stops begins_name (ms ++ behind) → Ends (go dot ms) → ⊥
 dot_stuck [] behind stops h = h
 dot_stuck (m ∷ ms) behind stops h = never ms (subst (λ t. Ends (go (cond t name none) ms)) stops h)
 
-name_stuck : (rest : List Mark) → EndsName rest → Stuck name rest
+name_stuck : (rest : List MarkedByte) → EndsName rest → Stuck name rest
 name_stuck rest ends m ms behind e h =
     let here : EndsName (m ∷ ms ++ behind) = subst EndsName e ends in
     by (is_dot (class m)) refl here.1 (subst (λ t. Ends (go (cond t name (cond (is_dot (class m)) dot none)) ms)) here.0 h)
@@ -234,7 +234,7 @@ name_stuck rest ends m ms behind e h =
     by true is stops h = dot_stuck ms behind (stops (dot_class (class m) is)) (subst (λ t. Ends (go (cond t dot none) ms)) is h)
     by false is stops h = never ms (subst (λ t. Ends (go (cond t dot none) ms)) is h)
 
-carets_stuck : (ms behind : List Mark) → no_name_behind (ms ++ behind) ≡ true → Ends (go carets ms) → ⊥
+carets_stuck : (ms behind : List MarkedByte) → no_name_behind (ms ++ behind) ≡ true → Ends (go carets ms) → ⊥
 carets_stuck [] behind none_here h = h
 carets_stuck (m ∷ ms) behind none_here h = by (class m) refl (carets_stuck ms behind)
   where
@@ -261,7 +261,7 @@ carets_stuck (m ∷ ms) behind none_here h = by (class m) refl (carets_stuck ms 
     by c.Sign is below = never ms (leads c.Sign is)
     by c.Other is below = never ms (leads c.Other is)
 
-caret_stuck : (rest : List Mark) → Stops is_equals rest → no_name_behind rest ≡ true → Stuck caret rest
+caret_stuck : (rest : List MarkedByte) → Stops is_equals rest → no_name_behind rest ≡ true → Stuck caret rest
 caret_stuck rest stops no_word m ms behind e h = by (class m) refl
   where
     no_equals : is_equals m ≡ false
@@ -293,7 +293,7 @@ caret_stuck rest stops no_word m ms behind e h = by (class m) refl
     by c.Sign is = ends (leads c.Sign is)
     by c.Other is = ends (leads c.Other is)
 
-zero_stuck : (rest : List Mark) → Stops (digit_in 8) rest → Stops is_x rest → Stuck zero rest
+zero_stuck : (rest : List MarkedByte) → Stops (digit_in 8) rest → Stops is_x rest → Stuck zero rest
 zero_stuck rest no_digit no_x m ms behind e h =
     let octal : digit_in 8 m ≡ false = subst (Stops (digit_in 8)) e no_digit in
     let x : is_x m ≡ false = subst (Stops is_x) e no_x in
@@ -311,15 +311,15 @@ SlashWay whole = Unit {0}
 SlashWay none = Unit {0}
 SlashWay _ = ⊥
 
-none_leads : (ms : List Mark) → SlashWay (go none ms)
+none_leads : (ms : List MarkedByte) → SlashWay (go none ms)
 none_leads [] = tt
 none_leads (m ∷ ms) = none_leads ms
 
-whole_leads : (ms : List Mark) → SlashWay (go whole ms)
+whole_leads : (ms : List MarkedByte) → SlashWay (go whole ms)
 whole_leads [] = tt
 whole_leads (m ∷ ms) = none_leads ms
 
-slash_leads : (ms : List Mark) → SlashWay (go slash ms)
+slash_leads : (ms : List MarkedByte) → SlashWay (go slash ms)
 slash_leads [] = tt
 slash_leads (m ∷ ms) = by (is_equals m)
   where
@@ -327,27 +327,27 @@ slash_leads (m ∷ ms) = by (is_equals m)
     by true = whole_leads ms
     by false = none_leads ms
 
-abbrev FirstIs : Class → List Mark → Type 0
+abbrev FirstIs : Class → List MarkedByte → Type 0
 FirstIs k [] = ⊥
 FirstIs k (m ∷ ms) = class m ≡ k
 
-comment_slash : (ms : List Mark) → BeginsComment ms → FirstIs c.Slash ms
+comment_slash : (ms : List MarkedByte) → BeginsComment ms → FirstIs c.Slash ms
 comment_slash [] h = absurd h
 comment_slash (m ∷ []) h = absurd h
 comment_slash (m ∷ n ∷ ms) h = h.0
 
 -- what does not begin with a slash
-no_slash : (k : Class) (m : Mark) (ms : List Mark) → class m ≡ k → (k ≡ c.Slash → ⊥) → BeginsComment (m ∷ ms) → ⊥
+no_slash : (k : Class) (m : MarkedByte) (ms : List MarkedByte) → class m ≡ k → (k ≡ c.Slash → ⊥) → BeginsComment (m ∷ ms) → ⊥
 no_slash k m ms is other h = other (sym is ∙ comment_slash (m ∷ ms) h)
 
-no_comment : (w rest : List Mark) (s : Way) → go start w ≡ s → (SlashWay s → ⊥) → (start ≡ s → ⊥) → BeginsComment (w ++ rest) → ⊥
+no_comment : (w rest : List MarkedByte) (s : Way) → go start w ≡ s → (SlashWay s → ⊥) → (start ≡ s → ⊥) → BeginsComment (w ++ rest) → ⊥
 no_comment [] rest s at other some h = some at
 no_comment (m ∷ w) rest s at other some h = other (subst SlashWay (sym (ap (λ k. go (begin k m.byte) w) (comment_slash (m ∷ w ++ rest) h)) ∙ at) (slash_leads w))
 
 begins_no_slash : (k : Class) → begins_sign_class k ≡ true → k ≡ c.Slash → ⊥
 begins_no_slash k h e = let both = sym h ∙ ap begins_sign_class e in cc
 
-slash_alone : (m : Mark) (rest : List Mark) → Stops behind_slash rest → BeginsComment (m ∷ rest) → ⊥
+slash_alone : (m : MarkedByte) (rest : List MarkedByte) → Stops behind_slash rest → BeginsComment (m ∷ rest) → ⊥
 slash_alone m [] stops h = h
 slash_alone m (n ∷ rest) stops h = by h.1
   where
@@ -355,7 +355,7 @@ slash_alone m (n ∷ rest) stops h = by h.1
     by (inl e) = let both = sym stops ∙ ap behind_slash_class e in cc
     by (inr e) = let both = sym stops ∙ ap behind_slash_class e in cc
 
-equals_behind : (m e : Mark) (rest : List Mark) → class e ≡ c.Equals → BeginsComment (m ∷ e ∷ rest) → ⊥
+equals_behind : (m e : MarkedByte) (rest : List MarkedByte) → class e ≡ c.Equals → BeginsComment (m ∷ e ∷ rest) → ⊥
 equals_behind m e rest is h = by h.1
   where
     by : (class e ≡ c.Slash) ⊎ (class e ≡ c.Star) → ⊥
@@ -365,14 +365,14 @@ equals_behind m e rest is h = by h.1
 -- ---- parts
 
 -- what stands in a block comment is the front of what stood there
-inside_front : {s : Bool} {bytes rest : List Mark} → Inside s bytes rest → (w : List Mark) × (bytes ≡ w ++ rest)
+inside_front : {s : Bool} {bytes rest : List MarkedByte} → Inside s bytes rest → (w : List MarkedByte) × (bytes ≡ w ++ rest)
 inside_front g.Inside.opened = ([], refl)
 inside_front (g.Inside.a_star {m = m} {rest = rest} inside star) = let f = inside_front inside in (f.0 ++ m ∷ [], f.1 ∙ sym (append_assoc f.0 (m ∷ []) rest))
 inside_front (g.Inside.no_star {m = m} {rest = rest} inside other) = let f = inside_front inside in (f.0 ++ m ∷ [], f.1 ∙ sym (append_assoc f.0 (m ∷ []) rest))
 inside_front (g.Inside.behind_star {m = m} {rest = rest} inside other no_slash) = let f = inside_front inside in (f.0 ++ m ∷ [], f.1 ∙ sym (append_assoc f.0 (m ∷ []) rest))
 
 -- the parts of a front that was cut into tokens
-pub record Parted (text : List Mark) (done : List Token) (rest : List Mark) : Type 0 where
+pub record Parted (text : List MarkedByte) (done : List Token) (rest : List MarkedByte) : Type 0 where
   pub parts : List Part
   pub is : Parts text parts rest
   pub tokens : tokens_in parts ≡ done
@@ -383,16 +383,16 @@ tokens_on (p.Blank m ∷ parts) more = tokens_on parts more
 tokens_on (p.Comment w ∷ parts) more = tokens_on parts more
 tokens_on (p.Whole t w ∷ parts) more = ap (λ l. t ∷ l) (tokens_on parts more)
 
-with_blank : {text : List Mark} {done : List Token} {m : Mark} {rest : List Mark} → is_whitespace_class (class m) ≡ true → Parted text done (m ∷ rest) → Parted text done rest
+with_blank : {text : List MarkedByte} {done : List Token} {m : MarkedByte} {rest : List MarkedByte} → is_whitespace_class (class m) ≡ true → Parted text done (m ∷ rest) → Parted text done rest
 with_blank {done = done} {m = m} blank q = record { parts = q.parts ++ p.Blank m ∷ []; is = p.a_blank q.is blank; tokens = tokens_on q.parts (p.Blank m ∷ []) ∙ append-nil (tokens_in q.parts) ∙ q.tokens }
 
-with_comment : {text : List Mark} {done : List Token} {rest : List Mark} (w bytes : List Mark) → bytes ≡ w ++ rest → IsComment w rest → Parted text done bytes → Parted text done rest
+with_comment : {text : List MarkedByte} {done : List Token} {rest : List MarkedByte} (w bytes : List MarkedByte) → bytes ≡ w ++ rest → IsComment w rest → Parted text done bytes → Parted text done rest
 with_comment {text} w bytes e is q = record { parts = q.parts ++ p.Comment w ∷ []; is = p.a_comment w (subst (λ b. Parts text q.parts b) e q.is) is; tokens = tokens_on q.parts (p.Comment w ∷ []) ∙ append-nil (tokens_in q.parts) ∙ q.tokens }
 
-with_token : {text : List Mark} {done : List Token} {rest : List Mark} (w bytes : List Mark) (t : Token) → bytes ≡ w ++ rest → (BeginsComment (w ++ rest) → ⊥) → IsToken t w → NoLonger w rest → Parted text done bytes → Parted text (done ++ t ∷ []) rest
+with_token : {text : List MarkedByte} {done : List Token} {rest : List MarkedByte} (w bytes : List MarkedByte) (t : Token) → bytes ≡ w ++ rest → (BeginsComment (w ++ rest) → ⊥) → IsToken t w → NoLonger w rest → Parted text done bytes → Parted text (done ++ t ∷ []) rest
 with_token {text} w bytes t e comment is longer q = record { parts = q.parts ++ p.Whole t w ∷ []; is = p.a_token w t (subst (λ b. Parts text q.parts b) e q.is) comment is longer; tokens = tokens_on q.parts (p.Whole t w ∷ []) ∙ ap (λ l. l ++ t ∷ []) q.tokens }
 
-pub parted : {text : List Mark} {done : List Token} {rest : List Mark} → Cut text done rest → Parted text done rest
+pub parted : {text : List MarkedByte} {done : List Token} {rest : List MarkedByte} → Cut text done rest → Parted text done rest
 parted g.Cut.begun = record { parts = []; is = p.begun; tokens = refl }
 parted (g.Cut.a_blank cut blank) = with_blank blank (parted cut)
 parted (g.Cut.a_line {a = a} {b = b} {rest = rest} w cut sa sb each stops) = with_comment (a ∷ b ∷ w) (a ∷ b ∷ w ++ rest) refl (p.a_line sa sb each stops) (parted cut)
@@ -409,7 +409,7 @@ parted (g.Cut.a_number {radix = radix} {rest = rest} w cut is fits stops no_more
     with_token w (w ++ rest) _ refl (no_comment w rest (digits radix) (number_way is) (λ h. h) (λ h. cc)) (p.a_number is fits) (longest w rest (digits radix) (number_way is) (nowhere (digits radix) rest (digit_in (base_of radix)) stops (λ n h. ap (λ t. cond t (digits radix) none) h))) (parted cut)
 parted (g.Cut.a_string {q = q} {e = e} {bytes = bytes} {rest = rest} cut opens content closes) =
     let s = content_stays content in
-    let w : List Mark = s.front in
+    let w : List MarkedByte = s.front in
     with_token (q ∷ w ++ e ∷ []) (q ∷ bytes) _ (ap (λ l. q ∷ l) (s.is ∙ sym (append_assoc w (e ∷ []) rest)))
     (no_slash c.Quote q ((w ++ e ∷ []) ++ rest) opens (λ h. cc)) (p.a_string w opens (content_cut content (w ++ e ∷ []) (e ∷ []) rest (s.is ∙ sym (append_assoc w (e ∷ []) rest)) refl tt) closes)
     (longest (q ∷ w ++ e ∷ []) rest closed (string_way q e w opens s.inner closes) (closed_stuck rest)) (parted cut)
@@ -434,5 +434,5 @@ parted (g.Cut.three_signs {m = m} {n = n} {o = o} {rest = rest} cut is all_are) 
     with_token (m ∷ n ∷ o ∷ []) (m ∷ n ∷ o ∷ rest) _ refl (no_slash (class m) m (n ∷ o ∷ rest) refl (begins_no_slash (class m) is)) (p.three_signs is all_are)
     (longest (m ∷ n ∷ o ∷ []) rest whole (ap (λ s. next s o) (two_way m n is (three_are_two m.byte n.byte o.byte all_are)) ∙ ap (λ t. cond t whole none) all_are) (whole_stuck rest)) (parted cut)
 
-pub parts_of : (text : List Mark) (done : List Token) (rest : List Mark) → Cut text done rest → (parts : List Part) × Parts text parts rest × (tokens_in parts ≡ done)
+pub parts_of : (text : List MarkedByte) (done : List Token) (rest : List MarkedByte) → Cut text done rest → (parts : List Part) × Parts text parts rest × (tokens_in parts ≡ done)
 parts_of text done rest cut = let q = parted cut in (q.parts, q.is, q.tokens)

@@ -10,10 +10,10 @@ ghost use Rattle.asl_preprocess.specs.Rows.{Row, rows_of};
 ghost use Rattle.asl_preprocess.specs.State.{State, Pass, Outcome, number_of};
 ghost use Rattle.asl_preprocess.specs.Preprocess.{Reading, Setting, of_rows, of_text};
 ghost use Rattle.asl_lexer.specs.declared.token.Token.{Token};
-ghost use Rattle.asl_lexer.specs.Scan.{Mark};
+ghost use Rattle.asl_lexer.specs.Scan.{MarkedByte};
 ghost use Rattle.asl_lexer.specs.Cut.{Each, Stops, class, in_line, Content, Breaks, Inside, Cut};
 ghost use Rattle.source_laws.specs.Parts.{Part, Parts, tokens_in};
-ghost use Rattle.asl_parser.specs.declared.mark.Mark.{Mark as TokenMark};
+ghost use Rattle.asl_parser.specs.declared.mark.Mark.{Mark};
 ghost use Rattle.asl_parser.specs.Front.{IsFront};
 ghost use Rattle.asl_parser.specs.Depth.{IsDeeper, IsShallow, OpensTooMuch};
 ghost use Rattle.source_laws.specs.Opens.{OpensInSource, IsFirstTooDeep};
@@ -45,36 +45,36 @@ pub fn files_are_whole()
 
 /// What is cut into tokens is blanks, comments and tokens in turn, and of each token no longer front of what was left is a token of any kind.
 pub fn tokens_are_the_longest()
-    ensures { (text : List Mark) (done : List Token) (rest : List Mark) → Cut text done rest → (parts : List Part) × Parts text parts rest × (tokens_in parts ≡ done) }
+    ensures { (text : List MarkedByte) (done : List Token) (rest : List MarkedByte) → Cut text done rest → (parts : List Part) × Parts text parts rest × (tokens_in parts ≡ done) }
 {}
 
 /// The preprocessor and the lexer see the same strings and comments in lines: at each byte both see a string, or a comment, or neither. What the lexer
 /// refuses as a comment or a string that does not end is one for the preprocessor, up to the end of all lines and of its own line.
 pub fn same_strings_and_comments()
     ensures whole { (lines : List Line) (parts : List Part) → All (λ l. All (λ b. b ≢ 10) l.text) lines → Parts (joined lines) parts [] → sights_of lines ≡ sights_in parts }
-    ensures front { (lines : List Line) (parts : List Part) (rest : List Mark) → All (λ l. All (λ b. b ≢ 10) l.text) lines → Parts (joined lines) parts rest
+    ensures front { (lines : List Line) (parts : List Part) (rest : List MarkedByte) → All (λ l. All (λ b. b ≢ 10) l.text) lines → Parts (joined lines) parts rest
         → (more : List Sight) × (sights_of lines ≡ sights_in parts ++ more) }
-    ensures open_comment { (lines : List Line) (parts : List Part) (a b : Mark) (star : Bool) (inner : List Mark) → All (λ l. All (λ b. b ≢ 10) l.text) lines → Parts (joined lines) parts (a ∷ b ∷ inner)
+    ensures open_comment { (lines : List Line) (parts : List Part) (a b : MarkedByte) (star : Bool) (inner : List MarkedByte) → All (λ l. All (λ b. b ≢ 10) l.text) lines → Parts (joined lines) parts (a ∷ b ∷ inner)
         → class a ≡ c.Slash → class b ≡ c.Star → Inside star inner [] → sights_of lines ≡ sights_in parts ++ each InComment (a ∷ b ∷ inner) }
-    ensures open_string { (lines : List Line) (parts : List Part) (q : Mark) (string : Result (List ℕ) Fault) (inner rest : List Mark) → All (λ l. All (λ b. b ≢ 10) l.text) lines → Parts (joined lines) parts (q ∷ inner)
+    ensures open_string { (lines : List Line) (parts : List Part) (q : MarkedByte) (string : Result (List ℕ) Fault) (inner rest : List MarkedByte) → All (λ l. All (λ b. b ≢ 10) l.text) lines → Parts (joined lines) parts (q ∷ inner)
         → class q ≡ c.Quote → Content string inner rest → Breaks rest
-        → (w behind : List Mark) × (q ∷ inner ≡ w ++ behind) × Each in_line w × Stops in_line behind × ((more : List Sight) × (sights_of lines ≡ sights_in parts ++ (each InString w ++ more))) }
+        → (w behind : List MarkedByte) × (q ∷ inner ≡ w ++ behind) × Each in_line w × Stops in_line behind × ((more : List Sight) × (sights_of lines ≡ sights_in parts ++ (each InString w ++ more))) }
 {}
 
 /// Each front of a source, tokens that some further ones complete to one, has exactly one depth by the productions alone, and nothing else has one.
 pub fn each_front_has_one_depth()
-    ensures some { (ms : List TokenMark) → IsFront ms → (d : ℕ) × OpensInSource ms d }
-    ensures one { (ms : List TokenMark) (d e : ℕ) → OpensInSource ms d → OpensInSource ms e → d ≡ e }
-    ensures front { (ms : List TokenMark) (d : ℕ) → OpensInSource ms d → IsFront ms }
+    ensures some { (ms : List Mark) → IsFront ms → (d : ℕ) × OpensInSource ms d }
+    ensures one { (ms : List Mark) (d e : ℕ) → OpensInSource ms d → OpensInSource ms e → d ≡ e }
+    ensures front { (ms : List Mark) (d : ℕ) → OpensInSource ms d → IsFront ms }
 {}
 
 /// By what the parser holds more than a limit is open at the end of a front exactly where its depth by the productions is above the limit. So the token
 /// at which the parser finds that too much is open is the first one at whose end this is so, and it finds none exactly where there is none.
 pub fn too_deep_by_the_productions()
-    ensures deeper { (limit : ℕ) (ms : List TokenMark) → IsDeeper limit ms → (d : ℕ) × (limit < d) × OpensInSource ms d }
-    ensures opens { (limit : ℕ) (ms : List TokenMark) (d : ℕ) → limit < d → OpensInSource ms d → IsDeeper limit ms }
-    ensures first { (limit : ℕ) (ms : List TokenMark) (k : ℕ) → OpensTooMuch limit ms k → IsFirstTooDeep limit ms k }
-    ensures found { (limit : ℕ) (ms : List TokenMark) (k : ℕ) → IsFirstTooDeep limit ms k → OpensTooMuch limit ms k }
-    ensures shallow { (limit : ℕ) (ms : List TokenMark) → IsShallow limit ms → (j d : ℕ) → OpensInSource (take j ms) d → d ≤ limit }
-    ensures low { (limit : ℕ) (ms : List TokenMark) → ((j d : ℕ) → OpensInSource (take j ms) d → d ≤ limit) → IsShallow limit ms }
+    ensures deeper { (limit : ℕ) (ms : List Mark) → IsDeeper limit ms → (d : ℕ) × (limit < d) × OpensInSource ms d }
+    ensures opens { (limit : ℕ) (ms : List Mark) (d : ℕ) → limit < d → OpensInSource ms d → IsDeeper limit ms }
+    ensures first { (limit : ℕ) (ms : List Mark) (k : ℕ) → OpensTooMuch limit ms k → IsFirstTooDeep limit ms k }
+    ensures found { (limit : ℕ) (ms : List Mark) (k : ℕ) → IsFirstTooDeep limit ms k → OpensTooMuch limit ms k }
+    ensures shallow { (limit : ℕ) (ms : List Mark) → IsShallow limit ms → (j d : ℕ) → OpensInSource (take j ms) d → d ≤ limit }
+    ensures low { (limit : ℕ) (ms : List Mark) → ((j d : ℕ) → OpensInSource (take j ms) d → d ≤ limit) → IsShallow limit ms }
 {}

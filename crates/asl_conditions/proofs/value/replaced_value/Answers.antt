@@ -1,6 +1,6 @@
 use Rattle.std.proofs.Common.{◌∙◌, ◌≤◌, length, subst, sym, Err, false}
 use Rattle.iasl_ports.specs.Fetched.{most_bytes}
-use Rattle.asl_macros.specs.declared.spot.Within.TheVariants.{InCondition}
+use Rattle.asl_macros.specs.declared.context.Within.TheVariants.{InCondition}
 use Rattle.asl_macros.specs.declared.names.ReplaceStop.{ReplaceStop}
 use Rattle.asl_macros.specs.Replacement.{replaced, Gives as Given}
 use Rattle.asl_conditions.specs.Reading.{Gives}

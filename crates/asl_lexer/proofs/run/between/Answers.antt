@@ -9,4 +9,4 @@ pub returns-in-Blank-clause-passes : goal.returns-in-Blank-clause-passes
 returns-in-Blank-clause-passes c =
     let bytes = c.args.bytes.now in
     let old = c.args.tokens.now in
-    subst (λ n. Passes c.args.at bytes n m.Between old m.Between old) (sym (c.whitespace_width.ensures ∙ length-prefix_len is_whitespace bytes)) (passes_whitespace c.args.at bytes old)
+    subst (λ n. Passes c.args.at bytes n m.Between old m.Between old) (sym (c.blank_width.ensures ∙ length-prefix_len is_whitespace bytes)) (passes_whitespace c.args.at bytes old)

@@ -13,15 +13,15 @@ pub add_text-returns-in_err-add_piece-clause-added : goal.add_text-returns-in_er
 add_text-returns-in_err-add_piece-clause-added t c =
     let p = err_from_is_err_and c.from_residual.result c.from_residual.ensures.1 in
     let some : 0 < length c.loop-rest.rest.now = search rules in
-    let more = piece_more c.args.rule.now.within c.args.levels (text_at c.args.rule.now.macros.now) c.args.active.now.items c.loop-rest.active.items c.loop-rest.spot _ c.loop-rest.inside c.is_name-named.result c.loop-rest.rest.now c.split_at.result.0.now c.split_at.result.1.now
+    let more = piece_more c.args.rule.now.within c.args.levels (text_at c.args.rule.now.macros.now) c.args.active.now.items c.loop-rest.active.items c.loop-rest.context _ c.loop-rest.inside c.is_name-named.result c.loop-rest.rest.now c.split_at.result.0.now c.split_at.result.1.now
     c.loop-rest.out.items _ c.first_fragment-fragment.result c.first_fragment-fragment.ensures.exact some c.first_fragment-fragment.ensures.forward c.split_at.ensures.front c.split_at.ensures.back c.is_name-named.ensures refl c.loop-rest.invariant.active c.loop-rest.invariant.added in
     rw (p.1, p.2) (too_long_more c.in_err-add_piece.field-0.0 c.args.rule.now.limit c.loop-rest.out.items _ _ _ c.args.out.now.items _ _ c.in_err-add_piece.ensures.added more)
 
 pub add_text-loop-rest-preserved : goal.add_text-loop-rest-preserved
 add_text-loop-rest-preserved t c =
     let some : 0 < length c.loop-rest.rest.now = search rules in
-    let more = piece_more c.args.rule.now.within c.args.levels (text_at c.args.rule.now.macros.now) c.args.active.now.items c.loop-rest.active.items c.loop-rest.spot c.spot_behind-spot.result c.loop-rest.inside c.is_name-named.result c.loop-rest.rest.now c.split_at.result.0.now c.split_at.result.1.now
-    c.loop-rest.out.items _ c.first_fragment-fragment.result c.first_fragment-fragment.ensures.exact some c.first_fragment-fragment.ensures.forward c.split_at.ensures.front c.split_at.ensures.back c.is_name-named.ensures c.spot_behind-spot.ensures c.loop-rest.invariant.active c.loop-rest.invariant.added in
+    let more = piece_more c.args.rule.now.within c.args.levels (text_at c.args.rule.now.macros.now) c.args.active.now.items c.loop-rest.active.items c.loop-rest.context c.context_behind-context.result c.loop-rest.inside c.is_name-named.result c.loop-rest.rest.now c.split_at.result.0.now c.split_at.result.1.now
+    c.loop-rest.out.items _ c.first_fragment-fragment.result c.first_fragment-fragment.ensures.exact some c.first_fragment-fragment.ensures.forward c.split_at.ensures.front c.split_at.ensures.back c.is_name-named.ensures c.context_behind-context.ensures c.loop-rest.invariant.active c.loop-rest.invariant.added in
     record { added = added_more _ _ _ _ _ c.in_ok-add_piece.ensures.added.0 more; active = c.in_ok-add_piece.ensures.active ∙ c.loop-rest.invariant.active; within = c.in_ok-add_piece.ensures.added.1 }
 
 pub add_text-returns-clause-added : goal.add_text-returns-clause-added

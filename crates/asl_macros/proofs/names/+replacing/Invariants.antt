@@ -17,7 +17,7 @@ abbrev pub invariant-add_text-loop-rest : goal.invariant-add_text-loop-rest
 invariant-add_text-loop-rest l =
     let value = value_of l.levels l.rule.within (text_at l.rule.macros.now) (map (λ other. other.now) l.fn.active.items) in
     record {
-      added : l.out.items ++ with_values l.rule.within value l.spot (fragments l.inside l.rest) ≡ l.fn.out.items ++ text_with_values l.rule.within value l.in_comment l.text;
+      added : l.out.items ++ with_values l.rule.within value l.context (fragments l.inside l.rest) ≡ l.fn.out.items ++ text_with_values l.rule.within value l.in_comment l.text;
       active : l.active.items ≡ l.fn.active.items;
       within : length l.out.items ≤ l.rule.limit;
     }

@@ -13,4 +13,4 @@ returns-in_ok-hold-in-Args c =
     let held = c.in_ok-hold-in-Args.ensures in let x = lexeme_of c.args.look c.args.token.now in let e = leaf c.args.spot.token raw.Empty in
     let move = ap (λ (b : Branch). listed b x c.hold.new.self.1) held.tree ∙ ap (listed e x) held.frames
     ∙ omits e x c.args.nest.now.1 c.in-Args.spot c.in-Args.word (sym c.kind.ensures ∙ c.in-Args.is) in
-    subst (Moves c.argued.result c.argued.new.nest) move c.argued.ensures
+    subst (Moves c.argued.result c.argued.new.stage c.argued.new.nest) move c.argued.ensures

@@ -1,4 +1,4 @@
-use Rattle.std.proofs.Common.{◌≡◌, ◌≤◌, drop}
+use Rattle.std.proofs.Common.{◌≡◌, ◌≤◌, ◌-◌, length, drop}
 use Rattle.asl_parser.specs.Grow.{limit}
 use Rattle.asl_parser.specs.Marks.{marks}
 use Rattle.asl_parser.specs.Stages.{state_of, Holds}
@@ -7,3 +7,6 @@ use Rattle.asl_parser.proofs.reader.read.Given as goal
 
 abbrev pub invariant-loop-at : goal.invariant-loop-at
 invariant-loop-at l = record { same : walk (within limit) (drop l.at (marks 0 l.tokens)) (state_of l.stage l.nest.0) l.nest.1 ≡ reading (marks 0 l.tokens); low : depth l.nest.1 ≤ limit; holds : Holds l.stage l.nest.0 }
+
+abbrev pub decreases-loop-at : goal.decreases-loop-at
+decreases-loop-at l = length l.tokens - l.at

@@ -14,7 +14,7 @@ pub include-returns-in-Err-clause-reached : goal.include-returns-in-Err-clause-r
 include-returns-in-Err-clause-reached g t c state shows sound known =
     let some : 0 < c.args.own.now.levels = omega arith in
     seek_stops (g.F.Files.contents c.args.files.now) c.args.setting.now.directories.now c.args.setting.now.enabled c.args.own.now.levels c.args.own.now.name.now state c.args.wanted.now some
-    c.in-Err.halt c.args.work.now.files c.seek.new.work.files shows.files known c.in-Err.ensures.refused
+    c.in-Err.stop c.args.work.now.files c.seek.new.work.files shows.files known c.in-Err.ensures.refused
 
 pub include-returns-in-Ok-clause-reached : goal.include-returns-in-Ok-clause-reached
 include-returns-in-Ok-clause-reached g t c state shows sound known =
@@ -54,7 +54,7 @@ pass_row-returns-in-Ok-None-clause-reached g t c state shows sound known =
 pub pass_row-returns-in-Err-clause-reached : goal.pass_row-returns-in-Err-clause-reached
 pass_row-returns-in-Err-clause-reached g t c state shows sound known =
     row_stops (g.F.Files.contents c.args.files.now) c.args.setting.now.directories.now c.args.setting.now.enabled c.args.file.now.levels c.args.file.now.name.now c.args.file.now.number state c.args.branches.now (row_by c.args.row) sound known
-    c.in-Err.halt c.take_row.new.work.files (c.in-Err.ensures state shows)
+    c.in-Err.stop c.take_row.new.work.files (c.in-Err.ensures state shows)
 
 pub read_file-loop-branches-init : goal.read_file-loop-branches-init
 read_file-loop-branches-init g t c = record {
@@ -87,8 +87,8 @@ read_file-returns-in-Err-clause-reached g t c state shows sound known number =
     let known' : c.args.file.now.number < length p.now.state.files = omega (arith, p.stands_in.stands.grows) in
     let r = c.in-Err.ensures.reached p.now.state p.stands_in.stands.shows p.stands_in.stands.sound known' in
     passed_stops (g.F.Files.contents c.args.files.now) c.args.setting.now.directories.now c.args.setting.now.enabled c.args.file.now.levels c.args.file.now.number c.args.file.now.name.now p (row_by c.in-Some.row) (rows_left c.next.new.self) e
-    c.in-Err.halt c.pass_row.new.work.files c.args.bytes.now (refl {a = rows_of c.args.setting.now.enabled c.args.bytes.now}) number
-    (stops_by c.in-Err.halt (g.F.Files.contents c.args.files.now) (g.F.Files.contents c.loop-branches.files) c.pass_row.new.work.files
+    c.in-Err.stop c.pass_row.new.work.files c.args.bytes.now (refl {a = rows_of c.args.setting.now.enabled c.args.bytes.now}) number
+    (stops_by c.in-Err.stop (g.F.Files.contents c.args.files.now) (g.F.Files.contents c.loop-branches.files) c.pass_row.new.work.files
     (λ told. one_of c.args.setting.now.directories.now c.args.setting.now.enabled c.args.file.now.levels c.args.file.now.number c.args.file.now.name.now told (row_by c.in-Some.row) (record { state = p.now.state; branches = c.loop-branches.branches }))
     c.loop-branches.invariant.contents r)
 

@@ -16,7 +16,7 @@ pub enum Within {
 
 /// Where a fragment stands.
 #[derive(Clone, Copy, Debug)]
-pub enum Spot {
+pub enum FragmentContext {
     Anywhere,
     /// Behind the word `defined`, and blanks.
     BehindDefined,
@@ -52,23 +52,23 @@ fn is_parenthesis(text: &[u8]) -> bool
     text == b"(".as_slice()
 }
 
-fn is_name_at(within: Within, spot: Spot, text: &[u8]) -> bool
-    ensures { result ≡ spec.is_name_at within spot text.now }
+fn is_name_at(within: Within, context: FragmentContext, text: &[u8]) -> bool
+    ensures { result ≡ spec.is_name_at within context text.now }
 {
     match within {
         Within::InLine => true,
-        Within::InCondition => match spot {
-            Spot::Anywhere => !is_defined(text),
-            Spot::BehindDefined | Spot::BehindParenthesis => false,
+        Within::InCondition => match context {
+            FragmentContext::Anywhere => !is_defined(text),
+            FragmentContext::BehindDefined | FragmentContext::BehindParenthesis => false,
         },
     }
 }
 
 /// Whether a fragment is a name to be replaced.
-pub fn is_name(within: Within, spot: Spot, kind: FragmentKind, text: &[u8]) -> bool
-    ensures { result ≡ spec.is_name within spot kind text.now }
+pub fn is_name(within: Within, context: FragmentContext, kind: FragmentKind, text: &[u8]) -> bool
+    ensures { result ≡ spec.is_name within context kind text.now }
 {
-    is_identifier(kind) && is_name_at(within, spot, text)
+    is_identifier(kind) && is_name_at(within, context, text)
 }
 
 fn is_defined_word(kind: FragmentKind, text: &[u8]) -> bool
@@ -78,31 +78,31 @@ fn is_defined_word(kind: FragmentKind, text: &[u8]) -> bool
 }
 
 /// Where the next fragment stands.
-pub fn spot_behind(spot: Spot, kind: FragmentKind, text: &[u8]) -> Spot
-    ensures { result ≡ spec.spot_behind spot kind text.now }
+pub fn context_behind(context: FragmentContext, kind: FragmentKind, text: &[u8]) -> FragmentContext
+    ensures { result ≡ spec.context_behind context kind text.now }
 {
-    match spot {
-        Spot::Anywhere => {
+    match context {
+        FragmentContext::Anywhere => {
             if is_defined_word(kind, text) {
-                Spot::BehindDefined
+                FragmentContext::BehindDefined
             } else {
-                Spot::Anywhere
+                FragmentContext::Anywhere
             }
         }
-        Spot::BehindDefined => {
+        FragmentContext::BehindDefined => {
             if stands_for_blanks(kind, text) {
-                Spot::BehindDefined
+                FragmentContext::BehindDefined
             } else if is_parenthesis(text) {
-                Spot::BehindParenthesis
+                FragmentContext::BehindParenthesis
             } else {
-                Spot::Anywhere
+                FragmentContext::Anywhere
             }
         }
-        Spot::BehindParenthesis => {
+        FragmentContext::BehindParenthesis => {
             if stands_for_blanks(kind, text) {
-                Spot::BehindParenthesis
+                FragmentContext::BehindParenthesis
             } else {
-                Spot::Anywhere
+                FragmentContext::Anywhere
             }
         }
     }

@@ -10,32 +10,32 @@ use std::alloc::{AllocError, Global};
 
 /// A first stop with its message, a file that could not be read, or want of memory.
 #[derive(Drop)]
-pub(crate) enum Halt {
+pub(crate) enum ReadingStop {
     At(Message),
     ReadFault,
     Memory,
 }
 
-impl From<AllocError> for Halt {
-    ghost use Rattle.asl_preprocess.specs.declared.halt.Halt.TheVariants.{Memory};
+impl From<AllocError> for ReadingStop {
+    ghost use Rattle.asl_preprocess.specs.declared.stop.ReadingStop.TheVariants.{Memory};
 
     ghost from_gives = { λ _ e. e ≡ Memory };
 
     fn from(_: AllocError) -> Self {
-        Halt::Memory
+        ReadingStop::Memory
     }
 }
 
 /// A refusal with this message.
-pub(crate) fn refusal(alloc: Global, number: u16, place: Place, name: &[u8]) -> Halt
+pub(crate) fn refusal(alloc: Global, number: u16, place: Place, name: &[u8]) -> ReadingStop
     ensures { Refuses result (message_at number place name.now) }
 {
     match Text::from_bytes(alloc, name) {
-        Ok(name) => Halt::At(Message {
+        Ok(name) => ReadingStop::At(Message {
             number,
             place,
             name,
         }),
-        Err(AllocError) => Halt::Memory,
+        Err(AllocError) => ReadingStop::Memory,
     }
 }
