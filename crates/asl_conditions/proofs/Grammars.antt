@@ -15,7 +15,7 @@ use Rattle.asl_conditions.specs.declared.reader.Phase.TheVariants as p
 use Rattle.asl_conditions.specs.declared.reader.ConditionReader.{ConditionReader}
 use Rattle.asl_conditions.specs.Operators.{truth, apply_prefix, operand, row_value}
 use Rattle.asl_conditions.specs.Reading.{limit, reader, has_prefix, whole, open_more, closed, step, step_by, finish_by, run, value_of}
-use Rattle.asl_conditions.specs.Grammar.{Phrase, part, front, row, Spells, IsValue}
+use Rattle.asl_conditions.specs.Grammar.{ConditionPhrase, part, front, row, SpellsPhrase, IsValue}
 use Rattle.asl_conditions.specs.Grammar as g
 use Rattle.asl_conditions.proofs.Worths.{value_is_worth, worth_is_value}
 
@@ -38,12 +38,12 @@ whole_alone xs (o.Prefix q ∷ opened) x h = absurd cc
 whole_alone xs (o.Parenthesis outer ∷ opened) x h = refl
 
 -- what reading a phrase comes to
-abbrev Runs : ℕ → Phrase → List ConditionToken → List ConditionToken → Type 0
+abbrev Runs : ℕ → ConditionPhrase → List ConditionToken → List ConditionToken → Type 0
 Runs d (part x) ms rest = (xs : List Operand) (opened : List Opened) → length opened + d ≤ limit → run (reader p.Operand xs opened) ms ≡ run (whole xs opened x) rest
 Runs d (front xs) ms rest = (opened : List Opened) → has_prefix opened ≡ false → length opened + d ≤ limit → run (reader p.Operand [] opened) ms ≡ run (reader p.Operand xs opened) rest
 Runs d (row xs x) ms rest = (opened : List Opened) → has_prefix opened ≡ false → length opened + d ≤ limit → run (reader p.Operand [] opened) ms ≡ run (reader (p.Operator x) xs opened) rest
 
-runs : {d : ℕ} {phrase : Phrase} {ms rest : List ConditionToken} → Spells d phrase ms rest → Runs d phrase ms rest
+runs : {d : ℕ} {phrase : ConditionPhrase} {ms rest : List ConditionToken} → SpellsPhrase d phrase ms rest → Runs d phrase ms rest
 unfolding run step
 runs (g.a_number {n = n} {rest = rest}) = λ xs opened h. refl
 runs (g.a_name {b = b} {rest = rest}) = λ xs opened h. refl
@@ -72,23 +72,23 @@ value_is_read tokens value is = runs is.spells [] refl (omega arith) ∙ worth_i
 
 -- the tokens up to those of the last list leave these open, with so many levels left
 data Held (all : List ConditionToken) : ℕ → List Operand → List Opened → List ConditionToken → Type 0 where
-  at_top : {xs : List Operand} {rest : List ConditionToken} → Spells limit (front xs) all rest → Held all limit xs [] rest
+  at_top : {xs : List Operand} {rest : List ConditionToken} → SpellsPhrase limit (front xs) all rest → Held all limit xs [] rest
   in_prefix : {d : ℕ} {q : ConditionPrefix} {xs : List Operand} {opened : List Opened} {rest : List ConditionToken} → Held all (suc d) xs opened (t.Prefix q ∷ rest) → Held all d xs (o.Prefix q ∷ opened) rest
-  in_group : {d : ℕ} {xs outer : List Operand} {opened : List Opened} {mid rest : List ConditionToken} → Held all (suc d) outer opened (t.Open ∷ mid) → Spells d (front xs) mid rest
+  in_group : {d : ℕ} {xs outer : List Operand} {opened : List Opened} {mid rest : List ConditionToken} → Held all (suc d) outer opened (t.Open ∷ mid) → SpellsPhrase d (front xs) mid rest
       → Held all d xs (o.Parenthesis outer ∷ opened) rest
 
 record Operated (all : List ConditionToken) (x : ℕ) (xs : List Operand) (opened : List Opened) (rest : List ConditionToken) : Type 0 where
   d : ℕ
   mid : List ConditionToken
   held : Held all d xs opened mid
-  inner : Spells d (part x) mid rest
+  inner : SpellsPhrase d (part x) mid rest
   alone : has_prefix opened ≡ false
 
 record Closing (all : List ConditionToken) (x : ℕ) (xs : List Operand) (opened : List Opened) (rest : List ConditionToken) : Type 0 where
   d : ℕ
   mid : List ConditionToken
   held : Held all d xs opened mid
-  inner : (more : List ConditionToken) → rest ≡ t.Close ∷ more → Spells d (part x) mid more
+  inner : (more : List ConditionToken) → rest ≡ t.Close ∷ more → SpellsPhrase d (part x) mid more
 
 -- what was read of all tokens
 abbrev Behind : List ConditionToken → Phase → List Operand → List Opened → List ConditionToken → Type 0
@@ -108,7 +108,7 @@ held_depth (in_prefix {d = d} {opened = opened} held) = let deep : length opened
 held_depth (in_group {d = d} {opened = opened} held s) = let deep : length opened + suc d ≡ limit = held_depth held in omega arith
 
 -- an operand is whole
-whole_keeps : {all : List ConditionToken} {d : ℕ} {xs : List Operand} {opened : List Opened} {mid rest : List ConditionToken} (x : ℕ) → Held all d xs opened mid → Spells d (part x) mid rest
+whole_keeps : {all : List ConditionToken} {d : ℕ} {xs : List Operand} {opened : List Opened} {mid rest : List ConditionToken} (x : ℕ) → Held all d xs opened mid → SpellsPhrase d (part x) mid rest
     → Behind all (whole xs opened x).phase (whole xs opened x).row (whole xs opened x).opened rest
 whole_keeps {mid = mid} x (at_top s) inner = record { d = limit; mid = mid; held = at_top s; inner = inner; alone = refl }
 whole_keeps x (in_prefix {q = q} held) inner = whole_keeps (apply_prefix q x) held (g.a_prefix inner)
@@ -136,7 +136,7 @@ group_keeps : {all : List ConditionToken} (d : ℕ) (xs : List Operand) (opened 
 group_keeps d xs opened rest held h = let less = less_left d xs opened (t.Open ∷ rest) held h in (less.0, in_group less.1 g.no_operand)
 
 -- an operator stands behind an operand
-infix_keeps : {all : List ConditionToken} {d : ℕ} {xs : List Operand} {opened : List Opened} {mid rest : List ConditionToken} (x : ℕ) (q : ConditionInfix) → Held all d xs opened mid → Spells d (part x) mid (t.Infix q ∷ rest) → has_prefix opened ≡ false
+infix_keeps : {all : List ConditionToken} {d : ℕ} {xs : List Operand} {opened : List Opened} {mid rest : List ConditionToken} (x : ℕ) (q : ConditionInfix) → Held all d xs opened mid → SpellsPhrase d (part x) mid (t.Infix q ∷ rest) → has_prefix opened ≡ false
     → Held all d (xs ++ operand x q ∷ []) opened rest
 infix_keeps x q (at_top s) inner alone = at_top (g.one_more s inner)
 infix_keeps x q (in_prefix held) inner alone = absurd cc
@@ -144,11 +144,11 @@ infix_keeps x q (in_group held s) inner alone = in_group held (g.one_more s inne
 
 -- parentheses close
 closed_by : {all : List ConditionToken} {d : ℕ} {outer xs : List Operand} {opened : List Opened} {mid rest : List ConditionToken} (last : ℕ) (value : Option ℕ) → row_value xs last ≡ value → Held all (suc d) outer opened (t.Open ∷ mid)
-    → Spells d (row xs last) mid (t.Close ∷ rest) → Keeps all (option_map (λ v. whole outer opened v) value) rest
+    → SpellsPhrase d (row xs last) mid (t.Close ∷ rest) → Keeps all (option_map (λ v. whole outer opened v) value) rest
 closed_by last None e held inner = tt
 closed_by {xs = xs} last (Some v) e held inner = whole_keeps v held (g.a_group inner (value_is_worth xs last v e))
 
-close_keeps : {all : List ConditionToken} {d : ℕ} {xs : List Operand} {opened : List Opened} {mid rest : List ConditionToken} (x : ℕ) → Held all d xs opened mid → Spells d (part x) mid (t.Close ∷ rest) → Keeps all (closed opened (row_value xs x)) rest
+close_keeps : {all : List ConditionToken} {d : ℕ} {xs : List Operand} {opened : List Opened} {mid rest : List ConditionToken} (x : ℕ) → Held all d xs opened mid → SpellsPhrase d (part x) mid (t.Close ∷ rest) → Keeps all (closed opened (row_value xs x)) rest
 close_keeps x (at_top s) inner = tt
 close_keeps x (in_prefix held) inner = tt
 close_keeps {xs = xs} x (in_group held s) inner = closed_by x (row_value xs x) refl held (g.a_row s inner)
@@ -176,15 +176,15 @@ step_keeps all p.Defined xs opened t.Close rest h = tt
 step_keeps all p.Defined xs opened (t.Prefix q) rest h = tt
 step_keeps all p.Defined xs opened (t.Infix q) rest h = tt
 step_keeps all p.DefinedParenthesis xs opened (t.Name b) rest h =
-    record { d = suc h.0; mid = t.Defined h.1 ∷ t.Open ∷ t.Name b ∷ rest; held = h.2; inner = λ more e. subst (λ r. Spells (suc h.0) (part (truth b)) (t.Defined h.1 ∷ t.Open ∷ t.Name b ∷ r) more) (sym e) g.in_parentheses }
+    record { d = suc h.0; mid = t.Defined h.1 ∷ t.Open ∷ t.Name b ∷ rest; held = h.2; inner = λ more e. subst (λ r. SpellsPhrase (suc h.0) (part (truth b)) (t.Defined h.1 ∷ t.Open ∷ t.Name b ∷ r) more) (sym e) g.in_parentheses }
 step_keeps all p.DefinedParenthesis xs opened (t.Defined b) rest h =
-    record { d = suc h.0; mid = t.Defined h.1 ∷ t.Open ∷ t.Defined b ∷ rest; held = h.2; inner = λ more e. subst (λ r. Spells (suc h.0) (part (truth b)) (t.Defined h.1 ∷ t.Open ∷ t.Defined b ∷ r) more) (sym e) g.word_in_parentheses }
+    record { d = suc h.0; mid = t.Defined h.1 ∷ t.Open ∷ t.Defined b ∷ rest; held = h.2; inner = λ more e. subst (λ r. SpellsPhrase (suc h.0) (part (truth b)) (t.Defined h.1 ∷ t.Open ∷ t.Defined b ∷ r) more) (sym e) g.word_in_parentheses }
 step_keeps all p.DefinedParenthesis xs opened _ rest h = tt
 step_keeps all (p.DefinedName x) xs opened t.Close rest h = whole_keeps x h.held (h.inner rest refl)
 step_keeps all (p.DefinedName x) xs opened _ rest h = tt
 
 -- at the end
-finish_value : {all : List ConditionToken} (x v : ℕ) (xs : List Operand) {d : ℕ} {mid : List ConditionToken} → Held all d xs [] mid → Spells d (part x) mid [] → row_value xs x ≡ Some v → IsValue all v
+finish_value : {all : List ConditionToken} (x v : ℕ) (xs : List Operand) {d : ℕ} {mid : List ConditionToken} → Held all d xs [] mid → SpellsPhrase d (part x) mid [] → row_value xs x ≡ Some v → IsValue all v
 finish_value x v xs (at_top s) inner e = record { operands = xs; last = x; spells = g.a_row s inner; worth = value_is_worth xs x v e }
 
 finish_keeps : {all : List ConditionToken} (phase : Phase) (xs : List Operand) (opened : List Opened) (v : ℕ) → Behind all phase xs opened [] → finish_by phase xs opened ≡ Some v → IsValue all v

@@ -2,11 +2,11 @@
 use Rattle.std.specs.Prelude.{ℕ, Bool, true, false, cond, List, codes, Some, None}
 use Rattle.std.specs.declared.option.Option.{Option}
 use Rattle.std.specs.Str.{bytes_eq}
-use Rattle.asl_directives.specs.declared.kind.Kind.{Kind}
-use Rattle.asl_directives.specs.declared.kind.Kind.TheVariants as k
+use Rattle.asl_directives.specs.declared.kind.DirectiveKind.{DirectiveKind}
+use Rattle.asl_directives.specs.declared.kind.DirectiveKind.TheVariants as k
 
 -- the directive of a word
-unfoldable pub kind_of : List ℕ → Option Kind
+unfoldable pub kind_of : List ℕ → Option DirectiveKind
 kind_of word =
     cond (bytes_eq word (codes "define")) (Some k.Define) (
     cond (bytes_eq word (codes "undef")) (Some k.Undefine) (
@@ -22,7 +22,7 @@ kind_of word =
     cond (bytes_eq word (codes "pragma")) (Some k.Pragma) None)))))))))))
 
 -- the directives that open, turn and close branches
-abbrev pub is_conditional : Kind → Bool
+abbrev pub is_conditional : DirectiveKind → Bool
 is_conditional k.If = true
 is_conditional k.IfDefined = true
 is_conditional k.IfNotDefined = true

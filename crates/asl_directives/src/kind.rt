@@ -4,7 +4,7 @@ ghost use Rattle.asl_directives.specs.Kinds as spec;
 
 /// A directive, by its word.
 #[derive(Clone, Copy, Debug, PartialEq, Eq)]
-pub enum Kind {
+pub enum DirectiveKind {
     Define,
     Undefine,
     If,
@@ -21,44 +21,49 @@ pub enum Kind {
 
 /// The directive of a word; none where the word is no directive's.
 #[tactic(auto, unfolding(crate::specs::Kinds::kind_of))]
-pub fn kind_of(word: &[u8]) -> Option<Kind>
+pub fn kind_of(word: &[u8]) -> Option<DirectiveKind>
     ensures { result ≡ spec.kind_of word.now }
 {
     if word == b"define".as_slice() {
-        Some(Kind::Define)
+        Some(DirectiveKind::Define)
     } else if word == b"undef".as_slice() {
-        Some(Kind::Undefine)
+        Some(DirectiveKind::Undefine)
     } else if word == b"if".as_slice() {
-        Some(Kind::If)
+        Some(DirectiveKind::If)
     } else if word == b"ifdef".as_slice() {
-        Some(Kind::IfDefined)
+        Some(DirectiveKind::IfDefined)
     } else if word == b"ifndef".as_slice() {
-        Some(Kind::IfNotDefined)
+        Some(DirectiveKind::IfNotDefined)
     } else if word == b"elif".as_slice() {
-        Some(Kind::ElseIf)
+        Some(DirectiveKind::ElseIf)
     } else if word == b"else".as_slice() {
-        Some(Kind::Else)
+        Some(DirectiveKind::Else)
     } else if word == b"endif".as_slice() {
-        Some(Kind::EndIf)
+        Some(DirectiveKind::EndIf)
     } else if word == b"include".as_slice() {
-        Some(Kind::Include)
+        Some(DirectiveKind::Include)
     } else if word == b"error".as_slice() {
-        Some(Kind::Error)
+        Some(DirectiveKind::Error)
     } else if word == b"warning".as_slice() {
-        Some(Kind::Warning)
+        Some(DirectiveKind::Warning)
     } else if word == b"pragma".as_slice() {
-        Some(Kind::Pragma)
+        Some(DirectiveKind::Pragma)
     } else {
         None
     }
 }
 
 /// Whether a directive opens, turns or closes branches.
-pub fn is_conditional(kind: Kind) -> bool
+pub fn is_conditional(kind: DirectiveKind) -> bool
     ensures { result ≡ spec.is_conditional kind }
 {
     matches!(
         kind,
-        Kind::If | Kind::IfDefined | Kind::IfNotDefined | Kind::ElseIf | Kind::Else | Kind::EndIf
+        DirectiveKind::If
+            | DirectiveKind::IfDefined
+            | DirectiveKind::IfNotDefined
+            | DirectiveKind::ElseIf
+            | DirectiveKind::Else
+            | DirectiveKind::EndIf
     )
 }

@@ -11,16 +11,16 @@ use Rattle.asl_parser.specs.declared.mark.Lexeme.TheVariants as l
 use Rattle.asl_parser.specs.declared.mark.Mark.{Mark}
 use Rattle.asl_parser.specs.declared.raw.Infix.{Infix}
 use Rattle.asl_parser.specs.declared.raw.Infix.TheVariants as op
-use Rattle.asl_parser.specs.declared.branch.Branch.{Branch}
-use Rattle.asl_parser.specs.declared.branch.Branches.{Branches}
+use Rattle.asl_parser.specs.declared.subtree.Subtree.{Subtree}
+use Rattle.asl_parser.specs.declared.subtree.Subtrees.{Subtrees}
 use Rattle.asl_parser.specs.declared.frame.Frame.{Frame}
 use Rattle.asl_parser.specs.declared.frame.Frame.TheVariants as f
-use Rattle.asl_parser.specs.declared.frame.State.{State}
-use Rattle.asl_parser.specs.declared.frame.State.TheVariants as st
+use Rattle.asl_parser.specs.declared.frame.ParserState.{ParserState}
+use Rattle.asl_parser.specs.declared.frame.ParserState.TheVariants as st
 use Rattle.asl_parser.specs.Signs.{strength}
-use Rattle.asl_parser.specs.Trees.{Tree, Trees, Group, none, more, absent}
+use Rattle.asl_parser.specs.Trees.{Tree, Trees, TreeGroup, none, more, absent}
 use Rattle.asl_parser.specs.Trees as t
-use Rattle.asl_parser.specs.Grow.{no_branches, joined, applied, item, grown, grown_all, grown_in}
+use Rattle.asl_parser.specs.Grow.{no_subtrees, joined, applied, item, grown, grown_all, grown_in}
 use Rattle.asl_parser.specs.Machine.{Config, Answer, source, stop, deep, depth, walk, unlimited, within, start, room, allow, settle, begin, begin_by, begin_sign, operator, sequence, sequence_by, sequence_sign, listed, listed_by, enclosed, enclosed_by, after, after_by, after_lexeme, word_by, called_by, argument, argument_by, first_argument, first_argument_by, element, element_by, first_element, first_element_by, step, run, finish, finish_whole, close_source}
 use Rattle.asl_parser.specs.Machine as m
 use Rattle.asl_parser.specs.Grammar.{at, sign, word, Phrase, expression, arguments, body, given, before, brace_list, members, member, sequence as row_of, all, is_paren, opens_paren, MayFollow, Reads, IsSource}
@@ -101,7 +101,7 @@ waits o level most so fits (inl b) = omega (arith, so.pull_high)
 waits o level most so fits (inr (b, inl two)) = absurd (omega (arith, so.low))
 waits o level most so fits (inr (b, inr six)) = elim so.pulls [ inl p ↦ omega (arith, p.0, p.1) | inr p ↦ omega (arith, p, so.high) ]
 
-pub settle_same : (o : Strength) (e : Branch) (fs : List Frame) → IsStrength o → o.level ≤ room fs → Proper fs → settle o.pull e fs ≡ (e, fs)
+pub settle_same : (o : Strength) (e : Subtree) (fs : List Frame) → IsStrength o → o.level ≤ room fs → Proper fs → settle o.pull e fs ≡ (e, fs)
 unfolding settle
 settle_same o e [] so fits proper = refl
 settle_same o e (f.Pending level most p i xs ∷ fs) so fits proper = rw (lt-leb level o.pull (waits o level most so fits proper)) refl
@@ -169,17 +169,17 @@ first_argument_begins p _ fs h = absurd cc
 
 pub data Holder : ℕ → Type 0 where
   of_source : Holder 0
-  of_body : Spot → List ℕ → Option Branches → Holder 13
+  of_body : Spot → List ℕ → Option Subtrees → Holder 13
 
-abbrev pub holds : {n : ℕ} → Holder n → Branches → Frame
+abbrev pub holds : {n : ℕ} → Holder n → Subtrees → Frame
 holds of_source done = f.Unit done
 holds (of_body p w args) done = f.Body p w args done
 
-abbrev pub named : Spot → List ℕ → Group → State
+abbrev pub named : Spot → List ℕ → TreeGroup → ParserState
 named p w absent = st.Word p w
 named p w (t.given args) = st.Called p w (grown_all args)
 
-abbrev pub ended : Spot → List ℕ → Group → Group → State
+abbrev pub ended : Spot → List ℕ → TreeGroup → TreeGroup → ParserState
 ended p w args absent = named p w args
 ended p w args (t.given xs) = st.Whole (grown (t.an_item p w args (t.given xs)))
 
@@ -196,11 +196,11 @@ abbrev pub Follows : Option Tree → List Mark → Type 0
 Follows None ts = Unit {0}
 Follows (Some e) ts = Ends 13 ts
 
-abbrev pub expects : Trees → State
+abbrev pub expects : Trees → ParserState
 expects none = st.FirstElement
 expects (more xs x) = st.Element
 
-abbrev pub wants : Trees → State
+abbrev pub wants : Trees → ParserState
 wants none = st.FirstArgument
 wants (more xs x) = st.Argument
 
@@ -210,11 +210,11 @@ ends_all p rest = (omega arith, omega arith, omega arith, omega arith, omega ari
 pub infix_ends : (i : Infix) (o : Strength) → strength i ≡ Some o → EndsBy o.pull (pull_of (l.Sign (s.Binary i)))
 infix_ends i o e = rw e (omega arith)
 
-infix_after : (q : Spot) (i : Infix) (o : Strength) (a : Branch) (fs : List Frame) → strength i ≡ Some o → after_lexeme q (l.Sign (s.Binary i)) a fs ≡ operator q i o (settle o.pull a fs)
+infix_after : (q : Spot) (i : Infix) (o : Strength) (a : Subtree) (fs : List Frame) → strength i ≡ Some o → after_lexeme q (l.Sign (s.Binary i)) a fs ≡ operator q i o (settle o.pull a fs)
 infix_after q i o a fs e = rw e refl
 
-pub infix_step : (p : Spot) (i : Infix) (o : Strength) (a : Branch) (fs : List Frame) → strength i ≡ Some o → o.level ≤ room fs → Proper fs
-    → after p (l.Sign (s.Binary i)) a fs ≡ Some (st.Operand, f.Pending o.level o.room p i (joined no_branches a) ∷ fs)
+pub infix_step : (p : Spot) (i : Infix) (o : Strength) (a : Subtree) (fs : List Frame) → strength i ≡ Some o → o.level ≤ room fs → Proper fs
+    → after p (l.Sign (s.Binary i)) a fs ≡ Some (st.Operand, f.Pending o.level o.room p i (joined no_subtrees a) ∷ fs)
 unfolding after
 infix_step p i o a fs e fits proper =
     infix_after p i o a fs e ∙ rw (settle_same o a fs (is_strength i o e) fits proper, le-leb o.level (room fs) fits) refl
@@ -232,7 +232,7 @@ word_done q (l.Number n) p w fs h = refl
 word_done q (l.Text v) p w fs h = refl
 word_done q l.Other p w fs h = refl
 
-called_done : (q : Spot) (x : Lexeme) (p : Spot) (w : List ℕ) (args : Branches) (fs : List Frame) → EndsBy 0 (pull_of x) → called_by q x p w args fs ≡ after q x (item p w (Some args) None) fs
+called_done : (q : Spot) (x : Lexeme) (p : Spot) (w : List ℕ) (args : Subtrees) (fs : List Frame) → EndsBy 0 (pull_of x) → called_by q x p w args fs ≡ after q x (item p w (Some args) None) fs
 called_done q (l.Sign s.LeftBrace) p w args fs h = absurd h
 called_done q (l.Sign x) p w args fs h = refl
 called_done q (l.Word path v) p w args fs h = refl
@@ -240,7 +240,7 @@ called_done q (l.Number n) p w args fs h = refl
 called_done q (l.Text v) p w args fs h = refl
 called_done q l.Other p w args fs h = refl
 
-pub member_ends : (q : Spot) (x : Lexeme) (e : Branch) (p : Spot) (w : List ℕ) (done : Branches) (fs : List Frame) → ends_member x ≡ true
+pub member_ends : (q : Spot) (x : Lexeme) (e : Subtree) (p : Spot) (w : List ℕ) (done : Subtrees) (fs : List Frame) → ends_member x ≡ true
     → EndsBy 13 (pull_of x) × (after_lexeme q x e (f.Args p w done ∷ fs) ≡ listed e x (f.Args p w done ∷ fs))
 unfolding settle
 member_ends q (l.Sign s.Comma) e p w done fs h = (omega arith, refl)
@@ -252,7 +252,7 @@ follows x p None rest h = tt
 follows x p (Some e) rest h = h
 
 -- what begins an expression, but for a parenthesis, ends the one before it
-next_after : (n : ℕ) (h : Holder n) (q : Spot) (x : Lexeme) (e : Branch) (done : Branches) (fs : List Frame) → begins x ≡ true → is_paren x ≡ false
+next_after : (n : ℕ) (h : Holder n) (q : Spot) (x : Lexeme) (e : Subtree) (done : Subtrees) (fs : List Frame) → begins x ≡ true → is_paren x ≡ false
     → EndsBy 13 (pull_of x) × (after_lexeme q x e (holds h done ∷ fs) ≡ sequence q x (holds h (joined done e) ∷ fs))
 unfolding settle
 next_after n h q (l.Sign s.LeftParen) e done fs b c = absurd cc
@@ -267,7 +267,7 @@ next_after n of_source q (l.Text v) e done fs b c = (omega arith, refl)
 next_after n (of_body p w args) q (l.Text v) e done fs b c = (omega arith, refl)
 next_after n h q l.Other e done fs b c = absurd cc
 
-holder_facts : (n : ℕ) (h : Holder n) (done : Branches) (fs : List Frame) → (n ≤ 13) × (n ≤ room (holds h done ∷ fs)) × Proper (holds h done ∷ fs)
+holder_facts : (n : ℕ) (h : Holder n) (done : Subtrees) (fs : List Frame) → (n ≤ 13) × (n ≤ room (holds h done ∷ fs)) × Proper (holds h done ∷ fs)
 holder_facts n of_source done fs = (omega arith, omega arith, tt)
 holder_facts n (of_body p w args) done fs = (omega arith, omega arith, tt)
 
@@ -275,13 +275,13 @@ follows_end : (last : Option Tree) → Follows last []
 follows_end None = tt
 follows_end (Some e) = tt
 
-holds_depth : (n : ℕ) (h : Holder n) (done others : Branches) (fs : List Frame) → depth (holds h others ∷ fs) ≤ depth (holds h done ∷ fs)
+holds_depth : (n : ℕ) (h : Holder n) (done others : Subtrees) (fs : List Frame) → depth (holds h others ∷ fs) ≤ depth (holds h done ∷ fs)
 holds_depth n of_source done others fs = omega arith
 holds_depth n (of_body p w args) done others fs = omega arith
 
 -- The test allows less where it allows more.
 module _ (ok : ℕ → Bool) (mono : (m n : ℕ) → m ≤ n → ok n ≡ true → ok m ≡ true) where
-  abbrev pub go : List Mark → State → List Frame → Answer
+  abbrev pub go : List Mark → ParserState → List Frame → Answer
   go ts a fs = walk ok ts a fs
 
   unfoldable pub then_go : Mark → List Mark → Option Config → Answer
@@ -302,19 +302,19 @@ module _ (ok : ℕ → Bool) (mono : (m n : ℕ) → m ≤ n → ok n ≡ true �
   guarded_go true x y ts e = same e
   guarded_go false x y ts e = cut (record { rest = ts; is = refl })
 
-  same_step : (t : Mark) (ts : List Mark) (a b : State) (fs gs : List Frame) → depth gs ≤ depth fs → step t a fs ≡ step t b gs → Same (go (t ∷ ts) a fs) (go (t ∷ ts) b gs)
+  same_step : (t : Mark) (ts : List Mark) (a b : ParserState) (fs gs : List Frame) → depth gs ≤ depth fs → step t a fs ≡ step t b gs → Same (go (t ∷ ts) a fs) (go (t ∷ ts) b gs)
   unfolding walk then_go guarded
   same_step t ts a b fs gs less e = guarded_same (ok (depth fs)) (ok (depth gs)) (then_go t ts (step t a fs)) (then_go t ts (step t b gs)) (t ∷ ts) (t ∷ ts) (mono (depth gs) (depth fs) less) (ap (then_go t ts) e)
 
-  same_end : (a b : State) (fs gs : List Frame) → depth gs ≤ depth fs → finish a fs ≡ finish b gs → Same (go [] a fs) (go [] b gs)
+  same_end : (a b : ParserState) (fs gs : List Frame) → depth gs ≤ depth fs → finish a fs ≡ finish b gs → Same (go [] a fs) (go [] b gs)
   unfolding walk guarded
   same_end a b fs gs less e = guarded_same (ok (depth fs)) (ok (depth gs)) (finish a fs) (finish b gs) [] [] (mono (depth gs) (depth fs) less) e
 
-  pub stepped : (t : Mark) (ts : List Mark) (a b : State) (fs gs : List Frame) → step t a fs ≡ Some (b, gs) → Same (go (t ∷ ts) a fs) (go ts b gs)
+  pub stepped : (t : Mark) (ts : List Mark) (a b : ParserState) (fs gs : List Frame) → step t a fs ≡ Some (b, gs) → Same (go (t ∷ ts) a fs) (go ts b gs)
   unfolding walk then_go guarded
   stepped t ts a b fs gs e = guarded_go (ok (depth fs)) (then_go t ts (step t a fs)) (walk ok ts b gs) (t ∷ ts) (ap (then_go t ts) e)
 
-  run_more : (ts : List Mark) (level most : ℕ) (p : Spot) (o : Infix) (xs : Branches) (e : Branch) (fs : List Frame) → 2 ≤ level → level ≤ 13 → Ends level ts
+  run_more : (ts : List Mark) (level most : ℕ) (p : Spot) (o : Infix) (xs : Subtrees) (e : Subtree) (fs : List Frame) → 2 ≤ level → level ≤ 13 → Ends level ts
       → Same (go ts (st.Whole e) (f.Pending level most p o xs ∷ fs)) (go ts (st.Whole (applied p o xs e)) fs)
   run_more [] level most p o xs e fs low high h = same_end (st.Whole e) (st.Whole (applied p o xs e)) (f.Pending level most p o xs ∷ fs) fs (omega arith) (finish_more level most p o xs e fs high)
   run_more (t ∷ ts) level most p o xs e fs low high h = same_step t ts (st.Whole e) (st.Whole (applied p o xs e)) (f.Pending level most p o xs ∷ fs) fs (omega arith) (after_more t level most p o xs e fs low high h)
@@ -341,16 +341,16 @@ module _ (ok : ℕ → Bool) (mono : (m n : ℕ) → m ≤ n → ok n ≡ true �
   abbrev pub Claim : Phrase → List Mark → List Mark → Type 0
   Claim (expression n e) ts rest = Starts ts × ((fs : List Frame) → n ≤ room fs → Proper fs → Ends n rest → Same (go ts st.Operand fs) (go rest (st.Whole (grown e)) fs))
   Claim (arguments args) ts rest = (p : Spot) (w : List ℕ) (fs : List Frame) → Same (go ts (st.Word p w) fs) (go rest (named p w args) fs)
-  Claim (body inner) ts rest = (p : Spot) (w : List ℕ) (args : Group) (fs : List Frame) → Same (go ts (named p w args) fs) (go rest (ended p w args inner) fs)
-  Claim (given xs) ts rest = (p : Spot) (w : List ℕ) (fs : List Frame) → Same (go ts st.FirstArgument (f.Args p w no_branches ∷ fs)) (go rest (st.Called p w (grown_all xs)) fs)
-  Claim (before xs) ts rest = (p : Spot) (w : List ℕ) (fs : List Frame) → Same (go ts st.FirstArgument (f.Args p w no_branches ∷ fs)) (go rest (wants xs) (f.Args p w (grown_all xs) ∷ fs))
-  Claim (g.argument x) ts rest = (p : Spot) (w : List ℕ) (done : Branches) (fs : List Frame) → EndsMember rest
+  Claim (body inner) ts rest = (p : Spot) (w : List ℕ) (args : TreeGroup) (fs : List Frame) → Same (go ts (named p w args) fs) (go rest (ended p w args inner) fs)
+  Claim (given xs) ts rest = (p : Spot) (w : List ℕ) (fs : List Frame) → Same (go ts st.FirstArgument (f.Args p w no_subtrees ∷ fs)) (go rest (st.Called p w (grown_all xs)) fs)
+  Claim (before xs) ts rest = (p : Spot) (w : List ℕ) (fs : List Frame) → Same (go ts st.FirstArgument (f.Args p w no_subtrees ∷ fs)) (go rest (wants xs) (f.Args p w (grown_all xs) ∷ fs))
+  Claim (g.argument x) ts rest = (p : Spot) (w : List ℕ) (done : Subtrees) (fs : List Frame) → EndsMember rest
       → Same (go ts st.Argument (f.Args p w done ∷ fs)) (go rest (st.Listed (grown x)) (f.Args p w done ∷ fs)) × Same (go ts st.FirstArgument (f.Args p w done ∷ fs)) (go rest (st.Listed (grown x)) (f.Args p w done ∷ fs))
   Claim (brace_list x) ts rest = (fs : List Frame) → Same (go ts st.Argument fs) (go rest (st.Listed (grown x)) fs) × Same (go ts st.FirstArgument fs) (go rest (st.Listed (grown x)) fs)
       × Same (go ts st.Element fs) (go rest (st.Listed (grown x)) fs) × Same (go ts st.FirstElement fs) (go rest (st.Listed (grown x)) fs)
-  Claim (members xs) ts rest = (p : Spot) (fs : List Frame) → Same (go ts st.FirstElement (f.List p no_branches ∷ fs)) (go rest (expects xs) (f.List p (grown_all xs) ∷ fs))
+  Claim (members xs) ts rest = (p : Spot) (fs : List Frame) → Same (go ts st.FirstElement (f.List p no_subtrees ∷ fs)) (go rest (expects xs) (f.List p (grown_all xs) ∷ fs))
   Claim (member x) ts rest = (fs : List Frame) → Same (go ts st.Element fs) (go rest (st.Listed (grown x)) fs) × Same (go ts st.FirstElement fs) (go rest (st.Listed (grown x)) fs)
-  Claim (row_of n done last) ts rest = (h : Holder n) (fs : List Frame) → Follows last rest → Same (go ts st.Sequence (holds h no_branches ∷ fs)) (goes_on rest (holds h (grown_all done)) fs last)
+  Claim (row_of n done last) ts rest = (h : Holder n) (fs : List Frame) → Follows last rest → Same (go ts st.Sequence (holds h no_subtrees ∷ fs)) (goes_on rest (holds h (grown_all done)) fs last)
 
   -- ---- expressions
 
@@ -398,9 +398,9 @@ module _ (ok : ℕ → Bool) (mono : (m n : ℕ) → m ≤ n → ok n ≡ true �
   prefix_claim p o a ts rest c = (
     refl,
     λ fs fits proper ends.
-        let opened : Same (go (sign p (s.Prefix o) ∷ ts) st.Operand fs) (go ts st.Operand (f.Pending 2 2 p o no_branches ∷ fs)) =
-        stepped (sign p (s.Prefix o)) ts st.Operand st.Operand fs (f.Pending 2 2 p o no_branches ∷ fs) (allowed 2 fs (st.Operand, f.Pending 2 2 p o no_branches ∷ fs) fits) in
-        opened ▸ c.1 (f.Pending 2 2 p o no_branches ∷ fs) (omega arith) (inr (refl, inl refl)) ends ▸ run_more rest 2 2 p o no_branches (grown a) fs (omega arith) (omega arith) ends,
+        let opened : Same (go (sign p (s.Prefix o) ∷ ts) st.Operand fs) (go ts st.Operand (f.Pending 2 2 p o no_subtrees ∷ fs)) =
+        stepped (sign p (s.Prefix o)) ts st.Operand st.Operand fs (f.Pending 2 2 p o no_subtrees ∷ fs) (allowed 2 fs (st.Operand, f.Pending 2 2 p o no_subtrees ∷ fs) fits) in
+        opened ▸ c.1 (f.Pending 2 2 p o no_subtrees ∷ fs) (omega arith) (inr (refl, inl refl)) ends ▸ run_more rest 2 2 p o no_subtrees (grown a) fs (omega arith) (omega arith) ends,
   )
 
   infix_claim : (p : Spot) (i : Infix) (o : Strength) (a e : Tree) (ts mid rest : List Mark) → strength i ≡ Some o → Claim (expression o.pull a) ts (sign p (s.Binary i) ∷ mid) → Claim (expression o.room e) mid rest
@@ -409,7 +409,7 @@ module _ (ok : ℕ → Bool) (mono : (m n : ℕ) → m ≤ n → ok n ≡ true �
     c.0,
     λ fs fits proper ends.
         let so = is_strength i o is in
-        let left = joined no_branches (grown a) in
+        let left = joined no_subtrees (grown a) in
         let shifted : Same (go (sign p (s.Binary i) ∷ mid) (st.Whole (grown a)) fs) (go mid st.Operand (f.Pending o.level o.room p i left ∷ fs)) =
         stepped (sign p (s.Binary i)) mid (st.Whole (grown a)) st.Operand fs (f.Pending o.level o.room p i left ∷ fs) (infix_step p i o (grown a) fs is fits proper) in
         c.1 fs (omega (arith, so.pull_high)) proper (infix_ends i o is) ▸ shifted
@@ -422,7 +422,7 @@ module _ (ok : ℕ → Bool) (mono : (m n : ℕ) → m ≤ n → ok n ≡ true �
 
   -- ---- items
 
-  pub item_done : (p : Spot) (w : List ℕ) (args inner : Group) (rest : List Mark) (fs : List Frame) → Ends 0 rest → Same (go rest (ended p w args inner) fs) (go rest (st.Whole (grown (t.an_item p w args inner))) fs)
+  pub item_done : (p : Spot) (w : List ℕ) (args inner : TreeGroup) (rest : List Mark) (fs : List Frame) → Ends 0 rest → Same (go rest (ended p w args inner) fs) (go rest (st.Whole (grown (t.an_item p w args inner))) fs)
   unfolding m.word m.called
   item_done p w args (t.given xs) rest fs h = same refl
   item_done p w absent absent [] fs h = same_end (st.Word p w) (st.Whole (item p w None None)) fs fs (omega arith) refl
@@ -431,7 +431,7 @@ module _ (ok : ℕ → Bool) (mono : (m n : ℕ) → m ≤ n → ok n ≡ true �
   item_done p w (t.given xs) absent (t ∷ ts) fs h =
       same_step t ts (st.Called p w (grown_all xs)) (st.Whole (item p w (Some (grown_all xs)) None)) fs fs (omega arith) (called_done t.spot t.lexeme p w (grown_all xs) fs h)
 
-  item_claim : (p : Spot) (path : Bool) (w : List ℕ) (args inner : Group) (ts mid rest : List Mark) → Claim (arguments args) ts mid → Claim (body inner) mid rest
+  item_claim : (p : Spot) (path : Bool) (w : List ℕ) (args inner : TreeGroup) (ts mid rest : List Mark) → Claim (arguments args) ts mid → Claim (body inner) mid rest
       → Claim (expression 0 (t.an_item p w args inner)) (word p path w ∷ ts) rest
   unfolding begin
   item_claim p path w args inner ts mid rest c d = (refl, λ fs fits proper ends. stepped (word p path w) ts st.Operand (st.Word p w) fs fs refl ▸ c p w fs ▸ d p w args fs ▸ item_done p w args inner rest fs ends)
@@ -440,15 +440,15 @@ module _ (ok : ℕ → Bool) (mono : (m n : ℕ) → m ≤ n → ok n ≡ true �
 
   some_arguments_claim : (p : Spot) (xs : Trees) (ts rest : List Mark) → Claim (given xs) ts rest → Claim (arguments (t.given xs)) (sign p s.LeftParen ∷ ts) rest
   unfolding m.word
-  some_arguments_claim p xs ts rest c q w fs = stepped (sign p s.LeftParen) ts (st.Word q w) st.FirstArgument fs (f.Args q w no_branches ∷ fs) refl ▸ c q w fs
+  some_arguments_claim p xs ts rest c q w fs = stepped (sign p s.LeftParen) ts (st.Word q w) st.FirstArgument fs (f.Args q w no_subtrees ∷ fs) refl ▸ c q w fs
 
   none_given_claim : (p : Spot) (rest : List Mark) → Claim (given none) (sign p s.RightParen ∷ rest) rest
   unfolding first_argument
-  none_given_claim p rest q w fs = stepped (sign p s.RightParen) rest st.FirstArgument (st.Called q w no_branches) (f.Args q w no_branches ∷ fs) fs refl
+  none_given_claim p rest q w fs = stepped (sign p s.RightParen) rest st.FirstArgument (st.Called q w no_subtrees) (f.Args q w no_subtrees ∷ fs) fs refl
 
   one_argument : (q : Spot) (w : List ℕ) (xs : Trees) (x : Tree) (mid rest : List Mark) (fs : List Frame) → Claim (g.argument x) mid rest → EndsMember rest
       → Same (go mid (wants xs) (f.Args q w (grown_all xs) ∷ fs)) (go rest (st.Listed (grown x)) (f.Args q w (grown_all xs) ∷ fs))
-  one_argument q w none x mid rest fs d ends = (d q w no_branches fs ends).1
+  one_argument q w none x mid rest fs d ends = (d q w no_subtrees fs ends).1
   one_argument q w (more xs y) x mid rest fs d ends = (d q w (grown_all (more xs y)) fs ends).0
 
   last_given_claim : (p : Spot) (xs : Trees) (x : Tree) (ts mid rest : List Mark) → Claim (before xs) ts mid → Claim (g.argument x) mid (sign p s.RightParen ∷ rest) → Claim (given (more xs x)) ts rest
@@ -470,7 +470,7 @@ module _ (ok : ℕ → Bool) (mono : (m n : ℕ) → m ≤ n → ok n ≡ true �
 
   comma_after : (p q : Spot) (w : List ℕ) (xs : Trees) (rest : List Mark) (fs : List Frame) → Same (go (sign p s.Comma ∷ rest) (wants xs) (f.Args q w (grown_all xs) ∷ fs)) (go rest st.Argument (f.Args q w (grown_all (more xs (t.an_empty p))) ∷ fs))
   unfolding argument first_argument
-  comma_after p q w none rest fs = stepped (sign p s.Comma) rest st.FirstArgument st.Argument (f.Args q w no_branches ∷ fs) (f.Args q w (grown_all (more none (t.an_empty p))) ∷ fs) refl
+  comma_after p q w none rest fs = stepped (sign p s.Comma) rest st.FirstArgument st.Argument (f.Args q w no_subtrees ∷ fs) (f.Args q w (grown_all (more none (t.an_empty p))) ∷ fs) refl
   comma_after p q w (more xs x) rest fs = stepped (sign p s.Comma) rest st.Argument st.Argument (f.Args q w (grown_all (more xs x)) ∷ fs) (f.Args q w (grown_all (more (more xs x) (t.an_empty p))) ∷ fs) refl
 
   one_left_out_claim : (p : Spot) (xs : Trees) (ts rest : List Mark) → Claim (before xs) ts (sign p s.Comma ∷ rest) → Claim (before (more xs (t.an_empty p))) ts rest
@@ -487,28 +487,28 @@ module _ (ok : ℕ → Bool) (mono : (m n : ℕ) → m ≤ n → ok n ≡ true �
 
   -- ---- lists
 
-  one_member : (p : Spot) (xs : Trees) (ys : Branches) (x : Tree) (mid rest : List Mark) (fs : List Frame) → Claim (member x) mid rest → Same (go mid (expects xs) (f.List p ys ∷ fs)) (go rest (st.Listed (grown x)) (f.List p ys ∷ fs))
+  one_member : (p : Spot) (xs : Trees) (ys : Subtrees) (x : Tree) (mid rest : List Mark) (fs : List Frame) → Claim (member x) mid rest → Same (go mid (expects xs) (f.List p ys ∷ fs)) (go rest (st.Listed (grown x)) (f.List p ys ∷ fs))
   one_member p none ys x mid rest fs d = (d (f.List p ys ∷ fs)).1
   one_member p (more xs y) ys x mid rest fs d = (d (f.List p ys ∷ fs)).0
 
   members_then : (p : Spot) (xs : Trees) (x : Tree) (ts mid rest : List Mark) (fs : List Frame) → Claim (members xs) ts mid → Claim (member x) mid rest
-      → Same (go ts st.FirstElement (f.List p no_branches ∷ fs)) (go rest (st.Listed (grown x)) (f.List p (grown_all xs) ∷ fs))
+      → Same (go ts st.FirstElement (f.List p no_subtrees ∷ fs)) (go rest (st.Listed (grown x)) (f.List p (grown_all xs) ∷ fs))
   members_then p xs x ts mid rest fs c d = c p fs ▸ one_member p xs (grown_all xs) x mid rest fs d
 
-  pub list_opens : (p : Spot) (ts : List Mark) (fs : List Frame) (y : Answer) → Same (go ts st.FirstElement (f.List p no_branches ∷ fs)) y
+  pub list_opens : (p : Spot) (ts : List Mark) (fs : List Frame) (y : Answer) → Same (go ts st.FirstElement (f.List p no_subtrees ∷ fs)) y
       → Same (go (sign p s.LeftBrace ∷ ts) st.Argument fs) y × Same (go (sign p s.LeftBrace ∷ ts) st.FirstArgument fs) y × Same (go (sign p s.LeftBrace ∷ ts) st.Element fs) y × Same (go (sign p s.LeftBrace ∷ ts) st.FirstElement fs) y
   unfolding argument first_argument element first_element
   list_opens p ts fs y e = (
-    stepped (sign p s.LeftBrace) ts st.Argument st.FirstElement fs (f.List p no_branches ∷ fs) refl ▸ e,
-    stepped (sign p s.LeftBrace) ts st.FirstArgument st.FirstElement fs (f.List p no_branches ∷ fs) refl ▸ e,
-    stepped (sign p s.LeftBrace) ts st.Element st.FirstElement fs (f.List p no_branches ∷ fs) refl ▸ e,
-    stepped (sign p s.LeftBrace) ts st.FirstElement st.FirstElement fs (f.List p no_branches ∷ fs) refl ▸ e,
+    stepped (sign p s.LeftBrace) ts st.Argument st.FirstElement fs (f.List p no_subtrees ∷ fs) refl ▸ e,
+    stepped (sign p s.LeftBrace) ts st.FirstArgument st.FirstElement fs (f.List p no_subtrees ∷ fs) refl ▸ e,
+    stepped (sign p s.LeftBrace) ts st.Element st.FirstElement fs (f.List p no_subtrees ∷ fs) refl ▸ e,
+    stepped (sign p s.LeftBrace) ts st.FirstElement st.FirstElement fs (f.List p no_subtrees ∷ fs) refl ▸ e,
   )
 
   empty_list_claim : (p q : Spot) (rest : List Mark) → Claim (brace_list (t.a_list p none)) (sign p s.LeftBrace ∷ sign q s.RightBrace ∷ rest) rest
   unfolding first_element
   empty_list_claim p q rest fs =
-      let e = stepped (sign q s.RightBrace) rest st.FirstElement (st.Listed (grown (t.a_list p none))) (f.List p no_branches ∷ fs) fs refl in
+      let e = stepped (sign q s.RightBrace) rest st.FirstElement (st.Listed (grown (t.a_list p none))) (f.List p no_subtrees ∷ fs) fs refl in
       list_opens p (sign q s.RightBrace ∷ rest) fs (go rest (st.Listed (grown (t.a_list p none))) fs) e
 
   list_claim : (p q : Spot) (xs : Trees) (x : Tree) (ts mid rest : List Mark) → Claim (members xs) ts mid → Claim (member x) mid (sign q s.RightBrace ∷ rest)
@@ -529,12 +529,12 @@ module _ (ok : ℕ → Bool) (mono : (m n : ℕ) → m ≤ n → ok n ≡ true �
 
   -- ---- bodies
 
-  pub body_opens : (p q : Spot) (w : List ℕ) (args : Group) (ts : List Mark) (fs : List Frame) → Same (go (sign p s.LeftBrace ∷ ts) (named q w args) fs) (go ts st.Sequence (f.Body q w (grown_in args) no_branches ∷ fs))
+  pub body_opens : (p q : Spot) (w : List ℕ) (args : TreeGroup) (ts : List Mark) (fs : List Frame) → Same (go (sign p s.LeftBrace ∷ ts) (named q w args) fs) (go ts st.Sequence (f.Body q w (grown_in args) no_subtrees ∷ fs))
   unfolding m.word m.called
-  body_opens p q w absent ts fs = stepped (sign p s.LeftBrace) ts (st.Word q w) st.Sequence fs (f.Body q w None no_branches ∷ fs) refl
-  body_opens p q w (t.given xs) ts fs = stepped (sign p s.LeftBrace) ts (st.Called q w (grown_all xs)) st.Sequence fs (f.Body q w (Some (grown_all xs)) no_branches ∷ fs) refl
+  body_opens p q w absent ts fs = stepped (sign p s.LeftBrace) ts (st.Word q w) st.Sequence fs (f.Body q w None no_subtrees ∷ fs) refl
+  body_opens p q w (t.given xs) ts fs = stepped (sign p s.LeftBrace) ts (st.Called q w (grown_all xs)) st.Sequence fs (f.Body q w (Some (grown_all xs)) no_subtrees ∷ fs) refl
 
-  body_closes : (p q : Spot) (w : List ℕ) (args : Group) (done : Trees) (last : Option Tree) (rest : List Mark) (fs : List Frame)
+  body_closes : (p q : Spot) (w : List ℕ) (args : TreeGroup) (done : Trees) (last : Option Tree) (rest : List Mark) (fs : List Frame)
       → Same (goes_on (sign p s.RightBrace ∷ rest) (f.Body q w (grown_in args) (grown_all done)) fs last) (go rest (st.Whole (grown (t.an_item q w args (t.given (all done last))))) fs)
   unfolding sequence after settle
   body_closes p q w args done None rest fs = stepped (sign p s.RightBrace) rest st.Sequence (st.Whole (grown (t.an_item q w args (t.given done)))) (f.Body q w (grown_in args) (grown_all done) ∷ fs) fs refl
@@ -626,7 +626,7 @@ module _ (ok : ℕ → Bool) (mono : (m n : ℕ) → m ≤ n → ok n ≡ true �
 
 -- ---- with nothing too deep
 
-never_by : (t : Mark) (ts : List Mark) (c : Option Config) (rest : List Mark) → then_run t ts c ≡ deep rest → ((a : State) (fs : List Frame) → run ts a fs ≡ deep rest → ⊥) → ⊥
+never_by : (t : Mark) (ts : List Mark) (c : Option Config) (rest : List Mark) → then_run t ts c ≡ deep rest → ((a : ParserState) (fs : List Frame) → run ts a fs ≡ deep rest → ⊥) → ⊥
 unfolding then_run
 never_by t ts None rest e others = cc
 never_by t ts (Some c) rest e others = others c.0 c.1 e
@@ -635,11 +635,11 @@ abbrev pub NotDeep : Answer → Type 0
 NotDeep (deep rest) = ⊥
 NotDeep _ = Unit {0}
 
-close_never : (e : Branch) (fs : List Frame) → NotDeep (close_source e fs)
+close_never : (e : Subtree) (fs : List Frame) → NotDeep (close_source e fs)
 close_never e (f.Unit done ∷ []) = tt
 close_never e _ = tt
 
-pub finish_never : (a : State) (fs : List Frame) → NotDeep (finish a fs)
+pub finish_never : (a : ParserState) (fs : List Frame) → NotDeep (finish a fs)
 unfolding finish_whole
 finish_never st.Sequence (f.Unit done ∷ []) = tt
 finish_never (st.Word p w) fs = close_never (settle 13 (item p w None None) fs).0 (settle 13 (item p w None None) fs).1
@@ -647,7 +647,7 @@ finish_never (st.Called p w args) fs = close_never (settle 13 (item p w (Some ar
 finish_never (st.Whole e) fs = close_never (settle 13 e fs).0 (settle 13 e fs).1
 finish_never _ _ = tt
 
-never : (ts : List Mark) (a : State) (fs : List Frame) (rest : List Mark) → run ts a fs ≡ deep rest → ⊥
+never : (ts : List Mark) (a : ParserState) (fs : List Frame) (rest : List Mark) → run ts a fs ≡ deep rest → ⊥
 unfolding walk then_run
 never [] a fs rest e = subst NotDeep e (finish_never a fs)
 never (t ∷ ts) a fs rest e = never_by t ts (step t a fs) rest e (λ b gs h. never ts b gs rest h)
@@ -655,11 +655,11 @@ never (t ∷ ts) a fs rest e = never_by t ts (step t a fs) rest e (λ b gs h. ne
 any_mono : (m n : ℕ) → m ≤ n → unlimited n ≡ true → unlimited m ≡ true
 any_mono m n h e = refl
 
-run_same : (ts : List Mark) (a : State) (fs : List Frame) (y : Answer) → Same (run ts a fs) y → run ts a fs ≡ y
+run_same : (ts : List Mark) (a : ParserState) (fs : List Frame) (y : Answer) → Same (run ts a fs) y → run ts a fs ≡ y
 run_same ts a fs y (same e) = e
 run_same ts a fs y (cut d) = absurd (never ts a fs d.rest d.is)
 
-pub run_item_done : (p : Spot) (w : List ℕ) (args inner : Group) (rest : List Mark) (fs : List Frame) → Ends 0 rest → run rest (ended p w args inner) fs ≡ run rest (st.Whole (grown (t.an_item p w args inner))) fs
+pub run_item_done : (p : Spot) (w : List ℕ) (args inner : TreeGroup) (rest : List Mark) (fs : List Frame) → Ends 0 rest → run rest (ended p w args inner) fs ≡ run rest (st.Whole (grown (t.an_item p w args inner))) fs
 run_item_done p w args inner rest fs h = run_same rest (ended p w args inner) fs (run rest (st.Whole (grown (t.an_item p w args inner))) fs) (item_done unlimited any_mono p w args inner rest fs h)
 
 pub spelled_is_read : (trees : Trees) (ts : List Mark) → IsSource trees ts → run ts st.Sequence start ≡ source (grown_all trees)

@@ -5,14 +5,14 @@ use Rattle.asl_parser.specs.declared.sign.Sign.TheVariants as s
 use Rattle.asl_parser.specs.declared.mark.Spot.{Spot}
 use Rattle.asl_parser.specs.declared.mark.Mark.{Mark}
 use Rattle.asl_parser.specs.declared.raw.Infix.{Infix}
-use Rattle.asl_parser.specs.declared.branch.Branch.{Branch}
-use Rattle.asl_parser.specs.declared.branch.Branches.{Branches}
+use Rattle.asl_parser.specs.declared.subtree.Subtree.{Subtree}
+use Rattle.asl_parser.specs.declared.subtree.Subtrees.{Subtrees}
 use Rattle.asl_parser.specs.declared.frame.Frame.{Frame}
 use Rattle.asl_parser.specs.declared.frame.Frame.TheVariants as f
-use Rattle.asl_parser.specs.declared.frame.State.{State}
-use Rattle.asl_parser.specs.declared.frame.State.TheVariants as st
+use Rattle.asl_parser.specs.declared.frame.ParserState.{ParserState}
+use Rattle.asl_parser.specs.declared.frame.ParserState.TheVariants as st
 use Rattle.asl_parser.specs.Trees.{Tree, Trees, none, more}
-use Rattle.asl_parser.specs.Grow.{no_branches, joined, grown, grown_all, grown_in}
+use Rattle.asl_parser.specs.Grow.{no_subtrees, joined, grown, grown_all, grown_in}
 use Rattle.asl_parser.specs.Machine.{Config, Answer, source, stop, deep, depth, walk, unlimited, within, start, room, allow, settle, begin, begin_by, begin_sign, operator, sequence, sequence_by, sequence_sign, listed, listed_by, enclosed, enclosed_by, after, after_by, after_lexeme, word_by, called_by, argument, argument_by, first_argument, first_argument_by, element, element_by, first_element, first_element_by, step, run, finish, finish_whole, close_source}
 use Rattle.asl_parser.specs.Machine as m
 use Rattle.asl_parser.specs.Grammar.{at, sign, word, Phrase, expression, arguments, body, given, before, brace_list, members, member, sequence as row_of, all, is_paren, opens_paren, MayFollow, Reads, IsSource}
@@ -67,7 +67,7 @@ word_begins : (p : Spot) (path : Bool) (w : List ℕ) (fs : List Frame) → step
 unfolding begin
 word_begins p path w fs = refl
 
-word_opens : (q p : Spot) (w : List ℕ) (fs : List Frame) → step (sign q s.LeftParen) (st.Word p w) fs ≡ Some (st.FirstArgument, f.Args p w no_branches ∷ fs)
+word_opens : (q p : Spot) (w : List ℕ) (fs : List Frame) → step (sign q s.LeftParen) (st.Word p w) fs ≡ Some (st.FirstArgument, f.Args p w no_subtrees ∷ fs)
 unfolding m.word
 word_opens q p w fs = refl
 
@@ -75,11 +75,11 @@ bracket_opens : (q : Spot) (fs : List Frame) → 1 ≤ room fs → step (sign q 
 unfolding begin
 bracket_opens q fs h = allowed 1 fs (st.Operand, f.Bracket ∷ fs) h
 
-prefix_opens : (q : Spot) (o : Infix) (fs : List Frame) → 2 ≤ room fs → step (sign q (s.Prefix o)) st.Operand fs ≡ Some (st.Operand, f.Pending 2 2 q o no_branches ∷ fs)
+prefix_opens : (q : Spot) (o : Infix) (fs : List Frame) → 2 ≤ room fs → step (sign q (s.Prefix o)) st.Operand fs ≡ Some (st.Operand, f.Pending 2 2 q o no_subtrees ∷ fs)
 unfolding begin
-prefix_opens q o fs h = allowed 2 fs (st.Operand, f.Pending 2 2 q o no_branches ∷ fs) h
+prefix_opens q o fs h = allowed 2 fs (st.Operand, f.Pending 2 2 q o no_subtrees ∷ fs) h
 
-index_opens : (p : Spot) (a : Branch) (fs : List Frame) → 1 ≤ room fs → step (sign p s.LeftBracket) (st.Whole a) fs ≡ Some (st.Operand, f.Index p a ∷ fs)
+index_opens : (p : Spot) (a : Subtree) (fs : List Frame) → 1 ≤ room fs → step (sign p s.LeftBracket) (st.Whole a) fs ≡ Some (st.Operand, f.Index p a ∷ fs)
 unfolding after
 index_opens p a fs h = allowed 1 fs (st.Operand, f.Index p a ∷ fs) h
 
@@ -89,12 +89,12 @@ list_ends p ts = omega arith
 module _ (ok : ℕ → Bool) (mono : (m n : ℕ) → m ≤ n → ok n ≡ true → ok m ≡ true) where
   -- the machine comes to the frames that are open, or meets too many before
   record Entered (fs : List Frame) (ts rest : List Mark) : Type 0 where
-    state : State
+    state : ParserState
     stack : List Frame
     comes : Same (go ok mono ts st.Sequence start) (go ok mono rest state stack)
     depth-is : depth stack ≡ depth fs
     begins : TakesExpression fs → Starts rest → Same (go ok mono rest state stack) (go ok mono rest st.Operand fs)
-    lists : TakesList fs → (p : Spot) (mid : List Mark) → rest ≡ sign p s.LeftBrace ∷ mid → Same (go ok mono rest state stack) (go ok mono mid st.FirstElement (f.List p no_branches ∷ fs))
+    lists : TakesList fs → (p : Spot) (mid : List Mark) → rest ≡ sign p s.LeftBrace ∷ mid → Same (go ok mono rest state stack) (go ok mono mid st.FirstElement (f.List p no_subtrees ∷ fs))
 
   row_entered : (n : ℕ) (holder : Holder n) (row : Trees) (last : Option Tree) (fs : List Frame) (ts rest : List Mark) → MayFollow last rest
       → Same (go ok mono ts st.Sequence start) (goes_on ok mono rest (holds holder (grown_all row)) fs last) → (TakesList (holds holder (grown_all (all row last)) ∷ fs) → ⊥)
@@ -126,14 +126,14 @@ module _ (ok : ℕ → Bool) (mono : (m n : ℕ) → m ≤ n → ok n ≡ true �
 
   list_entered : (p : Spot) (xs : Trees) (fs : List Frame) (ts rest : List Mark) → Same (go ok mono ts st.Sequence start) (go ok mono rest (expects xs) (f.List p (grown_all xs) ∷ fs)) → Entered (f.List p (grown_all xs) ∷ fs) ts rest
   list_entered p none fs ts rest comes =
-      let here = f.List p no_branches ∷ fs in
+      let here = f.List p no_subtrees ∷ fs in
       record {
         state = st.FirstElement;
         stack = here;
         comes = comes;
         depth-is = refl;
         begins = λ takes. absurd takes;
-        lists = λ takes r inside is. same (ap (λ (us : List Mark). go ok mono us st.FirstElement here) is) ▸ (list_opens ok mono r inside here (go ok mono inside st.FirstElement (f.List r no_branches ∷ here)) (same refl)).3;
+        lists = λ takes r inside is. same (ap (λ (us : List Mark). go ok mono us st.FirstElement here) is) ▸ (list_opens ok mono r inside here (go ok mono inside st.FirstElement (f.List r no_subtrees ∷ here)) (same refl)).3;
       }
   list_entered p (more xs x) fs ts rest comes =
       let here = f.List p (grown_all (more xs x)) ∷ fs in
@@ -143,19 +143,19 @@ module _ (ok : ℕ → Bool) (mono : (m n : ℕ) → m ≤ n → ok n ≡ true �
         comes = comes;
         depth-is = refl;
         begins = λ takes. absurd takes;
-        lists = λ takes r inside is. same (ap (λ (us : List Mark). go ok mono us st.Element here) is) ▸ (list_opens ok mono r inside here (go ok mono inside st.FirstElement (f.List r no_branches ∷ here)) (same refl)).2;
+        lists = λ takes r inside is. same (ap (λ (us : List Mark). go ok mono us st.Element here) is) ▸ (list_opens ok mono r inside here (go ok mono inside st.FirstElement (f.List r no_subtrees ∷ here)) (same refl)).2;
       }
 
   args_entered : (p : Spot) (w : List ℕ) (xs : Trees) (fs : List Frame) (ts rest : List Mark) → Same (go ok mono ts st.Sequence start) (go ok mono rest (wants xs) (f.Args p w (grown_all xs) ∷ fs)) → Entered (f.Args p w (grown_all xs) ∷ fs) ts rest
   args_entered p w none fs ts rest comes =
-      let here = f.Args p w no_branches ∷ fs in
+      let here = f.Args p w no_subtrees ∷ fs in
       record {
         state = st.FirstArgument;
         stack = here;
         comes = comes;
         depth-is = refl;
         begins = λ takes starts. first_argument_starts ok mono rest here starts;
-        lists = λ takes r inside is. same (ap (λ (us : List Mark). go ok mono us st.FirstArgument here) is) ▸ (list_opens ok mono r inside here (go ok mono inside st.FirstElement (f.List r no_branches ∷ here)) (same refl)).1;
+        lists = λ takes r inside is. same (ap (λ (us : List Mark). go ok mono us st.FirstArgument here) is) ▸ (list_opens ok mono r inside here (go ok mono inside st.FirstElement (f.List r no_subtrees ∷ here)) (same refl)).1;
       }
   args_entered p w (more xs x) fs ts rest comes =
       let here = f.Args p w (grown_all (more xs x)) ∷ fs in
@@ -165,7 +165,7 @@ module _ (ok : ℕ → Bool) (mono : (m n : ℕ) → m ≤ n → ok n ≡ true �
         comes = comes;
         depth-is = refl;
         begins = λ takes starts. argument_starts ok mono rest here starts;
-        lists = λ takes r inside is. same (ap (λ (us : List Mark). go ok mono us st.Argument here) is) ▸ (list_opens ok mono r inside here (go ok mono inside st.FirstElement (f.List r no_branches ∷ here)) (same refl)).0;
+        lists = λ takes r inside is. same (ap (λ (us : List Mark). go ok mono us st.Argument here) is) ▸ (list_opens ok mono r inside here (go ok mono inside st.FirstElement (f.List r no_subtrees ∷ here)) (same refl)).0;
       }
 
   entered : {fs : List Frame} {ts rest : List Mark} → LeavesOpen fs ts rest → Comes fs rest → Entered fs ts rest
@@ -181,7 +181,7 @@ module _ (ok : ℕ → Bool) (mono : (m n : ℕ) → m ≤ n → ok n ≡ true �
       let k = entered leaves (starts_comes fs (word p path w ∷ sign q s.LeftParen ∷ mid) refl) in
       args_entered p w xs fs ts rest
       (k.comes ▸ k.begins inner refl ▸ stepped ok mono (word p path w) (sign q s.LeftParen ∷ mid) st.Operand (st.Word p w) fs fs (word_begins p path w fs)
-      ▸ stepped ok mono (sign q s.LeftParen) mid (st.Word p w) st.FirstArgument fs (f.Args p w no_branches ∷ fs) (word_opens q p w fs) ▸ complete ok mono front p w fs)
+      ▸ stepped ok mono (sign q s.LeftParen) mid (st.Word p w) st.FirstArgument fs (f.Args p w no_subtrees ∷ fs) (word_opens q p w fs) ▸ complete ok mono front p w fs)
   entered (h.in_bracket {q = q} {fs = fs} {ms = ts} {rest = rest} low leaves) comes =
       let k = entered leaves (starts_comes fs (sign q s.LeftParen ∷ rest) refl) in
       simply (f.Bracket ∷ fs) ts rest (k.comes ▸ k.begins (room_takes 0 fs low) refl ▸ stepped ok mono (sign q s.LeftParen) rest st.Operand st.Operand fs (f.Bracket ∷ fs) (bracket_opens q fs low)) (λ b. b)
@@ -192,12 +192,12 @@ module _ (ok : ℕ → Bool) (mono : (m n : ℕ) → m ≤ n → ok n ≡ true �
       ▸ stepped ok mono (sign p s.LeftBracket) rest (st.Whole (grown a)) st.Operand fs (f.Index p (grown a) ∷ fs) (index_opens p (grown a) fs low)) (λ b. b)
   entered (h.in_prefix {p = p} {o = o} {fs = fs} {ms = ts} {rest = rest} low leaves) comes =
       let k = entered leaves (starts_comes fs (sign p (s.Prefix o) ∷ rest) refl) in
-      let here = f.Pending 2 2 p o no_branches ∷ fs in
+      let here = f.Pending 2 2 p o no_subtrees ∷ fs in
       simply here ts rest (k.comes ▸ k.begins (room_takes 1 fs low) refl ▸ stepped ok mono (sign p (s.Prefix o)) rest st.Operand st.Operand fs here (prefix_opens p o fs low)) (λ b. b)
   entered (h.in_infix {p = p} {i = i} {o = o} {a = a} {fs = fs} {ms = ts} {mid = mid} {rest = rest} is low leaves left) comes =
       let so = is_strength i o is in
       let some : suc (o.level - 1) ≤ room fs = omega (arith, so.low) in
-      let here = f.Pending o.level o.room p i (joined no_branches (grown a)) ∷ fs in
+      let here = f.Pending o.level o.room p i (joined no_subtrees (grown a)) ∷ fs in
       let c = complete ok mono left in
       let k = entered leaves (starts_comes fs mid c.0) in
       simply here ts rest (k.comes ▸ k.begins (room_takes (o.level - 1) fs some) c.0 ▸ c.1 fs (omega (arith, so.pull_high)) (proper leaves) (infix_ends i o is)
@@ -233,7 +233,7 @@ module _ (ok : ℕ → Bool) (mono : (m n : ℕ) → m ≤ n → ok n ≡ true �
   first_element_within : {fs : List Frame} {ts rest : List Mark} → FirstElement fs ts rest → Within fs ts
   first_element_within (h.first_element {rest = rest} takes leaves) = record { mid = rest; leaves = h.in_list takes leaves g.no_members; comes = tt }
 
-  held_within : (a : State) (fs : List Frame) (ts : List Mark) → IsFrontIn a fs ts [] → Within fs ts
+  held_within : (a : ParserState) (fs : List Frame) (ts : List Mark) → IsFrontIn a fs ts [] → Within fs ts
   held_within st.Operand fs ts held = record { mid = []; leaves = held.0; comes = comes_nil fs }
   held_within st.FirstArgument fs ts held = first_argument_within held
   held_within st.Argument fs ts held = argument_within held
@@ -245,7 +245,7 @@ module _ (ok : ℕ → Bool) (mono : (m n : ℕ) → m ≤ n → ok n ≡ true �
   held_within (st.Whole b) fs ts held = record { mid = held.ready.mid; leaves = held.ready.leaves; comes = starts_comes fs held.ready.mid (complete ok mono held.ready.reads).0 }
   held_within (st.Listed b) fs ts held = record { mid = held.mid; leaves = held.leaves; comes = suits_comes fs held.tree held.mid [] held.suits }
 
-  walk_bad : (ts : List Mark) (a : State) (fs : List Frame) → ok (depth fs) ≡ false → walk ok ts a fs ≡ deep ts
+  walk_bad : (ts : List Mark) (a : ParserState) (fs : List Frame) → ok (depth fs) ≡ false → walk ok ts a fs ≡ deep ts
   unfolding walk
   walk_bad [] a fs e = rw e refl
   walk_bad (t ∷ ts) a fs e = rw e refl
@@ -254,7 +254,7 @@ module _ (ok : ℕ → Bool) (mono : (m n : ℕ) → m ≤ n → ok n ≡ true �
   same_deep x y us (same p) e n = subst NotDeep (p ∙ e) n
   same_deep x y us (cut d) e n = subst NotDeep d.is n
 
-  deeper_is_deep : (a : State) (fs : List Frame) (ts : List Mark) → IsFrontIn a fs ts [] → ok (depth fs) ≡ false → NotDeep (walk ok ts st.Sequence start) → ⊥
+  deeper_is_deep : (a : ParserState) (fs : List Frame) (ts : List Mark) → IsFrontIn a fs ts [] → ok (depth fs) ≡ false → NotDeep (walk ok ts st.Sequence start) → ⊥
   deeper_is_deep a fs ts held bad n =
       let w = held_within a fs ts held in
       let k = entered w.leaves w.comes in
@@ -262,7 +262,7 @@ module _ (ok : ℕ → Bool) (mono : (m n : ℕ) → m ≤ n → ok n ≡ true �
 
   -- ---- where a walk meets too much
 
-  pub record Sunk (ts : List Mark) (a : State) (fs : List Frame) (rest : List Mark) : Type 0 where
+  pub record Sunk (ts : List Mark) (a : ParserState) (fs : List Frame) (rest : List Mark) : Type 0 where
     pub front : List Mark
     pub at : Config
     pub parts : ts ≡ front ++ rest
@@ -270,19 +270,19 @@ module _ (ok : ℕ → Bool) (mono : (m n : ℕ) → m ≤ n → ok n ≡ true �
     pub bad : ok (depth at.1) ≡ false
     pub before : (j : ℕ) → j < length front → NotDeep (walk ok (take j front) a fs)
 
-  walk_good : (t : Mark) (ts : List Mark) (a : State) (fs : List Frame) → ok (depth fs) ≡ true → walk ok (t ∷ ts) a fs ≡ then_go ok mono t ts (step t a fs)
+  walk_good : (t : Mark) (ts : List Mark) (a : ParserState) (fs : List Frame) → ok (depth fs) ≡ true → walk ok (t ∷ ts) a fs ≡ then_go ok mono t ts (step t a fs)
   unfolding walk then_go
   walk_good t ts a fs e = rw e refl
 
-  walk_end : (a : State) (fs : List Frame) → ok (depth fs) ≡ true → walk ok [] a fs ≡ finish a fs
+  walk_end : (a : ParserState) (fs : List Frame) → ok (depth fs) ≡ true → walk ok [] a fs ≡ finish a fs
   unfolding walk
   walk_end a fs e = rw e refl
 
-  reach_step : (t : Mark) (ts : List Mark) (a : State) (fs : List Frame) (c d : Config) → step t a fs ≡ Some c → reach ts c.0 c.1 ≡ Some d → reach (t ∷ ts) a fs ≡ Some d
+  reach_step : (t : Mark) (ts : List Mark) (a : ParserState) (fs : List Frame) (c d : Config) → step t a fs ≡ Some c → reach ts c.0 c.1 ≡ Some d → reach (t ∷ ts) a fs ≡ Some d
   unfolding reach
   reach_step t ts a fs c d e r = ap (λ (m : Option Config). elim m [ None ↦ None | Some x ↦ reach ts x.0 x.1 ]) e ∙ r
 
-  before_on : (t : Mark) (front : List Mark) (a : State) (fs : List Frame) (c : Config) → ok (depth fs) ≡ true → step t a fs ≡ Some c → ((j : ℕ) → j < length front → NotDeep (walk ok (take j front) c.0 c.1))
+  before_on : (t : Mark) (front : List Mark) (a : ParserState) (fs : List Frame) (c : Config) → ok (depth fs) ≡ true → step t a fs ≡ Some c → ((j : ℕ) → j < length front → NotDeep (walk ok (take j front) c.0 c.1))
       → (j : ℕ) → j < length (t ∷ front) → NotDeep (walk ok (take j (t ∷ front)) a fs)
   unfolding then_go
   before_on t front a fs c good is ih zero h = subst NotDeep (sym (walk_end a fs good)) (finish_never a fs)
@@ -290,51 +290,51 @@ module _ (ok : ℕ → Bool) (mono : (m n : ℕ) → m ≤ n → ok n ≡ true �
       let e : walk ok (t ∷ take j front) a fs ≡ walk ok (take j front) c.0 c.1 = walk_good t (take j front) a fs good ∙ ap (then_go ok mono t (take j front)) is in
       subst NotDeep (sym e) (ih j (omega arith))
 
-  sunk_here : (ts : List Mark) (a : State) (fs : List Frame) (rest : List Mark) → ok (depth fs) ≡ false → walk ok ts a fs ≡ deep rest → Sunk ts a fs rest
+  sunk_here : (ts : List Mark) (a : ParserState) (fs : List Frame) (rest : List Mark) → ok (depth fs) ≡ false → walk ok ts a fs ≡ deep rest → Sunk ts a fs rest
   unfolding reach
   sunk_here ts a fs rest bad e =
       let both : deep ts ≡ deep rest = sym (walk_bad ts a fs bad) ∙ e in
       let same-rest : ts ≡ rest = cc in
       subst (λ (r : List Mark). Sunk ts a fs r) same-rest (record { front = []; at = (a, fs); parts = refl; reached = refl; bad = bad; before = λ j h. absurd (omega arith) })
 
-  sunk_on : (t : Mark) (ts : List Mark) (a : State) (fs : List Frame) (m : Option Config) (rest : List Mark) → ok (depth fs) ≡ true → step t a fs ≡ m → then_go ok mono t ts m ≡ deep rest
-      → ((b : State) (gs : List Frame) → walk ok ts b gs ≡ deep rest → Sunk ts b gs rest) → Sunk (t ∷ ts) a fs rest
+  sunk_on : (t : Mark) (ts : List Mark) (a : ParserState) (fs : List Frame) (m : Option Config) (rest : List Mark) → ok (depth fs) ≡ true → step t a fs ≡ m → then_go ok mono t ts m ≡ deep rest
+      → ((b : ParserState) (gs : List Frame) → walk ok ts b gs ≡ deep rest → Sunk ts b gs rest) → Sunk (t ∷ ts) a fs rest
   unfolding then_go
   sunk_on t ts a fs None rest good is e ih = absurd cc
   sunk_on t ts a fs (Some c) rest good is e ih =
       let k = ih c.0 c.1 e in
       record { front = t ∷ k.front; at = k.at; parts = ap (λ (r : List Mark). t ∷ r) k.parts; reached = reach_step t k.front a fs c k.at is k.reached; bad = k.bad; before = before_on t k.front a fs c good is k.before }
 
-  sunk_by : (b : Bool) (t : Mark) (ts : List Mark) (a : State) (fs : List Frame) (rest : List Mark) → ok (depth fs) ≡ b → walk ok (t ∷ ts) a fs ≡ deep rest
-      → ((b : State) (gs : List Frame) → walk ok ts b gs ≡ deep rest → Sunk ts b gs rest) → Sunk (t ∷ ts) a fs rest
+  sunk_by : (b : Bool) (t : Mark) (ts : List Mark) (a : ParserState) (fs : List Frame) (rest : List Mark) → ok (depth fs) ≡ b → walk ok (t ∷ ts) a fs ≡ deep rest
+      → ((b : ParserState) (gs : List Frame) → walk ok ts b gs ≡ deep rest → Sunk ts b gs rest) → Sunk (t ∷ ts) a fs rest
   sunk_by false t ts a fs rest is e ih = sunk_here (t ∷ ts) a fs rest is e
   sunk_by true t ts a fs rest is e ih = sunk_on t ts a fs (step t a fs) rest is refl (sym (walk_good t ts a fs is) ∙ e) ih
 
-  sunk_end : (b : Bool) (a : State) (fs : List Frame) (rest : List Mark) → ok (depth fs) ≡ b → walk ok [] a fs ≡ deep rest → Sunk [] a fs rest
+  sunk_end : (b : Bool) (a : ParserState) (fs : List Frame) (rest : List Mark) → ok (depth fs) ≡ b → walk ok [] a fs ≡ deep rest → Sunk [] a fs rest
   sunk_end false a fs rest is e = sunk_here [] a fs rest is e
   sunk_end true a fs rest is e = absurd (subst NotDeep (sym (walk_end a fs is) ∙ e) (finish_never a fs))
 
-  pub sinks : (ts : List Mark) (a : State) (fs : List Frame) (rest : List Mark) → walk ok ts a fs ≡ deep rest → Sunk ts a fs rest
+  pub sinks : (ts : List Mark) (a : ParserState) (fs : List Frame) (rest : List Mark) → walk ok ts a fs ≡ deep rest → Sunk ts a fs rest
   sinks [] a fs rest e = sunk_end (ok (depth fs)) a fs rest refl e
   sinks (t ∷ ts) a fs rest e = sunk_by (ok (depth fs)) t ts a fs rest refl e (λ b gs h. sinks ts b gs rest h)
 
   -- ---- what is not too deep has no front that is
 
-  end_by : (b : Bool) (a : State) (fs : List Frame) (ts : List Mark) → ok (depth fs) ≡ b → NotDeep (walk ok ts a fs) → NotDeep (walk ok [] a fs)
+  end_by : (b : Bool) (a : ParserState) (fs : List Frame) (ts : List Mark) → ok (depth fs) ≡ b → NotDeep (walk ok ts a fs) → NotDeep (walk ok [] a fs)
   end_by true a fs ts is n = subst NotDeep (sym (walk_end a fs is)) (finish_never a fs)
   end_by false a fs ts is n = absurd (subst NotDeep (walk_bad ts a fs is) n)
 
-  step_by : (t : Mark) (us ts : List Mark) (m : Option Config) → NotDeep (then_go ok mono t ts m) → ((a : State) (fs : List Frame) → NotDeep (walk ok ts a fs) → NotDeep (walk ok us a fs)) → NotDeep (then_go ok mono t us m)
+  step_by : (t : Mark) (us ts : List Mark) (m : Option Config) → NotDeep (then_go ok mono t ts m) → ((a : ParserState) (fs : List Frame) → NotDeep (walk ok ts a fs) → NotDeep (walk ok us a fs)) → NotDeep (then_go ok mono t us m)
   unfolding then_go
   step_by t us ts None n h = tt
   step_by t us ts (Some c) n h = h c.0 c.1 n
 
-  prefix_by : (b : Bool) (t : Mark) (us ts : List Mark) (a : State) (fs : List Frame) → ok (depth fs) ≡ b → NotDeep (walk ok (t ∷ ts) a fs)
-      → ((b : State) (gs : List Frame) → NotDeep (walk ok ts b gs) → NotDeep (walk ok us b gs)) → NotDeep (walk ok (t ∷ us) a fs)
+  prefix_by : (b : Bool) (t : Mark) (us ts : List Mark) (a : ParserState) (fs : List Frame) → ok (depth fs) ≡ b → NotDeep (walk ok (t ∷ ts) a fs)
+      → ((b : ParserState) (gs : List Frame) → NotDeep (walk ok ts b gs) → NotDeep (walk ok us b gs)) → NotDeep (walk ok (t ∷ us) a fs)
   prefix_by true t us ts a fs is n h = subst NotDeep (sym (walk_good t us a fs is)) (step_by t us ts (step t a fs) (subst NotDeep (walk_good t ts a fs is) n) h)
   prefix_by false t us ts a fs is n h = absurd (subst NotDeep (walk_bad (t ∷ ts) a fs is) n)
 
-  prefix : (ts : List Mark) (j : ℕ) (a : State) (fs : List Frame) → NotDeep (walk ok ts a fs) → NotDeep (walk ok (take j ts) a fs)
+  prefix : (ts : List Mark) (j : ℕ) (a : ParserState) (fs : List Frame) → NotDeep (walk ok ts a fs) → NotDeep (walk ok (take j ts) a fs)
   prefix ts zero a fs n = end_by (ok (depth fs)) a fs ts refl n
   prefix [] (suc j) a fs n = n
   prefix (t ∷ ts) (suc j) a fs n = prefix_by (ok (depth fs)) t (take j ts) ts a fs refl n (λ b gs h. prefix ts j b gs h)
@@ -381,17 +381,17 @@ agrees_itself (source items) = refl
 agrees_itself (stop rest) = refl
 agrees_itself (deep rest) = tt
 
-agrees_on : (ok : ℕ → Bool) (t : Mark) (ts : List Mark) (m : Option Config) → ((a : State) (fs : List Frame) → Agrees (walk ok ts a fs) (run ts a fs))
+agrees_on : (ok : ℕ → Bool) (t : Mark) (ts : List Mark) (m : Option Config) → ((a : ParserState) (fs : List Frame) → Agrees (walk ok ts a fs) (run ts a fs))
     → Agrees (elim m [ None ↦ stop (t ∷ ts) | Some c ↦ walk ok ts c.0 c.1 ]) (elim m [ None ↦ stop (t ∷ ts) | Some c ↦ run ts c.0 c.1 ])
 agrees_on ok t ts None h = refl
 agrees_on ok t ts (Some c) h = h c.0 c.1
 
-pub agrees : (ok : ℕ → Bool) (ts : List Mark) (a : State) (fs : List Frame) → Agrees (walk ok ts a fs) (run ts a fs)
+pub agrees : (ok : ℕ → Bool) (ts : List Mark) (a : ParserState) (fs : List Frame) → Agrees (walk ok ts a fs) (run ts a fs)
 unfolding walk
 agrees ok [] a fs = agrees_by (ok (depth fs)) (finish a fs) (finish a fs) [] (agrees_itself (finish a fs))
 agrees ok (t ∷ ts) a fs = agrees_by (ok (depth fs)) _ _ (t ∷ ts) (agrees_on ok t ts (step t a fs) (λ b gs. agrees ok ts b gs))
 
-pub limited_source : (limit : ℕ) (ts : List Mark) (items : Branches) → walk (within limit) ts st.Sequence start ≡ source items → run ts st.Sequence start ≡ source items
+pub limited_source : (limit : ℕ) (ts : List Mark) (items : Subtrees) → walk (within limit) ts st.Sequence start ≡ source items → run ts st.Sequence start ≡ source items
 limited_source limit ts items e = subst (λ (x : Answer). Agrees x (run ts st.Sequence start)) e (agrees (within limit) ts st.Sequence start)
 
 pub limited_stop : (limit : ℕ) (ts rest : List Mark) → walk (within limit) ts st.Sequence start ≡ stop rest → run ts st.Sequence start ≡ stop rest

@@ -11,10 +11,10 @@ use Rattle.asl_parser.specs.declared.raw.Infix.{Infix}
 use Rattle.asl_parser.specs.declared.raw.Raw.{Raw}
 use Rattle.asl_parser.specs.declared.raw.Raw.TheVariants as raw
 use Rattle.asl_parser.specs.declared.mark.Spot.{Spot}
-use Rattle.asl_parser.specs.declared.branch.Branch.{Branch}
-use Rattle.asl_parser.specs.declared.branch.Branches.{Branches}
-use Rattle.asl_parser.specs.Grow.{limit, merged, at_depth, or_else, leading, cut, node_over, no_branches, join, joined, apply_raw, applied, posted, list_raw, listing, some_raws, raws_given, levels_given, item_raw, item, grown, grown_all, grown_in}
-use Rattle.asl_parser.specs.Trees.{Tree, a_number, a_text, an_item, a_prefix, a_postfix, a_pair, a_list, a_comma, a_semicolon, an_empty, Trees, none, more, Group, absent, given, raw_of, raws_of, raws_in, first_token, Node, nodes, nodes_of, nodes_in, first_below}
+use Rattle.asl_parser.specs.declared.subtree.Subtree.{Subtree}
+use Rattle.asl_parser.specs.declared.subtree.Subtrees.{Subtrees}
+use Rattle.asl_parser.specs.Grow.{limit, merged, at_depth, or_else, leading, cut, node_over, no_subtrees, join, joined, apply_raw, applied, posted, list_raw, listing, some_raws, raws_given, levels_given, item_raw, item, grown, grown_all, grown_in}
+use Rattle.asl_parser.specs.Trees.{Tree, a_number, a_text, an_item, a_prefix, a_postfix, a_pair, a_list, a_comma, a_semicolon, an_empty, Trees, none, more, TreeGroup, absent, given, raw_of, raws_of, raws_in, first_token, Node, nodes, nodes_of, nodes_in, first_below}
 
 -- ---- looking a level up
 
@@ -180,7 +180,7 @@ mutual
   trees_levels most n (more xs x) low =
       two_below most (suc most - n) (nodes_of n xs) (nodes n x) (grown_all xs).levels (grown x).levels (trees_levels most n xs low) (tree_levels most n x low)
 
-  group_levels : (most n : ℕ) (xs : Group) → n ≤ suc most → first_below most (nodes_in n xs) ≡ at_depth (suc most - n) (levels_given (grown_in xs))
+  group_levels : (most n : ℕ) (xs : TreeGroup) → n ≤ suc most → first_below most (nodes_in n xs) ≡ at_depth (suc most - n) (levels_given (grown_in xs))
   group_levels most n absent low = sym (depth_past (suc most - n) [] (omega arith))
   group_levels most n (given xs) low = trees_levels most n xs low
 
@@ -224,7 +224,7 @@ join_keep true false xs x = refl
 join_keep false true xs x = refl
 join_keep false false xs x = refl
 
-kept_joined : (xs : Branches) (x : Branch) (rs : List Raw) (r : Raw) → xs.raws ≡ keep (is_low xs.levels) rs → x.raw ≡ keep (is_low x.levels) r → (joined xs x).raws ≡ keep (is_low (joined xs x).levels) (rs ++ r ∷ [])
+kept_joined : (xs : Subtrees) (x : Subtree) (rs : List Raw) (r : Raw) → xs.raws ≡ keep (is_low xs.levels) rs → x.raw ≡ keep (is_low x.levels) r → (joined xs x).raws ≡ keep (is_low (joined xs x).levels) (rs ++ r ∷ [])
 unfolding joined
 kept_joined xs x rs r e f =
     ap (λ o. join o x.raw) e ∙ ap (join (keep (is_low xs.levels) rs)) f ∙ join_keep (is_low xs.levels) (is_low x.levels) rs r ∙ ap (λ (b : Bool). keep b (rs ++ r ∷ [])) (sym (merged_low xs.levels x.levels))
@@ -233,7 +233,7 @@ apply_keep : (p : Spot) (o : Infix) (b : Bool) (xs : List Raw) → apply_raw p o
 apply_keep p o true xs = refl
 apply_keep p o false xs = refl
 
-kept_applied : (first : ℕ) (p : Spot) (o : Infix) (xs : Branches) (rs : List Raw) → xs.raws ≡ keep (is_low xs.levels) rs
+kept_applied : (first : ℕ) (p : Spot) (o : Infix) (xs : Subtrees) (rs : List Raw) → xs.raws ≡ keep (is_low xs.levels) rs
     → (node_over first (apply_raw p o xs.raws) xs.levels).raw ≡ keep (is_low (node_over first (apply_raw p o xs.raws) xs.levels).levels) (raw.Apply p.place o rs)
 kept_applied first p o xs rs e = kept_over first (apply_raw p o xs.raws) (raw.Apply p.place o rs) xs.levels (ap (apply_raw p o) e ∙ apply_keep p o (is_low xs.levels) rs)
 
@@ -251,7 +251,7 @@ item_keep p w true false args inner = refl
 item_keep p w false true args inner = refl
 item_keep p w false false args inner = refl
 
-nothing_kept : no_branches.raws ≡ keep (is_low no_branches.levels) []
+nothing_kept : no_subtrees.raws ≡ keep (is_low no_subtrees.levels) []
 nothing_kept = refl
 
 mutual
@@ -265,12 +265,12 @@ mutual
       (ap (λ o. item_raw p w o (raws_given (grown_in inner))) (group_kept args) ∙ ap (item_raw p w (keep (is_low (levels_given (grown_in args))) (raws_in args))) (group_kept inner)
       ∙ item_keep p w (is_low (levels_given (grown_in args))) (is_low (levels_given (grown_in inner))) (raws_in args) (raws_in inner)
       ∙ ap (λ (b : Bool). keep b (raw.Item p.place w (raws_in args) (raws_in inner))) (sym (merged_low (levels_given (grown_in args)) (levels_given (grown_in inner)))))
-  tree_kept (a_prefix p o e) = kept_applied (leading p.token []) p o (joined no_branches (grown e)) (raw_of e ∷ []) (kept_joined no_branches (grown e) [] (raw_of e) nothing_kept (tree_kept e))
-  tree_kept (a_postfix p o e) = kept_applied (leading p.token (grown e).levels) p o (joined no_branches (grown e)) (raw_of e ∷ []) (kept_joined no_branches (grown e) [] (raw_of e) nothing_kept (tree_kept e))
+  tree_kept (a_prefix p o e) = kept_applied (leading p.token []) p o (joined no_subtrees (grown e)) (raw_of e ∷ []) (kept_joined no_subtrees (grown e) [] (raw_of e) nothing_kept (tree_kept e))
+  tree_kept (a_postfix p o e) = kept_applied (leading p.token (grown e).levels) p o (joined no_subtrees (grown e)) (raw_of e ∷ []) (kept_joined no_subtrees (grown e) [] (raw_of e) nothing_kept (tree_kept e))
   tree_kept (a_pair p o a e) =
-      let left = joined no_branches (grown a) in
+      let left = joined no_subtrees (grown a) in
       kept_applied (leading p.token left.levels) p o (joined left (grown e)) (raw_of a ∷ raw_of e ∷ [])
-      (kept_joined left (grown e) (raw_of a ∷ []) (raw_of e) (kept_joined no_branches (grown a) [] (raw_of a) nothing_kept (tree_kept a)) (tree_kept e))
+      (kept_joined left (grown e) (raw_of a ∷ []) (raw_of e) (kept_joined no_subtrees (grown a) [] (raw_of a) nothing_kept (tree_kept a)) (tree_kept e))
   tree_kept (a_list p xs) =
       kept_over p.token (list_raw p (grown_all xs).raws) (raw.List p.place (raws_of xs)) (grown_all xs).levels (ap (list_raw p) (trees_kept xs) ∙ list_keep p (is_low (grown_all xs).levels) (raws_of xs))
   tree_kept (a_comma p) = refl
@@ -281,7 +281,7 @@ mutual
   trees_kept none = refl
   trees_kept (more xs x) = kept_joined (grown_all xs) (grown x) (raws_of xs) (raw_of x) (trees_kept xs) (tree_kept x)
 
-  group_kept : (xs : Group) → raws_given (grown_in xs) ≡ keep (is_low (levels_given (grown_in xs))) (raws_in xs)
+  group_kept : (xs : TreeGroup) → raws_given (grown_in xs) ≡ keep (is_low (levels_given (grown_in xs))) (raws_in xs)
   group_kept absent = refl
   group_kept (given xs) = ap some_raws (trees_kept xs) ∙ some_keep (is_low (grown_all xs).levels) (raws_of xs)
 

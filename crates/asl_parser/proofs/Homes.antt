@@ -7,7 +7,7 @@ use Rattle.asl_parser.specs.declared.mark.Mark.{Mark}
 use Rattle.asl_parser.specs.declared.raw.Raw.{Raw}
 use Rattle.asl_parser.specs.Marks.{marks}
 use Rattle.asl_parser.specs.Trees as t
-use Rattle.asl_parser.specs.Trees.{Tree, Trees, Group, none, more, absent, given, raw_of, raws_of, raws_in}
+use Rattle.asl_parser.specs.Trees.{Tree, Trees, TreeGroup, none, more, absent, given, raw_of, raws_of, raws_in}
 use Rattle.asl_parser.specs.Grammar.{Phrase, expression, arguments, body, before, argument, brace_list, members, member, sequence, all, Reads, IsSource, Spells, a_number, a_text, an_item, in_brackets, an_index, a_postfix, a_prefix, an_infix, tighter, no_arguments, some_arguments, none_given, last_given, last_left_out, none_before, one_before, one_left_out, an_argument, a_list_argument, empty_list, a_list, no_members, more_members, a_word, an_inner_list, no_body, a_body, an_empty_row, a_comma, a_semicolon, one_more}
 use Rattle.asl_parser.specs.Grammar as g
 use Rattle.asl_parser.specs.Written.{written, writtens, written_in}
@@ -30,7 +30,7 @@ module _ (files : ℕ) where
     TreesIn none = Unit {0}
     TreesIn (more xs x) = TreesIn xs × TreeIn x
 
-    GroupIn : Group → Type 0
+    GroupIn : TreeGroup → Type 0
     GroupIn absent = Unit {0}
     GroupIn (given xs) = TreesIn xs
 
@@ -122,7 +122,7 @@ module _ (files : ℕ) where
     trees_within none h = none_within
     trees_within (more xs x) h = append_within (raws_of xs) (raw_of x ∷ []) (trees_within xs h.0) (cons_within (raw_of x) [] (tree_within x h.1) none_within)
 
-    group_within : (a : Group) → GroupIn a → IsGroupWithin files (written_in (raws_in a))
+    group_within : (a : TreeGroup) → GroupIn a → IsGroupWithin files (written_in (raws_in a))
     group_within absent h = tt
     group_within (given xs) h = trees_within xs h
 

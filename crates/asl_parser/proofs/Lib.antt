@@ -8,7 +8,7 @@ pub mod Walks
 pub mod Outcomes
 pub mod Heights
 pub mod Merged
-pub mod Nests
+pub mod Stacks
 pub mod Settled
 pub mod Told
 pub mod Views

@@ -8,21 +8,21 @@ use Rattle.asl_lexer.specs.declared.token.TokenKind.TheVariants as t
 use Rattle.asl_parser.specs.declared.mark.Spot.{Spot}
 use Rattle.asl_parser.specs.declared.mark.Lexeme.TheVariants as l
 use Rattle.asl_parser.specs.declared.mark.Mark.{Mark}
-use Rattle.asl_parser.specs.declared.branch.Branches.{Branches}
+use Rattle.asl_parser.specs.declared.subtree.Subtrees.{Subtrees}
 use Rattle.asl_parser.specs.declared.frame.Frame.{Frame}
 use Rattle.asl_parser.specs.declared.frame.Refusal.{Refusal}
 use Rattle.asl_parser.specs.declared.frame.Refusal.TheVariants as r
-use Rattle.asl_parser.specs.declared.frame.State.TheVariants as st
+use Rattle.asl_parser.specs.declared.frame.ParserState.TheVariants as st
 use Rattle.asl_parser.specs.declared.reader.Syntax.{Syntax}
 use Rattle.asl_parser.specs.declared.reader.Syntax.TheVariants as y
 use Rattle.asl_parser.specs.declared.stage.Stage.{Stage}
 use Rattle.asl_parser.specs.declared.stage.Stage.TheVariants as g
-use Rattle.asl_parser.specs.Grow.{no_branches, limit}
+use Rattle.asl_parser.specs.Grow.{no_subtrees, limit}
 use Rattle.asl_parser.specs.Machine.{Config, stop, deep, depth, walk, within, step, step_by, begin, argument, first_argument, sequence}
 use Rattle.asl_parser.specs.Marks.{mark, marks, is_word, lexeme_by}
 use Rattle.asl_parser.specs.Pairs.{MayPass}
 use Rattle.asl_parser.specs.Reading.{Advances, FailsAt, Comes, ComesTo}
-use Rattle.asl_parser.specs.Stages.{state_of, Holds, Moves, begins}
+use Rattle.asl_parser.specs.Stages.{state_of, Holds, StepsTo, begins}
 use Rattle.asl_parser.proofs.Walks.{length-marks, at_place, walk_moves, walk_refused, walk_sinks}
 
 -- ---- two tokens that were read at once
@@ -71,7 +71,7 @@ advances_as all i next before mid now same on = subst (λ (c : Config). Advances
 
 -- ---- over a token
 
-pub on_advances : (ts : List Token) (i j : ℕ) (t : Token) (made : Result (Unit {0}) Refusal) (answer : Result ℕ Syntax) (before mid : Config) (stage : Stage) (new : Branches × List Frame) → Comes (marks 0 ts) i j before mid → t ≡ get_or ts j t → Moves made stage new (step (mark j t) mid.0 mid.1) → ComesTo made (depth new.1) j answer
+pub on_advances : (ts : List Token) (i j : ℕ) (t : Token) (made : Result (Unit {0}) Refusal) (answer : Result ℕ Syntax) (before mid : Config) (stage : Stage) (new : Subtrees × List Frame) → Comes (marks 0 ts) i j before mid → t ≡ get_or ts j t → StepsTo made stage new (step (mark j t) mid.0 mid.1) → ComesTo made (depth new.1) j answer
     → IfOk answer (λ next. Advances (marks 0 ts) i next before (state_of stage new.0, new.1))
 on_advances ts i j t (Ok u) (Ok next) before mid stage new comes at moves to =
     let last : suc j ≡ next = omega (arith, to.0) in (
@@ -85,7 +85,7 @@ on_advances ts i j t (Err r.Memory) (Ok next) before mid stage new comes at move
 on_advances ts i j t (Err r.Refused) (Ok next) before mid stage new comes at moves to = absurd to
 on_advances ts i j t made (Err fault) before mid stage new comes at moves to = tt
 
-pub on_fails : (ts : List Token) (i j : ℕ) (t : Token) (made : Result (Unit {0}) Refusal) (answer : Result ℕ Syntax) (before mid : Config) (stage : Stage) (new : Branches × List Frame) → Comes (marks 0 ts) i j before mid → t ≡ get_or ts j t → Moves made stage new (step (mark j t) mid.0 mid.1) → ComesTo made (depth new.1) j answer
+pub on_fails : (ts : List Token) (i j : ℕ) (t : Token) (made : Result (Unit {0}) Refusal) (answer : Result ℕ Syntax) (before mid : Config) (stage : Stage) (new : Subtrees × List Frame) → Comes (marks 0 ts) i j before mid → t ≡ get_or ts j t → StepsTo made stage new (step (mark j t) mid.0 mid.1) → ComesTo made (depth new.1) j answer
     → IfErr answer (λ fault. FailsAt fault (marks 0 ts) i before)
 on_fails ts i j t made (Ok next) before mid stage new comes at moves to = tt
 on_fails ts i j t (Ok u) (Err (y.TooDeep k)) before mid stage new comes at moves to =
@@ -107,7 +107,7 @@ on_fails ts i j t (Err r.Memory) (Err y.Memory) before mid stage new comes at mo
 on_fails ts i j t (Err r.Memory) (Err (y.Stop k)) before mid stage new comes at moves to = absurd to
 on_fails ts i j t (Err r.Memory) (Err (y.TooDeep k)) before mid stage new comes at moves to = absurd to
 
-pub on_holds : (made : Result (Unit {0}) Refusal) (answer : Result ℕ Syntax) (stage : Stage) (new : Branches × List Frame) (move : Option Config) (open_now at : ℕ) → Moves made stage new move → ComesTo made open_now at answer → OnOk answer (Holds stage new.0)
+pub on_holds : (made : Result (Unit {0}) Refusal) (answer : Result ℕ Syntax) (stage : Stage) (new : Subtrees × List Frame) (move : Option Config) (open_now at : ℕ) → StepsTo made stage new move → ComesTo made open_now at answer → OnOk answer (Holds stage new.0)
 on_holds (Ok u) (Ok next) stage new move open_now at moves to = moves.1
 on_holds (Err r.Memory) (Ok next) stage new move open_now at moves to = absurd to
 on_holds (Err r.Refused) (Ok next) stage new move open_now at moves to = absurd to
@@ -115,7 +115,7 @@ on_holds made (Err fault) stage new move open_now at moves to = tt
 
 -- ---- a word or path where an expression may begin
 
-begins_so : (path : Bool) (text : List ℕ) (stage : Stage) (hand : Branches) (p : Spot) (fs : List Frame) → begins stage ≡ true → step_by p (l.Word path text) (state_of stage hand) fs ≡ Some (st.Word p text, fs)
+begins_so : (path : Bool) (text : List ℕ) (stage : Stage) (hand : Subtrees) (p : Spot) (fs : List Frame) → begins stage ≡ true → step_by p (l.Word path text) (state_of stage hand) fs ≡ Some (st.Word p text, fs)
 unfolding begin argument first_argument sequence
 begins_so path text g.Operand hand p fs is = refl
 begins_so path text g.FirstArgument hand p fs is = refl
@@ -128,14 +128,14 @@ begins_so path text (g.Called q w) hand p fs is = absurd cc
 begins_so path text g.Whole hand p fs is = absurd cc
 begins_so path text g.Listed hand p fs is = absurd cc
 
-pub word_begins : (kind : TokenKind) (n : ℕ) (text : List ℕ) (stage : Stage) (hand : Branches) (p : Spot) (fs : List Frame) → is_word kind ≡ true → begins stage ≡ true → step_by p (lexeme_by kind n text) (state_of stage hand) fs ≡ Some (st.Word p text, fs)
+pub word_begins : (kind : TokenKind) (n : ℕ) (text : List ℕ) (stage : Stage) (hand : Subtrees) (p : Spot) (fs : List Frame) → is_word kind ≡ true → begins stage ≡ true → step_by p (lexeme_by kind n text) (state_of stage hand) fs ≡ Some (st.Word p text, fs)
 word_begins t.Word n text stage hand p fs word is = begins_so false text stage hand p fs is
 word_begins t.Path n text stage hand p fs word is = begins_so true text stage hand p fs is
 word_begins t.Number n text stage hand p fs word is = absurd cc
 word_begins t.Text n text stage hand p fs word is = absurd cc
 word_begins t.Symbol n text stage hand p fs word is = absurd cc
 
-pub holds_none : (stage : Stage) (hand : Branches) → begins stage ≡ true → Holds stage hand → hand ≡ no_branches
+pub holds_none : (stage : Stage) (hand : Subtrees) → begins stage ≡ true → Holds stage hand → hand ≡ no_subtrees
 holds_none g.Operand hand is holds = holds
 holds_none g.FirstArgument hand is holds = holds
 holds_none g.Argument hand is holds = holds

@@ -11,21 +11,21 @@ use Rattle.asl_parser.specs.declared.mark.Lexeme.TheVariants as l
 use Rattle.asl_parser.specs.declared.mark.Mark.{Mark}
 use Rattle.asl_parser.specs.declared.raw.Infix.{Infix}
 use Rattle.asl_parser.specs.declared.raw.Infix.TheVariants as op
-use Rattle.asl_parser.specs.declared.branch.Branch.{Branch}
-use Rattle.asl_parser.specs.declared.branch.Branches.{Branches}
+use Rattle.asl_parser.specs.declared.subtree.Subtree.{Subtree}
+use Rattle.asl_parser.specs.declared.subtree.Subtrees.{Subtrees}
 use Rattle.asl_parser.specs.declared.frame.Frame.{Frame}
 use Rattle.asl_parser.specs.declared.frame.Frame.TheVariants as f
-use Rattle.asl_parser.specs.declared.frame.State.{State}
-use Rattle.asl_parser.specs.declared.frame.State.TheVariants as st
+use Rattle.asl_parser.specs.declared.frame.ParserState.{ParserState}
+use Rattle.asl_parser.specs.declared.frame.ParserState.TheVariants as st
 use Rattle.asl_parser.specs.Signs.{strength}
-use Rattle.asl_parser.specs.Trees.{Tree, Trees, Group, none, more, absent}
+use Rattle.asl_parser.specs.Trees.{Tree, Trees, TreeGroup, none, more, absent}
 use Rattle.asl_parser.specs.Trees as t
-use Rattle.asl_parser.specs.Grow.{no_branches, joined, applied, item, grown, grown_all}
+use Rattle.asl_parser.specs.Grow.{no_subtrees, joined, applied, item, grown, grown_all}
 use Rattle.asl_parser.specs.Machine.{Config, Answer, source, stop, deep, depth, walk, unlimited, within, start, room, allow, settle, begin, begin_by, begin_sign, operator, sequence, sequence_by, sequence_sign, listed, listed_by, enclosed, enclosed_by, after, after_by, after_lexeme, word_by, called_by, argument, argument_by, first_argument, first_argument_by, element, element_by, first_element, first_element_by, step, run, finish, finish_whole, close_source}
 use Rattle.asl_parser.specs.Machine as m
 use Rattle.asl_parser.specs.Grammar.{at, sign, word, Phrase, expression, arguments, body, given, before, brace_list, members, member, sequence as row_of, all, is_paren, opens_paren, MayFollow, Reads, IsSource}
 use Rattle.asl_parser.specs.Grammar as g
-use Rattle.asl_parser.specs.Front.{LeavesOpen, TakesList, TakesExpression, Suits, TakesElement, TakesArgument, FirstArgument, FirstElement, NextArgument, Ready, ReadyBranch, Part, Named, CalledWord, IsFrontIn}
+use Rattle.asl_parser.specs.Front.{LeavesOpen, TakesList, TakesExpression, Suits, TakesElement, TakesArgument, FirstArgument, FirstElement, NextArgument, Ready, ReadySubtree, ReadyMember, Named, CalledWord, IsFrontIn}
 use Rattle.asl_parser.specs.Front as h
 use Rattle.asl_parser.proofs.Ends.{then_run}
 use Rattle.asl_parser.proofs.Complete.{is_strength}
@@ -41,22 +41,22 @@ keeps_by false c ts rest h = tt
 keeps_allowed : (n : ℕ) (fs : List Frame) (c : Config) (ts rest : List Mark) → (n ≤ room fs → IsFrontIn c.0 c.1 ts rest) → Keeps (allow (nat_le n (room fs)) c) ts rest
 keeps_allowed n fs c ts rest h = keeps_by (nat_le n (room fs)) c ts rest (λ e. h (leb-true n (room fs) e))
 
-ready_branch : (n : ℕ) (e : Tree) (fs : List Frame) (ts rest : List Mark) → Ready n e fs ts rest → ReadyBranch n (grown e) fs ts rest
-ready_branch n e fs ts rest ready = record { tree = e; is = refl; ready = ready }
+ready_subtree : (n : ℕ) (e : Tree) (fs : List Frame) (ts rest : List Mark) → Ready n e fs ts rest → ReadySubtree n (grown e) fs ts rest
+ready_subtree n e fs ts rest ready = record { tree = e; is = refl; ready = ready }
 
 -- ---- an expression begins
 
 begin_sign_keeps : (p : Spot) (x : Sign) (fs : List Frame) (ts rest : List Mark) → LeavesOpen fs ts (sign p x ∷ rest) → Keeps (begin_sign p x fs) ts rest
 begin_sign_keeps p s.LeftParen fs ts rest leaves = keeps_allowed 1 fs (st.Operand, f.Bracket ∷ fs) ts rest (λ low. (h.in_bracket low leaves, tt))
-begin_sign_keeps p (s.Prefix o) fs ts rest leaves = keeps_allowed 2 fs (st.Operand, f.Pending 2 2 p o no_branches ∷ fs) ts rest (λ low. (h.in_prefix low leaves, tt))
+begin_sign_keeps p (s.Prefix o) fs ts rest leaves = keeps_allowed 2 fs (st.Operand, f.Pending 2 2 p o no_subtrees ∷ fs) ts rest (λ low. (h.in_prefix low leaves, tt))
 begin_sign_keeps p _ fs ts rest leaves = tt
 
 begin_keeps : (p : Spot) (x : Lexeme) (fs : List Frame) (ts rest : List Mark) → LeavesOpen fs ts (at p x ∷ rest) → TakesExpression fs → Keeps (begin_by p x fs) ts rest
 begin_keeps p (l.Word path w) fs ts rest leaves takes = record { path = path; leaves = leaves; takes = takes }
 begin_keeps p (l.Number n) fs ts rest leaves takes = keeps_allowed 1 fs (st.Whole (grown (t.a_number p n)), fs) ts rest (λ low.
-    ready_branch 1 (t.a_number p n) fs ts rest (record { mid = at p (l.Number n) ∷ rest; level = 1; leaves = leaves; reads = g.a_number; low = omega arith; fits = low; takes = takes }))
+    ready_subtree 1 (t.a_number p n) fs ts rest (record { mid = at p (l.Number n) ∷ rest; level = 1; leaves = leaves; reads = g.a_number; low = omega arith; fits = low; takes = takes }))
 begin_keeps p (l.Text w) fs ts rest leaves takes = keeps_allowed 1 fs (st.Whole (grown (t.a_text p w)), fs) ts rest (λ low.
-    ready_branch 1 (t.a_text p w) fs ts rest (record { mid = at p (l.Text w) ∷ rest; level = 1; leaves = leaves; reads = g.a_text; low = omega arith; fits = low; takes = takes }))
+    ready_subtree 1 (t.a_text p w) fs ts rest (record { mid = at p (l.Text w) ∷ rest; level = 1; leaves = leaves; reads = g.a_text; low = omega arith; fits = low; takes = takes }))
 begin_keeps p (l.Sign x) fs ts rest leaves takes = begin_sign_keeps p x fs ts rest leaves
 begin_keeps p l.Other fs ts rest leaves takes = tt
 
@@ -64,7 +64,7 @@ begin_keeps p l.Other fs ts rest leaves takes = tt
 
 row_keeps : (p : Spot) (x : Lexeme) (fs : List Frame) (ts rest : List Mark) → LeavesOpen fs ts (at p x ∷ rest) → TakesExpression fs → Keeps (sequence_by p x fs) ts rest
 row_keeps p (l.Sign s.RightBrace) (f.Body q w args done ∷ fs) ts rest (h.in_body {path = path} {args = group} {done = front} {last = last} {mid = mid} inner leaves asked row may) takes =
-    ready_branch 1 (t.an_item q w group (t.given (all front last))) fs ts rest
+    ready_subtree 1 (t.an_item q w group (t.given (all front last))) fs ts rest
     (record { mid = word q path w ∷ mid; level = 0; leaves = leaves; reads = g.an_item asked (g.a_body row); low = omega arith; fits = omega arith; takes = inner })
 row_keeps p (l.Sign s.Comma) (f.Body q w args done ∷ fs) ts rest (h.in_body inner leaves asked row may) takes = (h.in_body inner leaves asked (g.a_comma row) tt, tt)
 row_keeps p (l.Sign s.Semicolon) (f.Body q w args done ∷ fs) ts rest (h.in_body inner leaves asked row may) takes = (h.in_body inner leaves asked (g.a_semicolon row) tt, tt)
@@ -80,19 +80,19 @@ sequence_keeps p x fs ts rest leaves takes = row_keeps p x fs ts rest leaves tak
 
 -- ---- what stands in arguments and lists
 
-args_keeps : (p q : Spot) (x : Lexeme) (w : List ℕ) (done : Branches) (fs : List Frame) (e : Tree) (ts mid rest : List Mark) → LeavesOpen (f.Args q w done ∷ fs) ts mid → Reads (g.argument e) mid (at p x ∷ rest)
+args_keeps : (p q : Spot) (x : Lexeme) (w : List ℕ) (done : Subtrees) (fs : List Frame) (e : Tree) (ts mid rest : List Mark) → LeavesOpen (f.Args q w done ∷ fs) ts mid → Reads (g.argument e) mid (at p x ∷ rest)
     → Keeps (m.args_listed (grown e) x q w done fs) ts rest
 args_keeps p q (l.Sign s.Comma) w done fs e ts mid rest (h.in_arguments inner leaves front) reads = h.next_argument inner leaves (g.one_before front reads)
 args_keeps p q (l.Sign s.RightParen) w done fs e ts mid rest (h.in_arguments {q = r} {path = path} {done = trees} {mid = begun} inner leaves front) reads =
     record { trees = more trees e; are = refl; path = path; mid = sign r s.LeftParen ∷ begun; leaves = leaves; reads = g.some_arguments (g.last_given front reads); takes = inner }
 args_keeps p q _ w done fs e ts mid rest leaves reads = tt
 
-list_suits : (e : Tree) (fs : List Frame) (ts mid rest : List Mark) → TakesList fs → LeavesOpen fs ts mid → Reads (brace_list e) mid rest → Part (grown e) fs ts rest
+list_suits : (e : Tree) (fs : List Frame) (ts mid rest : List Mark) → TakesList fs → LeavesOpen fs ts mid → Reads (brace_list e) mid rest → ReadyMember (grown e) fs ts rest
 list_suits e (f.Args q w done ∷ fs) ts mid rest takes leaves reads = record { tree = e; is = refl; mid = mid; leaves = leaves; suits = g.a_list_argument reads }
 list_suits e (f.List q done ∷ fs) ts mid rest takes leaves reads = record { tree = e; is = refl; mid = mid; leaves = leaves; suits = g.an_inner_list reads }
 list_suits e _ ts mid rest takes leaves reads = absurd takes
 
-list_keeps : (p q : Spot) (x : Lexeme) (done : Branches) (fs : List Frame) (e : Tree) (ts mid rest : List Mark) → LeavesOpen (f.List q done ∷ fs) ts mid → Reads (member e) mid (at p x ∷ rest)
+list_keeps : (p q : Spot) (x : Lexeme) (done : Subtrees) (fs : List Frame) (e : Tree) (ts mid rest : List Mark) → LeavesOpen (f.List q done ∷ fs) ts mid → Reads (member e) mid (at p x ∷ rest)
     → Keeps (m.list_listed (grown e) x q done fs) ts rest
 list_keeps p q (l.Sign s.Comma) done fs e ts mid rest (h.in_list takes leaves others) reads = (h.in_list takes leaves (g.more_members others reads), tt)
 list_keeps p q (l.Sign s.RightBrace) done fs e ts mid rest (h.in_list {done = trees} {mid = begun} takes leaves others) reads =
@@ -157,10 +157,10 @@ first_argument_keeps p l.Other fs ts rest (h.first_argument inner leaves) = tt
 
 -- ---- operators are applied
 
-settle_by : (b : Bool) (k level most : ℕ) (p : Spot) (i : Infix) (xs : Branches) (e : Branch) (fs : List Frame) (ts rest : List Mark)
-    → (nat_le level k ≡ true → ReadyBranch k (settle k (applied p i xs e) fs).0 (settle k (applied p i xs e) fs).1 ts rest)
-    → ReadyBranch k e (f.Pending level most p i xs ∷ fs) ts rest → nat_le level k ≡ b
-    → ReadyBranch k (settle k e (f.Pending level most p i xs ∷ fs)).0 (settle k e (f.Pending level most p i xs ∷ fs)).1 ts rest
+settle_by : (b : Bool) (k level most : ℕ) (p : Spot) (i : Infix) (xs : Subtrees) (e : Subtree) (fs : List Frame) (ts rest : List Mark)
+    → (nat_le level k ≡ true → ReadySubtree k (settle k (applied p i xs e) fs).0 (settle k (applied p i xs e) fs).1 ts rest)
+    → ReadySubtree k e (f.Pending level most p i xs ∷ fs) ts rest → nat_le level k ≡ b
+    → ReadySubtree k (settle k e (f.Pending level most p i xs ∷ fs)).0 (settle k e (f.Pending level most p i xs ∷ fs)).1 ts rest
 unfolding settle
 settle_by true k level most p i xs e fs ts rest others ready is = rw is (others is)
 settle_by false k level most p i xs e fs ts rest others ready is = rw is ready
@@ -172,37 +172,37 @@ room_takes n [] h = tt
 room_takes n (_ ∷ fs) h = tt
 
 settle_keeps : {fs : List Frame} {ts mid : List Mark} → LeavesOpen fs ts mid → (k n : ℕ) (e : Tree) (rest : List Mark) → Reads (expression n e) mid rest → n ≤ k → n ≤ room fs → TakesExpression fs
-    → ReadyBranch k (settle k (grown e) fs).0 (settle k (grown e) fs).1 ts rest
+    → ReadySubtree k (settle k (grown e) fs).0 (settle k (grown e) fs).1 ts rest
 unfolding settle
 settle_keeps (h.in_prefix {p = p} {o = o} {fs = fs} {ms = ts} {rest = mid} low leaves) k n e rest reads small fits takes =
-    settle_by (nat_le 2 k) k 2 2 p o no_branches (grown e) fs ts rest
+    settle_by (nat_le 2 k) k 2 2 p o no_subtrees (grown e) fs ts rest
     (λ is. settle_keeps leaves k 2 (t.a_prefix p o e) rest (g.a_prefix (g.tighter fits reads)) (leb-true 2 k is) low (room_takes 1 fs low))
-    (ready_branch k e (f.Pending 2 2 p o no_branches ∷ fs) ts rest (record { mid = mid; level = n; leaves = h.in_prefix low leaves; reads = reads; low = small; fits = fits; takes = tt })) refl
+    (ready_subtree k e (f.Pending 2 2 p o no_subtrees ∷ fs) ts rest (record { mid = mid; level = n; leaves = h.in_prefix low leaves; reads = reads; low = small; fits = fits; takes = tt })) refl
 settle_keeps (h.in_infix {p = p} {i = i} {o = o} {a = a} {fs = fs} {ms = ts} {mid = begun} {rest = mid} is low leaves left) k n e rest reads small fits takes =
     let some : suc (o.level - 1) ≤ room fs = omega (arith, (is_strength i o is).low) in
-    let xs = joined no_branches (grown a) in
+    let xs = joined no_subtrees (grown a) in
     settle_by (nat_le o.level k) k o.level o.room p i xs (grown e) fs ts rest
     (λ others. settle_keeps leaves k o.level (t.a_pair p i a e) rest (g.an_infix is left (g.tighter fits reads)) (leb-true o.level k others) low (room_takes (o.level - 1) fs some))
-    (ready_branch k e (f.Pending o.level o.room p i xs ∷ fs) ts rest (record { mid = mid; level = n; leaves = h.in_infix is low leaves left; reads = reads; low = small; fits = fits; takes = tt })) refl
-settle_keeps (h.in_source {ms = ts} {rest = mid} row may) k n e rest reads small fits takes = ready_branch k e _ ts rest (record { mid = mid; level = n; leaves = h.in_source row may; reads = reads; low = small; fits = fits; takes = takes })
-settle_keeps (h.in_arguments {ms = ts} {rest = mid} a b c) k n e rest reads small fits takes = ready_branch k e _ ts rest (record { mid = mid; level = n; leaves = h.in_arguments a b c; reads = reads; low = small; fits = fits; takes = takes })
-settle_keeps (h.in_body {ms = ts} {rest = mid} a b c d i) k n e rest reads small fits takes = ready_branch k e _ ts rest (record { mid = mid; level = n; leaves = h.in_body a b c d i; reads = reads; low = small; fits = fits; takes = takes })
-settle_keeps (h.in_bracket {ms = ts} {rest = mid} a b) k n e rest reads small fits takes = ready_branch k e _ ts rest (record { mid = mid; level = n; leaves = h.in_bracket a b; reads = reads; low = small; fits = fits; takes = takes })
-settle_keeps (h.in_index {ms = ts} {rest = mid} a b c) k n e rest reads small fits takes = ready_branch k e _ ts rest (record { mid = mid; level = n; leaves = h.in_index a b c; reads = reads; low = small; fits = fits; takes = takes })
-settle_keeps (h.in_list {ms = ts} {rest = mid} a b c) k n e rest reads small fits takes = ready_branch k e _ ts rest (record { mid = mid; level = n; leaves = h.in_list a b c; reads = reads; low = small; fits = fits; takes = takes })
+    (ready_subtree k e (f.Pending o.level o.room p i xs ∷ fs) ts rest (record { mid = mid; level = n; leaves = h.in_infix is low leaves left; reads = reads; low = small; fits = fits; takes = tt })) refl
+settle_keeps (h.in_source {ms = ts} {rest = mid} row may) k n e rest reads small fits takes = ready_subtree k e _ ts rest (record { mid = mid; level = n; leaves = h.in_source row may; reads = reads; low = small; fits = fits; takes = takes })
+settle_keeps (h.in_arguments {ms = ts} {rest = mid} a b c) k n e rest reads small fits takes = ready_subtree k e _ ts rest (record { mid = mid; level = n; leaves = h.in_arguments a b c; reads = reads; low = small; fits = fits; takes = takes })
+settle_keeps (h.in_body {ms = ts} {rest = mid} a b c d i) k n e rest reads small fits takes = ready_subtree k e _ ts rest (record { mid = mid; level = n; leaves = h.in_body a b c d i; reads = reads; low = small; fits = fits; takes = takes })
+settle_keeps (h.in_bracket {ms = ts} {rest = mid} a b) k n e rest reads small fits takes = ready_subtree k e _ ts rest (record { mid = mid; level = n; leaves = h.in_bracket a b; reads = reads; low = small; fits = fits; takes = takes })
+settle_keeps (h.in_index {ms = ts} {rest = mid} a b c) k n e rest reads small fits takes = ready_subtree k e _ ts rest (record { mid = mid; level = n; leaves = h.in_index a b c; reads = reads; low = small; fits = fits; takes = takes })
+settle_keeps (h.in_list {ms = ts} {rest = mid} a b c) k n e rest reads small fits takes = ready_subtree k e _ ts rest (record { mid = mid; level = n; leaves = h.in_list a b c; reads = reads; low = small; fits = fits; takes = takes })
 
 -- ---- after an expression
 
 bracket_keeps : (p : Spot) (x : Lexeme) (q : Spot) (n : ℕ) (e : Tree) (fs : List Frame) (ts mid rest : List Mark) → 1 ≤ room fs → LeavesOpen fs ts (sign q s.LeftParen ∷ mid) → Reads (expression n e) mid (at p x ∷ rest) → n ≤ 13
     → Keeps (m.close_bracket (grown e) x fs) ts rest
 bracket_keeps p (l.Sign s.RightParen) q n e fs ts mid rest low leaves reads small =
-    ready_branch 1 e fs ts rest (record { mid = sign q s.LeftParen ∷ mid; level = 1; leaves = leaves; reads = g.in_brackets (g.tighter small reads); low = omega arith; fits = low; takes = room_takes 0 fs low })
+    ready_subtree 1 e fs ts rest (record { mid = sign q s.LeftParen ∷ mid; level = 1; leaves = leaves; reads = g.in_brackets (g.tighter small reads); low = omega arith; fits = low; takes = room_takes 0 fs low })
 bracket_keeps p _ q n e fs ts mid rest low leaves reads small = tt
 
 index_keeps : (p : Spot) (x : Lexeme) (q : Spot) (n : ℕ) (a e : Tree) (fs : List Frame) (ts mid inner rest : List Mark) → 1 ≤ room fs → LeavesOpen fs ts mid → Reads (expression 1 a) mid (sign q s.LeftBracket ∷ inner)
     → Reads (expression n e) inner (at p x ∷ rest) → n ≤ 13 → Keeps (m.close_index q (grown a) (grown e) x fs) ts rest
 index_keeps p (l.Sign s.RightBracket) q n a e fs ts mid inner rest low leaves left reads small =
-    ready_branch 1 (t.a_pair q op.Index a e) fs ts rest (record { mid = mid; level = 1; leaves = leaves; reads = g.an_index left (g.tighter small reads); low = omega arith; fits = low; takes = room_takes 0 fs low })
+    ready_subtree 1 (t.a_pair q op.Index a e) fs ts rest (record { mid = mid; level = 1; leaves = leaves; reads = g.an_index left (g.tighter small reads); low = omega arith; fits = low; takes = room_takes 0 fs low })
 index_keeps p _ q n a e fs ts mid inner rest low leaves left reads small = tt
 
 enclosed_keeps : {fs : List Frame} {ts mid : List Mark} → LeavesOpen fs ts mid → (p : Spot) (x : Lexeme) (n : ℕ) (e : Tree) (rest : List Mark) → is_paren x ≡ false → Reads (expression n e) mid (at p x ∷ rest) → n ≤ 13 → n ≤ room fs
@@ -229,13 +229,13 @@ operator_keeps : (p : Spot) (i : Infix) (o : Strength) (e : Tree) (fs : List Fra
 operator_keeps p i o e fs ts rest is ready low =
     let r = settle_keeps ready.leaves o.pull ready.level e (sign p (s.Binary i) ∷ rest) ready.reads (omega (arith, ready.low)) ready.fits ready.takes in
     let k = settle o.pull (grown e) fs in
-    keeps_allowed o.level k.1 (st.Operand, f.Pending o.level o.room p i (joined no_branches k.0) ∷ k.1) ts rest
-    (λ fits. (subst (λ (b : Branch). LeavesOpen (f.Pending o.level o.room p i (joined no_branches b) ∷ k.1) ts rest) r.is (h.in_infix is fits r.ready.leaves (g.tighter r.ready.low r.ready.reads)), tt))
+    keeps_allowed o.level k.1 (st.Operand, f.Pending o.level o.room p i (joined no_subtrees k.0) ∷ k.1) ts rest
+    (λ fits. (subst (λ (b : Subtree). LeavesOpen (f.Pending o.level o.room p i (joined no_subtrees b) ∷ k.1) ts rest) r.is (h.in_infix is fits r.ready.leaves (g.tighter r.ready.low r.ready.reads)), tt))
 
 enclosed_settled : (p : Spot) (x : Lexeme) (e : Tree) (fs : List Frame) (ts rest : List Mark) → is_paren x ≡ false → Ready 1 e fs ts (at p x ∷ rest) → Keeps (enclosed p x (settle 13 (grown e) fs)) ts rest
 enclosed_settled p x e fs ts rest free ready =
     let r = settle_keeps ready.leaves 13 ready.level e (at p x ∷ rest) ready.reads (omega (arith, ready.low)) ready.fits ready.takes in
-    subst (λ (b : Branch). Keeps (enclosed_by p x b (settle 13 (grown e) fs).1) ts rest) r.is
+    subst (λ (b : Subtree). Keeps (enclosed_by p x b (settle 13 (grown e) fs).1) ts rest) r.is
     (enclosed_keeps r.ready.leaves p x r.ready.level r.tree rest free r.ready.reads r.ready.low r.ready.fits)
 
 after_by_keeps : (p : Spot) (i : Infix) (o : Option Strength) (e : Tree) (fs : List Frame) (ts rest : List Mark) → strength i ≡ o → Ready 1 e fs ts (sign p (s.Binary i) ∷ rest)
@@ -249,7 +249,7 @@ after_keeps p (l.Sign s.LeftBracket) e fs ts rest ready =
     keeps_allowed 1 fs (st.Operand, f.Index p (grown e) ∷ fs) ts rest (λ low. (h.in_index low ready.leaves (g.tighter ready.low ready.reads), tt))
 after_keeps p (l.Sign (s.Postfix o)) e fs ts rest ready =
     keeps_allowed 1 fs (st.Whole (grown (t.a_postfix p o e)), fs) ts rest (λ low.
-    ready_branch 1 (t.a_postfix p o e) fs ts rest (record { mid = ready.mid; level = 1; leaves = ready.leaves; reads = g.a_postfix (g.tighter ready.low ready.reads); low = omega arith; fits = low; takes = ready.takes }))
+    ready_subtree 1 (t.a_postfix p o e) fs ts rest (record { mid = ready.mid; level = 1; leaves = ready.leaves; reads = g.a_postfix (g.tighter ready.low ready.reads); low = omega arith; fits = low; takes = ready.takes }))
 after_keeps p (l.Sign (s.Binary i)) e fs ts rest ready = after_by_keeps p i (strength i) e fs ts rest refl ready
 after_keeps p (l.Sign x) e fs ts rest ready = enclosed_settled p (l.Sign x) e fs ts rest refl ready
 after_keeps p (l.Word path w) e fs ts rest ready = enclosed_settled p (l.Word path w) e fs ts rest refl ready
@@ -263,7 +263,7 @@ bare : (p : Spot) (w : List ℕ) (fs : List Frame) (ts rest : List Mark) → Nam
 bare p w fs ts rest named =
     record { mid = word p named.path w ∷ rest; level = 0; leaves = named.leaves; reads = g.an_item g.no_arguments g.no_body; low = omega arith; fits = omega arith; takes = named.takes }
 
-with_args : (p : Spot) (w : List ℕ) (args : Branches) (fs : List Frame) (ts rest : List Mark) (asked : CalledWord p w args fs ts rest) → Ready 1 (t.an_item p w (t.given asked.trees) absent) fs ts rest
+with_args : (p : Spot) (w : List ℕ) (args : Subtrees) (fs : List Frame) (ts rest : List Mark) (asked : CalledWord p w args fs ts rest) → Ready 1 (t.an_item p w (t.given asked.trees) absent) fs ts rest
 with_args p w args fs ts rest asked =
     record { mid = word p asked.path w ∷ asked.mid; level = 0; leaves = asked.leaves; reads = g.an_item asked.reads g.no_body; low = omega arith; fits = omega arith; takes = asked.takes }
 
@@ -280,15 +280,15 @@ word_keeps p (l.Number n) q w fs ts rest named = word_after p (l.Number n) q w f
 word_keeps p (l.Text v) q w fs ts rest named = word_after p (l.Text v) q w fs ts rest named
 word_keeps p l.Other q w fs ts rest named = word_after p l.Other q w fs ts rest named
 
-called_after : (p : Spot) (x : Lexeme) (q : Spot) (w : List ℕ) (args : Branches) (fs : List Frame) (ts rest : List Mark) → CalledWord q w args fs ts (at p x ∷ rest) → Keeps (after p x (item q w (Some args) None) fs) ts rest
+called_after : (p : Spot) (x : Lexeme) (q : Spot) (w : List ℕ) (args : Subtrees) (fs : List Frame) (ts rest : List Mark) → CalledWord q w args fs ts (at p x ∷ rest) → Keeps (after p x (item q w (Some args) None) fs) ts rest
 unfolding after
 called_after p x q w args fs ts rest asked =
-    subst (λ (b : Branches). Keeps (after_lexeme p x (item q w (Some b) None) fs) ts rest) asked.are
+    subst (λ (b : Subtrees). Keeps (after_lexeme p x (item q w (Some b) None) fs) ts rest) asked.are
     (after_keeps p x (t.an_item q w (t.given asked.trees) absent) fs ts rest (with_args q w args fs ts (at p x ∷ rest) asked))
 
-called_keeps : (p : Spot) (x : Lexeme) (q : Spot) (w : List ℕ) (args : Branches) (fs : List Frame) (ts rest : List Mark) → CalledWord q w args fs ts (at p x ∷ rest) → Keeps (called_by p x q w args fs) ts rest
+called_keeps : (p : Spot) (x : Lexeme) (q : Spot) (w : List ℕ) (args : Subtrees) (fs : List Frame) (ts rest : List Mark) → CalledWord q w args fs ts (at p x ∷ rest) → Keeps (called_by p x q w args fs) ts rest
 called_keeps p (l.Sign s.LeftBrace) q w args fs ts rest asked = (
-  subst (λ (b : Branches). LeavesOpen (f.Body q w (Some b) no_branches ∷ fs) ts rest) asked.are
+  subst (λ (b : Subtrees). LeavesOpen (f.Body q w (Some b) no_subtrees ∷ fs) ts rest) asked.are
       (h.in_body {args = t.given asked.trees} {done = none} {last = None} asked.takes asked.leaves asked.reads g.an_empty_row tt),
   tt,
 )
@@ -300,7 +300,7 @@ called_keeps p l.Other q w args fs ts rest asked = called_after p l.Other q w ar
 
 -- ---- each step, and a whole run
 
-pub step_keeps : (t : Mark) (a : State) (fs : List Frame) (ts rest : List Mark) → IsFrontIn a fs ts (t ∷ rest) → Keeps (step t a fs) ts rest
+pub step_keeps : (t : Mark) (a : ParserState) (fs : List Frame) (ts rest : List Mark) → IsFrontIn a fs ts (t ∷ rest) → Keeps (step t a fs) ts rest
 unfolding begin argument first_argument element first_element m.word m.called after
 step_keeps t st.Operand fs ts rest held = begin_keeps t.spot t.lexeme fs ts rest held.0 held.1
 step_keeps t st.FirstArgument fs ts rest held = first_argument_keeps t.spot t.lexeme fs ts rest held
@@ -310,11 +310,11 @@ step_keeps t st.Element fs ts rest held = element_keeps t.spot t.lexeme fs ts re
 step_keeps t st.Sequence fs ts rest held = sequence_keeps t.spot t.lexeme fs ts rest held.0 held.1
 step_keeps t (st.Word p w) fs ts rest held = word_keeps t.spot t.lexeme p w fs ts rest held
 step_keeps t (st.Called p w args) fs ts rest held = called_keeps t.spot t.lexeme p w args fs ts rest held
-step_keeps t (st.Whole b) fs ts rest held = subst (λ (x : Branch). Keeps (after_lexeme t.spot t.lexeme x fs) ts rest) held.is (after_keeps t.spot t.lexeme held.tree fs ts rest held.ready)
-step_keeps t (st.Listed b) fs ts rest held = subst (λ (x : Branch). Keeps (listed x t.lexeme fs) ts rest) held.is (listed_keeps t.spot t.lexeme held.tree fs ts held.mid rest held.leaves held.suits)
+step_keeps t (st.Whole b) fs ts rest held = subst (λ (x : Subtree). Keeps (after_lexeme t.spot t.lexeme x fs) ts rest) held.is (after_keeps t.spot t.lexeme held.tree fs ts rest held.ready)
+step_keeps t (st.Listed b) fs ts rest held = subst (λ (x : Subtree). Keeps (listed x t.lexeme fs) ts rest) held.is (listed_keeps t.spot t.lexeme held.tree fs ts held.mid rest held.leaves held.suits)
 
 -- trees that grow so, and that the tokens spell
-pub record Told (b : Branches) (ts : List Mark) : Type 0 where
+pub record Told (b : Subtrees) (ts : List Mark) : Type 0 where
   pub trees : Trees
   pub are : grown_all trees ≡ b
   pub source : IsSource trees ts
@@ -339,24 +339,24 @@ whole_tells : (e : Tree) (fs : List Frame) (ts : List Mark) → Ready 1 e fs ts 
 unfolding finish_whole
 whole_tells e fs ts ready =
     let r = settle_keeps ready.leaves 13 ready.level e [] ready.reads (omega (arith, ready.low)) ready.fits ready.takes in
-    subst (λ (b : Branch). Tells (close_source b (settle 13 (grown e) fs).1) ts) r.is (close_tells r.ready.leaves r.ready.level r.tree r.ready.reads r.ready.fits)
+    subst (λ (b : Subtree). Tells (close_source b (settle 13 (grown e) fs).1) ts) r.is (close_tells r.ready.leaves r.ready.level r.tree r.ready.reads r.ready.fits)
 
-finish_tells : (a : State) (fs : List Frame) (ts : List Mark) → IsFrontIn a fs ts [] → Tells (finish a fs) ts
+finish_tells : (a : ParserState) (fs : List Frame) (ts : List Mark) → IsFrontIn a fs ts [] → Tells (finish a fs) ts
 finish_tells st.Sequence (f.Unit done ∷ []) ts (h.in_source {done = front} {last = last} row may, takes) =
     record { trees = all front last; are = refl; source = record { done = front; last = last; row = row; are = refl } }
 finish_tells st.Sequence _ ts held = tt
 finish_tells (st.Word p w) fs ts held = whole_tells (t.an_item p w absent absent) fs ts (bare p w fs ts [] held)
 finish_tells (st.Called p w args) fs ts held =
-    subst (λ (b : Branches). Tells (finish_whole (item p w (Some b) None) fs) ts) held.are (whole_tells (t.an_item p w (t.given held.trees) absent) fs ts (with_args p w args fs ts [] held))
-finish_tells (st.Whole b) fs ts held = subst (λ (x : Branch). Tells (finish_whole x fs) ts) held.is (whole_tells held.tree fs ts held.ready)
+    subst (λ (b : Subtrees). Tells (finish_whole (item p w (Some b) None) fs) ts) held.are (whole_tells (t.an_item p w (t.given held.trees) absent) fs ts (with_args p w args fs ts [] held))
+finish_tells (st.Whole b) fs ts held = subst (λ (x : Subtree). Tells (finish_whole x fs) ts) held.is (whole_tells held.tree fs ts held.ready)
 finish_tells _ fs ts held = tt
 
-run_by : (rest : List Mark) (t : Mark) (c : Option Config) (ts : List Mark) → Keeps c ts rest → ((a : State) (fs : List Frame) → IsFrontIn a fs ts rest → Tells (run rest a fs) ts) → Tells (then_run t rest c) ts
+run_by : (rest : List Mark) (t : Mark) (c : Option Config) (ts : List Mark) → Keeps c ts rest → ((a : ParserState) (fs : List Frame) → IsFrontIn a fs ts rest → Tells (run rest a fs) ts) → Tells (then_run t rest c) ts
 unfolding then_run
 run_by rest t None ts keeps others = tt
 run_by rest t (Some c) ts keeps others = others c.0 c.1 keeps
 
-pub run_tells : (rest : List Mark) (a : State) (fs : List Frame) (ts : List Mark) → IsFrontIn a fs ts rest → Tells (run rest a fs) ts
+pub run_tells : (rest : List Mark) (a : ParserState) (fs : List Frame) (ts : List Mark) → IsFrontIn a fs ts rest → Tells (run rest a fs) ts
 unfolding walk then_run
 run_tells [] a fs ts held = finish_tells a fs ts held
 run_tells (t ∷ rest) a fs ts held = run_by rest t (step t a fs) ts (step_keeps t a fs ts rest held) (λ b gs others. run_tells rest b gs ts others)
@@ -364,5 +364,5 @@ run_tells (t ∷ rest) a fs ts held = run_by rest t (step t a fs) ts (step_keeps
 pub start_held : (ts : List Mark) → IsFrontIn st.Sequence start ts ts
 start_held ts = (h.in_source {done = none} {last = None} g.an_empty_row tt, tt)
 
-pub read_is_spelled : (b : Branches) (ts : List Mark) → run ts st.Sequence start ≡ source b → Told b ts
+pub read_is_spelled : (b : Subtrees) (ts : List Mark) → run ts st.Sequence start ≡ source b → Told b ts
 read_is_spelled b ts e = subst (λ (a : Answer). Tells a ts) e (run_tells ts st.Sequence start ts (start_held ts))

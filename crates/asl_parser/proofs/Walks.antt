@@ -4,14 +4,14 @@ use Rattle.std.proofs.lemmas.List.{drop_all}
 use Rattle.std.proofs.lemmas.Bool.{le-leb, lt-leb}
 use Rattle.asl_lexer.specs.declared.token.Token.{Token}
 use Rattle.asl_parser.specs.declared.mark.Mark.{Mark}
-use Rattle.asl_parser.specs.declared.branch.Branches.{Branches}
+use Rattle.asl_parser.specs.declared.subtree.Subtrees.{Subtrees}
 use Rattle.asl_parser.specs.declared.frame.Frame.{Frame}
-use Rattle.asl_parser.specs.declared.frame.State.{State}
+use Rattle.asl_parser.specs.declared.frame.ParserState.{ParserState}
 use Rattle.asl_parser.specs.declared.frame.Refusal.{Refusal}
 use Rattle.asl_parser.specs.declared.frame.Refusal.TheVariants as r
 use Rattle.asl_parser.specs.declared.stage.Stage.{Stage}
 use Rattle.asl_parser.specs.Marks.{mark, marks}
-use Rattle.asl_parser.specs.Stages.{Moves}
+use Rattle.asl_parser.specs.Stages.{StepsTo}
 use Rattle.asl_parser.specs.Machine.{Finishes, Answer, stop, deep, Config, step, walk, within, depth, finish}
 
 -- ---- tokens and their marks
@@ -32,33 +32,33 @@ at_place ts i t h is =
 
 -- ---- steps
 
-walk_on : (bound : ℕ) (x : Mark) (ms : List Mark) (a : State) (fs : List Frame) (m : Option Config) → depth fs ≤ bound → step x a fs ≡ m → walk (within bound) (x ∷ ms) a fs ≡ elim m [ None ↦ stop (x ∷ ms) | Some c ↦ walk (within bound) ms c.0 c.1 ]
+walk_on : (bound : ℕ) (x : Mark) (ms : List Mark) (a : ParserState) (fs : List Frame) (m : Option Config) → depth fs ≤ bound → step x a fs ≡ m → walk (within bound) (x ∷ ms) a fs ≡ elim m [ None ↦ stop (x ∷ ms) | Some c ↦ walk (within bound) ms c.0 c.1 ]
 unfolding walk
 walk_on bound x ms a fs m low is = rw (le-leb (depth fs) bound low) (ap (λ (n : Option Config). elim n [ None ↦ stop (x ∷ ms) | Some c ↦ walk (within bound) ms c.0 c.1 ]) is)
 
-pub walk_refused : (bound : ℕ) (ts : List Token) (i : ℕ) (t : Token) (x : Mark) (a : State) (fs : List Frame) → i < length ts → t ≡ get_or ts i t → x ≡ mark i t → depth fs ≤ bound → step x a fs ≡ None
+pub walk_refused : (bound : ℕ) (ts : List Token) (i : ℕ) (t : Token) (x : Mark) (a : ParserState) (fs : List Frame) → i < length ts → t ≡ get_or ts i t → x ≡ mark i t → depth fs ≤ bound → step x a fs ≡ None
     → walk (within bound) (drop i (marks 0 ts)) a fs ≡ stop (drop i (marks 0 ts))
 walk_refused bound ts i t x a fs h at made low is =
     let e : drop i (marks 0 ts) ≡ x ∷ drop (suc i) (marks 0 ts) = at_place ts i t h at ∙ ap (λ (y : Mark). y ∷ drop (suc i) (marks 0 ts)) (sym made) in
     ap (λ (ms : List Mark). walk (within bound) ms a fs) e ∙ walk_on bound x (drop (suc i) (marks 0 ts)) a fs None low is ∙ ap stop (sym e)
 
-pub walk_moves : (bound : ℕ) (ts : List Token) (i : ℕ) (t : Token) (x : Mark) (a b : State) (fs gs : List Frame) → i < length ts → t ≡ get_or ts i t → x ≡ mark i t → depth fs ≤ bound → step x a fs ≡ Some (b, gs)
+pub walk_moves : (bound : ℕ) (ts : List Token) (i : ℕ) (t : Token) (x : Mark) (a b : ParserState) (fs gs : List Frame) → i < length ts → t ≡ get_or ts i t → x ≡ mark i t → depth fs ≤ bound → step x a fs ≡ Some (b, gs)
     → walk (within bound) (drop i (marks 0 ts)) a fs ≡ walk (within bound) (drop (suc i) (marks 0 ts)) b gs
 walk_moves bound ts i t x a b fs gs h at made low is =
     let e : drop i (marks 0 ts) ≡ x ∷ drop (suc i) (marks 0 ts) = at_place ts i t h at ∙ ap (λ (y : Mark). y ∷ drop (suc i) (marks 0 ts)) (sym made) in
     ap (λ (ms : List Mark). walk (within bound) ms a fs) e ∙ walk_on bound x (drop (suc i) (marks 0 ts)) a fs (Some (b, gs)) low is
 
-pub walk_sinks : (bound : ℕ) (ms : List Mark) (a : State) (fs : List Frame) → bound < depth fs → walk (within bound) ms a fs ≡ deep ms
+pub walk_sinks : (bound : ℕ) (ms : List Mark) (a : ParserState) (fs : List Frame) → bound < depth fs → walk (within bound) ms a fs ≡ deep ms
 unfolding walk
 walk_sinks bound [] a fs h = rw (lt-leb (depth fs) bound h) refl
 walk_sinks bound (x ∷ ms) a fs h = rw (lt-leb (depth fs) bound h) refl
 
-pub walk_ends : (bound : ℕ) (ms : List Mark) (i : ℕ) (a : State) (fs : List Frame) → length ms ≤ i → depth fs ≤ bound → walk (within bound) (drop i ms) a fs ≡ finish a fs
+pub walk_ends : (bound : ℕ) (ms : List Mark) (i : ℕ) (a : ParserState) (fs : List Frame) → length ms ≤ i → depth fs ≤ bound → walk (within bound) (drop i ms) a fs ≡ finish a fs
 unfolding walk
 walk_ends bound ms i a fs h low = ap (λ (us : List Mark). walk (within bound) us a fs) (drop_all i ms h) ∙ rw (le-leb (depth fs) bound low) refl
 
-pub moves_refused : (x : Refusal) (stage : Stage) (new : Branches × List Frame) (m : Option Config) → x ≡ r.Refused → Moves (Err x) stage new m → m ≡ None
-moves_refused x stage new m e h = subst (λ (y : Refusal). Moves (Err y) stage new m) e h
+pub moves_refused : (x : Refusal) (stage : Stage) (new : Subtrees × List Frame) (m : Option Config) → x ≡ r.Refused → StepsTo (Err x) stage new m → m ≡ None
+moves_refused x stage new m e h = subst (λ (y : Refusal). StepsTo (Err y) stage new m) e h
 
 pub finishes_refused : (x : Refusal) (m : Answer) → x ≡ r.Refused → Finishes (Err x) m → m ≡ stop []
 finishes_refused x m e h = subst (λ (y : Refusal). Finishes (Err y) m) e h

@@ -2,7 +2,7 @@
 use Rattle.std.specs.Prelude.{◌≡◌, ℕ, suc, ◌≤◌, ◌<◌, List, [], length, take, Some, None}
 use Rattle.asl_parser.specs.declared.mark.Mark.{Mark}
 use Rattle.asl_parser.specs.declared.frame.Frame.{Frame}
-use Rattle.asl_parser.specs.declared.frame.State.{State}
+use Rattle.asl_parser.specs.declared.frame.ParserState.{ParserState}
 use Rattle.asl_parser.specs.Trees.{Trees, nodes_of, first_below}
 use Rattle.asl_parser.specs.Machine.{depth}
 use Rattle.asl_parser.specs.Grammar.{IsSource}
@@ -10,7 +10,7 @@ use Rattle.asl_parser.specs.Front.{IsFrontIn, IsFront}
 
 -- The tokens are a front that ends where more than the limit is open.
 pub record IsDeeper (limit : ℕ) (ms : List Mark) : Type 0 where
-  pub state : State
+  pub state : ParserState
   pub fs : List Frame
   pub front : IsFrontIn state fs ms []
   pub above : limit < depth fs

@@ -14,7 +14,7 @@ use Rattle.asl_parser.specs.declared.raw.Raw.{Raw}
 use Rattle.asl_parser.specs.Signs.{strength}
 use Rattle.asl_parser.specs.Marks.{marks}
 use Rattle.asl_parser.specs.Trees as t
-use Rattle.asl_parser.specs.Trees.{Tree, Trees, Group, none, more, absent, raws_of}
+use Rattle.asl_parser.specs.Trees.{Tree, Trees, TreeGroup, none, more, absent, raws_of}
 
 abbrev pub at : Spot → Lexeme → Mark
 at p x = record { spot = p; lexeme = x }
@@ -31,8 +31,8 @@ pub data Phrase : Type 0 where
   -- an expression of at most this level
   expression : ℕ → Tree → Phrase
   -- an item's arguments in parentheses, and its body in braces, where there are any
-  arguments : Group → Phrase
-  body : Group → Phrase
+  arguments : TreeGroup → Phrase
+  body : TreeGroup → Phrase
   -- the arguments up to the closing parenthesis, and some arguments, each with the comma behind it
   given : Trees → Phrase
   before : Trees → Phrase
@@ -66,7 +66,7 @@ MayFollow (Some e) ms = opens_paren ms ≡ false
 pub data Reads : Phrase → List Mark → List Mark → Type 0 where
   a_number : {p : Spot} {n : ℕ} {rest : List Mark} → Reads (expression 1 (t.a_number p n)) (at p (l.Number n) ∷ rest) rest
   a_text : {p : Spot} {w : List ℕ} {rest : List Mark} → Reads (expression 1 (t.a_text p w)) (at p (l.Text w) ∷ rest) rest
-  an_item : {p : Spot} {path : Bool} {w : List ℕ} {args inner : Group} {ms mid rest : List Mark}
+  an_item : {p : Spot} {path : Bool} {w : List ℕ} {args inner : TreeGroup} {ms mid rest : List Mark}
       → Reads (arguments args) ms mid → Reads (body inner) mid rest → Reads (expression 0 (t.an_item p w args inner)) (word p path w ∷ ms) rest
   in_brackets : {p q : Spot} {e : Tree} {ms rest : List Mark} → Reads (expression 13 e) ms (sign q s.RightParen ∷ rest) → Reads (expression 1 e) (sign p s.LeftParen ∷ ms) rest
   an_index : {p q : Spot} {a e : Tree} {ms mid rest : List Mark} → Reads (expression 1 a) ms (sign p s.LeftBracket ∷ mid) → Reads (expression 13 e) mid (sign q s.RightBracket ∷ rest)

@@ -7,7 +7,7 @@ use Rattle.asl_parser.specs.declared.reader.Syntax.{Syntax}
 use Rattle.asl_parser.specs.declared.reader.Syntax.TheVariants as y
 use Rattle.asl_parser.specs.Grow.{limit}
 use Rattle.asl_parser.specs.Machine.{Config, depth, walk, within}
-use Rattle.asl_parser.specs.Parse.{Reaches}
+use Rattle.asl_parser.specs.Parse.{EndsIn}
 
 -- The reading came over the tokens between these places, and no more is open than may be.
 abbrev pub Advances : List Mark → ℕ → ℕ → Config → Config → Type 0
@@ -16,7 +16,7 @@ Advances all at next before now = (at < next) × (next ≤ length all) × (depth
 
 -- A walk from this place on ends so, unless memory runs out.
 abbrev pub FailsAt : Syntax → List Mark → ℕ → Config → Type 0
-FailsAt fault all at before = Reaches (Err fault) all (walk (within limit) (drop at all) before.0 before.1)
+FailsAt fault all at before = EndsIn (Err fault) all (walk (within limit) (drop at all) before.0 before.1)
 
 -- The reading comes from the one place to the other, at which there is a token.
 abbrev pub Comes : List Mark → ℕ → ℕ → Config → Config → Type 0

@@ -1,19 +1,19 @@
 -- What was read last, as the code keeps it: the trees of it are held.
 use Rattle.std.specs.Prelude.{◌≡◌, Bool, true, false, List, Option, Some, None, Result, Ok, Err}
-use Rattle.asl_parser.specs.declared.branch.Branches.{Branches}
+use Rattle.asl_parser.specs.declared.subtree.Subtrees.{Subtrees}
 use Rattle.asl_parser.specs.declared.frame.Frame.{Frame}
-use Rattle.asl_parser.specs.declared.frame.State.{State}
-use Rattle.asl_parser.specs.declared.frame.State.TheVariants as st
+use Rattle.asl_parser.specs.declared.frame.ParserState.{ParserState}
+use Rattle.asl_parser.specs.declared.frame.ParserState.TheVariants as st
 use Rattle.asl_parser.specs.declared.frame.Refusal.{Refusal}
 use Rattle.asl_parser.specs.declared.frame.Refusal.TheVariants as r
 use Rattle.asl_parser.specs.declared.stage.Stage.{Stage}
 use Rattle.asl_parser.specs.declared.stage.Stage.TheVariants as g
-use Rattle.asl_parser.specs.Grow.{no_branches}
+use Rattle.asl_parser.specs.Grow.{no_subtrees}
 use Rattle.asl_parser.specs.Machine.{Config}
 use Rattle.asl_parser.specs.Opens.{IsOne, tree_of}
 
 -- the state with these trees
-abbrev pub state_of : Stage → Branches → State
+abbrev pub state_of : Stage → Subtrees → ParserState
 state_of g.Operand hand = st.Operand
 state_of g.FirstArgument hand = st.FirstArgument
 state_of g.Argument hand = st.Argument
@@ -26,11 +26,11 @@ state_of g.Whole hand = st.Whole (tree_of hand)
 state_of g.Listed hand = st.Listed (tree_of hand)
 
 -- that so many trees are held as have to be
-abbrev pub Holds : Stage → Branches → Type 0
+abbrev pub Holds : Stage → Subtrees → Type 0
 Holds (g.Called p w) hand = Unit {0}
 Holds g.Whole hand = IsOne hand
 Holds g.Listed hand = IsOne hand
-Holds _ hand = hand ≡ no_branches
+Holds _ hand = hand ≡ no_subtrees
 
 -- an expression may begin, or has to
 abbrev pub begins : Stage → Bool
@@ -41,7 +41,7 @@ begins g.Sequence = true
 begins _ = false
 
 -- what a step of the code ensures
-abbrev pub Moves : Result (Unit {0}) Refusal → Stage → Branches × List Frame → Option Config → Type 0
-Moves (Ok u) s new move = (move ≡ Some (state_of s new.0, new.1)) × Holds s new.0
-Moves (Err r.Memory) s new move = Unit {0}
-Moves (Err r.Refused) s new move = move ≡ None
+abbrev pub StepsTo : Result (Unit {0}) Refusal → Stage → Subtrees × List Frame → Option Config → Type 0
+StepsTo (Ok u) s new move = (move ≡ Some (state_of s new.0, new.1)) × Holds s new.0
+StepsTo (Err r.Memory) s new move = Unit {0}
+StepsTo (Err r.Refused) s new move = move ≡ None

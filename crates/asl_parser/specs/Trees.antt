@@ -10,7 +10,7 @@ mutual
     a_number : (spot : Spot) (value : ℕ) → Tree
     a_text : (spot : Spot) (text : List ℕ) → Tree
     -- a word or path, its arguments and its body
-    an_item : (spot : Spot) (word : List ℕ) (args inner : Group) → Tree
+    an_item : (spot : Spot) (word : List ℕ) (args inner : TreeGroup) → Tree
     a_prefix : (spot : Spot) (op : Infix) (operand : Tree) → Tree
     a_postfix : (spot : Spot) (op : Infix) (operand : Tree) → Tree
     -- an operator between two operands, or an index behind what it is of
@@ -26,9 +26,9 @@ mutual
     none : Trees
     more : (before : Trees) (last : Tree) → Trees
 
-  pub data Group : Type 0 where
-    absent : Group
-    given : (trees : Trees) → Group
+  pub data TreeGroup : Type 0 where
+    absent : TreeGroup
+    given : (trees : Trees) → TreeGroup
 
 -- ---- the tree without the numbers
 
@@ -49,7 +49,7 @@ abbrev mutual
   raws_of none = []
   raws_of (more xs x) = raws_of xs ++ raw_of x ∷ []
 
-  pub raws_in : Group → Option (List Raw)
+  pub raws_in : TreeGroup → Option (List Raw)
   raws_in absent = None
   raws_in (given xs) = Some (raws_of xs)
 
@@ -94,7 +94,7 @@ abbrev mutual
   nodes_of n none = []
   nodes_of n (more xs x) = nodes_of n xs ++ nodes n x
 
-  pub nodes_in : ℕ → Group → List Node
+  pub nodes_in : ℕ → TreeGroup → List Node
   nodes_in n absent = []
   nodes_in n (given xs) = nodes_of n xs
 

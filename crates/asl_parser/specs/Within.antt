@@ -1,7 +1,7 @@
 -- Where the parts of a tree stand.
 use Rattle.std.specs.Prelude.{ℕ, ◌<◌}
 use Rattle.iasl_messages.specs.declared.place.Place.{Place}
-use Rattle.asl_parser.specs.Written.{Written, Writtens, Group, number, text, item, apply, listed, none, more, absent, given}
+use Rattle.asl_parser.specs.Written.{Written, Writtens, WrittenGroup, number, text, item, apply, listed, none, more, absent, given}
 
 -- in one of so many files
 abbrev pub IsIn : ℕ → Place → Type 0
@@ -21,6 +21,6 @@ abbrev mutual
   AreWithin files none = Unit {0}
   AreWithin files (more w ws) = IsWithin files w × AreWithin files ws
 
-  pub IsGroupWithin : ℕ → Group → Type 0
+  pub IsGroupWithin : ℕ → WrittenGroup → Type 0
   IsGroupWithin files absent = Unit {0}
   IsGroupWithin files (given ws) = AreWithin files ws

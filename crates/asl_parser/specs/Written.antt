@@ -11,7 +11,7 @@ mutual
   pub data Written : Type 0 where
     number : (place : Place) (value : ℕ) → Written
     text : (place : Place) (bytes : List ℕ) → Written
-    item : (place : Place) (word : List ℕ) (args body : Group) → Written
+    item : (place : Place) (word : List ℕ) (args body : WrittenGroup) → Written
     apply : (place : Place) (op : Infix) (args : Writtens) → Written
     listed : (place : Place) (items : Writtens) → Written
     comma : Written
@@ -23,15 +23,15 @@ mutual
     more : (first : Written) (rest : Writtens) → Writtens
 
   -- what stands in brackets, where they are there
-  pub data Group : Type 0 where
-    absent : Group
-    given : (inside : Writtens) → Group
+  pub data WrittenGroup : Type 0 where
+    absent : WrittenGroup
+    given : (inside : Writtens) → WrittenGroup
 
 abbrev pub row : List Written → Writtens
 row [] = none
 row (w ∷ ws) = more w (row ws)
 
-abbrev pub group : Option (List Written) → Group
+abbrev pub group : Option (List Written) → WrittenGroup
 group None = absent
 group (Some ws) = given (row ws)
 
@@ -53,6 +53,6 @@ unfoldable pub writtens : List Raw → Writtens
 writtens [] = none
 writtens (raw ∷ raws) = more (written raw) (writtens raws)
 
-abbrev pub written_in : Option (List Raw) → Group
+abbrev pub written_in : Option (List Raw) → WrittenGroup
 written_in None = absent
 written_in (Some raws) = given (writtens raws)

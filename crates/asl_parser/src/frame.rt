@@ -2,9 +2,9 @@
 ghost use Rattle.std.specs.Prelude.{◌≡◌};
 ghost use Rattle.asl_parser.specs.declared.frame.Refusal.TheVariants.{Memory};
 
-use crate::branch::{Branch, Branches};
 use crate::mark::Spot;
 use crate::raw::Infix;
+use crate::subtree::{Subtree, Subtrees};
 use iasl_ports::list::Text;
 use std::alloc::AllocError;
 
@@ -12,32 +12,32 @@ use std::alloc::AllocError;
 pub const LOOSEST: u8 = 13;
 
 /// What stands open around the place where the reader is, and what was read of it. Only definitions speak of it: the code
-/// keeps what stands open in a `Nest`.
+/// keeps what stands open in a `Stack`.
 #[derive(Drop)]
 pub enum Frame {
     /// The source, and its items so far.
     Unit {
-        done: Branches,
+        done: Subtrees,
     },
     /// An item's arguments, those before the one that comes.
     Args {
         spot: Spot,
         word: Text,
-        done: Branches,
+        done: Subtrees,
     },
     /// An item's body.
     Body {
         spot: Spot,
         word: Text,
-        args: Option<Branches>,
-        done: Branches,
+        args: Option<Subtrees>,
+        done: Subtrees,
     },
     /// An expression in parentheses.
     Bracket,
     /// An index, and what it is of.
     Index {
         spot: Spot,
-        left: Branch,
+        left: Subtree,
     },
     /// An operator whose last operand comes: an expression of at most the level `room`.
     Pending {
@@ -45,19 +45,19 @@ pub enum Frame {
         room: u8,
         spot: Spot,
         op: Infix,
-        operands: Branches,
+        operands: Subtrees,
     },
     /// A list as an argument.
     List {
         spot: Spot,
-        done: Branches,
+        done: Subtrees,
     },
 }
 
-/// What was read last, and so what may come. Only definitions speak of it: in the code it is a `Stage`, and a `Nest` holds
+/// What was read last, and so what may come. Only definitions speak of it: in the code it is a `Stage`, and a `Stack` holds
 /// the trees.
 #[derive(Drop)]
-pub enum State {
+pub enum ParserState {
     /// An expression has to begin.
     Operand,
     /// Arguments have begun.
@@ -79,15 +79,15 @@ pub enum State {
     Called {
         spot: Spot,
         word: Text,
-        args: Branches,
+        args: Subtrees,
     },
     /// An expression that takes neither arguments nor a body.
     Whole {
-        tree: Branch,
+        tree: Subtree,
     },
     /// A list, or a member of one.
     Listed {
-        tree: Branch,
+        tree: Subtree,
     },
 }
 

@@ -1,19 +1,19 @@
 //! The syntax of a source: its tokens to the one tree that spells them.
 #![tactic(auto)]
 
-mod branch;
 mod frame;
 mod levels;
 mod machine;
 mod mark;
-mod nest;
 mod open;
 mod pairs;
 mod place;
 mod raw;
 mod reader;
 mod sign;
+mod stack;
 mod stage;
+mod subtree;
 
 pub use place::place_at;
 pub use raw::{Infix, Raw, RawUnit, Raws};

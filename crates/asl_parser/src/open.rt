@@ -2,30 +2,30 @@
 ghost use Rattle.std.specs.Prelude.{◌≡◌, [], true};
 ghost use Rattle.asl_parser.specs.Opens as spec;
 
-use crate::branch::Branches;
 use crate::frame::LOOSEST;
 use crate::levels::Levels;
 use crate::mark::Spot;
 use crate::raw::Infix;
+use crate::subtree::Subtrees;
 use iasl_ports::list::Text;
 use std::alloc::Global;
 
 /// Trees in order. Their nodes are those of the vector from a place on. Where one of them is too tall, none is kept.
 #[derive(Drop)]
-pub struct Group {
+pub struct FrameGroup {
     pub start: usize,
     pub kept: bool,
     pub levels: Levels,
 }
 
-impl Group {
+impl FrameGroup {
     /// No trees.
-    pub fn new(alloc: Global, start: usize) -> Group
+    pub fn new(alloc: Global, start: usize) -> FrameGroup
         ensures start { result.start ≡ start }
         ensures kept { result.kept ≡ true }
         ensures levels { result.levels ≡ [] }
     {
-        Group {
+        FrameGroup {
             start,
             kept: true,
             levels: Levels::new(alloc),
@@ -35,7 +35,7 @@ impl Group {
 
 /// What stands open, but for the trees that were read of it.
 #[derive(Drop)]
-pub enum Kind {
+pub enum FrameKind {
     /// Nothing: the whole source was read.
     Nothing,
     Unit,
@@ -46,7 +46,7 @@ pub enum Kind {
     Body {
         spot: Spot,
         word: Text,
-        args: Option<Branches>,
+        args: Option<Subtrees>,
     },
     Bracket,
     Index {
@@ -65,29 +65,29 @@ pub enum Kind {
 
 /// What stands open, and the trees that were read of it.
 #[derive(Drop)]
-pub struct Open {
-    pub kind: Kind,
-    pub group: Group,
+pub struct OpenFrame {
+    pub kind: FrameKind,
+    pub group: FrameGroup,
 }
 
 /// How much it adds to what is open.
-pub fn weight(kind: &Kind) -> usize
+pub fn weight(kind: &FrameKind) -> usize
     ensures { result ≡ spec.weight kind.now }
 {
     match kind {
-        Kind::Unit | Kind::Nothing => 0,
-        Kind::Pending { level, room, .. } => { if *level == *room { 1 } else { 0 } }
+        FrameKind::Unit | FrameKind::Nothing => 0,
+        FrameKind::Pending { level, room, .. } => { if *level == *room { 1 } else { 0 } }
         _ => 1,
     }
 }
 
 /// The level of the expressions that may stand next in it.
-pub fn room(kind: &Kind) -> u8
+pub fn room(kind: &FrameKind) -> u8
     ensures { result ≡ spec.room kind.now }
 {
     match kind {
-        Kind::Pending { room, .. } => *room,
-        Kind::Unit | Kind::Nothing | Kind::List { .. } => 0,
+        FrameKind::Pending { room, .. } => *room,
+        FrameKind::Unit | FrameKind::Nothing | FrameKind::List { .. } => 0,
         _ => LOOSEST,
     }
 }

@@ -2,7 +2,7 @@
 ghost use Rattle.std.specs.Prelude.{◌≡◌, ◌+◌, ◌<◌, ◌≤◌, ◌^◌, ℕ, length, List, All, IfOk, OnOk, IfErr};
 ghost use Rattle.asl_parser.specs.Machine as spec;
 ghost use Rattle.asl_parser.specs.Marks.{marks};
-ghost use Rattle.asl_parser.specs.Parse.{Answers, Reaches, Gives, Fails, outcome};
+ghost use Rattle.asl_parser.specs.Parse.{HasOutcome, EndsIn, Gives, Fails, outcome};
 ghost use Rattle.asl_parser.specs.Reading.{Advances, FailsAt, ComesTo};
 ghost use Rattle.asl_parser.specs.Stages.{state_of, Holds};
 ghost use Rattle.asl_parser.specs.Grammar.{Spells};
@@ -12,14 +12,14 @@ ghost use Rattle.asl_parser.specs.Within.{AreWithin};
 ghost use Rattle.asl_parser.specs.Written.{writtens};
 ghost use Rattle.asl_parser.specs.declared.raw.Raw.{Raw};
 
-use crate::branch::{Branches, TALLEST};
 use crate::frame::Refusal;
 use crate::machine::{begins, finish, step, word_on};
 use crate::mark::{is_word, look_of};
-use crate::nest::Nest;
 use crate::pairs::skip_pair;
 use crate::raw::RawUnit;
+use crate::stack::Stack;
 use crate::stage::Stage;
+use crate::subtree::{Subtrees, TALLEST};
 use asl_lexer::token::{Token, TokenKind, Tokens};
 use std::alloc::{AllocError, Global};
 
@@ -63,16 +63,16 @@ fn looks_ahead(stage: &Stage, token: &Token) -> bool {
 
 // What the token at a place came to: the place behind it, or why the reading ends there.
 #[inline(always)]
-fn moved(nest: &Nest, made: Result<(), Refusal>, at: usize) -> Result<usize, Syntax>
+fn moved(stack: &Stack, made: Result<(), Refusal>, at: usize) -> Result<usize, Syntax>
     requires few { at < 2 ^ 32 }
-    ensures { ComesTo made (spec.depth nest.now.1) at result }
+    ensures { ComesTo made (spec.depth stack.now.1) at result }
 {
     match made {
         Ok(()) => {}
         Err(Refusal::Refused) => return Err(Syntax::Stop { token: at as u32 }),
         Err(Refusal::Memory) => return Err(Syntax::Memory),
     }
-    if nest.depth() > DEEPEST {
+    if stack.depth() > DEEPEST {
         return Err(Syntax::TooDeep { token: at as u32 });
     }
     Ok(at + 1)
@@ -80,76 +80,86 @@ fn moved(nest: &Nest, made: Result<(), Refusal>, at: usize) -> Result<usize, Syn
 
 // Reads the token at a place.
 #[inline(always)]
-fn single(nest: &mut Nest, stage: &mut Stage, tokens: &[Token], at: usize) -> Result<usize, Syntax>
+fn single(
+    stack: &mut Stack,
+    stage: &mut Stage,
+    tokens: &[Token],
+    at: usize,
+) -> Result<usize, Syntax>
     requires few { length tokens.now < 2 ^ 32 }
     requires within { at < length tokens.now }
-    requires holds { Holds stage.old nest.old.0 }
-    requires low { spec.depth nest.old.1 ≤ limit }
-    ensures advances { IfOk result (λ next. Advances (marks 0 tokens.now) at next (state_of stage.old nest.old.0, nest.old.1) (state_of stage.new nest.new.0, nest.new.1)) }
-    ensures holds { OnOk result (Holds stage.new nest.new.0) }
-    ensures fails { IfErr result (λ fault. FailsAt fault (marks 0 tokens.now) at (state_of stage.old nest.old.0, nest.old.1)) }
+    requires holds { Holds stage.old stack.old.0 }
+    requires low { spec.depth stack.old.1 ≤ limit }
+    ensures advances { IfOk result (λ next. Advances (marks 0 tokens.now) at next (state_of stage.old stack.old.0, stack.old.1) (state_of stage.new stack.new.0, stack.new.1)) }
+    ensures holds { OnOk result (Holds stage.new stack.new.0) }
+    ensures fails { IfErr result (λ fault. FailsAt fault (marks 0 tokens.now) at (state_of stage.old stack.old.0, stack.old.1)) }
 {
-    let made = step(nest, stage, at as u32, &tokens[at]);
-    moved(nest, made, at)
+    let made = step(stack, stage, at as u32, &tokens[at]);
+    moved(stack, made, at)
 }
 
 // Reads the token at a place with the one behind it, or alone where they are no pair.
 #[inline(always)]
-fn ahead(nest: &mut Nest, stage: &mut Stage, tokens: &[Token], at: usize) -> Result<usize, Syntax>
+fn ahead(stack: &mut Stack, stage: &mut Stage, tokens: &[Token], at: usize) -> Result<usize, Syntax>
     requires few { length tokens.now < 2 ^ 32 }
     requires within { at + 1 < length tokens.now }
-    requires holds { Holds stage.old nest.old.0 }
-    requires low { spec.depth nest.old.1 ≤ limit }
-    ensures advances { IfOk result (λ next. Advances (marks 0 tokens.now) at next (state_of stage.old nest.old.0, nest.old.1) (state_of stage.new nest.new.0, nest.new.1)) }
-    ensures holds { OnOk result (Holds stage.new nest.new.0) }
-    ensures fails { IfErr result (λ fault. FailsAt fault (marks 0 tokens.now) at (state_of stage.old nest.old.0, nest.old.1)) }
+    requires holds { Holds stage.old stack.old.0 }
+    requires low { spec.depth stack.old.1 ≤ limit }
+    ensures advances { IfOk result (λ next. Advances (marks 0 tokens.now) at next (state_of stage.old stack.old.0, stack.old.1) (state_of stage.new stack.new.0, stack.new.1)) }
+    ensures holds { OnOk result (Holds stage.new stack.new.0) }
+    ensures fails { IfErr result (λ fault. FailsAt fault (marks 0 tokens.now) at (state_of stage.old stack.old.0, stack.old.1)) }
 {
     let first = &tokens[at];
     let second = &tokens[at + 1];
     let look = look_of(second);
-    match skip_pair(nest, stage, at as u32, first, look, second) {
+    match skip_pair(stack, stage, at as u32, first, look, second) {
         Ok(true) => return Ok(at + 2),
         Ok(false) => {}
         Err(_) => return Err(Syntax::Memory),
     }
     if is_word(first.kind) && begins(stage) {
-        let made = word_on(nest, stage, at as u32, first, look, second);
-        return moved(nest, made, at + 1);
+        let made = word_on(stack, stage, at as u32, first, look, second);
+        return moved(stack, made, at + 1);
     }
-    single(nest, stage, tokens, at)
+    single(stack, stage, tokens, at)
 }
 
 // Reads the token at a place, or two of them at once. Answers the place behind them.
 #[inline(always)]
-fn advance(nest: &mut Nest, stage: &mut Stage, tokens: &[Token], at: usize) -> Result<usize, Syntax>
+fn advance(
+    stack: &mut Stack,
+    stage: &mut Stage,
+    tokens: &[Token],
+    at: usize,
+) -> Result<usize, Syntax>
     requires few { length tokens.now < 2 ^ 32 }
     requires within { at < length tokens.now }
-    requires holds { Holds stage.old nest.old.0 }
-    requires low { spec.depth nest.old.1 ≤ limit }
-    ensures advances { IfOk result (λ next. Advances (marks 0 tokens.now) at next (state_of stage.old nest.old.0, nest.old.1) (state_of stage.new nest.new.0, nest.new.1)) }
-    ensures holds { OnOk result (Holds stage.new nest.new.0) }
-    ensures fails { IfErr result (λ fault. FailsAt fault (marks 0 tokens.now) at (state_of stage.old nest.old.0, nest.old.1)) }
+    requires holds { Holds stage.old stack.old.0 }
+    requires low { spec.depth stack.old.1 ≤ limit }
+    ensures advances { IfOk result (λ next. Advances (marks 0 tokens.now) at next (state_of stage.old stack.old.0, stack.old.1) (state_of stage.new stack.new.0, stack.new.1)) }
+    ensures holds { OnOk result (Holds stage.new stack.new.0) }
+    ensures fails { IfErr result (λ fault. FailsAt fault (marks 0 tokens.now) at (state_of stage.old stack.old.0, stack.old.1)) }
 {
     if looks_ahead(stage, &tokens[at]) && 1 < tokens.len() - at {
-        return ahead(nest, stage, tokens, at);
+        return ahead(stack, stage, tokens, at);
     }
-    single(nest, stage, tokens, at)
+    single(stack, stage, tokens, at)
 }
 
-fn read(alloc: Global, tokens: &[Token]) -> Result<Branches, Syntax>
+fn read(alloc: Global, tokens: &[Token]) -> Result<Subtrees, Syntax>
     requires { length tokens.now < 2 ^ 32 }
-    ensures { Reaches result (marks 0 tokens.now) (spec.reading (marks 0 tokens.now)) }
+    ensures { EndsIn result (marks 0 tokens.now) (spec.reading (marks 0 tokens.now)) }
 {
-    let mut nest = Nest::new(alloc);
+    let mut stack = Stack::new(alloc);
     let mut stage = Stage::Sequence;
     let mut at = 0;
     while at < tokens.len() {
-        match advance(&mut nest, &mut stage, tokens, at) {
+        match advance(&mut stack, &mut stage, tokens, at) {
             Ok(next) => at = next,
             Err(fault) => return Err(fault),
         }
     }
-    match finish(&mut nest, stage) {
+    match finish(&mut stack, stage) {
         Ok(items) => Ok(items),
         Err(Refusal::Refused) => Err(Syntax::Stop {
             token: tokens.len() as u32,
@@ -158,10 +168,10 @@ fn read(alloc: Global, tokens: &[Token]) -> Result<Branches, Syntax>
     }
 }
 
-fn unit_of(trees: Branches) -> Result<RawUnit, Syntax>
+fn unit_of(trees: Subtrees) -> Result<RawUnit, Syntax>
     ensures { Gives result trees }
 {
-    let Branches { raws, levels } = trees;
+    let Subtrees { raws, levels } = trees;
     match raws {
         Some(items) => Ok(RawUnit { items }),
         None => Err(Syntax::TooDeep {
@@ -172,7 +182,7 @@ fn unit_of(trees: Branches) -> Result<RawUnit, Syntax>
 
 fn whole(alloc: Global, tokens: &[Token]) -> Result<RawUnit, Syntax>
     requires { length tokens.now < 2 ^ 32 }
-    ensures { Answers result tokens.now (outcome tokens.now) }
+    ensures { HasOutcome result tokens.now (outcome tokens.now) }
 {
     unit_of(read(alloc, tokens)?)
 }
@@ -191,7 +201,7 @@ pub fn parse(alloc: Global, tokens: &Tokens) -> Result<RawUnit, Syntax>
     // The stop with no tree and nothing too deep before it, or the first token that is too deep.
     ensures fails { IfErr result (λ fault. Fails fault tokens.now) }
     // Each answer but want of memory is that of the machine on lists.
-    ensures exact { Answers result tokens.now (outcome tokens.now) }
+    ensures exact { HasOutcome result tokens.now (outcome tokens.now) }
 {
     whole(alloc, tokens.as_slice())
 }

@@ -9,8 +9,8 @@ use Rattle.iasl_ports.specs.Fetched.{most_bytes}
 use Rattle.iasl_messages.specs.declared.place.Place.{Place}
 use Rattle.iasl_messages.specs.declared.place.Line.{Line}
 use Rattle.asl_macros.specs.History.{History}
-use Rattle.asl_directives.specs.declared.kind.Kind.{Kind}
-use Rattle.asl_directives.specs.declared.kind.Kind.TheVariants as k
+use Rattle.asl_directives.specs.declared.kind.DirectiveKind.{DirectiveKind}
+use Rattle.asl_directives.specs.declared.kind.DirectiveKind.TheVariants as k
 use Rattle.asl_directives.specs.declared.branches.Branch.{Branch}
 use Rattle.asl_directives.specs.Forms.{IncludedFile, name_alone, definition_of, message_of, include_of, file_name_of}
 use Rattle.asl_directives.specs.Branches.{is_read, asks, at_else, at_end_if}
@@ -136,7 +136,7 @@ module _ (file : ℕ) (pass : Pass) (sound : IsSound pass.state) (known : file <
     fine_notes_message None = (here, refl)
     fine_notes_message (Some text) = fine_note 2001 place text here
 
-    fine_obeyed : (kind : Kind) (rest : List ℕ) → Fine file pass.state (d.obeyed kind place rest pass)
+    fine_obeyed : (kind : DirectiveKind) (rest : List ℕ) → Fine file pass.state (d.obeyed kind place rest pass)
     fine_obeyed k.Define rest = fine_defines (definition_of rest)
     fine_obeyed k.Undefine rest = fine_undefines (name_alone rest)
     fine_obeyed k.If rest = fine_opens_if (d.truth_of pass.state.history rest)
@@ -150,7 +150,7 @@ module _ (file : ℕ) (pass : Pass) (sound : IsSound pass.state) (known : file <
     fine_obeyed k.Warning rest = fine_note 3004 place (trimmed rest) here
     fine_obeyed k.Pragma rest = fine_notes_message (message_of rest)
 
-    fine_skipped : (kind : Kind) (rest : List ℕ) → Fine file pass.state (d.skipped kind place rest pass)
+    fine_skipped : (kind : DirectiveKind) (rest : List ℕ) → Fine file pass.state (d.skipped kind place rest pass)
     fine_skipped k.Define rest = (sound, refl)
     fine_skipped k.Undefine rest = (sound, refl)
     fine_skipped k.If rest = (sound, refl)
@@ -164,15 +164,15 @@ module _ (file : ℕ) (pass : Pass) (sound : IsSound pass.state) (known : file <
     fine_skipped k.Warning rest = (sound, refl)
     fine_skipped k.Pragma rest = (sound, refl)
 
-    fine_closed : (kind : Option Kind) (rest : List ℕ) → Fine file pass.state (d.obeyed_closed kind place rest pass)
+    fine_closed : (kind : Option DirectiveKind) (rest : List ℕ) → Fine file pass.state (d.obeyed_closed kind place rest pass)
     fine_closed None rest = (here, refl)
     fine_closed (Some kind) rest = fine_obeyed kind rest
 
-    fine_obeyed_or : (left_open : Bool) (kind : Option Kind) (rest : List ℕ) → Fine file pass.state (d.obeyed_or_open left_open kind place rest pass)
+    fine_obeyed_or : (left_open : Bool) (kind : Option DirectiveKind) (rest : List ℕ) → Fine file pass.state (d.obeyed_or_open left_open kind place rest pass)
     fine_obeyed_or true kind rest = (here, refl)
     fine_obeyed_or false kind rest = fine_closed kind rest
 
-    fine_skipped_or : (left_open : Bool) (kind : Option Kind) (rest : List ℕ) → Fine file pass.state (d.skipped_or_open left_open kind place rest pass)
+    fine_skipped_or : (left_open : Bool) (kind : Option DirectiveKind) (rest : List ℕ) → Fine file pass.state (d.skipped_or_open left_open kind place rest pass)
     fine_skipped_or left_open None rest = (sound, refl)
     fine_skipped_or left_open (Some kind) rest = by_open (left_open && is_conditional kind)
       where
@@ -180,7 +180,7 @@ module _ (file : ℕ) (pass : Pass) (sound : IsSound pass.state) (known : file <
         by_open true = (here, refl)
         by_open false = fine_skipped kind rest
 
-    fine_by_read : (b left_open : Bool) (kind : Option Kind) (rest : List ℕ) → Fine file pass.state (cond b (d.obeyed_or_open left_open kind place rest pass) (d.skipped_or_open left_open kind place rest pass))
+    fine_by_read : (b left_open : Bool) (kind : Option DirectiveKind) (rest : List ℕ) → Fine file pass.state (cond b (d.obeyed_or_open left_open kind place rest pass) (d.skipped_or_open left_open kind place rest pass))
     fine_by_read true left_open kind rest = fine_obeyed_or left_open kind rest
     fine_by_read false left_open kind rest = fine_skipped_or left_open kind rest
 

@@ -6,8 +6,8 @@ use Rattle.iasl_messages.specs.declared.place.Place.{Place}
 use Rattle.asl_fragments.specs.Fragments.{ends_in_comment, without_comments}
 use Rattle.asl_macros.specs.History.{History, Defines, Undefines, text_in}
 use Rattle.asl_conditions.specs.Condition.{condition_of}
-use Rattle.asl_directives.specs.declared.kind.Kind.{Kind}
-use Rattle.asl_directives.specs.declared.kind.Kind.TheVariants as k
+use Rattle.asl_directives.specs.declared.kind.DirectiveKind.{DirectiveKind}
+use Rattle.asl_directives.specs.declared.kind.DirectiveKind.TheVariants as k
 use Rattle.asl_directives.specs.declared.branches.Branch.{Branch}
 use Rattle.asl_directives.specs.Words.{past_blanks, trimmed, word_of, behind_word, behind_mark, blanks_before}
 use Rattle.asl_directives.specs.Forms.{IncludedFile, name_alone, definition_of, message_of, include_of}
@@ -99,7 +99,7 @@ notes_message place pass (Some text) = notes pass 2001 place text
 -- ---- a directive
 
 -- where it is read: what stands behind its word is `rest`
-abbrev pub obeyed : Kind → Place → List ℕ → Pass → Outcome RowEffect
+abbrev pub obeyed : DirectiveKind → Place → List ℕ → Pass → Outcome RowEffect
 obeyed k.Define place rest pass = defines place pass (definition_of rest)
 obeyed k.Undefine place rest pass = undefines place pass (name_alone rest)
 obeyed k.If place rest pass = opens_if place pass (truth_of pass.state.history rest)
@@ -114,7 +114,7 @@ obeyed k.Warning place rest pass = notes pass 3004 place (trimmed rest)
 obeyed k.Pragma place rest pass = notes_message place pass (message_of rest)
 
 -- where it is not: an `#if` of any kind opens a branch that is not read, and the others turn and close branches
-abbrev pub skipped : Kind → Place → List ℕ → Pass → Outcome RowEffect
+abbrev pub skipped : DirectiveKind → Place → List ℕ → Pass → Outcome RowEffect
 skipped k.If place rest pass = opens place pass false
 skipped k.IfDefined place rest pass = opens place pass false
 skipped k.IfNotDefined place rest pass = opens place pass false
@@ -124,15 +124,15 @@ skipped k.EndIf place rest pass = balanced place pass (at_end_if pass.branches)
 skipped _ place rest pass = Ok (Goes pass)
 
 -- a block comment that a directive leaves open is a wrong form, and so is a word that is no directive's
-abbrev pub obeyed_closed : Option Kind → Place → List ℕ → Pass → Outcome RowEffect
+abbrev pub obeyed_closed : Option DirectiveKind → Place → List ℕ → Pass → Outcome RowEffect
 obeyed_closed None place rest pass = wrong place pass
 obeyed_closed (Some kind) place rest pass = obeyed kind place rest pass
 
-abbrev pub obeyed_or_open : Bool → Option Kind → Place → List ℕ → Pass → Outcome RowEffect
+abbrev pub obeyed_or_open : Bool → Option DirectiveKind → Place → List ℕ → Pass → Outcome RowEffect
 obeyed_or_open left_open kind place rest pass = cond left_open (wrong place pass) (obeyed_closed kind place rest pass)
 
 -- where a directive is not read, that counts in a conditional alone
-abbrev pub skipped_or_open : Bool → Option Kind → Place → List ℕ → Pass → Outcome RowEffect
+abbrev pub skipped_or_open : Bool → Option DirectiveKind → Place → List ℕ → Pass → Outcome RowEffect
 skipped_or_open left_open None place rest pass = Ok (Goes pass)
 skipped_or_open left_open (Some kind) place rest pass = cond (left_open && is_conditional kind) (wrong place pass) (skipped kind place rest pass)
 

@@ -12,7 +12,7 @@ use crate::work::Work;
 use asl_conditions::{ConditionStop, condition};
 use asl_directives::branches::{BranchFault, Branches};
 use asl_directives::forms::{definition_of, include_of, message_of, name_alone};
-use asl_directives::kind::{Kind, is_conditional, kind_of};
+use asl_directives::kind::{DirectiveKind, is_conditional, kind_of};
 use asl_directives::words::{behind_mark, blanks_before, past_blanks, split_word, trimmed};
 use asl_fragments::{ends_in_comment, without_comments};
 use iasl_messages::number::{
@@ -162,7 +162,7 @@ fn else_if(
     place: Place,
     rest: &[u8],
 ) -> Result<(), ReadingStop>
-    ensures { (state : State) → Shows work.now state → Steps result work.now branches.new (spec.obeyed Kind.ElseIf place rest.now (record { state = state; branches = branches.old })) }
+    ensures { (state : State) → Shows work.now state → Steps result work.now branches.new (spec.obeyed DirectiveKind.ElseIf place rest.now (record { state = state; branches = branches.old })) }
 {
     match branches.asks() {
         Some(true) => turn_if(alloc, work, branches, place, rest),
@@ -202,7 +202,7 @@ fn end_if(
 }
 
 fn warn(alloc: Global, work: &mut Work, place: Place, rest: &[u8]) -> Result<(), ReadingStop>
-    ensures { (state : State) (branches : List Branch) → Shows work.old state → Steps result work.new branches (spec.obeyed Kind.Warning place rest.now (record { state = state; branches = branches })) }
+    ensures { (state : State) (branches : List Branch) → Shows work.old state → Steps result work.new branches (spec.obeyed DirectiveKind.Warning place rest.now (record { state = state; branches = branches })) }
 {
     work.note(alloc, WARNING_DIRECTIVE, place, trimmed(rest))?;
     Ok(())
@@ -238,26 +238,26 @@ fn step(
     alloc: Global,
     work: &mut Work,
     branches: &mut Branches,
-    kind: Kind,
+    kind: DirectiveKind,
     place: Place,
     rest: &[u8],
 ) -> Result<(), ReadingStop>
-    requires { kind ≢ Kind.Include }
+    requires { kind ≢ DirectiveKind.Include }
     ensures { (state : State) → Shows work.old state → Steps result work.new branches.new (spec.obeyed kind place rest.now (record { state = state; branches = branches.old })) }
 {
     match kind {
-        Kind::Define => define(alloc, work, place, rest),
-        Kind::Undefine => undefine(alloc, work, place, rest),
-        Kind::If => open_if(alloc, work, branches, place, rest),
-        Kind::IfDefined => open_defined(alloc, work, branches, true, place, rest),
-        Kind::IfNotDefined => open_defined(alloc, work, branches, false, place, rest),
-        Kind::ElseIf => else_if(alloc, work, branches, place, rest),
-        Kind::Else => else_(alloc, work, branches, place),
-        Kind::EndIf => end_if(alloc, work, branches, place),
-        Kind::Error => Err(refusal(alloc, ERROR_DIRECTIVE, place, trimmed(rest))),
-        Kind::Warning => warn(alloc, work, place, rest),
-        Kind::Pragma => pragma(alloc, work, place, rest),
-        Kind::Include => unreachable!(),
+        DirectiveKind::Define => define(alloc, work, place, rest),
+        DirectiveKind::Undefine => undefine(alloc, work, place, rest),
+        DirectiveKind::If => open_if(alloc, work, branches, place, rest),
+        DirectiveKind::IfDefined => open_defined(alloc, work, branches, true, place, rest),
+        DirectiveKind::IfNotDefined => open_defined(alloc, work, branches, false, place, rest),
+        DirectiveKind::ElseIf => else_if(alloc, work, branches, place, rest),
+        DirectiveKind::Else => else_(alloc, work, branches, place),
+        DirectiveKind::EndIf => end_if(alloc, work, branches, place),
+        DirectiveKind::Error => Err(refusal(alloc, ERROR_DIRECTIVE, place, trimmed(rest))),
+        DirectiveKind::Warning => warn(alloc, work, place, rest),
+        DirectiveKind::Pragma => pragma(alloc, work, place, rest),
+        DirectiveKind::Include => unreachable!(),
     }
 }
 
@@ -266,13 +266,13 @@ fn obey(
     alloc: Global,
     work: &mut Work,
     branches: &mut Branches,
-    kind: Kind,
+    kind: DirectiveKind,
     place: Place,
     rest: &[u8],
 ) -> Result<Option<Wanted>, ReadingStop>
     ensures { (state : State) → Shows work.old state → Does result work.new branches.new (spec.obeyed kind place rest.now (record { state = state; branches = branches.old })) }
 {
-    if kind == Kind::Include {
+    if kind == DirectiveKind::Include {
         return Ok(Some(include(alloc, place, rest)?));
     }
     step(alloc, work, branches, kind, place, rest)?;
@@ -284,25 +284,25 @@ fn skip(
     alloc: Global,
     work: &Work,
     branches: &mut Branches,
-    kind: Kind,
+    kind: DirectiveKind,
     place: Place,
     rest: &[u8],
 ) -> Result<(), ReadingStop>
     ensures { (state : State) → Shows work.now state → Steps result work.now branches.new (spec.skipped kind place rest.now (record { state = state; branches = branches.old })) }
 {
     match kind {
-        Kind::If | Kind::IfDefined | Kind::IfNotDefined => open_branch(
+        DirectiveKind::If | DirectiveKind::IfDefined | DirectiveKind::IfNotDefined => open_branch(
             work, branches, place, false,
         ),
-        Kind::ElseIf => else_if(alloc, work, branches, place, rest),
-        Kind::Else => else_(alloc, work, branches, place),
-        Kind::EndIf => end_if(alloc, work, branches, place),
-        Kind::Define
-        | Kind::Undefine
-        | Kind::Include
-        | Kind::Error
-        | Kind::Warning
-        | Kind::Pragma => Ok(()),
+        DirectiveKind::ElseIf => else_if(alloc, work, branches, place, rest),
+        DirectiveKind::Else => else_(alloc, work, branches, place),
+        DirectiveKind::EndIf => end_if(alloc, work, branches, place),
+        DirectiveKind::Define
+        | DirectiveKind::Undefine
+        | DirectiveKind::Include
+        | DirectiveKind::Error
+        | DirectiveKind::Warning
+        | DirectiveKind::Pragma => Ok(()),
     }
 }
 
@@ -311,7 +311,7 @@ fn obey_or_refuse(
     work: &mut Work,
     branches: &mut Branches,
     left_open: bool,
-    kind: Option<Kind>,
+    kind: Option<DirectiveKind>,
     place: Place,
     rest: &[u8],
 ) -> Result<Option<Wanted>, ReadingStop>
@@ -328,7 +328,7 @@ fn skip_or_refuse(
     work: &Work,
     branches: &mut Branches,
     left_open: bool,
-    kind: Option<Kind>,
+    kind: Option<DirectiveKind>,
     place: Place,
     rest: &[u8],
 ) -> Result<(), ReadingStop>

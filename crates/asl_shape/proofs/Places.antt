@@ -20,7 +20,7 @@ use Rattle.asl_words.specs.declared.operator.TextMacro.{TextMacro}
 use Rattle.asl_words.specs.declared.meaning.Reading.{Reading}
 use Rattle.asl_words.specs.declared.meaning.Reading.TheVariants as read
 use Rattle.asl_parser.specs.Written as piece
-use Rattle.asl_parser.specs.Written.{Written, Writtens, Group, item, apply, listed, comma, semicolon, empty, none, more, absent, given, writtens}
+use Rattle.asl_parser.specs.Written.{Written, Writtens, WrittenGroup, item, apply, listed, comma, semicolon, empty, none, more, absent, given, writtens}
 use Rattle.acpi_values.specs.Revisions.{width_of}
 use Rattle.asl_shape.specs.Around.{outside}
 use Rattle.asl_shape.specs.declared.around.Around.{Around}
@@ -242,11 +242,11 @@ module _ (files : ℕ) where
       operands_told s inside (more w ws) h =
           both (checked inside.width s (place_of nowhere w) (bare s inside w)).faults (operands slot.Expression inside ws).faults (checked_told inside.width s (place_of nowhere w) (bare s inside w) (place_in nowhere w main h.0) (bare_told s inside w h.0)) (operands_told slot.Expression inside ws h.1)
 
-      call_told_in : (inside : Around) (args : Group) → IsGroupWithin files args → AreTold files (call_args inside args).faults
+      call_told_in : (inside : Around) (args : WrittenGroup) → IsGroupWithin files args → AreTold files (call_args inside args).faults
       call_told_in inside absent h = tt
       call_told_in inside (given ws) h = operands_told slot.Expression inside ws h
 
-      arguments_told : (qs : List Parameter) (place : Place) (inside : Around) (args : Group) → IsIn files place → IsGroupWithin files args → AreTold files (arguments qs place inside args).faults
+      arguments_told : (qs : List Parameter) (place : Place) (inside : Around) (args : WrittenGroup) → IsIn files place → IsGroupWithin files args → AreTold files (arguments qs place inside args).faults
       arguments_told qs place inside absent p h = tt
       arguments_told qs place inside (given ws) p h = arguments_in_told qs place inside ws p h
 
@@ -257,7 +257,7 @@ module _ (files : ℕ) where
           let s : Slot = slot_as q.slot (meaning_in w) in
           both (checked inside.width s (place_of nowhere w) (bare s inside w)).faults (arguments_in qs place inside ws).faults (checked_told inside.width s (place_of nowhere w) (bare s inside w) (place_in nowhere w main h.0) (bare_told s inside w h.0)) (arguments_in_told qs place inside ws p h.1)
 
-      contents_told : (b : Body) (inside : Around) (place : Place) (body : Group) → IsIn files place → IsGroupWithin files body → AreTold files (contents b inside place body).faults
+      contents_told : (b : Body) (inside : Around) (place : Place) (body : WrittenGroup) → IsIn files place → IsGroupWithin files body → AreTold files (contents b inside place body).faults
       contents_told b inside place absent p h = tt
       contents_told braces.No inside place (given ws) p h = tt
       contents_told braces.Terms inside place (given ws) p h = terms_told inside None ws h
@@ -304,7 +304,7 @@ module _ (files : ℕ) where
     if_told true xs ys h k = h
     if_told false xs ys h k = k
 
-    terms_in_told : (around : Around) (body : Group) → IsGroupWithin files body → AreTold files (terms around None (inside_of body)).faults
+    terms_in_told : (around : Around) (body : WrittenGroup) → IsGroupWithin files body → AreTold files (terms around None (inside_of body)).faults
     terms_in_told around absent h = tt
     terms_in_told around (given ws) h = terms_told around None ws h
 

@@ -6,7 +6,7 @@ use Rattle.iasl_messages.specs.declared.message.Message.{Message}
 use Rattle.asl_parser.specs.declared.raw.Raw.{Raw}
 use Rattle.asl_tree.specs.declared.program.Block.{Block}
 use Rattle.asl_tree.specs.declared.program.Program.{Program}
-use Rattle.asl_parser.specs.Written.{Written, Writtens, Group, item, none, more, writtens}
+use Rattle.asl_parser.specs.Written.{Written, Writtens, WrittenGroup, item, none, more, writtens}
 use Rattle.acpi_values.specs.Revisions.{width_of}
 use Rattle.acpi_values.specs.declared.width.Width.TheVariants.{W64}
 use Rattle.asl_shape.specs.Around.{outside}
@@ -31,7 +31,7 @@ errors_inside (Some number) place inside = fault_at number place ∷ []
 errors_inside None place inside = inside
 
 -- its arguments, which are constants of 64 bits and strings
-abbrev pub block_args : Place → Group → Shaped Plans
+abbrev pub block_args : Place → WrittenGroup → Shaped Plans
 block_args place args = arguments block_parameters place (outside W64) args
 
 -- the revision that they state
@@ -39,10 +39,10 @@ abbrev pub revision_in : Plans → ℕ
 revision_in args = number_of (plan_at args 2) % 256
 
 -- its terms, where its arguments are these
-abbrev pub block_terms : Plans → Group → Shaped Plans
+abbrev pub block_terms : Plans → WrittenGroup → Shaped Plans
 block_terms args body = terms (outside (width_of (revision_in args))) None (inside_of body)
 
-abbrev pub block_errors : Place → Group → Group → List Message
+abbrev pub block_errors : Place → WrittenGroup → WrittenGroup → List Message
 block_errors place args body =
     errors_inside (block_fault (takes block_parameters (inside_of args)) (is_given body)) place ((block_args place args).faults ++ (block_terms (block_args place args).made body).faults)
 

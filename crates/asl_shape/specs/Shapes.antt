@@ -37,7 +37,7 @@ use Rattle.asl_tree.specs.declared.term.Word.{Word}
 use Rattle.asl_shape.specs.declared.fields.Due.{Due}
 use Rattle.asl_shape.specs.declared.fields.UnitName.{UnitName}
 use Rattle.asl_parser.specs.Written as piece
-use Rattle.asl_parser.specs.Written.{Written, Writtens, Group, item, apply, listed, comma, semicolon, empty, none, more, absent, given}
+use Rattle.asl_parser.specs.Written.{Written, Writtens, WrittenGroup, item, apply, listed, comma, semicolon, empty, none, more, absent, given}
 use Rattle.asl_words.specs.Operators.{parameters_of, parameters_as, body_as, role_of, offset_parameters, macro_parameters}
 use Rattle.asl_words.specs.Resources.{descriptor_parameters, descriptor_body}
 use Rattle.asl_words.specs.Meanings.{meaning_of, may_end, unfit, item_fault, takes_expression, takes_role, takes_known, reading_of, run_behind, slot_as, is_default}
@@ -68,7 +68,7 @@ nowhere = record { file = 0; line = 0; column = 0 }
 
 -- ---- items: what a word is, where it may stand, and what it takes
 
-abbrev pub is_given : Group → Bool
+abbrev pub is_given : WrittenGroup → Bool
 is_given absent = false
 is_given (given ws) = true
 
@@ -94,7 +94,7 @@ abbrev pub is_none : Writtens → Bool
 is_none none = true
 is_none (more w ws) = false
 
-abbrev pub inside_of : Group → Writtens
+abbrev pub inside_of : WrittenGroup → Writtens
 inside_of absent = none
 inside_of (given ws) = ws
 
@@ -604,12 +604,12 @@ abbrev mutual
   operands s inside none = fine no_plans
   operands s inside (more w ws) = joined (place_of nowhere w) (checked inside.width s (place_of nowhere w) (bare s inside w)) (operands slot.Expression inside ws)
 
-  pub call_args : Around → Group → Shaped Plans
+  pub call_args : Around → WrittenGroup → Shaped Plans
   call_args inside absent = fine no_plans
   call_args inside (given ws) = operands slot.Expression inside ws
 
   -- the arguments of an operator, each by its letter; one that is left out stands at the operator
-  pub arguments : List Parameter → Place → Around → Group → Shaped Plans
+  pub arguments : List Parameter → Place → Around → WrittenGroup → Shaped Plans
   arguments qs place inside absent = fine (left_out place qs)
   arguments qs place inside (given ws) = arguments_in qs place inside ws
 
@@ -620,7 +620,7 @@ abbrev mutual
       joined (place_of place w) (checked inside.width (slot_as q.slot (meaning_in w)) (place_of nowhere w) (bare (slot_as q.slot (meaning_in w)) inside w)) (arguments_in qs place inside ws)
 
   -- what stands in braces
-  pub contents : Body → Around → Place → Group → Shaped Plans
+  pub contents : Body → Around → Place → WrittenGroup → Shaped Plans
   contents b inside place absent = fine no_plans
   contents braces.No inside place (given ws) = fine no_plans
   contents braces.Terms inside place (given ws) = terms inside None ws

@@ -1,7 +1,7 @@
 -- How much of a source a part of its tree is.
 use Rattle.std.specs.Prelude.{ℕ, suc, ◌+◌, List, Option}
 use Rattle.asl_parser.specs.declared.raw.Raw.{Raw}
-use Rattle.asl_parser.specs.Written.{Written, item, apply, listed, Writtens, none, more, Group, absent, given, written, writtens, written_in}
+use Rattle.asl_parser.specs.Written.{Written, item, apply, listed, Writtens, none, more, WrittenGroup, absent, given, written, writtens, written_in}
 
 -- how many parts there are
 abbrev mutual
@@ -15,7 +15,7 @@ abbrev mutual
   sizes none = 0
   sizes (more w ws) = size w + sizes ws
 
-  pub size_in : Group → ℕ
+  pub size_in : WrittenGroup → ℕ
   size_in absent = 0
   size_in (given ws) = sizes ws
 

@@ -15,7 +15,7 @@ use Rattle.asl_lexer.specs.Marks.{tokens_of}
 use Rattle.asl_lexer.proofs.Told.{tokens_are_cut, cut_is_tokens}
 use Rattle.asl_parser.specs.declared.raw.Raw.{Raw}
 use Rattle.asl_parser.specs.Grammar.{Spells}
-use Rattle.asl_parser.specs.Parse.{Outcome, outcome, read, stopped, sunk, tall}
+use Rattle.asl_parser.specs.Parse.{ParseOutcome, outcome, read, stopped, sunk, tall}
 use Rattle.asl_parser.proofs.Told.{is_spelled, is_not_deep}
 use Rattle.iasl_tool.proofs.Readings.{spelled_is_outcome}
 use Rattle.asl_parser.specs.Written.{writtens}
@@ -275,7 +275,7 @@ module _ (words : List (List ℕ)) (told : List Named) where
   by_items k asl tokens items [] et eo form h = by_names k asl tokens items (with_others (told_in items) (others_in items)) et eo form refl h
   by_items k asl tokens items (m ∷ ms) et eo form h = absurd (omega (arith, h))
 
-  by_outcome : (k : Known words told) (asl : is_data_table k.named.lines ≡ false) (tokens : List Token) (o : Outcome) → tokens_of k.named.lines ≡ Ok tokens → outcome tokens ≡ o → status_with words told k (of_outcome (style_of k.request.asked) k.named.lines tokens o) ≡ 0 → Found words told
+  by_outcome : (k : Known words told) (asl : is_data_table k.named.lines ≡ false) (tokens : List Token) (o : ParseOutcome) → tokens_of k.named.lines ≡ Ok tokens → outcome tokens ≡ o → status_with words told k (of_outcome (style_of k.request.asked) k.named.lines tokens o) ≡ 0 → Found words told
   by_outcome k asl tokens (read items) et eo h = by_items k asl tokens items (errors_at items) et eo refl h
   by_outcome k asl tokens (stopped rest) et eo h = absurd (omega (arith, h))
   by_outcome k asl tokens (sunk rest) et eo h = absurd (omega (arith, h))

@@ -3,10 +3,10 @@ use Rattle.std.proofs.Common.{◌≡◌, ℕ, suc, ◌<◌, ◌≤◌, Bool, tru
 use Rattle.std.specs.Prelude.{nat_le, if◌then◌else◌}
 use Rattle.asl_lexer.specs.declared.token.Token.{Token}
 use Rattle.asl_parser.specs.declared.raw.Raw.{Raw}
-use Rattle.asl_parser.specs.declared.branch.Branches.{Branches}
+use Rattle.asl_parser.specs.declared.subtree.Subtrees.{Subtrees}
 use Rattle.asl_parser.specs.declared.frame.Frame.{Frame}
-use Rattle.asl_parser.specs.declared.frame.State.{State}
-use Rattle.asl_parser.specs.declared.frame.State.TheVariants as st
+use Rattle.asl_parser.specs.declared.frame.ParserState.{ParserState}
+use Rattle.asl_parser.specs.declared.frame.ParserState.TheVariants as st
 use Rattle.asl_parser.specs.declared.mark.Mark.{Mark}
 use Rattle.asl_parser.specs.Depth.{IsShallow, IsLow}
 use Rattle.asl_parser.specs.Grammar.{IsSource, Spells}
@@ -28,7 +28,7 @@ record Sinks (ts rest : List Mark) : Type 0 where
 deeper : (ts rest : List Mark) → deep ts ≡ deep rest → rest ≡ ts
 deeper ts rest e = cc
 
-never : (a : State) (fs : List Frame) (rest : List Mark) → finish a fs ≡ deep rest → ⊥
+never : (a : ParserState) (fs : List Frame) (rest : List Mark) → finish a fs ≡ deep rest → ⊥
 never a fs rest e = by (finish a fs) (finish_never a fs) e
   where
     by : (x : Answer) → NotDeep x → x ≡ deep rest → ⊥
@@ -36,7 +36,7 @@ never a fs rest e = by (finish a fs) (finish_never a fs) e
     by (stop others) n e = absurd cc
     by (deep others) n e = absurd n
 
-sinks : (ts : List Mark) (a : State) (fs : List Frame) (rest : List Mark) → walk (within limit) ts a fs ≡ deep rest → Sinks ts rest
+sinks : (ts : List Mark) (a : ParserState) (fs : List Frame) (rest : List Mark) → walk (within limit) ts a fs ≡ deep rest → Sinks ts rest
 unfolding walk
 sinks [] a fs rest e = by (nat_le (depth fs) limit) e
   where
@@ -46,7 +46,7 @@ sinks [] a fs rest e = by (nat_le (depth fs) limit) e
 sinks (t ∷ ts) a fs rest e = by (nat_le (depth fs) limit) (step t a fs) e (λ b gs h. sinks ts b gs rest h)
   where
     by : (b : Bool) (m : Option Config) → (if b then elim m [ None ↦ stop (t ∷ ts) | Some c ↦ walk (within limit) ts c.0 c.1 ] else deep (t ∷ ts)) ≡ deep rest
-        → ((b : State) (gs : List Frame) → walk (within limit) ts b gs ≡ deep rest → Sinks ts rest) → Sinks (t ∷ ts) rest
+        → ((b : ParserState) (gs : List Frame) → walk (within limit) ts b gs ≡ deep rest → Sinks ts rest) → Sinks (t ∷ ts) rest
     by false m e go = record { at = 0; within' = omega arith; are = deeper (t ∷ ts) rest e }
     by true None e go = absurd cc
     by true (Some c) e go = let r = go c.0 c.1 e in record { at = suc r.at; within' = omega (arith, r.within'); are = r.are }
@@ -80,9 +80,9 @@ unfolding reading
 comes items ts trees (source b) e spelled are shallow low =
     let ran : run ts st.Sequence start ≡ source b = limited_source limit ts b e in
     let same : grown_all trees ≡ b = one b (sym (spelled_is_read trees ts spelled) ∙ ran) in
-    sym (ap (λ (b : Branches). grown_to b b.raws) same) ∙ grown_as trees items (grown_all trees).raws refl are low
+    sym (ap (λ (b : Subtrees). grown_to b b.raws) same) ∙ grown_as trees items (grown_all trees).raws refl are low
   where
-    one : (b : Branches) → source (grown_all trees) ≡ source b → grown_all trees ≡ b
+    one : (b : Subtrees) → source (grown_all trees) ≡ source b → grown_all trees ≡ b
     one b e = cc
 comes items ts trees (stop rest) e spelled are shallow low =
     absurd (no (sym (spelled_is_read trees ts spelled) ∙ limited_stop limit ts rest e))

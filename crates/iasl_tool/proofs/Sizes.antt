@@ -10,8 +10,8 @@ use Rattle.iasl_ports.specs.Fetched.{find_file, most_bytes}
 use Rattle.iasl_messages.specs.declared.place.Place.{Place}
 use Rattle.iasl_messages.specs.declared.place.Line.{Line}
 use Rattle.iasl_messages.specs.declared.message.Message.{Message}
-use Rattle.asl_directives.specs.declared.kind.Kind.{Kind}
-use Rattle.asl_directives.specs.declared.kind.Kind.TheVariants as k
+use Rattle.asl_directives.specs.declared.kind.DirectiveKind.{DirectiveKind}
+use Rattle.asl_directives.specs.declared.kind.DirectiveKind.TheVariants as k
 use Rattle.asl_directives.specs.declared.branches.Branch.{Branch}
 use Rattle.asl_directives.specs.Forms.{IncludedFile, name_alone, definition_of, message_of, include_of, file_name_of}
 use Rattle.asl_directives.specs.Branches.{is_read, asks, at_else, at_end_if, outermost}
@@ -111,7 +111,7 @@ module _ (pass : Pass) (few : AreFew pass.state.lines) where
     small_notes_message None = tt
     small_notes_message (Some text) = few
 
-    small_obeyed : (kind : Kind) (rest : List ℕ) → SmallRow (d.obeyed kind place rest pass)
+    small_obeyed : (kind : DirectiveKind) (rest : List ℕ) → SmallRow (d.obeyed kind place rest pass)
     small_obeyed k.Define rest = small_defines (definition_of rest)
     small_obeyed k.Undefine rest = small_undefines (name_alone rest)
     small_obeyed k.If rest = small_opens_if (d.truth_of pass.state.history rest)
@@ -125,21 +125,21 @@ module _ (pass : Pass) (few : AreFew pass.state.lines) where
     small_obeyed k.Warning rest = few
     small_obeyed k.Pragma rest = small_notes_message (message_of rest)
 
-    small_skipped : (kind : Kind) (rest : List ℕ) → SmallRow (d.skipped kind place rest pass)
+    small_skipped : (kind : DirectiveKind) (rest : List ℕ) → SmallRow (d.skipped kind place rest pass)
     small_skipped k.ElseIf rest = small_else_if rest (asks pass.branches)
     small_skipped k.Else rest = small_balanced (at_else pass.branches)
     small_skipped k.EndIf rest = small_balanced (at_end_if pass.branches)
     small_skipped _ rest = few
 
-    small_closed : (kind : Option Kind) (rest : List ℕ) → SmallRow (d.obeyed_closed kind place rest pass)
+    small_closed : (kind : Option DirectiveKind) (rest : List ℕ) → SmallRow (d.obeyed_closed kind place rest pass)
     small_closed None rest = tt
     small_closed (Some kind) rest = small_obeyed kind rest
 
-    small_obeyed_or : (left_open : Bool) (kind : Option Kind) (rest : List ℕ) → SmallRow (d.obeyed_or_open left_open kind place rest pass)
+    small_obeyed_or : (left_open : Bool) (kind : Option DirectiveKind) (rest : List ℕ) → SmallRow (d.obeyed_or_open left_open kind place rest pass)
     small_obeyed_or true kind rest = tt
     small_obeyed_or false kind rest = small_closed kind rest
 
-    small_skipped_or : (left_open : Bool) (kind : Option Kind) (rest : List ℕ) → SmallRow (d.skipped_or_open left_open kind place rest pass)
+    small_skipped_or : (left_open : Bool) (kind : Option DirectiveKind) (rest : List ℕ) → SmallRow (d.skipped_or_open left_open kind place rest pass)
     small_skipped_or left_open None rest = few
     small_skipped_or left_open (Some kind) rest = by_open (left_open && is_conditional kind)
       where
@@ -147,7 +147,7 @@ module _ (pass : Pass) (few : AreFew pass.state.lines) where
         by_open true = tt
         by_open false = small_skipped kind rest
 
-    small_by_read : (b left_open : Bool) (kind : Option Kind) (rest : List ℕ) → SmallRow (cond b (d.obeyed_or_open left_open kind place rest pass) (d.skipped_or_open left_open kind place rest pass))
+    small_by_read : (b left_open : Bool) (kind : Option DirectiveKind) (rest : List ℕ) → SmallRow (cond b (d.obeyed_or_open left_open kind place rest pass) (d.skipped_or_open left_open kind place rest pass))
     small_by_read true left_open kind rest = small_obeyed_or left_open kind rest
     small_by_read false left_open kind rest = small_skipped_or left_open kind rest
 

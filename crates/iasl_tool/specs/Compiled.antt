@@ -21,7 +21,7 @@ use Rattle.hidden_locals.specs.Switches.{without_switches}
 use Rattle.name_checks.specs.Messages.{told_errors}
 use Rattle.descriptor_names.specs.Told.{names_told, kinds_told}
 use Rattle.asl_parser.specs.declared.raw.Raw.{Raw}
-use Rattle.asl_parser.specs.Parse.{Outcome, outcome, read, stopped, sunk, tall}
+use Rattle.asl_parser.specs.Parse.{ParseOutcome, outcome, read, stopped, sunk, tall}
 use Rattle.asl_parser.specs.Written.{writtens}
 use Rattle.std.specs.Str.{IsAscii}
 use Rattle.asl_shape.specs.Plans.{Plans, plan_at, text_of}
@@ -148,7 +148,7 @@ of_items style lines items =
     unless_wrong (errors_at items) (with_notes (noted_in items) told)
 
 -- tokens that are a source, or the place where they stop being one or nest too deep
-abbrev pub of_outcome : Style → List Line → List Token → Outcome → Compiled
+abbrev pub of_outcome : Style → List Line → List Token → ParseOutcome → Compiled
 of_outcome style lines tokens (read items) = of_items style lines items
 of_outcome style lines tokens (stopped rest) = Refused (not_source tokens (length tokens - length rest) ∷ [])
 of_outcome style lines tokens (sunk rest) = Refused (too_deep tokens (length tokens - suc (length rest)) ∷ [])

@@ -6,7 +6,7 @@ use Rattle.iasl_messages.specs.declared.message.Message.{Message}
 use Rattle.acpi_values.specs.declared.width.Width.{Width}
 use Rattle.acpi_values.specs.declared.width.Width.TheVariants.{W32, W64}
 use Rattle.asl_parser.specs.declared.raw.Raw.{Raw}
-use Rattle.asl_parser.specs.Written.{Written, number as a_number, item, apply, Writtens, none, more, Group, absent, given, writtens}
+use Rattle.asl_parser.specs.Written.{Written, number as a_number, item, apply, Writtens, none, more, WrittenGroup, absent, given, writtens}
 use Rattle.asl_parser.specs.Within.{IsIn, IsWithin, AreWithin, IsGroupWithin}
 use Rattle.asl_words.specs.declared.operator.Parameter.{Parameter}
 use Rattle.asl_words.specs.Meanings.{meaning_of}
@@ -45,7 +45,7 @@ module _ (files : ℕ) where
     all_in qs (more w ws) h =
         both (unless (is_first_wide qs) (told w)) (told_all (behind_first qs) ws) (unless_in (is_first_wide qs) (told w) (told_in w h.0)) (all_in (behind_first qs) ws h.1)
 
-    group_in : (qs : List Parameter) (group : Group) → IsGroupWithin files group → AreTold files (told_group qs group)
+    group_in : (qs : List Parameter) (group : WrittenGroup) → IsGroupWithin files group → AreTold files (told_group qs group)
     group_in qs absent h = tt
     group_in qs (given ws) h = all_in qs ws h
 

@@ -5,7 +5,7 @@ use Rattle.iasl_messages.specs.declared.message.Message.{Message}
 use Rattle.acpi_values.specs.declared.width.Width.{Width}
 use Rattle.acpi_values.specs.declared.width.Width.TheVariants.{W32, W64}
 use Rattle.asl_parser.specs.declared.raw.Raw.{Raw}
-use Rattle.asl_parser.specs.Written.{Written, number as a_number, item, apply, Writtens, none, more, Group, absent, given, written, writtens, written_in}
+use Rattle.asl_parser.specs.Written.{Written, number as a_number, item, apply, Writtens, none, more, WrittenGroup, absent, given, written, writtens, written_in}
 use Rattle.asl_words.specs.declared.operator.Slot.{Slot}
 use Rattle.asl_words.specs.declared.operator.Slot.TheVariants as slot
 use Rattle.asl_words.specs.declared.operator.Parameter.{Parameter}
@@ -69,7 +69,7 @@ abbrev mutual
   told_all qs none = []
   told_all qs (more w ws) = unless (is_first_wide qs) (told w) ++ told_all (behind_first qs) ws
 
-  pub told_group : List Parameter → Group → List Message
+  pub told_group : List Parameter → WrittenGroup → List Message
   told_group qs absent = []
   told_group qs (given ws) = told_all qs ws
 

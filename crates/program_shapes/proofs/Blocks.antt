@@ -2,7 +2,7 @@
 use Rattle.std.proofs.Common.{◌≡◌, ℕ, Bool, true, false, [], ◌++◌, Option, Some, None, refl}
 use Rattle.std.specs.Prelude.{if◌then◌else◌}
 use Rattle.iasl_messages.specs.declared.place.Place.{Place}
-use Rattle.asl_parser.specs.Written.{Writtens, Group, item, none, more}
+use Rattle.asl_parser.specs.Written.{Writtens, WrittenGroup, item, none, more}
 use Rattle.asl_words.specs.Operators.{block_parameters}
 use Rattle.asl_shape.specs.Shapes.{takes, inside_of, is_given}
 use Rattle.acpi_values.specs.Revisions.{width_of}
@@ -19,7 +19,7 @@ use Rattle.program_shapes.proofs.Headers.{HaveForms, HaveRoom, room_of, argument
 
 -- ---- the block
 
-no_inside : (place : Place) (args body : Group) → block_errors place args body ≡ [] → (block_terms (block_args place args).made body).faults ≡ []
+no_inside : (place : Place) (args body : WrittenGroup) → block_errors place args body ≡ [] → (block_terms (block_args place args).made body).faults ≡ []
 no_inside place args body e = by (block_fault (takes block_parameters (inside_of args)) (is_given body)) e
   where
     by : (o : Option ℕ) → errors_inside o place ((block_args place args).faults ++ (block_terms (block_args place args).made body).faults) ≡ [] → (block_terms (block_args place args).made body).faults ≡ []
@@ -40,7 +40,7 @@ terms_as (more (item place word args body) (more w ws)) e k = by (is_block_word 
     by false e = absurd cc
 terms_as (more _ ws) e k = absurd cc
 
-taken : (place : Place) (args body : Group) → block_errors place args body ≡ [] → (takes block_parameters (inside_of args) ≡ true) × ((block_args place args).faults ≡ [])
+taken : (place : Place) (args body : WrittenGroup) → block_errors place args body ≡ [] → (takes block_parameters (inside_of args) ≡ true) × ((block_args place args).faults ≡ [])
 taken place args body e = by (takes block_parameters (inside_of args)) (is_given body) refl e
   where
     by : (a b : Bool) → takes block_parameters (inside_of args) ≡ a → errors_inside (block_fault a b) place ((block_args place args).faults ++ (block_terms (block_args place args).made body).faults) ≡ []

@@ -16,7 +16,7 @@ use Rattle.asl_words.specs.declared.operator.TextMacro.{TextMacro}
 use Rattle.asl_words.specs.declared.meaning.Meaning.{Meaning}
 use Rattle.asl_words.specs.declared.meaning.Meaning.TheVariants as is
 use Rattle.asl_parser.specs.Written as piece
-use Rattle.asl_parser.specs.Written.{Written, Writtens, Group, item, apply, listed, comma, semicolon, empty, none, more, absent, given}
+use Rattle.asl_parser.specs.Written.{Written, Writtens, WrittenGroup, item, apply, listed, comma, semicolon, empty, none, more, absent, given}
 use Rattle.asl_words.specs.Operators.{parameters_as, body_as, block_parameters, offset_parameters, macro_parameters}
 use Rattle.acpi_values.specs.declared.width.Width.{Width}
 use Rattle.asl_shape.specs.declared.around.Around.{Around}
@@ -131,7 +131,7 @@ each_form (q ∷ qs) at inside (more w ws) k t e =
     let g = both_true (q.omittable || not (is_empty w)) (takes qs ws) t in
     (form_asked q.omittable q.slot (meaning_in w) first.made (argument_form q.omittable s inside w k.1 g.0 f.0), each_form qs at inside ws k.2 g.1 f.1)
 
-pub arguments_form : (qs : List Parameter) (at : Place) (inside : Around) (args : Group) → AreArguments args → takes qs (inside_of args) ≡ true → (arguments qs at inside args).faults ≡ [] → HaveForms qs (arguments qs at inside args).made
+pub arguments_form : (qs : List Parameter) (at : Place) (inside : Around) (args : WrittenGroup) → AreArguments args → takes qs (inside_of args) ≡ true → (arguments qs at inside args).faults ≡ [] → HaveForms qs (arguments qs at inside args).made
 arguments_form [] at inside absent k t e = tt
 arguments_form (q ∷ qs) at inside absent k t e = left_forms (q ∷ qs) at t
 arguments_form qs at inside (given ws) k t e = each_form qs at inside ws k t e

@@ -20,7 +20,7 @@ use Rattle.asl_parser.specs.declared.sign.Strength.{Strength}
 use Rattle.asl_parser.specs.declared.raw.Infix.{Infix}
 use Rattle.iasl_messages.specs.declared.place.Place.{Place}
 use Rattle.asl_parser.specs.Trees as t
-use Rattle.asl_parser.specs.Trees.{Tree, Trees, Group, none, more, absent, given, raw_of, raws_of, raws_in}
+use Rattle.asl_parser.specs.Trees.{Tree, Trees, TreeGroup, none, more, absent, given, raw_of, raws_of, raws_in}
 use Rattle.asl_parser.specs.Grammar.{Phrase, expression, arguments, body, before, argument, brace_list, members, member, sequence, all, Reads, IsSource, Spells, a_number, a_text, an_item, in_brackets, an_index, a_postfix, a_prefix, an_infix, tighter, no_arguments, some_arguments, none_given, last_given, last_left_out, none_before, one_before, one_left_out, an_argument, a_list_argument, empty_list, a_list, no_members, more_members, a_word, an_inner_list, no_body, a_body, an_empty_row, a_comma, a_semicolon, one_more}
 use Rattle.asl_parser.specs.Grammar as g
 use Rattle.asl_parser.specs.Written as piece
@@ -109,7 +109,7 @@ abbrev mutual
   TreeKept (t.a_pair p o a e) = (TreeKept a × AsOperand a) × (TreeKept e × AsOperand e) × (is_unary o ≡ false)
   TreeKept _ = Unit {0}
 
-  ArgumentsKept : Group → Type 0
+  ArgumentsKept : TreeGroup → Type 0
   ArgumentsKept absent = Unit {0}
   ArgumentsKept (given xs) = EachArgumentKept xs
 
@@ -117,7 +117,7 @@ abbrev mutual
   EachArgumentKept none = Unit {0}
   EachArgumentKept (more xs x) = EachArgumentKept xs × TreeKept x × (is_argument x ≡ true)
 
-  MembersKept : Group → Type 0
+  MembersKept : TreeGroup → Type 0
   MembersKept absent = Unit {0}
   MembersKept (given xs) = EachMemberKept xs × (how_many xs ≤ ones_of W64)
 
@@ -342,7 +342,7 @@ mutual
   tree_kept (t.a_semicolon p) h = subst IsKept (sym written_semicolon) tt
   tree_kept (t.an_empty p) h = subst IsKept (sym written_empty) tt
 
-  arguments_kept : (a : Group) → ArgumentsKept a → AreArguments (written_in (raws_in a))
+  arguments_kept : (a : TreeGroup) → ArgumentsKept a → AreArguments (written_in (raws_in a))
   arguments_kept absent h = tt
   arguments_kept (given xs) h = each_argument xs h
 
@@ -350,7 +350,7 @@ mutual
   each_argument none h = no_arguments_kept
   each_argument (more xs x) h = append_arguments (raws_of xs) (raw_of x) (each_argument xs h.0) (tree_kept x h.1) (argument_as x h.2)
 
-  members_kept : (a : Group) → MembersKept a → AreMembers (written_in (raws_in a))
+  members_kept : (a : TreeGroup) → MembersKept a → AreMembers (written_in (raws_in a))
   members_kept absent h = tt
   members_kept (given xs) h = (each_member xs h.0, subst (λ n. n ≤ ones_of W64) (sym (counted xs)) h.1)
 

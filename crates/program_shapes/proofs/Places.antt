@@ -31,7 +31,7 @@ use Rattle.asl_shape.specs.Descriptors.{own_bytes, fill_of, is_name, segment_of,
 use Rattle.asl_words.specs.declared.meaning.Reading.{Reading}
 use Rattle.asl_words.specs.declared.meaning.Reading.TheVariants as read
 use Rattle.asl_parser.specs.Written as piece
-use Rattle.asl_parser.specs.Written.{Written, Writtens, Group, item, apply, listed, comma, semicolon, empty, none, more, absent, given, writtens}
+use Rattle.asl_parser.specs.Written.{Written, Writtens, WrittenGroup, item, apply, listed, comma, semicolon, empty, none, more, absent, given, writtens}
 use Rattle.acpi_state.specs.Outcomes.{choose}
 use Rattle.acpi_values.specs.Paths.{NameSeg}
 use Rattle.asl_tree.specs.Names.{single_segment}
@@ -352,11 +352,11 @@ module _ (files : ℕ) where
       operands_in s inside none h = tt
       operands_in s inside (more w ws) h = (place_in nowhere w main h.0, checked_in inside.width s (place_of nowhere w) (bare s inside w) (bare_in s inside w h.0), operands_in slot.Expression inside ws h.1)
 
-      call_args_in : (inside : Around) (args : Group) → IsGroupWithin files args → PlansWithin files (call_args inside args).made
+      call_args_in : (inside : Around) (args : WrittenGroup) → IsGroupWithin files args → PlansWithin files (call_args inside args).made
       call_args_in inside absent h = tt
       call_args_in inside (given ws) h = operands_in slot.Expression inside ws h
 
-      arguments_within : (qs : List Parameter) (place : Place) (inside : Around) (args : Group) → IsIn files place → IsGroupWithin files args → PlansWithin files (arguments qs place inside args).made
+      arguments_within : (qs : List Parameter) (place : Place) (inside : Around) (args : WrittenGroup) → IsIn files place → IsGroupWithin files args → PlansWithin files (arguments qs place inside args).made
       arguments_within qs place inside absent p h = left_out_in place qs p
       arguments_within qs place inside (given ws) p h = arguments_in_within qs place inside ws p h
 
@@ -367,7 +367,7 @@ module _ (files : ℕ) where
           let s : Slot = slot_as q.slot (meaning_in w) in
           (place_in place w p h.0, checked_in inside.width s (place_of nowhere w) (bare s inside w) (bare_in s inside w h.0), arguments_in_within qs place inside ws p h.1)
 
-      contents_in : (b : Body) (inside : Around) (place : Place) (body : Group) → IsGroupWithin files body → PlansWithin files (contents b inside place body).made
+      contents_in : (b : Body) (inside : Around) (place : Place) (body : WrittenGroup) → IsGroupWithin files body → PlansWithin files (contents b inside place body).made
       contents_in b inside place absent h = tt
       contents_in braces.No inside place (given ws) h = tt
       contents_in braces.Terms inside place (given ws) h = terms_in inside None ws h
@@ -408,7 +408,7 @@ module _ (files : ℕ) where
           skipped_in (is_separator w) (place_of nowhere w) (checked inside.width (slot.Branch defaulted) (place_of nowhere w) (bare (slot.Branch defaulted) inside w)) (cases inside (default_after defaulted w) ws) (place_in nowhere w main h.0)
           (checked_in inside.width (slot.Branch defaulted) (place_of nowhere w) (bare (slot.Branch defaulted) inside w) (bare_in (slot.Branch defaulted) inside w h.0)) (cases_in inside (default_after defaulted w) ws h.1)
 
-    body_in : (around : Around) (body : Group) → IsGroupWithin files body → PlansWithin files (terms around None (inside_of body)).made
+    body_in : (around : Around) (body : WrittenGroup) → IsGroupWithin files body → PlansWithin files (terms around None (inside_of body)).made
     body_in around absent h = tt
     body_in around (given ws) h = terms_in around None ws h
 

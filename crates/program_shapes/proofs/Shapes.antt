@@ -34,7 +34,7 @@ use Rattle.asl_shape.specs.declared.around.Around.{Around}
 use Rattle.asl_shape.specs.declared.fields.Due.{Due}
 use Rattle.asl_shape.specs.declared.fields.UnitName.{UnitName}
 use Rattle.asl_parser.specs.Written as piece
-use Rattle.asl_parser.specs.Written.{Written, Writtens, Group, item, apply, listed, comma, semicolon, empty, none, more, absent, given}
+use Rattle.asl_parser.specs.Written.{Written, Writtens, WrittenGroup, item, apply, listed, comma, semicolon, empty, none, more, absent, given}
 use Rattle.asl_shape.specs.Plans.{Plan, omitted, a_name, a_unit, a_skip, an_offset, Plans, no_plans, plan, join, number_of, how_many}
 use Rattle.asl_shape.specs.Shapes.{Shaped, fine, refused, nowhere, is_given, is_empty, is_separator, inside_of, has_arguments, takes, none_empty, is_call, left_out, evaluated, checked, place_of, joined, skipped, list_shape, is_listed, byte_slot, run_after, within, form_shape, bare, operands, call_args, arguments, arguments_in, contents, members, terms, read_shape, string_shape, fault_at, offset_shape, macro_shape, template_shape, descriptor_shape, meaning_in, is_field_list, begin, field_slot, named_unit, unit_behind, offset_alone, of_bits, field_part, due_behind, elements, arranged, cases, default_after}
 use Rattle.asl_words.specs.Meanings.{meaning_of, may_end, may_be, is_branch_role, reading_of, slot_as, is_word_of}
@@ -352,7 +352,7 @@ mutual
   bare_fit s inside semicolon k sep emp e = absurd cc
   bare_fit s inside empty k sep emp e = absurd cc
 
-  calls_fit : (inside : Around) (args : Group) → AreArguments args → none_empty (inside_of args) ≡ true → (call_args inside args).faults ≡ [] → PlansAs FormedValues (call_args inside args).made
+  calls_fit : (inside : Around) (args : WrittenGroup) → AreArguments args → none_empty (inside_of args) ≡ true → (call_args inside args).faults ≡ [] → PlansAs FormedValues (call_args inside args).made
   calls_fit inside absent k t e = none_as FormedValues tt
   calls_fit inside (given ws) k t e = values_fit inside ws k t e
 
@@ -366,7 +366,7 @@ mutual
       more_as FormedValues FormedValues (Fits slot.Expression) (place_of nowhere w) first.made rest.made (λ t ts h i. (h.0, h.1, i))
       (checked_fit inside.width slot.Expression (place_of nowhere w) (bare slot.Expression inside w) (λ h. bare_fit slot.Expression inside w k.0 k.1 (not_true (is_empty w) g.0) h) f.0) (values_fit inside ws k.2 g.1 f.1)
 
-  arguments_fit : (qs : List Parameter) (at : Place) (inside : Around) (args : Group) → AreArguments args → takes qs (inside_of args) ≡ true → (arguments qs at inside args).faults ≡ [] → PlansFit qs (arguments qs at inside args).made
+  arguments_fit : (qs : List Parameter) (at : Place) (inside : Around) (args : WrittenGroup) → AreArguments args → takes qs (inside_of args) ≡ true → (arguments qs at inside args).faults ≡ [] → PlansFit qs (arguments qs at inside args).made
   arguments_fit qs at inside absent k t e = left_fit qs at (ends qs t)
   arguments_fit qs at inside (given ws) k t e = each_fit qs at inside ws k t e
 
@@ -380,7 +380,7 @@ mutual
       let g = both_true (q.omittable || not (is_empty w)) (takes qs ws) t in
       (as_asked q.omittable q.slot (meaning_in w) first.made (argument_fit q.omittable s inside w (λ emp h. bare_fit s inside w k.0 k.1 emp h) g.0 f.0), each_fit qs at inside ws k.2 g.1 f.1)
 
-  contents_fit : (b : Body) (inside : Around) (at : Place) (body : Group) → AreMembers body → (contents b inside at body).faults ≡ [] → ContentsFit b (contents b inside at body).made
+  contents_fit : (b : Body) (inside : Around) (at : Place) (body : WrittenGroup) → AreMembers body → (contents b inside at body).faults ≡ [] → ContentsFit b (contents b inside at body).made
   contents_fit braces.No inside at absent k e = none_as (BodyFit braces.No) refl
   contents_fit braces.Terms inside at absent k e = none_as (BodyFit braces.Terms) tt
   contents_fit braces.Bytes inside at absent k e = none_as (BodyFit braces.Bytes) (omega arith)
@@ -451,6 +451,6 @@ mutual
       terms_more inside run w ws (λ sep f. checked_fit inside.width (slot.Term run) (place_of nowhere w) (bare (slot.Term run) inside w) (λ h. bare_fit (slot.Term run) inside w k.0 sep k.1 h) f) (λ f. terms_fit inside (run_after run w) ws k.2 f) e
 
 -- the terms of a block
-pub in_braces : (around : Around) (body : Group) → AreMembers body → (terms around None (inside_of body)).faults ≡ [] → PlansAs FormedTerms (terms around None (inside_of body)).made
+pub in_braces : (around : Around) (body : WrittenGroup) → AreMembers body → (terms around None (inside_of body)).faults ≡ [] → PlansAs FormedTerms (terms around None (inside_of body)).made
 in_braces around absent k e = none_as FormedTerms tt
 in_braces around (given ws) k e = terms_fit around None ws k.0 e

@@ -3,7 +3,7 @@ use Rattle.std.specs.Prelude.{◌≡◌, ◌<◌, ◌≤◌, true, false, length
 use Rattle.acpi_values.specs.Widths.{ones_of}
 use Rattle.acpi_values.specs.declared.width.Width.TheVariants.{W64}
 use Rattle.asl_parser.specs.Written as piece
-use Rattle.asl_parser.specs.Written.{Written, Writtens, Group, item, apply, none, more, absent, given}
+use Rattle.asl_parser.specs.Written.{Written, Writtens, WrittenGroup, item, apply, none, more, absent, given}
 use Rattle.asl_words.specs.Operators.{parameters_of}
 use Rattle.asl_shape.specs.Symbols.{symbol_of}
 use Rattle.asl_shape.specs.Shapes.{is_empty, is_separator, takes}
@@ -18,7 +18,7 @@ abbrev mutual
   IsKept (apply place op args) = EachArgument args × (takes (parameters_of (symbol_of op)) args ≡ true)
   IsKept _ = Unit {0}
 
-  pub AreArguments : Group → Type 0
+  pub AreArguments : WrittenGroup → Type 0
   AreArguments absent = Unit {0}
   AreArguments (given ws) = EachArgument ws
 
@@ -26,7 +26,7 @@ abbrev mutual
   EachArgument none = Unit {0}
   EachArgument (more w ws) = IsKept w × (is_separator w ≡ false) × EachArgument ws
 
-  pub AreMembers : Group → Type 0
+  pub AreMembers : WrittenGroup → Type 0
   AreMembers absent = Unit {0}
   AreMembers (given ws) = EachMember ws × (shapes.count ws ≤ ones_of W64)
 

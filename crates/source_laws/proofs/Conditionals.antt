@@ -7,8 +7,8 @@ use Rattle.asl_fragments.specs.Fragments.{ends_in_comment}
 use Rattle.asl_macros.specs.History.{History}
 use Rattle.asl_conditions.specs.Condition.{is_known}
 use Rattle.asl_directives.specs.declared.branches.Branch.{Branch}
-use Rattle.asl_directives.specs.declared.kind.Kind.{Kind}
-use Rattle.asl_directives.specs.declared.kind.Kind.TheVariants as k
+use Rattle.asl_directives.specs.declared.kind.DirectiveKind.{DirectiveKind}
+use Rattle.asl_directives.specs.declared.kind.DirectiveKind.TheVariants as k
 use Rattle.asl_directives.specs.Forms.{IncludedFile, name_alone, definition_of, message_of, include_of, file_name_of}
 use Rattle.asl_directives.specs.Kinds.{is_conditional}
 use Rattle.asl_directives.specs.Branches.{is_read, asks, at_else_if}
@@ -19,7 +19,7 @@ use Rattle.asl_preprocess.specs.State.{State, Pass, Outcome, then, at, stopped, 
 use Rattle.asl_preprocess.specs.Lines.{RowEffect, Goes, Asks, goes, text_left, asked_by_line, word_place, asks_for, of_asked}
 use Rattle.asl_preprocess.specs.Directives.{wrong, defines, undefines, includes, notes_message, obeyed, skipped, obeyed_or_open, skipped_or_open, else_if, turns_if, truth_of, balanced, opens_if, opens_defined}
 use Rattle.asl_preprocess.specs.Preprocess.{Reading, Setting, of_row, done, of_rows, at_end, of_text, included}
-use Rattle.source_laws.specs.Conditionals.{Rows, Branches, no_rows, row, conditional, no_branches, branch, listed, listed_branches, kind_in, operand_in, place_in, Is, stands_in_conditional, IsOther, IsNone, AreWhole, AreBranches, AreFurther, condition_by, condition, fault_by, told, chosen, read, read_first, known, alone}
+use Rattle.source_laws.specs.Conditionals.{RowTree, BranchList, no_rows, row, conditional, no_branches, branch, listed, listed_branches, kind_in, operand_in, place_in, Is, stands_in_conditional, IsOther, IsNone, AreWhole, AreBranches, AreFurther, condition_by, condition, fault_by, told, chosen, read, read_first, known, alone}
 
 -- ---- what is known, with branches around it
 
@@ -72,7 +72,7 @@ noted : (place : Place) (state : State) (bs : List Branch) (d : Option (List ℕ
 noted place state bs None = refl
 noted place state bs (Some d) = refl
 
-obeyed_alone : (kind : Kind) (place : Place) (rest : List ℕ) (state : State) (bs : List Branch) → is_conditional kind ≡ false → obeyed kind place rest (inside state bs) ≡ moved bs (obeyed kind place rest (inside state []))
+obeyed_alone : (kind : DirectiveKind) (place : Place) (rest : List ℕ) (state : State) (bs : List Branch) → is_conditional kind ≡ false → obeyed kind place rest (inside state bs) ≡ moved bs (obeyed kind place rest (inside state []))
 obeyed_alone k.Define place rest state bs h = defined place state bs (definition_of rest)
 obeyed_alone k.Undefine place rest state bs h = undefined place state bs (name_alone rest)
 obeyed_alone k.If place rest state bs h = absurd cc
@@ -86,13 +86,13 @@ obeyed_alone k.Error place rest state bs h = refl
 obeyed_alone k.Warning place rest state bs h = refl
 obeyed_alone k.Pragma place rest state bs h = noted place state bs (message_of rest)
 
-directive_alone : (left_open : Bool) (kind : Option Kind) (place : Place) (rest : List ℕ) (state : State) (bs : List Branch) → stands_in_conditional kind ≡ false
+directive_alone : (left_open : Bool) (kind : Option DirectiveKind) (place : Place) (rest : List ℕ) (state : State) (bs : List Branch) → stands_in_conditional kind ≡ false
     → obeyed_or_open left_open kind place rest (inside state bs) ≡ moved bs (obeyed_or_open left_open kind place rest (inside state []))
 directive_alone true kind place rest state bs h = refl
 directive_alone false None place rest state bs h = refl
 directive_alone false (Some kind) place rest state bs h = obeyed_alone kind place rest state bs h
 
-skipped_alone : (kind : Kind) (place : Place) (rest : List ℕ) (pass : Pass) → is_conditional kind ≡ false → skipped kind place rest pass ≡ Ok (Goes pass)
+skipped_alone : (kind : DirectiveKind) (place : Place) (rest : List ℕ) (pass : Pass) → is_conditional kind ≡ false → skipped kind place rest pass ≡ Ok (Goes pass)
 skipped_alone k.If place rest pass h = absurd cc
 skipped_alone k.IfDefined place rest pass h = absurd cc
 skipped_alone k.IfNotDefined place rest pass h = absurd cc
@@ -101,14 +101,14 @@ skipped_alone k.Else place rest pass h = absurd cc
 skipped_alone k.EndIf place rest pass h = absurd cc
 skipped_alone _ place rest pass h = refl
 
-closed_alone : (left_open : Bool) (kind : Kind) (place : Place) (rest : List ℕ) (pass : Pass) → is_conditional kind ≡ false → skipped_or_open left_open (Some kind) place rest pass ≡ Ok (Goes pass)
+closed_alone : (left_open : Bool) (kind : DirectiveKind) (place : Place) (rest : List ℕ) (pass : Pass) → is_conditional kind ≡ false → skipped_or_open left_open (Some kind) place rest pass ≡ Ok (Goes pass)
 closed_alone left_open kind place rest pass h = ap (λ t. cond (left_open && t) (wrong place pass) (skipped kind place rest pass)) h ∙ by left_open
   where
     by : (t : Bool) → cond (t && false) (wrong place pass) (skipped kind place rest pass) ≡ Ok (Goes pass)
     by true = skipped_alone kind place rest pass h
     by false = skipped_alone kind place rest pass h
 
-skipped_other : (left_open : Bool) (kind : Option Kind) (place : Place) (rest : List ℕ) (pass : Pass) → stands_in_conditional kind ≡ false → skipped_or_open left_open kind place rest pass ≡ Ok (Goes pass)
+skipped_other : (left_open : Bool) (kind : Option DirectiveKind) (place : Place) (rest : List ℕ) (pass : Pass) → stands_in_conditional kind ≡ false → skipped_or_open left_open kind place rest pass ≡ Ok (Goes pass)
 skipped_other left_open None place rest pass h = refl
 skipped_other left_open (Some kind) place rest pass h = closed_alone left_open kind place rest pass h
 
@@ -119,7 +119,7 @@ then_then (Ok v) f g = refl
 then_then (Err stop) f g = refl
 
 -- a directive of a conditional, that is read or not
-abbrev pub turned : Bool → Kind → Place → List ℕ → Pass → Outcome RowEffect
+abbrev pub turned : Bool → DirectiveKind → Place → List ℕ → Pass → Outcome RowEffect
 turned t kind place rest pass = cond t (obeyed_or_open false (Some kind) place rest pass) (skipped_or_open false (Some kind) place rest pass)
 
 -- ---- branches
@@ -196,7 +196,7 @@ module _ (reading : Reading) (setting : Setting) (file : ℕ) (own : List ℕ) w
   -- ---- directives of conditionals
 
   -- where one of this kind stands, with what it does
-  pub directive_is : (kind : Kind) (n : ℕ) (text : List ℕ) (pass : Pass) (t : Bool) → Is kind (Directive n text) → is_read pass.branches ≡ t
+  pub directive_is : (kind : DirectiveKind) (n : ℕ) (text : List ℕ) (pass : Pass) (t : Bool) → Is kind (Directive n text) → is_read pass.branches ≡ t
       → step (Directive n text) pass ≡ then (turned t kind (place_in file n text) (operand_in text) pass) (done reading setting own)
   directive_is kind n text pass t is r =
       ap (λ u. then (cond u (obeyed_or_open (ends_in_comment false text) (kind_in text) (place_in file n text) (operand_in text) pass) (skipped_or_open (ends_in_comment false text) (kind_in text) (place_in file n text) (operand_in text) pass)) (done reading setting own)) r
@@ -218,11 +218,11 @@ module _ (reading : Reading) (setting : Setting) (file : ℕ) (own : List ℕ) w
   conditional_behind : (xs : List Row) (end : Row) (ys : List Row) (pass : Pass) → run (xs ++ end ∷ ys) pass ≡ then (run (xs ++ end ∷ []) pass) (run ys)
   conditional_behind xs end ys pass = ap (λ rows. run rows pass) (sym (append_assoc xs (end ∷ []) ys)) ∙ run_on (xs ++ end ∷ []) ys pass
 
-  none_listed : (others : Branches) → IsNone others → listed_branches others ≡ []
+  none_listed : (others : BranchList) → IsNone others → listed_branches others ≡ []
   none_listed no_branches h = refl
   none_listed (branch d rows others) h = absurd h
 
-  only_end : (others : Branches) (end : Row) (state : State) (b : Branch) (bs : List Branch) → IsNone others → Is k.EndIf end → run (listed_branches others ++ end ∷ []) (inside state (b ∷ bs)) ≡ Ok (inside state bs)
+  only_end : (others : BranchList) (end : Row) (state : State) (b : Branch) (bs : List Branch) → IsNone others → Is k.EndIf end → run (listed_branches others ++ end ∷ []) (inside state (b ∷ bs)) ≡ Ok (inside state bs)
   only_end others end state b bs none is =
       ap (λ rows. run (rows ++ end ∷ []) (inside state (b ∷ bs))) (none_listed others none) ∙ ap (λ o. then o (run [])) (end_closes end state b bs is)
 
@@ -269,7 +269,7 @@ module _ (reading : Reading) (setting : Setting) (file : ℕ) (own : List ℕ) w
   unread_then xs ys end pass later e f = branch_behind xs ys end pass ∙ ap (λ o. then o (run (ys ++ end ∷ []))) e ∙ f
 
   mutual
-    pub rows_unread : (rows : Rows) (pass : Pass) → AreWhole rows → is_read pass.branches ≡ false → run (listed rows) pass ≡ Ok pass
+    pub rows_unread : (rows : RowTree) (pass : Pass) → AreWhole rows → is_read pass.branches ≡ false → run (listed rows) pass ≡ Ok pass
     rows_unread no_rows pass whole is = refl
     rows_unread (row first behind) pass whole is =
         ap (λ o. then o (run (listed behind))) (row_unread first pass whole.0 is) ∙ rows_unread behind pass whole.1 is
@@ -278,7 +278,7 @@ module _ (reading : Reading) (setting : Setting) (file : ℕ) (own : List ℕ) w
         ∙ ap (λ o. then o (run (listed behind))) (conditional_unread branches end pass.state pass.branches whole.0 whole.1 is)
         ∙ rows_unread behind pass whole.2 is
 
-    conditional_unread : (branches : Branches) (end : Row) (state : State) (bs : List Branch) → AreBranches branches → Is k.EndIf end → is_read bs ≡ false
+    conditional_unread : (branches : BranchList) (end : Row) (state : State) (bs : List Branch) → AreBranches branches → Is k.EndIf end → is_read bs ≡ false
         → run (listed_branches branches ++ end ∷ []) (inside state bs) ≡ Ok (inside state bs)
     conditional_unread no_branches end state bs whole closes is = absurd whole
     conditional_unread (branch d rows others) end state bs whole closes is =
@@ -290,7 +290,7 @@ module _ (reading : Reading) (setting : Setting) (file : ℕ) (own : List ℕ) w
         (passed others end state b bs whole.2 closes (ap (λ t. not t || false) is) refl)
 
     -- the branches behind one that was taken
-    passed : (others : Branches) (end : Row) (state : State) (b : Branch) (bs : List Branch) → AreFurther others → Is k.EndIf end → b.taken ≡ true → b.last ≡ false
+    passed : (others : BranchList) (end : Row) (state : State) (b : Branch) (bs : List Branch) → AreFurther others → Is k.EndIf end → b.taken ≡ true → b.last ≡ false
         → run (listed_branches others ++ end ∷ []) (inside state (b ∷ bs)) ≡ Ok (inside state bs)
     passed no_branches end state b bs whole closes taken last = ap (λ o. then o (run [])) (end_closes end state b bs closes)
     passed (branch d rows others) end state b bs (inl whole) closes taken last =
@@ -402,7 +402,7 @@ module _ (reading : Reading) (setting : Setting) (file : ℕ) (own : List ℕ) w
   by_value (Some false) rest bs f x y fault h g = h false refl
   by_value None rest bs f x y fault h g = g
 
-  told_stops : (d : Row) (state : State) (kind : Kind) → Is kind d → (rest : List Row) (bs : List Branch) → then (around bs (told file d state)) (run rest) ≡ around bs (told file d state)
+  told_stops : (d : Row) (state : State) (kind : DirectiveKind) → Is kind d → (rest : List Row) (bs : List Branch) → then (around bs (told file d state)) (run rest) ≡ around bs (told file d state)
   told_stops (Directive n text) state kind is rest bs = refl
   told_stops (Ordinary n in_comment text) state kind is rest bs = absurd is
 
@@ -412,7 +412,7 @@ module _ (reading : Reading) (setting : Setting) (file : ℕ) (own : List ℕ) w
   open_told d state (inr (inr is)) rest bs = told_stops d state k.IfNotDefined is rest bs
 
   mutual
-    rows_read : (rows : Rows) (state : State) (bs : List Branch) → AreWhole rows → is_read bs ≡ true → run (listed rows) (inside state bs) ≡ around bs (read does file rows state)
+    rows_read : (rows : RowTree) (state : State) (bs : List Branch) → AreWhole rows → is_read bs ≡ true → run (listed rows) (inside state bs) ≡ around bs (read does file rows state)
     rows_read no_rows state bs whole is = refl
     rows_read (row first behind) state bs whole is =
         ap (λ o. then o (run (listed behind))) (row_read first state bs whole.0 is)
@@ -422,7 +422,7 @@ module _ (reading : Reading) (setting : Setting) (file : ℕ) (own : List ℕ) w
         ∙ ap (λ o. then o (run (listed behind))) (conditional_read branches end state bs whole.0 whole.1 is)
         ∙ then_around bs (read_first does file branches state) (run (listed behind)) (read does file behind) (λ later. rows_read behind later bs whole.2 is)
 
-    conditional_read : (branches : Branches) (end : Row) (state : State) (bs : List Branch) → AreBranches branches → Is k.EndIf end → is_read bs ≡ true
+    conditional_read : (branches : BranchList) (end : Row) (state : State) (bs : List Branch) → AreBranches branches → Is k.EndIf end → is_read bs ≡ true
         → run (listed_branches branches ++ end ∷ []) (inside state bs) ≡ around bs (read_first does file branches state)
     conditional_read no_branches end state bs whole closes is = absurd whole
     conditional_read (branch d rows others) end state bs whole closes is =
@@ -441,7 +441,7 @@ module _ (reading : Reading) (setting : Setting) (file : ℕ) (own : List ℕ) w
         (open_told d state whole.0 rest bs)
 
     -- the branches behind those that were not taken
-    waiting : (others : Branches) (end : Row) (state : State) (b : Branch) (bs : List Branch) → AreFurther others → Is k.EndIf end → is_read bs ≡ true → b.taken ≡ false → b.last ≡ false
+    waiting : (others : BranchList) (end : Row) (state : State) (b : Branch) (bs : List Branch) → AreFurther others → Is k.EndIf end → is_read bs ≡ true → b.taken ≡ false → b.last ≡ false
         → run (listed_branches others ++ end ∷ []) (inside state (b ∷ bs)) ≡ around bs (read_first does file others state)
     waiting no_branches end state b bs whole closes is taken last = ap (λ o. then o (run [])) (end_closes end state b bs closes)
     waiting (branch d rows others) end state b bs (inl whole) closes is taken last =
@@ -466,7 +466,7 @@ module _ (reading : Reading) (setting : Setting) (file : ℕ) (own : List ℕ) w
 
 -- ---- whole files
 
-pub read_as_tree : (reading : Reading) (setting : Setting) (state : State) (name bytes : List ℕ) (rows : Rows) → rows_of setting.enabled bytes ≡ listed rows → AreWhole rows
+pub read_as_tree : (reading : Reading) (setting : Setting) (state : State) (name bytes : List ℕ) (rows : RowTree) → rows_of setting.enabled bytes ≡ listed rows → AreWhole rows
     → of_text reading setting state name bytes ≡ read (alone reading setting (number_of name state.files) name) (number_of name state.files) rows state
 read_as_tree reading setting state name bytes rows e whole =
     let file : ℕ = number_of name state.files in
@@ -478,6 +478,6 @@ read_as_tree reading setting state name bytes rows e whole =
     by (Ok later) = refl
     by (Err stop) = refl
 
-pub nothing_behind : (does : Row → State → Outcome State) (file : ℕ) (state : State) (d : Row) (rows : Rows) (others : Branches) → condition state.history d ≡ Some true
+pub nothing_behind : (does : Row → State → Outcome State) (file : ℕ) (state : State) (d : Row) (rows : RowTree) (others : BranchList) → condition state.history d ≡ Some true
     → read_first does file (branch d rows others) state ≡ read does file rows state
 nothing_behind does file state d rows others e = ap (λ o. chosen o (read does file rows state) (read_first does file others state) (told file d state)) e

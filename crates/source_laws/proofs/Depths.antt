@@ -5,13 +5,13 @@ use Rattle.asl_parser.specs.declared.sign.Sign.TheVariants as s
 use Rattle.asl_parser.specs.declared.mark.Spot.{Spot}
 use Rattle.asl_parser.specs.declared.mark.Mark.{Mark}
 use Rattle.asl_parser.specs.declared.raw.Infix.{Infix}
-use Rattle.asl_parser.specs.declared.branch.Branches.{Branches}
+use Rattle.asl_parser.specs.declared.subtree.Subtrees.{Subtrees}
 use Rattle.asl_parser.specs.declared.frame.Frame.{Frame}
 use Rattle.asl_parser.specs.declared.frame.Frame.TheVariants as f
-use Rattle.asl_parser.specs.declared.frame.State.{State}
-use Rattle.asl_parser.specs.declared.frame.State.TheVariants as st
-use Rattle.asl_parser.specs.Trees.{Tree, Trees, Group, none, more}
-use Rattle.asl_parser.specs.Grow.{no_branches, joined, item, grown, grown_all, grown_in}
+use Rattle.asl_parser.specs.declared.frame.ParserState.{ParserState}
+use Rattle.asl_parser.specs.declared.frame.ParserState.TheVariants as st
+use Rattle.asl_parser.specs.Trees.{Tree, Trees, TreeGroup, none, more}
+use Rattle.asl_parser.specs.Grow.{no_subtrees, joined, item, grown, grown_all, grown_in}
 use Rattle.asl_parser.specs.Machine.{Config, Answer, source, stop, depth, walk, start, room, begin, after, element, first_element, step, run}
 use Rattle.asl_parser.specs.Machine as m
 use Rattle.asl_parser.specs.Grammar.{sign, word, all, MayFollow, Reads, IsSource}
@@ -29,21 +29,21 @@ use Rattle.source_laws.proofs.Leads.{go, Comes, here, on, Same, itself, ◌▸�
 
 -- ---- over a front the machine comes to as much as is open
 
-record Ends (ts : List Mark) (a : State) (fs : List Frame) (much : ℕ) : Type 0 where
-  state : State
+record Ends (ts : List Mark) (a : ParserState) (fs : List Frame) (much : ℕ) : Type 0 where
+  state : ParserState
   frames : List Frame
   comes : Comes [] state frames ts a fs
   is : depth frames ≡ much
 
 -- first to another machine, or to one that takes the next token as it does
-leads : (ts mid : List Mark) (a b : State) (fs gs : List Frame) (n much : ℕ) → Same (go ts a fs) (go mid b gs) → Ends mid b gs n → n ≡ much → Ends ts a fs much
+leads : (ts mid : List Mark) (a b : ParserState) (fs gs : List Frame) (n much : ℕ) → Same (go ts a fs) (go mid b gs) → Ends mid b gs n → n ≡ much → Ends ts a fs much
 leads ts mid a b fs gs n much p e is =
     let rest : Same (go mid b gs) (go [] e.state e.frames) = record { state = e.state; frames = e.frames; comes = e.comes; alike = refl } in
     let whole : Same (go ts a fs) (go [] e.state e.frames) = p ▸ rest in
     record { state = whole.state; frames = whole.frames; comes = whole.comes; is = whole.alike ∙ e.is ∙ is }
 
 -- the end
-at_end : (ts : List Mark) (a b : State) (fs gs : List Frame) (much : ℕ) → Same (go ts a fs) (go [] b gs) → depth gs ≡ much → Ends ts a fs much
+at_end : (ts : List Mark) (a b : ParserState) (fs gs : List Frame) (much : ℕ) → Same (go ts a fs) (go [] b gs) → depth gs ≡ much → Ends ts a fs much
 at_end ts a b fs gs much p is = record { state = p.state; frames = p.frames; comes = p.comes; is = p.alike ∙ is }
 
 begins_so : {n d : ℕ} {rest : List Mark} → Opens (expression n) rest d → (rest ≡ []) ⊎ Starts rest
@@ -55,18 +55,18 @@ begins_so (o.in_index a reads b) = inr (complete reads).0
 begins_so (o.in_prefix a b) = inr refl
 begins_so (o.in_infix a b reads c) = inr (complete reads).0
 
-holds_same : (n : ℕ) (h : Holder n) (done others : Branches) (fs : List Frame) → depth (holds h done ∷ fs) ≡ depth (holds h others ∷ fs)
+holds_same : (n : ℕ) (h : Holder n) (done others : Subtrees) (fs : List Frame) → depth (holds h done ∷ fs) ≡ depth (holds h others ∷ fs)
 holds_same n of_source done others fs = refl
 holds_same n (of_body p w args) done others fs = refl
 
 abbrev Claim : Production → List Mark → ℕ → Type 0
 Claim (expression n) rest d = (fs : List Frame) → n ≤ room fs → Proper fs → Ends rest st.Operand fs (d + depth fs)
 Claim behind_word rest d = (p : Spot) (w : List ℕ) (fs : List Frame) → Ends rest (st.Word p w) fs (d + depth fs)
-Claim arguments rest d = (p : Spot) (w : List ℕ) (fs : List Frame) → Ends rest st.FirstArgument (f.Args p w no_branches ∷ fs) (d + (1 + depth fs))
+Claim arguments rest d = (p : Spot) (w : List ℕ) (fs : List Frame) → Ends rest st.FirstArgument (f.Args p w no_subtrees ∷ fs) (d + (1 + depth fs))
 Claim argument rest d = (p : Spot) (w : List ℕ) (xs : Trees) (fs : List Frame) → Ends rest (wants xs) (f.Args p w (grown_all xs) ∷ fs) (d + (1 + depth fs))
 Claim brace_list rest d = (fs : List Frame) → Ends rest st.Argument fs (d + depth fs) × Ends rest st.FirstArgument fs (d + depth fs) × Ends rest st.Element fs (d + depth fs) × Ends rest st.FirstElement fs (d + depth fs)
 Claim member rest d = (p : Spot) (xs : Trees) (fs : List Frame) → Ends rest (expects xs) (f.List p (grown_all xs) ∷ fs) (d + (1 + depth fs))
-Claim (row n) rest d = (h : Holder n) (fs : List Frame) → Ends rest st.Sequence (holds h no_branches ∷ fs) (d + depth (holds h no_branches ∷ fs))
+Claim (row n) rest d = (h : Holder n) (fs : List Frame) → Ends rest st.Sequence (holds h no_subtrees ∷ fs) (d + depth (holds h no_subtrees ∷ fs))
 
 item_claim : (p : Spot) (path : Bool) (w : List ℕ) (ms : List Mark) (d : ℕ) → Claim behind_word ms d → (n : ℕ) → Claim (expression n) (word p path w ∷ ms) d
 unfolding begin
@@ -90,19 +90,19 @@ index_claim n d p a ms mid small reads inner fs low proper =
 prefix_claim : (n d : ℕ) (p : Spot) (x : Infix) (ms : List Mark) → 2 ≤ n → Claim (expression 2) ms d → Claim (expression n) (sign p (s.Prefix x) ∷ ms) (suc d)
 unfolding begin
 prefix_claim n d p x ms small inner fs low proper =
-    let now : List Frame = f.Pending 2 2 p x no_branches ∷ fs in
+    let now : List Frame = f.Pending 2 2 p x no_subtrees ∷ fs in
     leads (sign p (s.Prefix x) ∷ ms) ms st.Operand st.Operand fs now (d + (1 + depth fs)) (suc d + depth fs)
     (stepped (sign p (s.Prefix x)) ms st.Operand st.Operand fs now (allowed 2 fs (st.Operand, now) (omega arith))) (inner now (omega arith) (inr (refl, inl refl))) (omega arith)
 
 arguments_claim : (q : Spot) (ms : List Mark) (d : ℕ) → Claim arguments ms d → Claim behind_word (sign q s.LeftParen ∷ ms) (suc d)
 unfolding m.word
 arguments_claim q ms d inner p w fs =
-    leads (sign q s.LeftParen ∷ ms) ms (st.Word p w) st.FirstArgument fs (f.Args p w no_branches ∷ fs) (d + (1 + depth fs)) (suc d + depth fs)
-    (stepped (sign q s.LeftParen) ms (st.Word p w) st.FirstArgument fs (f.Args p w no_branches ∷ fs) refl) (inner p w fs) (omega arith)
+    leads (sign q s.LeftParen ∷ ms) ms (st.Word p w) st.FirstArgument fs (f.Args p w no_subtrees ∷ fs) (d + (1 + depth fs)) (suc d + depth fs)
+    (stepped (sign q s.LeftParen) ms (st.Word p w) st.FirstArgument fs (f.Args p w no_subtrees ∷ fs) refl) (inner p w fs) (omega arith)
 
-body_claim : (q : Spot) (args : Group) (ms mid : List Mark) (d : ℕ) → Reads (g.arguments args) ms (sign q s.LeftBrace ∷ mid) → Claim (row 13) mid d → Claim behind_word ms (suc d)
+body_claim : (q : Spot) (args : TreeGroup) (ms mid : List Mark) (d : ℕ) → Reads (g.arguments args) ms (sign q s.LeftBrace ∷ mid) → Claim (row 13) mid d → Claim behind_word ms (suc d)
 body_claim q args ms mid d reads inner p w fs =
-    let now : List Frame = f.Body p w (grown_in args) no_branches ∷ fs in
+    let now : List Frame = f.Body p w (grown_in args) no_subtrees ∷ fs in
     leads ms mid (st.Word p w) st.Sequence fs now (d + (1 + depth fs)) (suc d + depth fs) (complete reads p w fs ▸ body_opens q p w args mid fs) (inner (of_body p w (grown_in args)) fs) (omega arith)
 
 argument_claim : (rest : List Mark) (d : ℕ) → (rest ≡ []) ⊎ Starts rest → (rest ≡ [] → d ≡ 0) → Claim (expression 13) rest d → Claim argument rest d
@@ -150,8 +150,8 @@ next_claim n d done last ms mid reads may starts inner h fs =
     let k = go_on n h done last mid fs starts may in
     let now : List Frame = holds h (grown_all (all done last)) ∷ fs in
     let facts = holder_facts n h (grown_all (all done last)) fs in
-    leads ms mid st.Sequence st.Operand (holds h no_branches ∷ fs) now (d + depth now) (d + depth (holds h no_branches ∷ fs)) (complete reads h fs k.0 ▸ k.1) (inner now facts.1 facts.2)
-    (ap (λ x. d + x) (holds_same n h (grown_all (all done last)) no_branches fs))
+    leads ms mid st.Sequence st.Operand (holds h no_subtrees ∷ fs) now (d + depth now) (d + depth (holds h no_subtrees ∷ fs)) (complete reads h fs k.0 ▸ k.1) (inner now facts.1 facts.2)
+    (ap (λ x. d + x) (holds_same n h (grown_all (all done last)) no_subtrees fs))
 
 starts_next : {n d : ℕ} {t : Mark} {ts : List Mark} → Opens (expression n) (t ∷ ts) d → Starts (t ∷ ts)
 starts_next {t = t} {ts = ts} opens = by (begins_so opens)
@@ -171,14 +171,14 @@ claims (o.in_infix {d = d} {p = p} {i = i} {o = x} {a = a} {ms = ms} {mid = mid}
     (let so = is_strength i x is in
     let same : weight_of x ≡ count i = count_is i x is in
     let fits : x.level ≤ room fs = omega arith in
-    let now : List Frame = f.Pending x.level x.room p i (joined no_branches (grown a)) ∷ fs in
+    let now : List Frame = f.Pending x.level x.room p i (joined no_subtrees (grown a)) ∷ fs in
     leads ms mid st.Operand st.Operand fs now (d + (weight_of x + depth fs)) (count i + d + depth fs)
     ((complete reads).1 fs (omega (arith, so.pull_high)) proper (infix_ends i x is) ▸ stepped (sign p (s.Binary i)) mid (st.Whole (grown a)) st.Operand fs now (infix_step p i x (grown a) fs is fits proper))
     (claims inner now (omega arith) so.binds) (omega arith))
 claims (o.in_arguments {d = d} {p = q} {ms = ms} inner) = arguments_claim q ms d (claims inner)
 claims (o.in_body {d = d} {p = q} {args = args} {ms = ms} {mid = mid} reads inner) = body_claim q args ms mid d reads (claims inner)
 claims (o.next_argument {d = d} {xs = xs} {ms = ms} {mid = mid} reads inner) = λ p w fs.
-    leads ms mid st.FirstArgument (wants xs) (f.Args p w no_branches ∷ fs) (f.Args p w (grown_all xs) ∷ fs) (d + (1 + depth fs)) (d + (1 + depth fs)) (complete reads p w fs) (claims inner p w xs fs) refl
+    leads ms mid st.FirstArgument (wants xs) (f.Args p w no_subtrees ∷ fs) (f.Args p w (grown_all xs) ∷ fs) (d + (1 + depth fs)) (d + (1 + depth fs)) (complete reads p w fs) (claims inner p w xs fs) refl
 claims (o.an_argument {d = d} {ms = ms} inner) = argument_claim ms d (begins_so inner) (no_depth inner) (claims inner)
 claims (o.a_list_argument {d = d} {ms = ms} inner) = list_argument_claim ms d (claims inner)
 claims (o.a_list {e = e} {ms = ms} reads) = λ fs. (
@@ -192,12 +192,12 @@ claims o.no_member = λ p xs fs. at_end [] (expects xs) (expects xs) (f.List p (
 claims (o.a_word {p = q} {w = v}) = word_claim q v
 claims (o.an_inner_list {d = d} {ms = ms} inner) = inner_list_claim ms d (claims inner)
 claims (o.no_next {n = n} {done = done} {ms = ms} reads) = λ h fs.
-    at_end ms st.Sequence st.Sequence (holds h no_branches ∷ fs) (holds h (grown_all done) ∷ fs) (0 + depth (holds h no_branches ∷ fs)) (complete reads h fs tt) (omega (arith, holds_same n h (grown_all done) no_branches fs))
+    at_end ms st.Sequence st.Sequence (holds h no_subtrees ∷ fs) (holds h (grown_all done) ∷ fs) (0 + depth (holds h no_subtrees ∷ fs)) (complete reads h fs tt) (omega (arith, holds_same n h (grown_all done) no_subtrees fs))
 claims (o.next_expression {n = n} {d = d} {done = done} {last = last} {m = m} {ms = ms} {rest = rest} reads may inner) = next_claim n d done last ms (m ∷ rest) reads may (starts_next inner) (claims inner)
 
 -- ---- one depth
 
-same_end : {b c : State} {gs hs : List Frame} {ts : List Mark} {a : State} {fs : List Frame} → Comes [] b gs ts a fs → Comes [] c hs ts a fs → gs ≡ hs
+same_end : {b c : ParserState} {gs hs : List Frame} {ts : List Mark} {a : ParserState} {fs : List Frame} → Comes [] b gs ts a fs → Comes [] c hs ts a fs → gs ≡ hs
 same_end here here = refl
 same_end {c = c} {hs = hs} (on {ts = ts} d e p) (on x k q) =
     let both : Some x ≡ Some d = sym k ∙ e in
@@ -220,7 +220,7 @@ one_depth ms d e p q =
 
 -- ---- a front has a depth
 
-comes_reach : {b : State} {gs : List Frame} {ts : List Mark} {a : State} {fs : List Frame} → Comes [] b gs ts a fs → reach ts a fs ≡ Some (b, gs)
+comes_reach : {b : ParserState} {gs : List Frame} {ts : List Mark} {a : ParserState} {fs : List Frame} → Comes [] b gs ts a fs → reach ts a fs ≡ Some (b, gs)
 unfolding reach
 comes_reach here = refl
 comes_reach {b = b} {gs = gs} (on {t = t} {ts = ts} {a = a} {fs = fs} d e p) =
@@ -229,19 +229,19 @@ comes_reach {b = b} {gs = gs} (on {t = t} {ts = ts} {a = a} {fs = fs} d e p) =
 pub opens_front : (ms : List Mark) (d : ℕ) → OpensInSource ms d → IsFront ms
 opens_front ms d opens = let x = ends_source ms d opens in reached_is_front ms [] (x.state, x.frames) (comes_reach x.comes)
 
-record Reaches (front : List Mark) (a : State) (fs : List Frame) : Type 0 where
+record Reaches (front : List Mark) (a : ParserState) (fs : List Frame) : Type 0 where
   at : Config
   is : reach front a fs ≡ Some at
 
-read_on : (t : Mark) (front behind : List Mark) (a : State) (fs : List Frame) (items : Branches) (o : Option Config) → step t a fs ≡ o → then_run t (front ++ behind) o ≡ source items
-    → ((b : State) (gs : List Frame) → run (front ++ behind) b gs ≡ source items → Reaches front b gs) → Reaches (t ∷ front) a fs
+read_on : (t : Mark) (front behind : List Mark) (a : ParserState) (fs : List Frame) (items : Subtrees) (o : Option Config) → step t a fs ≡ o → then_run t (front ++ behind) o ≡ source items
+    → ((b : ParserState) (gs : List Frame) → run (front ++ behind) b gs ≡ source items → Reaches front b gs) → Reaches (t ∷ front) a fs
 unfolding then_run reach
 read_on t front behind a fs items None is e below = absurd cc
 read_on t front behind a fs items (Some c) is e below =
     let k = below c.0 c.1 e in
     record { at = k.at; is = ap (λ (m : Option Config). elim m as (λ z. Option Config) [ None ↦ None | Some x ↦ reach front x.0 x.1 ]) is ∙ k.is }
 
-read_reaches : (front behind : List Mark) (a : State) (fs : List Frame) (items : Branches) → run (front ++ behind) a fs ≡ source items → Reaches front a fs
+read_reaches : (front behind : List Mark) (a : ParserState) (fs : List Frame) (items : Subtrees) → run (front ++ behind) a fs ≡ source items → Reaches front a fs
 unfolding walk then_run reach
 read_reaches [] behind a fs items e = record { at = (a, fs); is = refl }
 read_reaches (t ∷ front) behind a fs items e = read_on t front behind a fs items (step t a fs) refl e (λ b gs h. read_reaches front behind b gs items h)

@@ -7,15 +7,15 @@ use Rattle.asl_parser.specs.declared.mark.Spot.{Spot}
 use Rattle.asl_parser.specs.declared.mark.Mark.{Mark}
 use Rattle.asl_parser.specs.declared.raw.Infix.{Infix}
 use Rattle.asl_parser.specs.declared.raw.Infix.TheVariants as op
-use Rattle.asl_parser.specs.declared.branch.Branches.{Branches}
+use Rattle.asl_parser.specs.declared.subtree.Subtrees.{Subtrees}
 use Rattle.asl_parser.specs.declared.frame.Frame.{Frame}
 use Rattle.asl_parser.specs.declared.frame.Frame.TheVariants as f
-use Rattle.asl_parser.specs.declared.frame.State.{State}
-use Rattle.asl_parser.specs.declared.frame.State.TheVariants as st
+use Rattle.asl_parser.specs.declared.frame.ParserState.{ParserState}
+use Rattle.asl_parser.specs.declared.frame.ParserState.TheVariants as st
 use Rattle.asl_parser.specs.Signs.{strength}
-use Rattle.asl_parser.specs.Trees.{Tree, Trees, Group, none, more, absent}
+use Rattle.asl_parser.specs.Trees.{Tree, Trees, TreeGroup, none, more, absent}
 use Rattle.asl_parser.specs.Trees as t
-use Rattle.asl_parser.specs.Grow.{no_branches, joined, grown, grown_all, grown_in}
+use Rattle.asl_parser.specs.Grow.{no_subtrees, joined, grown, grown_all, grown_in}
 use Rattle.asl_parser.specs.Machine.{depth, room, unlimited}
 use Rattle.asl_parser.specs.declared.mark.Lexeme.TheVariants as l
 use Rattle.asl_parser.specs.Grammar.{at, sign, word, all, MayFollow, Reads}
@@ -31,7 +31,7 @@ use Rattle.source_laws.specs.Opens as o
 -- ---- what the productions leave open is held
 
 pub record Found (ms : List Mark) (much : ℕ) : Type 0 where
-  pub state : State
+  pub state : ParserState
   pub fs : List Frame
   pub held : IsFrontIn state fs ms []
   pub is : depth fs ≡ much
@@ -95,11 +95,11 @@ abbrev Claim : Production → List Mark → ℕ → Type 0
 Claim (expression n) rest d = (fs : List Frame) (ms : List Mark) → LeavesOpen fs ms rest → n ≤ room fs → TakesExpression fs → Found ms (d + depth fs)
 Claim behind_word rest d = (p : Spot) (path : Bool) (w : List ℕ) (fs : List Frame) (ms : List Mark) → LeavesOpen fs ms (word p path w ∷ rest) → TakesExpression fs → Found ms (d + depth fs)
 Claim arguments rest d = (p q : Spot) (path : Bool) (w : List ℕ) (fs : List Frame) (ms : List Mark) → LeavesOpen fs ms (word p path w ∷ sign q s.LeftParen ∷ rest) → TakesExpression fs → Found ms (d + (1 + depth fs))
-Claim argument rest d = (p : Spot) (w : List ℕ) (done : Branches) (fs : List Frame) (ms : List Mark) → LeavesOpen (f.Args p w done ∷ fs) ms rest → Found ms (d + (1 + depth fs))
+Claim argument rest d = (p : Spot) (w : List ℕ) (done : Subtrees) (fs : List Frame) (ms : List Mark) → LeavesOpen (f.Args p w done ∷ fs) ms rest → Found ms (d + (1 + depth fs))
 Claim brace_list rest d = (fs : List Frame) (ms : List Mark) → LeavesOpen fs ms rest → TakesList fs → Found ms (d + depth fs)
-Claim member rest d = (p : Spot) (done : Branches) (fs : List Frame) (ms : List Mark) → LeavesOpen (f.List p done ∷ fs) ms rest → Found ms (d + (1 + depth fs))
-Claim (row n) rest d = (frame : Branches → Frame) (fs : List Frame) (ms : List Mark) (much : ℕ) → ((done : Branches) → n ≤ room (frame done ∷ fs)) → ((done : Branches) → TakesExpression (frame done ∷ fs))
-    → ((done : Branches) → depth (frame done ∷ fs) ≡ much)
+Claim member rest d = (p : Spot) (done : Subtrees) (fs : List Frame) (ms : List Mark) → LeavesOpen (f.List p done ∷ fs) ms rest → Found ms (d + (1 + depth fs))
+Claim (row n) rest d = (frame : Subtrees → Frame) (fs : List Frame) (ms : List Mark) (much : ℕ) → ((done : Subtrees) → n ≤ room (frame done ∷ fs)) → ((done : Subtrees) → TakesExpression (frame done ∷ fs))
+    → ((done : Subtrees) → depth (frame done ∷ fs) ≡ much)
     → ((done : Trees) (last : Option Tree) (mid : List Mark) → Reads (g.sequence n done last) rest mid → MayFollow last mid → LeavesOpen (frame (grown_all (all done last)) ∷ fs) ms mid) → Found ms (d + much)
 
 found : {production : Production} {rest : List Mark} {d : ℕ} → Opens production rest d → Claim production rest d
@@ -116,10 +116,10 @@ found (o.in_brackets {d = d} small inner) = λ fs ms leaves low takes.
 found (o.in_index {d = d} {p = p} {a = a} small reads inner) = λ fs ms leaves low takes.
     found_as ms (d + (1 + depth fs)) (suc d + depth fs) (omega arith) (found inner (f.Index p (grown a) ∷ fs) ms (h.in_index (omega arith) leaves reads) (omega arith) tt)
 found (o.in_prefix {d = d} {p = p} {o = x} small inner) = λ fs ms leaves low takes.
-    found_as ms (d + (1 + depth fs)) (suc d + depth fs) (omega arith) (found inner (f.Pending 2 2 p x no_branches ∷ fs) ms (h.in_prefix (omega arith) leaves) (omega arith) tt)
+    found_as ms (d + (1 + depth fs)) (suc d + depth fs) (omega arith) (found inner (f.Pending 2 2 p x no_subtrees ∷ fs) ms (h.in_prefix (omega arith) leaves) (omega arith) tt)
 found (o.in_infix {d = d} {p = p} {i = i} {o = x} {a = a} is small reads inner) = λ fs ms leaves low takes.
     (let same : weight_of x ≡ count i = count_is i x is in
-    found_as ms (d + (weight_of x + depth fs)) (count i + d + depth fs) (omega arith) (found inner (f.Pending x.level x.room p i (joined no_branches (grown a)) ∷ fs) ms (h.in_infix is (omega arith) leaves reads) (omega arith) tt))
+    found_as ms (d + (weight_of x + depth fs)) (count i + d + depth fs) (omega arith) (found inner (f.Pending x.level x.room p i (joined no_subtrees (grown a)) ∷ fs) ms (h.in_infix is (omega arith) leaves reads) (omega arith) tt))
 found (o.in_arguments {d = d} {p = q} inner) = λ p path w fs ms leaves takes. found_as ms (d + (1 + depth fs)) (suc d + depth fs) (omega arith) (found inner p q path w fs ms leaves takes)
 found (o.in_body {d = d} {args = args} reads inner) = λ p path w fs ms leaves takes.
     found_as ms (d + (1 + depth fs)) (suc d + depth fs) (omega arith)
@@ -149,7 +149,7 @@ found (o.no_next {done = done} reads) = λ frame fs ms much low takes much_is le
   is = omega (arith, much_is (grown_all done));
 }
 found (o.next_expression {d = d} {done = done} {last = last} {m = m} {rest = rest} reads may inner) = λ frame fs ms much low takes much_is leaving.
-    (let here : Branches = grown_all (all done last) in
+    (let here : Subtrees = grown_all (all done last) in
     found_as ms (d + depth (frame here ∷ fs)) (d + much) (ap (λ n. d + n) (much_is here)) (found inner (frame here ∷ fs) ms (leaving done last (m ∷ rest) reads may) (low here) (takes here)))
 
 -- ---- what is held leaves as much open, or more
@@ -280,7 +280,7 @@ simply fs ms rest leaves d fits = filled_as ms (d + depth fs) (depth fs) (omega 
 
 first_argument_filled : {fs : List Frame} {ms rest : List Mark} → FirstArgument fs ms rest → rest ≡ [] → Told fs ms
 first_argument_filled (h.first_argument {p = p} {w = w} {fs = fs} {ms = ms} {rest = rest} inner leaves) is =
-    simply (f.Args p w no_branches ∷ fs) ms rest (h.in_arguments inner leaves g.none_before) 0 (subst (λ r. Opens argument r 0) (sym is) (o.an_argument o.no_expression))
+    simply (f.Args p w no_subtrees ∷ fs) ms rest (h.in_arguments inner leaves g.none_before) 0 (subst (λ r. Opens argument r 0) (sym is) (o.an_argument o.no_expression))
 
 next_argument_filled : {fs : List Frame} {ms rest : List Mark} → NextArgument fs ms rest → rest ≡ [] → Told fs ms
 next_argument_filled (h.next_argument {p = p} {w = w} {done = done} {x = x} {fs = fs} {ms = ms} {rest = rest} inner leaves front) is =
@@ -288,7 +288,7 @@ next_argument_filled (h.next_argument {p = p} {w = w} {done = done} {x = x} {fs 
 
 first_element_filled : {fs : List Frame} {ms rest : List Mark} → FirstElement fs ms rest → rest ≡ [] → Told fs ms
 first_element_filled (h.first_element {p = p} {fs = fs} {ms = ms} {rest = rest} takes leaves) is =
-    simply (f.List p no_branches ∷ fs) ms rest (h.in_list takes leaves g.no_members) 0 (subst (λ r. Opens member r 0) (sym is) o.no_member)
+    simply (f.List p no_subtrees ∷ fs) ms rest (h.in_list takes leaves g.no_members) 0 (subst (λ r. Opens member r 0) (sym is) o.no_member)
 
 element_fits : (fs : List Frame) → TakesElement fs → Fits fs [] 0
 element_fits (f.List p done ∷ fs) takes = o.no_member
@@ -311,7 +311,7 @@ suited (f.Args p w done ∷ fs) e mid suits = let k = argument_suited suits refl
 suited (f.List p done ∷ fs) e mid suits = let k = member_suited suits refl in record { much = k.0; fits = k.1 }
 suited _ e mid suits = absurd suits
 
-pub held_filled : (a : State) (fs : List Frame) (ms : List Mark) → IsFrontIn a fs ms [] → Told fs ms
+pub held_filled : (a : ParserState) (fs : List Frame) (ms : List Mark) → IsFrontIn a fs ms [] → Told fs ms
 held_filled st.Operand fs ms held = simply fs ms [] held.0 0 (expression_fits fs [] 0 held.1 o.no_expression)
 held_filled st.FirstArgument fs ms held = first_argument_filled held refl
 held_filled st.Argument fs ms held = next_argument_filled held refl

@@ -10,16 +10,16 @@ use Rattle.asl_parser.specs.declared.mark.Lexeme.TheVariants as l
 use Rattle.asl_parser.specs.declared.mark.Mark.{Mark}
 use Rattle.asl_parser.specs.declared.raw.Infix.{Infix}
 use Rattle.asl_parser.specs.declared.raw.Infix.TheVariants as op
-use Rattle.asl_parser.specs.declared.branch.Branch.{Branch}
-use Rattle.asl_parser.specs.declared.branch.Branches.{Branches}
+use Rattle.asl_parser.specs.declared.subtree.Subtree.{Subtree}
+use Rattle.asl_parser.specs.declared.subtree.Subtrees.{Subtrees}
 use Rattle.asl_parser.specs.declared.frame.Frame.{Frame}
 use Rattle.asl_parser.specs.declared.frame.Frame.TheVariants as f
-use Rattle.asl_parser.specs.declared.frame.State.{State}
-use Rattle.asl_parser.specs.declared.frame.State.TheVariants as st
+use Rattle.asl_parser.specs.declared.frame.ParserState.{ParserState}
+use Rattle.asl_parser.specs.declared.frame.ParserState.TheVariants as st
 use Rattle.asl_parser.specs.Signs.{strength}
-use Rattle.asl_parser.specs.Trees.{Tree, Trees, Group, none, more, absent}
+use Rattle.asl_parser.specs.Trees.{Tree, Trees, TreeGroup, none, more, absent}
 use Rattle.asl_parser.specs.Trees as t
-use Rattle.asl_parser.specs.Grow.{no_branches, joined, applied, item, grown, grown_all, grown_in}
+use Rattle.asl_parser.specs.Grow.{no_subtrees, joined, applied, item, grown, grown_all, grown_in}
 use Rattle.asl_parser.specs.Machine.{Config, Answer, source, stop, deep, depth, walk, unlimited, within, start, room, allow, settle, begin, begin_by, begin_sign, operator, sequence, sequence_by, sequence_sign, listed, listed_by, enclosed, enclosed_by, after, after_by, after_lexeme, word_by, called_by, argument, argument_by, first_argument, first_argument_by, element, element_by, first_element, first_element_by, step, run, finish, finish_whole, close_source}
 use Rattle.asl_parser.specs.Machine as m
 use Rattle.asl_parser.specs.Grammar.{at, sign, word, Phrase, expression, arguments, body, given, before, brace_list, members, member, sequence as row_of, all, is_paren, opens_paren, MayFollow, Reads, IsSource}
@@ -32,24 +32,24 @@ use Rattle.asl_parser.proofs.Complete.{Binds, Proper, is_strength, begins, Start
 -- a place in a run: the tokens that are left, and the machine before them
 pub record Here : Type 0 where
   pub left : List Mark
-  pub state : State
+  pub state : ParserState
   pub fs : List Frame
 
-abbrev pub go : List Mark → State → List Frame → Here
+abbrev pub go : List Mark → ParserState → List Frame → Here
 go ts a fs = record { left = ts; state = a; fs = fs }
 
 -- from the tokens and the machine before them the steps lead to these tokens and this machine
-pub data Comes (rest : List Mark) (b : State) (gs : List Frame) : List Mark → State → List Frame → Type 0 where
+pub data Comes (rest : List Mark) (b : ParserState) (gs : List Frame) : List Mark → ParserState → List Frame → Type 0 where
   here : Comes rest b gs rest b gs
-  on : {t : Mark} {ts : List Mark} {a : State} {fs : List Frame} (c : Config) → step t a fs ≡ Some c → Comes rest b gs ts c.0 c.1 → Comes rest b gs (t ∷ ts) a fs
+  on : {t : Mark} {ts : List Mark} {a : ParserState} {fs : List Frame} (c : Config) → step t a fs ≡ Some c → Comes rest b gs ts c.0 c.1 → Comes rest b gs (t ∷ ts) a fs
 
 -- two machines that take the next token alike; at the end they have as much open
-abbrev pub Alike : List Mark → State → List Frame → State → List Frame → Type 0
+abbrev pub Alike : List Mark → ParserState → List Frame → ParserState → List Frame → Type 0
 Alike [] a fs b gs = depth fs ≡ depth gs
 Alike (t ∷ ts) a fs b gs = step t a fs ≡ step t b gs
 
-pub record Reached (rest : List Mark) (b : State) (gs : List Frame) (ts : List Mark) (a : State) (fs : List Frame) : Type 0 where
-  pub state : State
+pub record Reached (rest : List Mark) (b : ParserState) (gs : List Frame) (ts : List Mark) (a : ParserState) (fs : List Frame) : Type 0 where
+  pub state : ParserState
   pub frames : List Frame
   pub comes : Comes rest state frames ts a fs
   pub alike : Alike rest state frames b gs
@@ -58,11 +58,11 @@ pub record Reached (rest : List Mark) (b : State) (gs : List Frame) (ts : List M
 abbrev pub Same : Here → Here → Type 0
 Same x y = Reached y.left y.state y.fs x.left x.state x.fs
 
-alike_itself : (ts : List Mark) (a : State) (fs : List Frame) → Alike ts a fs a fs
+alike_itself : (ts : List Mark) (a : ParserState) (fs : List Frame) → Alike ts a fs a fs
 alike_itself [] a fs = refl
 alike_itself (t ∷ ts) a fs = refl
 
-alike_on : (ts : List Mark) (a b c : State) (fs gs hs : List Frame) → Alike ts a fs b gs → Alike ts b gs c hs → Alike ts a fs c hs
+alike_on : (ts : List Mark) (a b c : ParserState) (fs gs hs : List Frame) → Alike ts a fs b gs → Alike ts b gs c hs → Alike ts a fs c hs
 alike_on [] a b c fs gs hs p q = p ∙ q
 alike_on (t ∷ ts) a b c fs gs hs p q = p ∙ q
 
@@ -70,11 +70,11 @@ pub itself : {x : Here} → Same x x
 itself {x} = record { state = x.state; frames = x.fs; comes = here; alike = alike_itself x.left x.state x.fs }
 
 -- a machine that is like one from which steps lead on
-followed : {rest mid : List Mark} {b c : State} {gs hs : List Frame} → Comes rest c hs mid b gs → (a : State) (fs : List Frame) → Alike mid a fs b gs → Reached rest c hs mid a fs
+followed : {rest mid : List Mark} {b c : ParserState} {gs hs : List Frame} → Comes rest c hs mid b gs → (a : ParserState) (fs : List Frame) → Alike mid a fs b gs → Reached rest c hs mid a fs
 followed here a fs alike = record { state = a; frames = fs; comes = here; alike = alike }
 followed {rest = rest} {c = c} {hs = hs} (on d e later) a fs alike = record { state = c; frames = hs; comes = on d (alike ∙ e) later; alike = alike_itself rest c hs }
 
-joined_steps : {rest mid : List Mark} {b c : State} {gs hs : List Frame} {ts : List Mark} {a : State} {fs : List Frame} → Comes mid b gs ts a fs → Comes rest c hs mid b gs → Comes rest c hs ts a fs
+joined_steps : {rest mid : List Mark} {b c : ParserState} {gs hs : List Frame} {ts : List Mark} {a : ParserState} {fs : List Frame} → Comes mid b gs ts a fs → Comes rest c hs mid b gs → Comes rest c hs ts a fs
 joined_steps here q = q
 joined_steps (on d e p) q = on d e (joined_steps p q)
 
@@ -84,13 +84,13 @@ pub ◌▸◌ : {x y z : Here} → Same x y → Same y z → Same x z
     let r = followed q.comes p.state p.frames p.alike in
     record { state = r.state; frames = r.frames; comes = joined_steps p.comes r.comes; alike = alike_on z.left r.state q.state z.state r.frames q.frames z.fs r.alike q.alike }
 
-pub stepped : (t : Mark) (ts : List Mark) (a b : State) (fs gs : List Frame) → step t a fs ≡ Some (b, gs) → Same (go (t ∷ ts) a fs) (go ts b gs)
+pub stepped : (t : Mark) (ts : List Mark) (a b : ParserState) (fs gs : List Frame) → step t a fs ≡ Some (b, gs) → Same (go (t ∷ ts) a fs) (go ts b gs)
 stepped t ts a b fs gs e = record { state = b; frames = gs; comes = on (b, gs) e here; alike = alike_itself ts b gs }
 
-same_step : (t : Mark) (ts : List Mark) (a b : State) (fs gs : List Frame) → step t a fs ≡ step t b gs → Same (go (t ∷ ts) a fs) (go (t ∷ ts) b gs)
+same_step : (t : Mark) (ts : List Mark) (a b : ParserState) (fs gs : List Frame) → step t a fs ≡ step t b gs → Same (go (t ∷ ts) a fs) (go (t ∷ ts) b gs)
 same_step t ts a b fs gs e = record { state = a; frames = fs; comes = here; alike = e }
 
-same_end : (a b : State) (fs gs : List Frame) → depth fs ≡ depth gs → Same (go [] a fs) (go [] b gs)
+same_end : (a b : ParserState) (fs gs : List Frame) → depth fs ≡ depth gs → Same (go [] a fs) (go [] b gs)
 same_end a b fs gs e = record { state = a; frames = fs; comes = here; alike = e }
 
 -- such tokens may stand behind an expression of this level; at the end of all, no operator waits in it
@@ -106,7 +106,7 @@ abbrev pub Follows : Option Tree → List Mark → Type 0
 Follows None ts = Unit {0}
 Follows (Some e) ts = Closes 13 ts
 
-run_more : (ts : List Mark) (level most : ℕ) (p : Spot) (o : Infix) (xs : Branches) (e : Branch) (fs : List Frame) → 2 ≤ level → level ≤ 13 → Closes level ts
+run_more : (ts : List Mark) (level most : ℕ) (p : Spot) (o : Infix) (xs : Subtrees) (e : Subtree) (fs : List Frame) → 2 ≤ level → level ≤ 13 → Closes level ts
     → Same (go ts (st.Whole e) (f.Pending level most p o xs ∷ fs)) (go ts (st.Whole (applied p o xs e)) fs)
 run_more [] level most p o xs e fs low high h = absurd (omega arith)
 run_more (t ∷ ts) level most p o xs e fs low high h = same_step t ts (st.Whole e) (st.Whole (applied p o xs e)) (f.Pending level most p o xs ∷ fs) fs (after_more t level most p o xs e fs low high h)
@@ -148,7 +148,7 @@ word_done q (l.Number n) p w fs h = refl
 word_done q (l.Text v) p w fs h = refl
 word_done q l.Other p w fs h = refl
 
-called_done : (q : Spot) (x : Lexeme) (p : Spot) (w : List ℕ) (args : Branches) (fs : List Frame) → EndsBy 0 (pull_of x) → called_by q x p w args fs ≡ after q x (item p w (Some args) None) fs
+called_done : (q : Spot) (x : Lexeme) (p : Spot) (w : List ℕ) (args : Subtrees) (fs : List Frame) → EndsBy 0 (pull_of x) → called_by q x p w args fs ≡ after q x (item p w (Some args) None) fs
 called_done q (l.Sign s.LeftBrace) p w args fs h = absurd h
 called_done q (l.Sign x) p w args fs h = refl
 called_done q (l.Word path v) p w args fs h = refl
@@ -161,7 +161,7 @@ follows x p None rest h = tt
 follows x p (Some e) rest h = h
 
 -- what begins an expression, but for a parenthesis, ends the one before it
-next_after : (n : ℕ) (h : Holder n) (q : Spot) (x : Lexeme) (e : Branch) (done : Branches) (fs : List Frame) → begins x ≡ true → is_paren x ≡ false
+next_after : (n : ℕ) (h : Holder n) (q : Spot) (x : Lexeme) (e : Subtree) (done : Subtrees) (fs : List Frame) → begins x ≡ true → is_paren x ≡ false
     → EndsBy 13 (pull_of x) × (after_lexeme q x e (holds h done ∷ fs) ≡ sequence q x (holds h (joined done e) ∷ fs))
 unfolding settle
 next_after n h q (l.Sign s.LeftParen) e done fs b c = absurd cc
@@ -176,7 +176,7 @@ next_after n of_source q (l.Text v) e done fs b c = (omega arith, refl)
 next_after n (of_body p w args) q (l.Text v) e done fs b c = (omega arith, refl)
 next_after n h q l.Other e done fs b c = absurd cc
 
-pub holder_facts : (n : ℕ) (h : Holder n) (done : Branches) (fs : List Frame) → (n ≤ 13) × (n ≤ room (holds h done ∷ fs)) × Proper (holds h done ∷ fs)
+pub holder_facts : (n : ℕ) (h : Holder n) (done : Subtrees) (fs : List Frame) → (n ≤ 13) × (n ≤ room (holds h done ∷ fs)) × Proper (holds h done ∷ fs)
 holder_facts n of_source done fs = (omega arith, omega arith, tt)
 holder_facts n (of_body p w args) done fs = (omega arith, omega arith, tt)
 
@@ -202,16 +202,16 @@ goes_on ts frame fs (Some e) = go ts (st.Whole (grown e)) (frame ∷ fs)
 abbrev pub Claim : Phrase → List Mark → List Mark → Type 0
 Claim (expression n e) ts rest = Starts ts × ((fs : List Frame) → n ≤ room fs → Proper fs → Closes n rest → Same (go ts st.Operand fs) (go rest (st.Whole (grown e)) fs))
 Claim (arguments args) ts rest = (p : Spot) (w : List ℕ) (fs : List Frame) → Same (go ts (st.Word p w) fs) (go rest (named p w args) fs)
-Claim (body inner) ts rest = (p : Spot) (w : List ℕ) (args : Group) (fs : List Frame) → Same (go ts (named p w args) fs) (go rest (ended p w args inner) fs)
-Claim (given xs) ts rest = (p : Spot) (w : List ℕ) (fs : List Frame) → Same (go ts st.FirstArgument (f.Args p w no_branches ∷ fs)) (go rest (st.Called p w (grown_all xs)) fs)
-Claim (before xs) ts rest = (p : Spot) (w : List ℕ) (fs : List Frame) → Same (go ts st.FirstArgument (f.Args p w no_branches ∷ fs)) (go rest (wants xs) (f.Args p w (grown_all xs) ∷ fs))
-Claim (g.argument x) ts rest = (p : Spot) (w : List ℕ) (done : Branches) (fs : List Frame) → EndsMember rest
+Claim (body inner) ts rest = (p : Spot) (w : List ℕ) (args : TreeGroup) (fs : List Frame) → Same (go ts (named p w args) fs) (go rest (ended p w args inner) fs)
+Claim (given xs) ts rest = (p : Spot) (w : List ℕ) (fs : List Frame) → Same (go ts st.FirstArgument (f.Args p w no_subtrees ∷ fs)) (go rest (st.Called p w (grown_all xs)) fs)
+Claim (before xs) ts rest = (p : Spot) (w : List ℕ) (fs : List Frame) → Same (go ts st.FirstArgument (f.Args p w no_subtrees ∷ fs)) (go rest (wants xs) (f.Args p w (grown_all xs) ∷ fs))
+Claim (g.argument x) ts rest = (p : Spot) (w : List ℕ) (done : Subtrees) (fs : List Frame) → EndsMember rest
     → Same (go ts st.Argument (f.Args p w done ∷ fs)) (go rest (st.Listed (grown x)) (f.Args p w done ∷ fs)) × Same (go ts st.FirstArgument (f.Args p w done ∷ fs)) (go rest (st.Listed (grown x)) (f.Args p w done ∷ fs))
 Claim (brace_list x) ts rest = (fs : List Frame) → Same (go ts st.Argument fs) (go rest (st.Listed (grown x)) fs) × Same (go ts st.FirstArgument fs) (go rest (st.Listed (grown x)) fs)
     × Same (go ts st.Element fs) (go rest (st.Listed (grown x)) fs) × Same (go ts st.FirstElement fs) (go rest (st.Listed (grown x)) fs)
-Claim (members xs) ts rest = (p : Spot) (fs : List Frame) → Same (go ts st.FirstElement (f.List p no_branches ∷ fs)) (go rest (expects xs) (f.List p (grown_all xs) ∷ fs))
+Claim (members xs) ts rest = (p : Spot) (fs : List Frame) → Same (go ts st.FirstElement (f.List p no_subtrees ∷ fs)) (go rest (expects xs) (f.List p (grown_all xs) ∷ fs))
 Claim (member x) ts rest = (fs : List Frame) → Same (go ts st.Element fs) (go rest (st.Listed (grown x)) fs) × Same (go ts st.FirstElement fs) (go rest (st.Listed (grown x)) fs)
-Claim (row_of n done last) ts rest = (h : Holder n) (fs : List Frame) → Follows last rest → Same (go ts st.Sequence (holds h no_branches ∷ fs)) (goes_on rest (holds h (grown_all done)) fs last)
+Claim (row_of n done last) ts rest = (h : Holder n) (fs : List Frame) → Follows last rest → Same (go ts st.Sequence (holds h no_subtrees ∷ fs)) (goes_on rest (holds h (grown_all done)) fs last)
 
 -- ---- expressions
 
@@ -259,9 +259,9 @@ unfolding begin
 prefix_claim p o a ts rest c = (
   refl,
   λ fs fits proper ends.
-      let opened : Same (go (sign p (s.Prefix o) ∷ ts) st.Operand fs) (go ts st.Operand (f.Pending 2 2 p o no_branches ∷ fs)) =
-      stepped (sign p (s.Prefix o)) ts st.Operand st.Operand fs (f.Pending 2 2 p o no_branches ∷ fs) (allowed 2 fs (st.Operand, f.Pending 2 2 p o no_branches ∷ fs) fits) in
-      opened ▸ c.1 (f.Pending 2 2 p o no_branches ∷ fs) (omega arith) (inr (refl, inl refl)) ends ▸ run_more rest 2 2 p o no_branches (grown a) fs (omega arith) (omega arith) ends,
+      let opened : Same (go (sign p (s.Prefix o) ∷ ts) st.Operand fs) (go ts st.Operand (f.Pending 2 2 p o no_subtrees ∷ fs)) =
+      stepped (sign p (s.Prefix o)) ts st.Operand st.Operand fs (f.Pending 2 2 p o no_subtrees ∷ fs) (allowed 2 fs (st.Operand, f.Pending 2 2 p o no_subtrees ∷ fs) fits) in
+      opened ▸ c.1 (f.Pending 2 2 p o no_subtrees ∷ fs) (omega arith) (inr (refl, inl refl)) ends ▸ run_more rest 2 2 p o no_subtrees (grown a) fs (omega arith) (omega arith) ends,
 )
 
 infix_claim : (p : Spot) (i : Infix) (o : Strength) (a e : Tree) (ts mid rest : List Mark) → strength i ≡ Some o → Claim (expression o.pull a) ts (sign p (s.Binary i) ∷ mid) → Claim (expression o.room e) mid rest
@@ -270,7 +270,7 @@ infix_claim p i o a e ts mid rest is c d = (
   c.0,
   λ fs fits proper ends.
       let so = is_strength i o is in
-      let left = joined no_branches (grown a) in
+      let left = joined no_subtrees (grown a) in
       let shifted : Same (go (sign p (s.Binary i) ∷ mid) (st.Whole (grown a)) fs) (go mid st.Operand (f.Pending o.level o.room p i left ∷ fs)) =
       stepped (sign p (s.Binary i)) mid (st.Whole (grown a)) st.Operand fs (f.Pending o.level o.room p i left ∷ fs) (infix_step p i o (grown a) fs is fits proper) in
       c.1 fs (omega (arith, so.pull_high)) proper (infix_ends i o is) ▸ shifted
@@ -283,7 +283,7 @@ tighter_claim m n e ts rest h c = (c.0, λ fs fits proper ends. c.1 fs (omega ar
 
 -- ---- items
 
-pub item_done : (p : Spot) (w : List ℕ) (args inner : Group) (rest : List Mark) (fs : List Frame) → Closes 0 rest → Same (go rest (ended p w args inner) fs) (go rest (st.Whole (grown (t.an_item p w args inner))) fs)
+pub item_done : (p : Spot) (w : List ℕ) (args inner : TreeGroup) (rest : List Mark) (fs : List Frame) → Closes 0 rest → Same (go rest (ended p w args inner) fs) (go rest (st.Whole (grown (t.an_item p w args inner))) fs)
 unfolding m.word m.called
 item_done p w args (t.given xs) rest fs h = itself
 item_done p w absent absent [] fs h = same_end (st.Word p w) (st.Whole (item p w None None)) fs fs refl
@@ -292,7 +292,7 @@ item_done p w absent absent (t ∷ ts) fs h = same_step t ts (st.Word p w) (st.W
 item_done p w (t.given xs) absent (t ∷ ts) fs h =
     same_step t ts (st.Called p w (grown_all xs)) (st.Whole (item p w (Some (grown_all xs)) None)) fs fs (called_done t.spot t.lexeme p w (grown_all xs) fs h)
 
-item_claim : (p : Spot) (path : Bool) (w : List ℕ) (args inner : Group) (ts mid rest : List Mark) → Claim (arguments args) ts mid → Claim (body inner) mid rest
+item_claim : (p : Spot) (path : Bool) (w : List ℕ) (args inner : TreeGroup) (ts mid rest : List Mark) → Claim (arguments args) ts mid → Claim (body inner) mid rest
     → Claim (expression 0 (t.an_item p w args inner)) (word p path w ∷ ts) rest
 unfolding begin
 item_claim p path w args inner ts mid rest c d = (refl, λ fs fits proper ends. stepped (word p path w) ts st.Operand (st.Word p w) fs fs refl ▸ c p w fs ▸ d p w args fs ▸ item_done p w args inner rest fs ends)
@@ -301,15 +301,15 @@ item_claim p path w args inner ts mid rest c d = (refl, λ fs fits proper ends. 
 
 some_arguments_claim : (p : Spot) (xs : Trees) (ts rest : List Mark) → Claim (given xs) ts rest → Claim (arguments (t.given xs)) (sign p s.LeftParen ∷ ts) rest
 unfolding m.word
-some_arguments_claim p xs ts rest c q w fs = stepped (sign p s.LeftParen) ts (st.Word q w) st.FirstArgument fs (f.Args q w no_branches ∷ fs) refl ▸ c q w fs
+some_arguments_claim p xs ts rest c q w fs = stepped (sign p s.LeftParen) ts (st.Word q w) st.FirstArgument fs (f.Args q w no_subtrees ∷ fs) refl ▸ c q w fs
 
 none_given_claim : (p : Spot) (rest : List Mark) → Claim (given none) (sign p s.RightParen ∷ rest) rest
 unfolding first_argument
-none_given_claim p rest q w fs = stepped (sign p s.RightParen) rest st.FirstArgument (st.Called q w no_branches) (f.Args q w no_branches ∷ fs) fs refl
+none_given_claim p rest q w fs = stepped (sign p s.RightParen) rest st.FirstArgument (st.Called q w no_subtrees) (f.Args q w no_subtrees ∷ fs) fs refl
 
 one_argument : (q : Spot) (w : List ℕ) (xs : Trees) (x : Tree) (mid rest : List Mark) (fs : List Frame) → Claim (g.argument x) mid rest → EndsMember rest
     → Same (go mid (wants xs) (f.Args q w (grown_all xs) ∷ fs)) (go rest (st.Listed (grown x)) (f.Args q w (grown_all xs) ∷ fs))
-one_argument q w none x mid rest fs d ends = (d q w no_branches fs ends).1
+one_argument q w none x mid rest fs d ends = (d q w no_subtrees fs ends).1
 one_argument q w (more xs y) x mid rest fs d ends = (d q w (grown_all (more xs y)) fs ends).0
 
 last_given_claim : (p : Spot) (xs : Trees) (x : Tree) (ts mid rest : List Mark) → Claim (before xs) ts mid → Claim (g.argument x) mid (sign p s.RightParen ∷ rest) → Claim (given (more xs x)) ts rest
@@ -331,7 +331,7 @@ one_before_claim p xs x ts mid rest c d q w fs =
 
 comma_after : (p q : Spot) (w : List ℕ) (xs : Trees) (rest : List Mark) (fs : List Frame) → Same (go (sign p s.Comma ∷ rest) (wants xs) (f.Args q w (grown_all xs) ∷ fs)) (go rest st.Argument (f.Args q w (grown_all (more xs (t.an_empty p))) ∷ fs))
 unfolding argument first_argument
-comma_after p q w none rest fs = stepped (sign p s.Comma) rest st.FirstArgument st.Argument (f.Args q w no_branches ∷ fs) (f.Args q w (grown_all (more none (t.an_empty p))) ∷ fs) refl
+comma_after p q w none rest fs = stepped (sign p s.Comma) rest st.FirstArgument st.Argument (f.Args q w no_subtrees ∷ fs) (f.Args q w (grown_all (more none (t.an_empty p))) ∷ fs) refl
 comma_after p q w (more xs x) rest fs = stepped (sign p s.Comma) rest st.Argument st.Argument (f.Args q w (grown_all (more xs x)) ∷ fs) (f.Args q w (grown_all (more (more xs x) (t.an_empty p))) ∷ fs) refl
 
 one_left_out_claim : (p : Spot) (xs : Trees) (ts rest : List Mark) → Claim (before xs) ts (sign p s.Comma ∷ rest) → Claim (before (more xs (t.an_empty p))) ts rest
@@ -348,28 +348,28 @@ argument_claim e ts (t ∷ rest) c p w done fs h =
 
 -- ---- lists
 
-one_member : (p : Spot) (xs : Trees) (ys : Branches) (x : Tree) (mid rest : List Mark) (fs : List Frame) → Claim (member x) mid rest → Same (go mid (expects xs) (f.List p ys ∷ fs)) (go rest (st.Listed (grown x)) (f.List p ys ∷ fs))
+one_member : (p : Spot) (xs : Trees) (ys : Subtrees) (x : Tree) (mid rest : List Mark) (fs : List Frame) → Claim (member x) mid rest → Same (go mid (expects xs) (f.List p ys ∷ fs)) (go rest (st.Listed (grown x)) (f.List p ys ∷ fs))
 one_member p none ys x mid rest fs d = (d (f.List p ys ∷ fs)).1
 one_member p (more xs y) ys x mid rest fs d = (d (f.List p ys ∷ fs)).0
 
 members_then : (p : Spot) (xs : Trees) (x : Tree) (ts mid rest : List Mark) (fs : List Frame) → Claim (members xs) ts mid → Claim (member x) mid rest
-    → Same (go ts st.FirstElement (f.List p no_branches ∷ fs)) (go rest (st.Listed (grown x)) (f.List p (grown_all xs) ∷ fs))
+    → Same (go ts st.FirstElement (f.List p no_subtrees ∷ fs)) (go rest (st.Listed (grown x)) (f.List p (grown_all xs) ∷ fs))
 members_then p xs x ts mid rest fs c d = c p fs ▸ one_member p xs (grown_all xs) x mid rest fs d
 
-pub list_opens : (p : Spot) (ts : List Mark) (fs : List Frame) (y : Here) → Same (go ts st.FirstElement (f.List p no_branches ∷ fs)) y
+pub list_opens : (p : Spot) (ts : List Mark) (fs : List Frame) (y : Here) → Same (go ts st.FirstElement (f.List p no_subtrees ∷ fs)) y
     → Same (go (sign p s.LeftBrace ∷ ts) st.Argument fs) y × Same (go (sign p s.LeftBrace ∷ ts) st.FirstArgument fs) y × Same (go (sign p s.LeftBrace ∷ ts) st.Element fs) y × Same (go (sign p s.LeftBrace ∷ ts) st.FirstElement fs) y
 unfolding argument first_argument element first_element
 list_opens p ts fs y e = (
-  stepped (sign p s.LeftBrace) ts st.Argument st.FirstElement fs (f.List p no_branches ∷ fs) refl ▸ e,
-  stepped (sign p s.LeftBrace) ts st.FirstArgument st.FirstElement fs (f.List p no_branches ∷ fs) refl ▸ e,
-  stepped (sign p s.LeftBrace) ts st.Element st.FirstElement fs (f.List p no_branches ∷ fs) refl ▸ e,
-  stepped (sign p s.LeftBrace) ts st.FirstElement st.FirstElement fs (f.List p no_branches ∷ fs) refl ▸ e,
+  stepped (sign p s.LeftBrace) ts st.Argument st.FirstElement fs (f.List p no_subtrees ∷ fs) refl ▸ e,
+  stepped (sign p s.LeftBrace) ts st.FirstArgument st.FirstElement fs (f.List p no_subtrees ∷ fs) refl ▸ e,
+  stepped (sign p s.LeftBrace) ts st.Element st.FirstElement fs (f.List p no_subtrees ∷ fs) refl ▸ e,
+  stepped (sign p s.LeftBrace) ts st.FirstElement st.FirstElement fs (f.List p no_subtrees ∷ fs) refl ▸ e,
 )
 
 empty_list_claim : (p q : Spot) (rest : List Mark) → Claim (brace_list (t.a_list p none)) (sign p s.LeftBrace ∷ sign q s.RightBrace ∷ rest) rest
 unfolding first_element
 empty_list_claim p q rest fs =
-    let e = stepped (sign q s.RightBrace) rest st.FirstElement (st.Listed (grown (t.a_list p none))) (f.List p no_branches ∷ fs) fs refl in
+    let e = stepped (sign q s.RightBrace) rest st.FirstElement (st.Listed (grown (t.a_list p none))) (f.List p no_subtrees ∷ fs) fs refl in
     list_opens p (sign q s.RightBrace ∷ rest) fs (go rest (st.Listed (grown (t.a_list p none))) fs) e
 
 list_claim : (p q : Spot) (xs : Trees) (x : Tree) (ts mid rest : List Mark) → Claim (members xs) ts mid → Claim (member x) mid (sign q s.RightBrace ∷ rest)
@@ -390,12 +390,12 @@ word_member_claim p w rest fs = (stepped (word p false w) rest st.Element (st.Li
 
 -- ---- bodies
 
-pub body_opens : (p q : Spot) (w : List ℕ) (args : Group) (ts : List Mark) (fs : List Frame) → Same (go (sign p s.LeftBrace ∷ ts) (named q w args) fs) (go ts st.Sequence (f.Body q w (grown_in args) no_branches ∷ fs))
+pub body_opens : (p q : Spot) (w : List ℕ) (args : TreeGroup) (ts : List Mark) (fs : List Frame) → Same (go (sign p s.LeftBrace ∷ ts) (named q w args) fs) (go ts st.Sequence (f.Body q w (grown_in args) no_subtrees ∷ fs))
 unfolding m.word m.called
-body_opens p q w absent ts fs = stepped (sign p s.LeftBrace) ts (st.Word q w) st.Sequence fs (f.Body q w None no_branches ∷ fs) refl
-body_opens p q w (t.given xs) ts fs = stepped (sign p s.LeftBrace) ts (st.Called q w (grown_all xs)) st.Sequence fs (f.Body q w (Some (grown_all xs)) no_branches ∷ fs) refl
+body_opens p q w absent ts fs = stepped (sign p s.LeftBrace) ts (st.Word q w) st.Sequence fs (f.Body q w None no_subtrees ∷ fs) refl
+body_opens p q w (t.given xs) ts fs = stepped (sign p s.LeftBrace) ts (st.Called q w (grown_all xs)) st.Sequence fs (f.Body q w (Some (grown_all xs)) no_subtrees ∷ fs) refl
 
-body_closes : (p q : Spot) (w : List ℕ) (args : Group) (done : Trees) (last : Option Tree) (rest : List Mark) (fs : List Frame)
+body_closes : (p q : Spot) (w : List ℕ) (args : TreeGroup) (done : Trees) (last : Option Tree) (rest : List Mark) (fs : List Frame)
     → Same (goes_on (sign p s.RightBrace ∷ rest) (f.Body q w (grown_in args) (grown_all done)) fs last) (go rest (st.Whole (grown (t.an_item q w args (t.given (all done last))))) fs)
 unfolding sequence after settle
 body_closes p q w args done None rest fs = stepped (sign p s.RightBrace) rest st.Sequence (st.Whole (grown (t.an_item q w args (t.given done)))) (f.Body q w (grown_in args) (grown_all done) ∷ fs) fs refl

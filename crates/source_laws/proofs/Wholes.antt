@@ -5,21 +5,21 @@ use Rattle.std.proofs.lemmas.List.{reverse-append}
 use Rattle.iasl_messages.specs.declared.place.Place.{Place}
 use Rattle.asl_fragments.specs.Fragments.{ends_in_comment}
 use Rattle.asl_directives.specs.declared.branches.Branch.{Branch}
-use Rattle.asl_directives.specs.declared.kind.Kind.{Kind}
-use Rattle.asl_directives.specs.declared.kind.Kind.TheVariants as k
+use Rattle.asl_directives.specs.declared.kind.DirectiveKind.{DirectiveKind}
+use Rattle.asl_directives.specs.declared.kind.DirectiveKind.TheVariants as k
 use Rattle.asl_directives.specs.Kinds.{is_conditional}
 use Rattle.asl_directives.specs.Branches.{is_read, asks, at_else, outermost}
 use Rattle.asl_preprocess.specs.Rows.{Row, Directive, Ordinary, rows_of}
 use Rattle.asl_preprocess.specs.State.{State, Pass, Outcome, then, number_of}
 use Rattle.asl_preprocess.specs.Directives.{wrong, skipped, obeyed_or_open, skipped_or_open, else_if, balanced}
 use Rattle.asl_preprocess.specs.Preprocess.{Reading, Setting, done, of_rows, closed, at_end, of_text}
-use Rattle.source_laws.specs.Conditionals.{Rows, Branches, no_rows, row, conditional, no_branches, branch, listed, listed_branches, kind_in, operand_in, place_in, Is, stands_in_conditional, IsOther, IsNone, AreWhole, AreFurther, condition, told, alone}
+use Rattle.source_laws.specs.Conditionals.{RowTree, BranchList, no_rows, row, conditional, no_branches, branch, listed, listed_branches, kind_in, operand_in, place_in, Is, stands_in_conditional, IsOther, IsNone, AreWhole, AreFurther, condition, told, alone}
 use Rattle.source_laws.proofs.Conditionals.{inside, around, turned, step, run, row_read, row_unread, directive_is, end_closes, elif_passes, elif_turns, else_turns, if_unread, if_opens, valued, unread_branch, first_branch, further_branch, last_branch, Opens}
 
 -- These rows end each of the branches that are open, and whole rows stand before each end and at the end.
 data Closes : List Branch → List Row → Type 0 where
-  outside : (tree : Rows) → AreWhole tree → Closes [] (listed tree)
-  in_branch : {b : Branch} {bs : List Branch} {rest : List Row} (tree : Rows) (others : Branches) (end : Row) → AreWhole tree → AreFurther others → (b.last ≡ true → IsNone others) → Is k.EndIf end → Closes bs rest
+  outside : (tree : RowTree) → AreWhole tree → Closes [] (listed tree)
+  in_branch : {b : Branch} {bs : List Branch} {rest : List Row} (tree : RowTree) (others : BranchList) (end : Row) → AreWhole tree → AreFurther others → (b.last ≡ true → IsNone others) → Is k.EndIf end → Closes bs rest
       → Closes (b ∷ bs) ((listed tree ++ listed_branches others) ++ end ∷ rest)
 
 before_row : {bs : List Branch} {rows : List Row} (r : Row) → IsOther r → Closes bs rows → Closes bs (r ∷ rows)
@@ -27,7 +27,7 @@ before_row r other (outside tree whole) = outside (row r tree) (other, whole)
 before_row r other (in_branch tree others end whole further last closes below) = in_branch (row r tree) others end (other, whole) further last closes below
 
 -- a conditional before rows
-before_conditional : {bs : List Branch} {rows : List Row} (d : Row) (inner : Rows) (more : Branches) (close : Row) → Opens d → AreWhole inner → AreFurther more → Is k.EndIf close → Closes bs rows
+before_conditional : {bs : List Branch} {rows : List Row} (d : Row) (inner : RowTree) (more : BranchList) (close : Row) → Opens d → AreWhole inner → AreFurther more → Is k.EndIf close → Closes bs rows
     → Closes bs (d ∷ (listed inner ++ listed_branches more) ++ close ∷ rows)
 before_conditional d inner more close opens within behind end (outside tree whole) = outside (conditional (branch d inner more) close tree) ((opens, within, behind), end, whole)
 before_conditional {bs} d inner more close opens within behind end (in_branch {rest = rest} tree others final whole further last closes below) =
@@ -86,7 +86,7 @@ module _ (reading : Reading) (setting : Setting) (file : ℕ) (own : List ℕ) w
       by false is = let same : Ok (inside state bs) ≡ Ok next = sym (row_unread reading setting file own r (inside state bs) other is) ∙ e in let here : inside state bs ≡ next = cc in sym (ap (λ (p : Pass). p.branches) here)
 
   -- a directive of a conditional that leaves a comment open is refused
-  open_refused : (kind : Kind) (n : ℕ) (text : List ℕ) (pass next : Pass) → kind_in text ≡ Some kind → is_conditional kind ≡ true → ends_in_comment false text ≡ true → step reading setting file own (Directive n text) pass ≡ Ok next → ⊥
+  open_refused : (kind : DirectiveKind) (n : ℕ) (text : List ℕ) (pass next : Pass) → kind_in text ≡ Some kind → is_conditional kind ≡ true → ends_in_comment false text ≡ true → step reading setting file own (Directive n text) pass ≡ Ok next → ⊥
   open_refused kind n text pass next is among left e =
       let place : Place = place_in file n text in
       let rest : List ℕ = operand_in text in
@@ -102,7 +102,7 @@ module _ (reading : Reading) (setting : Setting) (file : ℕ) (own : List ℕ) w
       by true = refl
       by false = refl
 
-  closed_is : (kind : Kind) (n : ℕ) (text : List ℕ) (pass next : Pass) → kind_in text ≡ Some kind → is_conditional kind ≡ true → step reading setting file own (Directive n text) pass ≡ Ok next → Is kind (Directive n text)
+  closed_is : (kind : DirectiveKind) (n : ℕ) (text : List ℕ) (pass next : Pass) → kind_in text ≡ Some kind → is_conditional kind ≡ true → step reading setting file own (Directive n text) pass ≡ Ok next → Is kind (Directive n text)
   closed_is kind n text pass next is among e = (is, by (ends_in_comment false text) refl)
     where
       by : (t : Bool) → ends_in_comment false text ≡ t → ends_in_comment false text ≡ false
@@ -126,7 +126,7 @@ module _ (reading : Reading) (setting : Setting) (file : ℕ) (own : List ℕ) w
   value_goes (Some value) state bs f x next h e = record { value = value; is = ok_is (inside state (f value ∷ bs)) next (Ok (inside state (f value ∷ bs))) refl e }
   value_goes None state bs f x next h e = absurd (h e)
 
-  told_stops : (kind : Kind) (d : Row) (state : State) (bs : List Branch) (next : Pass) → Is kind d → around bs (told file d state) ≡ Ok next → ⊥
+  told_stops : (kind : DirectiveKind) (d : Row) (state : State) (bs : List Branch) (next : Pass) → Is kind d → around bs (told file d state) ≡ Ok next → ⊥
   told_stops kind (Directive n text) state bs next is e = cc
   told_stops kind (Ordinary n in_comment text) state bs next is e = is
 
@@ -158,7 +158,7 @@ module _ (reading : Reading) (setting : Setting) (file : ℕ) (own : List ℕ) w
           record { innermost = further_branch b v.value; no_last = last; is = v.is }
 
   -- an `#elif`, `#else` or `#endif` that stands where it may not
-  unbalanced : (kind : Kind) (n : ℕ) (text : List ℕ) (pass next : Pass) → ((t : Bool) → then (turned t kind (place_in file n text) (operand_in text) pass) (done reading setting own) ≡ Ok next → ⊥)
+  unbalanced : (kind : DirectiveKind) (n : ℕ) (text : List ℕ) (pass next : Pass) → ((t : Bool) → then (turned t kind (place_in file n text) (operand_in text) pass) (done reading setting own) ≡ Ok next → ⊥)
       → Is kind (Directive n text) → step reading setting file own (Directive n text) pass ≡ Ok next → ⊥
   unbalanced kind n text pass next h is e = h (is_read pass.branches) (sym (directive_is reading setting file own kind n text pass (is_read pass.branches) is refl) ∙ e)
 
@@ -233,7 +233,7 @@ module _ (reading : Reading) (setting : Setting) (file : ℕ) (own : List ℕ) w
       let here = ok_is (inside state bs) next (step reading setting file own (Directive n text) (inside state (b ∷ bs))) (end_closes reading setting file own (Directive n text) state b bs is) e in
       end_ends (Directive n text) is (ih state bs (ap (run reading setting file own rows) (sym here) ∙ f))
 
-  behind_kind : (kind : Kind) (n : ℕ) (text : List ℕ) (rows : List Row) (state : State) (bs : List Branch) (next later : Pass) → Behind rows later → Does (Directive n text) state bs next → run reading setting file own rows next ≡ Ok later
+  behind_kind : (kind : DirectiveKind) (n : ℕ) (text : List ℕ) (rows : List Row) (state : State) (bs : List Branch) (next later : Pass) → Behind rows later → Does (Directive n text) state bs next → run reading setting file own rows next ≡ Ok later
       → kind_in text ≡ Some kind → is_conditional kind ≡ true → Is kind (Directive n text) → Closes bs (Directive n text ∷ rows)
   behind_kind k.If n text rows state bs next later ih e f is among here = behind_open (Directive n text) rows state bs next later ih e f (inl here)
   behind_kind k.IfDefined n text rows state bs next later ih e f is among here = behind_open (Directive n text) rows state bs next later ih e f (inr (inl here))
@@ -243,7 +243,7 @@ module _ (reading : Reading) (setting : Setting) (file : ℕ) (own : List ℕ) w
   behind_kind k.EndIf n text rows state bs next later ih e f is among here = behind_end n text rows state bs next later ih e f here
   behind_kind _ n text rows state bs next later ih e f is among here = absurd cc
 
-  behind_directive : (o : Option Kind) (t : Bool) (n : ℕ) (text : List ℕ) (rows : List Row) (state : State) (bs : List Branch) (next later : Pass) → Behind rows later → Does (Directive n text) state bs next → run reading setting file own rows next ≡ Ok later
+  behind_directive : (o : Option DirectiveKind) (t : Bool) (n : ℕ) (text : List ℕ) (rows : List Row) (state : State) (bs : List Branch) (next later : Pass) → Behind rows later → Does (Directive n text) state bs next → run reading setting file own rows next ≡ Ok later
       → kind_in text ≡ o → stands_in_conditional o ≡ t → Closes bs (Directive n text ∷ rows)
   behind_directive o false n text rows state bs next later ih e f is among = behind_other (Directive n text) rows state bs next later ih e f (ap stands_in_conditional is ∙ among)
   behind_directive None true n text rows state bs next later ih e f is among = absurd cc
@@ -270,7 +270,7 @@ closed_at file state later None e = refl
 closed_at file state later (Some b) e = absurd cc
 
 record Tree (rows : List Row) : Type 0 where
-  tree : Rows
+  tree : RowTree
   whole : AreWhole tree
   is : rows ≡ listed tree
 
@@ -288,7 +288,7 @@ ended (Ok last) file later e = record { last = last; is = refl; none = none_open
 ended (Err stop) file later e = absurd cc
 
 pub files_whole : (reading : Reading) (setting : Setting) (state later : State) (name bytes : List ℕ) → of_text reading setting state name bytes ≡ Ok later
-    → (rows : Rows) × AreWhole rows × (rows_of setting.enabled bytes ≡ listed rows)
+    → (rows : RowTree) × AreWhole rows × (rows_of setting.enabled bytes ≡ listed rows)
 files_whole reading setting state later name bytes e =
     let file : ℕ = number_of name state.files in
     let end = ended (of_rows reading setting file name (rows_of setting.enabled bytes) (inside state [])) file later e in

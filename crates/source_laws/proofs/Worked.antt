@@ -20,7 +20,7 @@ use Rattle.asl_parser.specs.declared.raw.Infix.TheVariants as op
 use Rattle.asl_parser.specs.Signs.{strength}
 use Rattle.asl_parser.specs.Grammar.{sign, word}
 use Rattle.asl_parser.specs.Grammar as g
-use Rattle.source_laws.specs.Conditionals.{Rows, no_rows, row, conditional, no_branches, branch, listed, AreWhole, read, alone}
+use Rattle.source_laws.specs.Conditionals.{RowTree, no_rows, row, conditional, no_branches, branch, listed, AreWhole, read, alone}
 use Rattle.source_laws.specs.Sights.{InString, InComment, Elsewhere, each, sights_of}
 use Rattle.source_laws.specs.Opens.{OpensInSource}
 use Rattle.source_laws.specs.Opens as o
@@ -36,14 +36,14 @@ nothing = record { history = []; lines = []; notes = []; files = codes "t.asl" �
 abbrev line_at : ℕ → List ℕ → Line
 line_at number text = record { file = 0; number = number; text = text }
 
-abbrev read_alone : Rows → Outcome State
+abbrev read_alone : RowTree → Outcome State
 read_alone rows = read (alone None no_setting 0 (codes "t.asl")) 0 rows nothing
 
 -- the first branch whose condition holds; the division by 0 behind it is not asked
 abbrev first : List ℕ
 first = codes "#if 0\na\n#elif 2 > 1\nb\n#elif 1 / 0\nc\n#else\nd\n#endif\n"
 
-abbrev first_rows : Rows
+abbrev first_rows : RowTree
 first_rows =
     conditional
     (branch (Directive 1 (codes "#if 0")) (row (Ordinary 2 false (codes "a")) no_rows)
@@ -64,7 +64,7 @@ unfolding kind_of fragment_of_slash fragment_of fragments_behind fragments witho
 first_read = refl
 
 -- in a branch that is not read no condition is asked
-abbrev unread_rows : Rows
+abbrev unread_rows : RowTree
 unread_rows =
     conditional
     (branch (Directive 1 (codes "#ifdef A")) (conditional (branch (Directive 2 (codes "#if 1 / 0")) no_rows (branch (Directive 3 (codes "#elif")) (row (Ordinary 4 false (codes "a")) no_rows) no_branches)) (Directive 5 (codes "#endif")) no_rows)

@@ -7,8 +7,8 @@ use Rattle.iasl_messages.specs.declared.place.Place.{Place}
 use Rattle.asl_fragments.specs.Fragments.{ends_in_comment, without_comments}
 use Rattle.asl_macros.specs.History.{History}
 use Rattle.asl_conditions.specs.Condition.{is_known}
-use Rattle.asl_directives.specs.declared.kind.Kind.{Kind}
-use Rattle.asl_directives.specs.declared.kind.Kind.TheVariants as k
+use Rattle.asl_directives.specs.declared.kind.DirectiveKind.{DirectiveKind}
+use Rattle.asl_directives.specs.declared.kind.DirectiveKind.TheVariants as k
 use Rattle.asl_directives.specs.Words.{word_of, behind_word, blanks_before}
 use Rattle.asl_directives.specs.Forms.{name_alone}
 use Rattle.asl_directives.specs.Kinds.{kind_of, is_conditional}
@@ -19,31 +19,31 @@ use Rattle.asl_preprocess.specs.Preprocess.{Reading, Setting, of_row, done}
 
 mutual
   -- rows in order: none; a row, and those behind it; or a conditional, and those behind it
-  pub data Rows : Type 0 where
-    no_rows : Rows
-    row : (first : Row) (behind : Rows) → Rows
-    conditional : (branches : Branches) (end : Row) (behind : Rows) → Rows
+  pub data RowTree : Type 0 where
+    no_rows : RowTree
+    row : (first : Row) (behind : RowTree) → RowTree
+    conditional : (branches : BranchList) (end : Row) (behind : RowTree) → RowTree
 
   -- the branches of a conditional in order, each with its directive and the rows up to the next directive of that conditional
-  pub data Branches : Type 0 where
-    no_branches : Branches
-    branch : (directive : Row) (inside : Rows) (others : Branches) → Branches
+  pub data BranchList : Type 0 where
+    no_branches : BranchList
+    branch : (directive : Row) (inside : RowTree) (others : BranchList) → BranchList
 
 -- all rows as they stand in the file
 abbrev mutual
-  pub listed : Rows → List Row
+  pub listed : RowTree → List Row
   listed no_rows = []
   listed (row first behind) = first ∷ listed behind
   listed (conditional branches end behind) = listed_branches branches ++ end ∷ listed behind
 
-  pub listed_branches : Branches → List Row
+  pub listed_branches : BranchList → List Row
   listed_branches no_branches = []
   listed_branches (branch directive inside others) = directive ∷ listed inside ++ listed_branches others
 
 -- ---- directives
 
 -- the kind of a directive, and what stands behind its word; comments count as blanks
-abbrev pub kind_in : List ℕ → Option Kind
+abbrev pub kind_in : List ℕ → Option DirectiveKind
 kind_in text = kind_of (word_of (directive_text (without_comments false text)))
 
 abbrev pub operand_in : List ℕ → List ℕ
@@ -54,11 +54,11 @@ abbrev pub place_in : ℕ → ℕ → List ℕ → Place
 place_in file n text = at file n (blanks_before (without_comments false text) + 1)
 
 -- a directive of this kind, which leaves no comment open
-abbrev pub Is : Kind → Row → Type 0
+abbrev pub Is : DirectiveKind → Row → Type 0
 Is kind (Directive n text) = (kind_in text ≡ Some kind) × (ends_in_comment false text ≡ false)
 Is kind (Ordinary n in_comment text) = ⊥
 
-abbrev pub stands_in_conditional : Option Kind → Bool
+abbrev pub stands_in_conditional : Option DirectiveKind → Bool
 stands_in_conditional None = false
 stands_in_conditional (Some kind) = is_conditional kind
 
@@ -67,30 +67,30 @@ abbrev pub IsOther : Row → Type 0
 IsOther (Directive n text) = stands_in_conditional (kind_in text) ≡ false
 IsOther (Ordinary n in_comment text) = ⊤
 
-abbrev pub IsNone : Branches → Type 0
+abbrev pub IsNone : BranchList → Type 0
 IsNone no_branches = ⊤
 IsNone (branch directive inside others) = ⊥
 
 -- A conditional begins with a branch of an `#if`, `#ifdef` or `#ifndef`, each further one is of an `#elif`, and the last
 -- may be of an `#else`. All else stands in rows by itself.
 abbrev mutual
-  pub AreWhole : Rows → Type 0
+  pub AreWhole : RowTree → Type 0
   AreWhole no_rows = ⊤
   AreWhole (row first behind) = IsOther first × AreWhole behind
   AreWhole (conditional branches end behind) = AreBranches branches × Is k.EndIf end × AreWhole behind
 
-  pub AreBranches : Branches → Type 0
+  pub AreBranches : BranchList → Type 0
   AreBranches no_branches = ⊥
   AreBranches (branch directive inside others) = (Is k.If directive ⊎ (Is k.IfDefined directive ⊎ Is k.IfNotDefined directive)) × AreWhole inside × AreFurther others
 
-  pub AreFurther : Branches → Type 0
+  pub AreFurther : BranchList → Type 0
   AreFurther no_branches = ⊤
   AreFurther (branch directive inside others) = (Is k.ElseIf directive × AreWhole inside × AreFurther others) ⊎ (Is k.Else directive × AreWhole inside × IsNone others)
 
 -- ---- what rows do
 
 -- whether the condition of a branch holds, by the definitions before it; none where it has a fault
-abbrev pub condition_by : Option Kind → History → List ℕ → Option Bool
+abbrev pub condition_by : Option DirectiveKind → History → List ℕ → Option Bool
 condition_by (Some k.If) history operand = truth_of history operand
 condition_by (Some k.ElseIf) history operand = truth_of history operand
 condition_by (Some k.IfDefined) history operand = option_map (λ name. is_known history name) (name_alone operand)
@@ -103,7 +103,7 @@ condition history (Directive n text) = condition_by (kind_in text) history (oper
 condition history (Ordinary n in_comment text) = None
 
 -- the number of its fault: a wrong form, or a condition that is no expression
-abbrev pub fault_by : Option Kind → ℕ
+abbrev pub fault_by : Option DirectiveKind → ℕ
 fault_by (Some k.IfDefined) = 6003
 fault_by (Some k.IfNotDefined) = 6003
 fault_by _ = 6006
@@ -118,15 +118,15 @@ chosen (Some true) inside others fault = inside
 chosen (Some false) inside others fault = others
 chosen None inside others fault = fault
 
--- Rows of the file with this number are read one after another, where `does` says what a row does that is no directive
+-- RowTree of the file with this number are read one after another, where `does` says what a row does that is no directive
 -- of a conditional. Of a conditional the first branch is read whose condition holds, and no other.
 abbrev mutual
-  pub read : (Row → State → Outcome State) → ℕ → Rows → State → Outcome State
+  pub read : (Row → State → Outcome State) → ℕ → RowTree → State → Outcome State
   read does file no_rows state = Ok state
   read does file (row first behind) state = then (does first state) (read does file behind)
   read does file (conditional branches end behind) state = then (read_first does file branches state) (read does file behind)
 
-  pub read_first : (Row → State → Outcome State) → ℕ → Branches → State → Outcome State
+  pub read_first : (Row → State → Outcome State) → ℕ → BranchList → State → Outcome State
   read_first does file no_branches state = Ok state
   read_first does file (branch directive inside others) state =
       chosen (condition state.history directive) (read does file inside state) (read_first does file others state) (told file directive state)

@@ -7,7 +7,7 @@ use Rattle.asl_parser.specs.declared.mark.Mark.{Mark}
 use Rattle.asl_parser.specs.declared.raw.Infix.{Infix}
 use Rattle.asl_parser.specs.declared.raw.Infix.TheVariants as op
 use Rattle.asl_parser.specs.Signs.{strength}
-use Rattle.asl_parser.specs.Trees.{Tree, Trees, Group}
+use Rattle.asl_parser.specs.Trees.{Tree, Trees, TreeGroup}
 use Rattle.asl_parser.specs.Grammar.{sign, word, MayFollow, Reads}
 use Rattle.asl_parser.specs.Grammar as g
 
@@ -54,7 +54,7 @@ pub data Opens : Production → List Mark → ℕ → Type 0 where
   in_infix : {n d : ℕ} {p : Spot} {i : Infix} {o : Strength} {a : Tree} {ms mid : List Mark} → strength i ≡ Some o → o.level ≤ n → Reads (g.expression o.pull a) ms (sign p (s.Binary i) ∷ mid)
       → Opens (expression o.room) mid d → Opens (expression n) ms (count i + d)
   in_arguments : {d : ℕ} {p : Spot} {ms : List Mark} → Opens arguments ms d → Opens behind_word (sign p s.LeftParen ∷ ms) (suc d)
-  in_body : {d : ℕ} {p : Spot} {args : Group} {ms mid : List Mark} → Reads (g.arguments args) ms (sign p s.LeftBrace ∷ mid) → Opens (row 13) mid d → Opens behind_word ms (suc d)
+  in_body : {d : ℕ} {p : Spot} {args : TreeGroup} {ms mid : List Mark} → Reads (g.arguments args) ms (sign p s.LeftBrace ∷ mid) → Opens (row 13) mid d → Opens behind_word ms (suc d)
   -- behind some arguments, each with its comma
   next_argument : {d : ℕ} {xs : Trees} {ms mid : List Mark} → Reads (g.before xs) ms mid → Opens argument mid d → Opens arguments ms d
   an_argument : {d : ℕ} {ms : List Mark} → Opens (expression 13) ms d → Opens argument ms d

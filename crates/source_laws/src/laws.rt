@@ -17,30 +17,30 @@ ghost use Rattle.asl_parser.specs.declared.mark.Mark.{Mark};
 ghost use Rattle.asl_parser.specs.Front.{IsFront};
 ghost use Rattle.asl_parser.specs.Depth.{IsDeeper, IsShallow, OpensTooMuch};
 ghost use Rattle.source_laws.specs.Opens.{OpensInSource, IsFirstTooDeep};
-ghost use Rattle.source_laws.specs.Conditionals.{Rows, Branches, branch, listed, AreWhole, condition, read, read_first, alone};
+ghost use Rattle.source_laws.specs.Conditionals.{RowTree, BranchList, branch, listed, AreWhole, condition, read, read_first, alone};
 
 /// A file is read as its tree of rows says: of a conditional the first branch whose condition holds, and no other.
 pub fn first_branch_is_read()
-    ensures { (reading : Reading) (setting : Setting) (state : State) (name bytes : List ℕ) (rows : Rows) → rows_of setting.enabled bytes ≡ listed rows → AreWhole rows
+    ensures { (reading : Reading) (setting : Setting) (state : State) (name bytes : List ℕ) (rows : RowTree) → rows_of setting.enabled bytes ≡ listed rows → AreWhole rows
         → of_text reading setting state name bytes ≡ read (alone reading setting (number_of name state.files) name) (number_of name state.files) rows state }
 {}
 
 /// What stands behind a branch whose condition holds changes nothing, up to the `#endif`: its conditions are not asked, and their faults are not told.
 pub fn nothing_behind_is_asked()
-    ensures { (does : Row → State → Outcome State) (file : ℕ) (state : State) (directive : Row) (inside : Rows) (others : Branches) → condition state.history directive ≡ Some true
+    ensures { (does : Row → State → Outcome State) (file : ℕ) (state : State) (directive : Row) (inside : RowTree) (others : BranchList) → condition state.history directive ≡ Some true
         → read_first does file (branch directive inside others) state ≡ read does file inside state }
 {}
 
 /// Where a branch around them is not read, whole rows change nothing: no branch of their conditionals is read, and no condition is asked.
 pub fn unread_rows_do_nothing()
-    ensures { (reading : Reading) (setting : Setting) (file : ℕ) (own : List ℕ) (rows : Rows) (pass : Pass) → AreWhole rows → is_read pass.branches ≡ false
+    ensures { (reading : Reading) (setting : Setting) (file : ℕ) (own : List ℕ) (rows : RowTree) (pass : Pass) → AreWhole rows → is_read pass.branches ≡ false
         → of_rows reading setting file own (listed rows) pass ≡ Ok pass }
 {}
 
 /// The rows of each file that is read to its end are such a tree.
 pub fn files_are_whole()
     ensures { (reading : Reading) (setting : Setting) (state later : State) (name bytes : List ℕ) → of_text reading setting state name bytes ≡ Ok later
-        → (rows : Rows) × AreWhole rows × (rows_of setting.enabled bytes ≡ listed rows) }
+        → (rows : RowTree) × AreWhole rows × (rows_of setting.enabled bytes ≡ listed rows) }
 {}
 
 /// What is cut into tokens is blanks, comments and tokens in turn, and of each token no longer front of what was left is a token of any kind.

@@ -1,6 +1,6 @@
 use asl_directives::branches::{BranchFault, Branches};
 use asl_directives::forms::{definition_of, include_line, include_of, message_of, name_alone};
-use asl_directives::kind::{Kind, is_conditional, kind_of};
+use asl_directives::kind::{DirectiveKind, is_conditional, kind_of};
 use std::alloc::Global;
 
 #[test]
@@ -17,7 +17,9 @@ fn forms_are_read(rt: HostRuntime) {
     assert!(rt; message_of(b"message(\"m\")").unwrap_or(b"") == b"m".as_slice());
     assert!(rt; include_line(b" INCLUDE (\"f\") ").unwrap_or(b"") == b"f".as_slice());
     assert!(rt; include_line(b"Include (\"f\");").is_none());
-    assert!(rt; kind_of(b"elif").is_some_and(|kind| kind == Kind::ElseIf && is_conditional(kind)));
+    assert!(rt;
+        kind_of(b"elif").is_some_and(|kind| kind == DirectiveKind::ElseIf && is_conditional(kind))
+    );
     assert!(rt; kind_of(b"If").is_none());
 }
 

@@ -1,5 +1,5 @@
 use Rattle.std.proofs.Common.{List, ap, arith}
-use Rattle.asl_parser.specs.declared.branch.Branches.{Branches}
+use Rattle.asl_parser.specs.declared.subtree.Subtrees.{Subtrees}
 use Rattle.asl_parser.specs.declared.frame.Frame.{Frame}
 use Rattle.asl_parser.specs.Machine.{settle}
 use Rattle.asl_parser.specs.Opens.{tree_of}
@@ -8,6 +8,6 @@ use Rattle.asl_parser.proofs.machine.operator.Goals as goal
 
 pub returns : goal.returns
 returns c = (
-  operator_opens c.args.spot c.args.op c.args.strength c.settle.new.nest c.open.new.self (settle c.args.strength.pull (tree_of c.args.nest.now.0) c.args.nest.now.1) c.in_ok-settle.ensures.nest c.in_ok-settle.ensures.one (omega (arith, c.if-room-strength.false, c.room.ensures)) c.in_ok-open.ensures,
-  ap (λ (v : Branches × List Frame). v.0) c.in_ok-open.ensures,
+  operator_opens c.args.spot c.args.op c.args.strength c.settle.new.stack c.open.new.self (settle c.args.strength.pull (tree_of c.args.stack.now.0) c.args.stack.now.1) c.in_ok-settle.ensures.stack c.in_ok-settle.ensures.one (omega (arith, c.if-room-strength.false, c.room.ensures)) c.in_ok-open.ensures,
+  ap (λ (v : Subtrees × List Frame). v.0) c.in_ok-open.ensures,
 )

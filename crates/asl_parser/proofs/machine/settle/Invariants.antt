@@ -3,8 +3,8 @@ use Rattle.asl_parser.specs.Machine as spec
 use Rattle.asl_parser.specs.Opens.{IsOne, tree_of}
 use Rattle.asl_parser.proofs.machine.settle.Given as goal
 
-abbrev pub invariant-loop-nest : goal.invariant-loop-nest
-invariant-loop-nest l = record { same : spec.settle l.pull (tree_of l.nest.0) l.nest.1 ≡ spec.settle l.pull (tree_of l.fn.nest.0) l.fn.nest.1; one : IsOne l.nest.0 }
+abbrev pub invariant-loop-stack : goal.invariant-loop-stack
+invariant-loop-stack l = record { same : spec.settle l.pull (tree_of l.stack.0) l.stack.1 ≡ spec.settle l.pull (tree_of l.fn.stack.0) l.fn.stack.1; one : IsOne l.stack.0 }
 
-abbrev pub decreases-loop-nest : goal.decreases-loop-nest
-decreases-loop-nest l = length l.nest.1
+abbrev pub decreases-loop-stack : goal.decreases-loop-stack
+decreases-loop-stack l = length l.stack.1

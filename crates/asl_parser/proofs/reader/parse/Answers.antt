@@ -4,7 +4,7 @@ use Rattle.std.specs.List.{All}
 use Rattle.asl_lexer.specs.declared.token.Token.{Token}
 use Rattle.asl_parser.specs.declared.raw.RawUnit.{RawUnit}
 use Rattle.asl_parser.specs.declared.reader.Syntax.{Syntax}
-use Rattle.asl_parser.specs.Parse.{Answers, outcome}
+use Rattle.asl_parser.specs.Parse.{HasOutcome, outcome}
 use Rattle.asl_parser.specs.Within.{AreWithin}
 use Rattle.asl_parser.specs.Written.{writtens}
 use Rattle.asl_parser.specs.Grammar.{Spells}
@@ -12,8 +12,8 @@ use Rattle.asl_parser.proofs.Homes.{spelled_within}
 use Rattle.asl_parser.proofs.Told.{is_spelled, is_one, is_not_deep, is_fault}
 use Rattle.asl_parser.proofs.reader.parse.Goals as goal
 
-answers_at : (r : Result RawUnit Syntax) (us ts : List Token) → us ≡ ts → Answers r us (outcome us) → Answers r ts (outcome ts)
-answers_at r us ts e a = subst (λ (vs : List Token). Answers r vs (outcome vs)) e a
+answers_at : (r : Result RawUnit Syntax) (us ts : List Token) → us ≡ ts → HasOutcome r us (outcome us) → HasOutcome r ts (outcome ts)
+answers_at r us ts e a = subst (λ (vs : List Token). HasOutcome r vs (outcome vs)) e a
 
 pub returns-clause-spelled : goal.returns-clause-spelled
 returns-clause-spelled c = is_spelled c.args.tokens.now c.whole.result (answers_at c.whole.result c.as_slice.result.now c.args.tokens.now c.as_slice.ensures c.whole.ensures)

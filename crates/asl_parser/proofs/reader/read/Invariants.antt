@@ -6,7 +6,7 @@ use Rattle.asl_parser.specs.Machine.{walk, within, reading, depth}
 use Rattle.asl_parser.proofs.reader.read.Given as goal
 
 abbrev pub invariant-loop-at : goal.invariant-loop-at
-invariant-loop-at l = record { same : walk (within limit) (drop l.at (marks 0 l.tokens)) (state_of l.stage l.nest.0) l.nest.1 ≡ reading (marks 0 l.tokens); low : depth l.nest.1 ≤ limit; holds : Holds l.stage l.nest.0 }
+invariant-loop-at l = record { same : walk (within limit) (drop l.at (marks 0 l.tokens)) (state_of l.stage l.stack.0) l.stack.1 ≡ reading (marks 0 l.tokens); low : depth l.stack.1 ≤ limit; holds : Holds l.stage l.stack.0 }
 
 abbrev pub decreases-loop-at : goal.decreases-loop-at
 decreases-loop-at l = length l.tokens - l.at

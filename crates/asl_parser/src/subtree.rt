@@ -11,16 +11,16 @@ use iasl_ports::list::Text;
 pub const TALLEST: usize = 128;
 
 /// A tree. One that is too tall is not kept, but for its levels. Only definitions speak of a single one: the code keeps
-/// `Branches`.
+/// `Subtrees`.
 #[derive(Drop)]
-pub struct Branch {
+pub struct Subtree {
     pub raw: Option<Raw>,
     pub levels: Levels,
 }
 
 /// Trees in order. Where one of them is too tall, none is kept.
 #[derive(Drop)]
-pub struct Branches {
+pub struct Subtrees {
     pub raws: Option<Raws>,
     pub levels: Levels,
 }

@@ -1,10 +1,10 @@
 use Rattle.std.proofs.Common.{List, ap, ◌∙◌, Option}
 use Rattle.asl_parser.specs.declared.raw.Raw.{Raw}
-use Rattle.asl_parser.specs.declared.branch.Branches.{Branches}
+use Rattle.asl_parser.specs.declared.subtree.Subtrees.{Subtrees}
 use Rattle.asl_parser.specs.declared.frame.Frame.{Frame}
 use Rattle.asl_parser.specs.Grow.{item_raw, some_raws, raws_given, levels_given, merged}
-use Rattle.asl_parser.proofs.Nests.{block_item}
-use Rattle.asl_parser.proofs.nest.Nest.block.Goals as goal
+use Rattle.asl_parser.proofs.Stacks.{block_item}
+use Rattle.asl_parser.proofs.stack.Stack.block.Goals as goal
 
 pub returns-clause-tree : goal.returns-clause-tree
 returns-clause-tree c =
@@ -12,4 +12,4 @@ returns-clause-tree c =
     ∙ ap (λ (x : Option (Option (List Raw))). item_raw c.args.spot c.args.word (raws_given c.args.args) x) (c.given.ensures ∙ ap some_raws c.in_ok-body.ensures.raws) in
     c.in_ok-put.ensures.tree
     ∙ block_item c.args.spot c.args.word c.args.args c.args.self.now.0 c.item_raw.result c.go_behind.new.self.0.levels raw
-    (c.in_ok-args.ensures.levels ∙ ap (λ (v : Branches × List Frame). merged (levels_given c.args.args) v.0.levels) c.in_ok-body.ensures.rest)
+    (c.in_ok-args.ensures.levels ∙ ap (λ (v : Subtrees × List Frame). merged (levels_given c.args.args) v.0.levels) c.in_ok-body.ensures.rest)

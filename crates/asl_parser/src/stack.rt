@@ -3,18 +3,18 @@ ghost use Rattle.std.specs.Prelude.{◌≡◌, ◌&&◌, ◌+◌, ◌∷◌, ◌
 ghost use Rattle.std.specs.Option.{option_to_list};
 ghost use Rattle.std.specs.Vec.{vec_len, vec_capacity};
 ghost use Rattle.asl_parser.specs.declared.frame.Frame.TheVariants as frames;
-ghost use Rattle.asl_parser.specs.declared.open.Kind.TheVariants as kinds;
+ghost use Rattle.asl_parser.specs.declared.open.FrameKind.TheVariants as kinds;
 ghost use Rattle.asl_parser.specs.declared.raw.Raw.TheVariants as raws;
 ghost use Rattle.asl_parser.specs.Grow as grow;
-ghost use Rattle.asl_parser.specs.Grow.{no_branches, joined, merged};
+ghost use Rattle.asl_parser.specs.Grow.{no_subtrees, joined, merged};
 ghost use Rattle.asl_parser.specs.Machine as spec;
 ghost use Rattle.asl_parser.specs.Opens.{IsOne, Begins, tree_of, cleared, frame_on, kind_of, done_of, around, added, lists, has_trees, remaining};
 
-use crate::branch::{Branches, TALLEST, apply_raw, given, item_raw, list_raw};
 use crate::levels::Levels;
 use crate::mark::Spot;
-use crate::open::{Group, Kind, Open, room, weight};
+use crate::open::{FrameGroup, FrameKind, OpenFrame, room, weight};
 use crate::raw::{Infix, Raw, Raws};
+use crate::subtree::{Subtrees, TALLEST, apply_raw, given, item_raw, list_raw};
 use iasl_ports::list::Text;
 use std::alloc::{AllocError, Global};
 use std::marker::Model;
@@ -23,31 +23,31 @@ use std::mem::replace;
 /// The trees that were read last, which are held, and the frames that stand open around them, the innermost first. The nodes
 /// of all of them lie on one vector.
 #[derive(Drop)]
-pub struct Nest {
+pub struct Stack {
     alloc: Global,
     nodes: Vec<Raw>,
-    outer: Vec<Open>,
-    innermost: Open,
-    hand: Group,
+    outer: Vec<OpenFrame>,
+    innermost: OpenFrame,
+    hand: FrameGroup,
     depth: usize,
 }
 
-impl Model for Nest {
+impl Model for Stack {
     ghost use Rattle.std.specs.Prelude.{List, ◌∷◌, reverse, take};
     ghost use Rattle.std.specs.Coded.{coded_list, coded×};
-    ghost use Rattle.asl_parser.specs.contracts.branch.Branches as branches_row;
+    ghost use Rattle.asl_parser.specs.contracts.subtree.Subtrees as subtrees_row;
     ghost use Rattle.asl_parser.specs.contracts.frame.Frame as frame_row;
-    ghost use Rattle.asl_parser.specs.declared.branch.Branches.{Branches};
+    ghost use Rattle.asl_parser.specs.declared.subtree.Subtrees.{Subtrees};
     ghost use Rattle.asl_parser.specs.declared.frame.Frame.{Frame};
-    ghost use Rattle.asl_parser.specs.Opens.{trees_of, frames_of, IsNest};
+    ghost use Rattle.asl_parser.specs.Opens.{trees_of, frames_of, IsStack};
 
-    ghost Value = { Branches × List Frame };
+    ghost Value = { Subtrees × List Frame };
 
-    ghost coded = { coded× branches_row.the_row.coded (coded_list frame_row.the_row.coded) };
+    ghost coded = { coded× subtrees_row.the_row.coded (coded_list frame_row.the_row.coded) };
 
-    ghost view = { λ nest. (trees_of nest.hand nest.nodes.items, frames_of (nest.innermost ∷ reverse nest.outer.items) (take nest.hand.start nest.nodes.items)) };
+    ghost view = { λ stack. (trees_of stack.hand stack.nodes.items, frames_of (stack.innermost ∷ reverse stack.outer.items) (take stack.hand.start stack.nodes.items)) };
 
-    ghost invariant = { λ nest. IsNest nest.nodes.items nest.hand (nest.innermost ∷ reverse nest.outer.items) nest.depth };
+    ghost invariant = { λ stack. IsStack stack.nodes.items stack.hand (stack.innermost ∷ reverse stack.outer.items) stack.depth };
 }
 
 fn both(earlier: bool, later: bool) -> bool
@@ -104,7 +104,7 @@ fn deeper(depth: usize, weight: usize) -> Result<usize, AllocError>
 }
 
 // Puts a frame on the others.
-fn put_on(outer: &mut Vec<Open>, innermost: &mut Open, next: Open)
+fn put_on(outer: &mut Vec<OpenFrame>, innermost: &mut OpenFrame, next: OpenFrame)
     requires { vec_len outer.old < vec_capacity outer.old }
     ensures innermost { innermost.new ≡ next }
     ensures outer { reverse outer.new.items ≡ innermost.old ∷ reverse outer.old.items }
@@ -113,34 +113,34 @@ fn put_on(outer: &mut Vec<Open>, innermost: &mut Open, next: Open)
 }
 
 // Takes the innermost frame off.
-fn take_off(alloc: Global, outer: &mut Vec<Open>, innermost: &mut Open) -> Open
+fn take_off(alloc: Global, outer: &mut Vec<OpenFrame>, innermost: &mut OpenFrame) -> OpenFrame
     ensures taken { result ≡ innermost.old }
     ensures rest { innermost.new ∷ reverse outer.new.items ≡ remaining (reverse outer.old.items) }
 {
     let next = match outer.pop() {
         Some(open) => open,
-        None => Open {
-            kind: Kind::Nothing,
-            group: Group::new(alloc, 0),
+        None => OpenFrame {
+            kind: FrameKind::Nothing,
+            group: FrameGroup::new(alloc, 0),
         },
     };
     replace(innermost, next)
 }
 
-impl Nest {
+impl Stack {
     /// A source of which nothing was read.
-    pub fn new(alloc: Global) -> Nest
-        ensures { result ≡ (no_branches, spec.start) }
+    pub fn new(alloc: Global) -> Stack
+        ensures { result ≡ (no_subtrees, spec.start) }
     {
-        Nest {
+        Stack {
             alloc,
             nodes: Vec::new(alloc),
             outer: Vec::new(alloc),
-            innermost: Open {
-                kind: Kind::Unit,
-                group: Group::new(alloc, 0),
+            innermost: OpenFrame {
+                kind: FrameKind::Unit,
+                group: FrameGroup::new(alloc, 0),
             },
-            hand: Group::new(alloc, 0),
+            hand: FrameGroup::new(alloc, 0),
             depth: 0,
         }
     }
@@ -154,7 +154,7 @@ impl Nest {
     }
 
     /// How many brackets, prefix operators and assignments stand open.
-    #[tactic(auto, using(crate::proofs::Nests::depth_frames))]
+    #[tactic(auto, using(crate::proofs::Stacks::depth_frames))]
     pub fn depth(&self) -> usize
         ensures { result ≡ spec.depth self.now.1 }
     {
@@ -169,7 +169,7 @@ impl Nest {
     }
 
     /// What the innermost frame is.
-    pub fn kind(&self) -> &Kind
+    pub fn kind(&self) -> &FrameKind
         ensures { result.now ≡ kind_of self.now.1 }
     {
         &self.innermost.kind
@@ -193,7 +193,7 @@ impl Nest {
     /// Holds a tree of one node.
     #[inline(always)]
     pub fn hold(&mut self, first: u32, raw: Raw) -> Result<(), AllocError>
-        requires { self.old.0 ≡ no_branches }
+        requires { self.old.0 ≡ no_subtrees }
         ensures tree { OnOk result (tree_of self.new.0 ≡ grow.leaf first raw) }
         ensures one { OnOk result (IsOne self.new.0) }
         ensures frames { OnOk result (self.new.1 ≡ self.old.1) }
@@ -205,15 +205,19 @@ impl Nest {
 
     /// Opens a frame of this kind behind what is held, which becomes the first of its trees.
     #[inline(always)]
-    pub fn open(&mut self, kind: Kind) -> Result<(), AllocError>
+    pub fn open(&mut self, kind: FrameKind) -> Result<(), AllocError>
         requires { Begins kind self.old.0 }
-        ensures { OnOk result (self.new ≡ (no_branches, frame_on kind self.old.0 self.old.1)) }
+        ensures { OnOk result (self.new ≡ (no_subtrees, frame_on kind self.old.0 self.old.1)) }
     {
         let depth = deeper(self.depth, weight(&kind))?;
         self.outer.reserve(1)?;
-        let hand = Group::new(self.alloc, count(&self.nodes));
+        let hand = FrameGroup::new(self.alloc, count(&self.nodes));
         let group = replace(&mut self.hand, hand);
-        put_on(&mut self.outer, &mut self.innermost, Open { kind, group });
+        put_on(
+            &mut self.outer,
+            &mut self.innermost,
+            OpenFrame { kind, group },
+        );
         self.depth = depth;
         Ok(())
     }
@@ -224,9 +228,13 @@ impl Nest {
     {
         let depth = deeper(self.depth, 1)?;
         self.outer.reserve(1)?;
-        let group = Group::new(self.alloc, self.hand.start);
-        let kind = Kind::Bracket;
-        put_on(&mut self.outer, &mut self.innermost, Open { kind, group });
+        let group = FrameGroup::new(self.alloc, self.hand.start);
+        let kind = FrameKind::Bracket;
+        put_on(
+            &mut self.outer,
+            &mut self.innermost,
+            OpenFrame { kind, group },
+        );
         self.depth = depth;
         Ok(())
     }
@@ -244,10 +252,13 @@ impl Nest {
     pub fn add(&mut self) -> Result<(), AllocError>
         requires one { IsOne self.old.0 }
         requires lists { lists (kind_of self.old.1) ≡ true }
-        ensures { OnOk result (self.new ≡ (no_branches, added (tree_of self.old.0) self.old.1)) }
+        ensures { OnOk result (self.new ≡ (no_subtrees, added (tree_of self.old.0) self.old.1)) }
     {
         let start = count(&self.nodes);
-        let Group { kept, levels, .. } = replace(&mut self.hand, Group::new(self.alloc, start));
+        let FrameGroup { kept, levels, .. } = replace(
+            &mut self.hand,
+            FrameGroup::new(self.alloc, start),
+        );
         let group = &mut self.innermost.group;
         group.kept = both(group.kept, kept);
         group.levels.join(self.alloc, levels)?;
@@ -257,9 +268,9 @@ impl Nest {
     /// Adds a tree of one node to the innermost frame.
     #[inline(always)]
     pub fn append(&mut self, first: u32, raw: Raw) -> Result<(), AllocError>
-        requires none { self.old.0 ≡ no_branches }
+        requires none { self.old.0 ≡ no_subtrees }
         requires lists { lists (kind_of self.old.1) ≡ true }
-        ensures { OnOk result (self.new ≡ (no_branches, added (grow.leaf first raw) self.old.1)) }
+        ensures { OnOk result (self.new ≡ (no_subtrees, added (grow.leaf first raw) self.old.1)) }
     {
         self.nodes.push(raw)?;
         let one = Levels::of_one(self.alloc, first);
@@ -272,9 +283,9 @@ impl Nest {
     #[inline(always)]
     #[tactic(auto, unfolding(crate::specs::Grow::item, crate::specs::Grow::node_over, crate::specs::Grow::merged))]
     pub fn append_name(&mut self, spot: Spot, word: Text) -> Result<(), AllocError>
-        requires none { self.old.0 ≡ no_branches }
+        requires none { self.old.0 ≡ no_subtrees }
         requires lists { lists (kind_of self.old.1) ≡ true }
-        ensures { OnOk result (self.new ≡ (no_branches, added (grow.item spot word None None) self.old.1)) }
+        ensures { OnOk result (self.new ≡ (no_subtrees, added (grow.item spot word None None) self.old.1)) }
     {
         self.append(spot.token, named(spot, word))?;
         Ok(())
@@ -282,13 +293,13 @@ impl Nest {
 
     /// Ends the innermost frame, whose trees are held.
     #[inline(always)]
-    pub fn end(&mut self) -> Kind
-        requires none { self.old.0 ≡ no_branches }
+    pub fn end(&mut self) -> FrameKind
+        requires none { self.old.0 ≡ no_subtrees }
         requires trees { has_trees (kind_of self.old.1) ≡ true }
         ensures kind { result ≡ kind_of self.old.1 }
-        ensures nest { self.new ≡ (done_of self.old.1, around self.old.1) }
+        ensures stack { self.new ≡ (done_of self.old.1, around self.old.1) }
     {
-        let Open { kind, group } = take_off(self.alloc, &mut self.outer, &mut self.innermost);
+        let OpenFrame { kind, group } = take_off(self.alloc, &mut self.outer, &mut self.innermost);
         self.depth -= weight(&kind);
         self.hand = group;
         kind
@@ -296,13 +307,17 @@ impl Nest {
 
     /// Ends the innermost frame, whose trees are held with the one that was held behind them.
     #[inline(always)]
-    pub fn end_with(&mut self) -> Result<Kind, AllocError>
+    pub fn end_with(&mut self) -> Result<FrameKind, AllocError>
         requires one { IsOne self.old.0 }
         requires trees { has_trees (kind_of self.old.1) ≡ true }
         ensures kind { IfOk result (λ kind. kind ≡ kind_of self.old.1) }
-        ensures nest { OnOk result (self.new ≡ (joined (done_of self.old.1) (tree_of self.old.0), around self.old.1)) }
+        ensures stack { OnOk result (self.new ≡ (joined (done_of self.old.1) (tree_of self.old.0), around self.old.1)) }
     {
-        let Open { kind, mut group } = take_off(self.alloc, &mut self.outer, &mut self.innermost);
+        let OpenFrame { kind, mut group } = take_off(
+            self.alloc,
+            &mut self.outer,
+            &mut self.innermost,
+        );
         self.depth -= weight(&kind);
         group.kept = both(group.kept, self.hand.kept);
         let last = replace(&mut self.hand, group);
@@ -351,13 +366,13 @@ impl Nest {
     // The nodes of a part of an item, whose levels go before those of what is held.
     #[inline(always)]
     #[tactic(auto, using(crate::proofs::Merged::merged_none))]
-    fn go_behind(&mut self, part: Option<Branches>) -> Result<Option<Option<Raws>>, AllocError>
+    fn go_behind(&mut self, part: Option<Subtrees>) -> Result<Option<Option<Raws>>, AllocError>
         ensures raws { IfOk result (λ raws. raws ≡ grow.raws_given part) }
         ensures levels { OnOk result (self.new.0.levels ≡ merged (grow.levels_given part) self.old.0.levels) }
         ensures frames { OnOk result (self.new.1 ≡ self.old.1) }
     {
         match part {
-            Some(Branches { raws, levels }) => {
+            Some(Subtrees { raws, levels }) => {
                 self.go_before(levels)?;
                 Ok(given(raws))
             }
@@ -367,15 +382,15 @@ impl Nest {
 
     /// Takes what is held away.
     #[inline(always)]
-    pub fn take(&mut self) -> Result<Branches, AllocError>
+    pub fn take(&mut self) -> Result<Subtrees, AllocError>
         ensures trees { IfOk result (λ trees. trees ≡ self.old.0) }
-        ensures rest { OnOk result (self.new ≡ (no_branches, self.old.1)) }
+        ensures rest { OnOk result (self.new ≡ (no_subtrees, self.old.1)) }
     {
         let raws = self.take_raws()?;
         self.nodes.truncate(self.hand.start);
         let start = self.hand.start;
-        let Group { levels, .. } = replace(&mut self.hand, Group::new(self.alloc, start));
-        Ok(Branches { raws, levels })
+        let FrameGroup { levels, .. } = replace(&mut self.hand, FrameGroup::new(self.alloc, start));
+        Ok(Subtrees { raws, levels })
     }
 
     /// Holds an operator over what was held, its operands.
@@ -405,7 +420,7 @@ impl Nest {
     /// Holds a word with neither arguments nor a body.
     #[tactic(auto, unfolding(crate::specs::Grow::item, crate::specs::Grow::node_over, crate::specs::Grow::merged))]
     pub fn name(&mut self, spot: Spot, word: Text) -> Result<(), AllocError>
-        requires { self.old.0 ≡ no_branches }
+        requires { self.old.0 ≡ no_subtrees }
         ensures tree { OnOk result (tree_of self.new.0 ≡ grow.item spot word None None) }
         ensures one { OnOk result (IsOne self.new.0) }
         ensures frames { OnOk result (self.new.1 ≡ self.old.1) }
@@ -431,7 +446,7 @@ impl Nest {
         &mut self,
         spot: Spot,
         word: Text,
-        args: Option<Branches>,
+        args: Option<Subtrees>,
     ) -> Result<(), AllocError>
         ensures tree { OnOk result (tree_of self.new.0 ≡ grow.item spot word args (Some self.old.0)) }
         ensures one { OnOk result (IsOne self.new.0) }
