@@ -1,16 +1,23 @@
 -- What the main file comes to.
-use Rattle.std.proofs.Common.{◌≡◌, ℕ, ◌+◌, ◌<◌, ◌≤◌, not, cond, List, [], ◌∷◌, length, ap, sym, subst, ◌∙◌, arith}
+use Rattle.std.proofs.Common.{◌≡◌, Some, Result, Ok, Err, IfOk, ℕ, ◌+◌, ◌<◌, ◌≤◌, not, cond, List, [], ◌∷◌, length, ap, sym, subst, ◌∙◌, arith}
 use Rattle.std.specs.List.{All}
 use Rattle.iasl_ports.specs.Fetched.{most_bytes}
 use Rattle.iasl_messages.specs.declared.place.Line.{Line}
 use Rattle.iasl_messages.specs.declared.message.Message.{Message}
 use Rattle.asl_preprocess.specs.declared.define.Define.{Define}
+use Rattle.asl_preprocess.specs.declared.main_file.Preprocessed.{Preprocessed as Left}
 use Rattle.asl_preprocess.specs.declared.main_file.PreStop.{PreStop}
 use Rattle.asl_preprocess.specs.declared.main_file.PreStop.TheVariants as by
-use Rattle.asl_preprocess.specs.State.{number_of}
+use Rattle.std.specs.declared.option.Option.{Option}
+use Rattle.std.specs.Option.{ForSome}
+use Rattle.iasl_ports.specs.Gained.{Named}
+use Rattle.asl_preprocess.specs.declared.stop.ReadingStop.{ReadingStop}
+use Rattle.asl_preprocess.specs.declared.stop.ReadingStop.TheVariants.{At, ReadFault, Memory}
+use Rattle.asl_preprocess.specs.State.{State, Outcome, number_of}
+use Rattle.asl_preprocess.specs.Reached.{StopsAt, Counts}
 use Rattle.asl_preprocess.specs.Sound.{IsSound, IsGoodLine, IsGoodNote}
 use Rattle.asl_preprocess.specs.Preprocess.{Setting, Preprocessed, Given, Stopped, given, of_main, of_file, first_state, most_levels, too_large_main}
-use Rattle.asl_preprocess.specs.Stops.{IsStop, HasPlace, Causes, MainCauses, Keeps}
+use Rattle.asl_preprocess.specs.Stops.{IsStop, HasPlace, Causes, MainCauses, Keeps, EndsWith}
 use Rattle.asl_preprocess.proofs.Names.{same_itself}
 use Rattle.asl_preprocess.proofs.Fetching.{within_is, above_is}
 
@@ -61,6 +68,39 @@ keeps_counts (by.Refused told names) message files before now h e = e
 keeps_counts by.Absent message files before now h e = absurd h
 keeps_counts by.ReadFault message files before now h e = absurd h
 keeps_counts by.Memory message files before now h e = tt
+
+-- what is left, if anything is
+pub all_given : (r : Result Left PreStop) (files : List (List ℕ)) (lines : List Line) (notes : List Message) {contents : Option (List Named)} {it : List Named → Preprocessed} → ForSome contents (λ told. it told ≡ Given files lines notes)
+    → IfOk r (λ left. left.lines.files ≡ files) → IfOk r (λ left. left.lines.list ≡ lines) → IfOk r (λ left. left.notes ≡ notes) → IfOk r (λ left. ForSome contents (λ told. it told ≡ Given left.lines.files left.lines.list left.notes))
+all_given (Ok left) files lines notes h e f g = λ told k. h told k ∙ given_by files left.lines.files lines left.lines.list notes left.notes e f g
+all_given (Err stop) files lines notes h e f g = tt
+
+pub all_lines : (r : Result Left PreStop) (files : List (List ℕ)) (lines : List Line) → All (IsGoodLine (length files)) lines
+    → IfOk r (λ left. left.lines.files ≡ files) → IfOk r (λ left. left.lines.list ≡ lines) → IfOk r (λ left. All (IsGoodLine (length left.lines.files)) left.lines.list)
+all_lines (Ok left) files lines h e f = good_lines files left.lines.files lines left.lines.list e f h
+all_lines (Err stop) files lines h e f = tt
+
+pub all_notes : (r : Result Left PreStop) (files : List (List ℕ)) (notes : List Message) → All (IsGoodNote (length files)) notes
+    → IfOk r (λ left. left.lines.files ≡ files) → IfOk r (λ left. left.notes ≡ notes) → IfOk r (λ left. All (IsGoodNote (length left.lines.files)) left.notes)
+all_notes (Ok left) files notes h e f = good_notes files left.lines.files notes left.notes e f h
+all_notes (Err stop) files notes h e f = tt
+
+-- the same of an early end of the reading
+pub ends_stop : (stop : PreStop) (early : ReadingStop) (contents : Option (List Named)) (files : List (List ℕ)) (outcome : List Named → Outcome State) (it : Preprocessed) (told : List Named) → contents ≡ Some told
+    → EndsWith stop early files → StopsAt early contents files outcome → it ≡ given (outcome told) → IsStop stop it
+ends_stop stop (At message) contents files outcome it told k h r e = keeps_stop stop message files it h (e ∙ ap given (r.1 told k))
+ends_stop stop ReadFault contents files outcome it told k h r e = subst (λ s. IsStop s it) (sym h) tt
+ends_stop stop Memory contents files outcome it told k h r e = subst (λ s. IsStop s it) (sym h) tt
+
+pub ends_place : (stop : PreStop) (early : ReadingStop) (contents : Option (List Named)) (files : List (List ℕ)) (outcome : List Named → Outcome State) → EndsWith stop early files → StopsAt early contents files outcome → HasPlace stop
+ends_place stop (At message) contents files outcome h r = keeps_place stop message files h r.0
+ends_place stop ReadFault contents files outcome h r = subst HasPlace (sym h) tt
+ends_place stop Memory contents files outcome h r = subst HasPlace (sym h) tt
+
+pub ends_counts : (stop : PreStop) (early : ReadingStop) (files : List (List ℕ)) (before now : ℕ) → EndsWith stop early files → Counts early before now → MainCauses stop before now
+ends_counts stop (At message) files before now h e = keeps_counts stop message files before now h e
+ends_counts stop ReadFault files before now h e = subst (λ s. MainCauses s before now) (sym h) e
+ends_counts stop Memory files before now h e = subst (λ s. MainCauses s before now) (sym h) tt
 
 pub main_causes : (stop : PreStop) (before mid now absents absents' : ℕ) → mid ≡ before → MainCauses stop mid now → Causes stop before now absents absents'
 main_causes (by.Refused told names) before mid now absents absents' e h = h ∙ e

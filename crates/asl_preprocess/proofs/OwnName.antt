@@ -1,5 +1,5 @@
 -- Lines in which `__IASL__` does not stand, where no other name is defined.
-use Rattle.std.proofs.Common.{◌≡◌, ℕ, ◌+◌, ◌<◌, Bool, true, false, List, [], ◌∷◌, length, take, drop, slice_index, Option, None, refl, sym, ap, subst, ◌∙◌, arith}
+use Rattle.std.proofs.Common.{◌≡◌, ℕ, ◌+◌, Bool, true, false, List, [], ◌∷◌, take, drop, slice_index, Option, None, refl, sym, ap, subst, ◌∙◌, arith}
 use Rattle.std.specs.List.{All}
 use Rattle.std.specs.Str.{bytes_eq}
 use Rattle.std.specs.Cmp.Lexicographic.{bytes_decides}
@@ -7,7 +7,7 @@ use Rattle.std.proofs.lemmas.List.{length-drop, length-take, get_or-drop, get_or
 use Rattle.memchr.specs.Find.{OccursAt, FindsNeedle}
 use Rattle.asl_fragments.specs.declared.fragment.FragmentKind.{FragmentKind}
 use Rattle.asl_fragments.specs.declared.fragment.FragmentKind.TheVariants.{Identifier, Number, Quoted, Comment, Other}
-use Rattle.asl_fragments.specs.Fragments.{first_fragment, fragments, identifier_by}
+use Rattle.asl_fragments.specs.Fragments.{first_fragment, identifier_by}
 use Rattle.asl_macros.specs.declared.context.Within.TheVariants.{InLine}
 use Rattle.asl_macros.specs.History.{History, text_in}
 use Rattle.asl_macros.specs.Table.{AreFree}

@@ -1,13 +1,13 @@
 -- A file without a `#` has no directive.
-use Rattle.std.proofs.Common.{◌≡◌, ℕ, ◌+◌, ◌<◌, Bool, true, false, cond, List, [], ◌∷◌, ◌++◌, length, take, drop, slice_index, Option, Some, None, refl, sym, ap, ◌∙◌, arith}
-use Rattle.std.specs.Prelude.{◌==◌, ◌&&◌, not, is_some}
+use Rattle.std.proofs.Common.{◌≡◌, ℕ, ◌+◌, ◌<◌, Bool, true, false, cond, List, [], ◌∷◌, ◌++◌, length, slice_index, Option, Some, None, refl, sym, ap, ◌∙◌, arith}
+use Rattle.std.specs.Prelude.{◌==◌, is_some}
 use Rattle.std.specs.Option.{option_to_list}
 use Rattle.std.specs.List.{All}
 use Rattle.std.proofs.lemmas.List.Elements.{All-head, All-tail, All-take, All-drop, All-from_get_or}
 use Rattle.memchr.specs.Find.{IsFirstByte, is_byte}
 use Rattle.asl_fragments.specs.Fragments.{ends_in_comment}
 use Rattle.asl_directives.specs.Words.{blanks_before, past_blanks, behind_first, behind_mark}
-use Rattle.asl_preprocess.specs.Rows.{Row, Ordinary, Between, file_lines, begins_directive, turn_within, rows_from, rows_of}
+use Rattle.asl_preprocess.specs.Rows.{Ordinary, Between, file_lines, begins_directive, turn_within, rows_from, rows_of}
 use Rattle.asl_preprocess.proofs.Everywhere.{lines_all}
 
 abbrev IsUnmarked : List ℕ → Type 0

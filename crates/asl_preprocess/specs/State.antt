@@ -15,6 +15,10 @@ pub record State : Type 0 where
   pub notes : List Message
   pub files : List (List ℕ)
 
+-- nothing is known
+abbrev pub blank : State
+blank = record { history = []; lines = []; notes = []; files = [] }
+
 -- a state with another history, other lines, notes or files
 abbrev pub with_history : State → History → State
 with_history state history = record { history = history; lines = state.lines; notes = state.notes; files = state.files }

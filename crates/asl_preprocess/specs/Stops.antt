@@ -4,6 +4,8 @@ use Rattle.iasl_ports.specs.Counts.{Rose}
 use Rattle.iasl_messages.specs.declared.message.Message.{Message}
 use Rattle.asl_preprocess.specs.declared.main_file.PreStop.{PreStop}
 use Rattle.asl_preprocess.specs.declared.main_file.PreStop.TheVariants as by
+use Rattle.asl_preprocess.specs.declared.stop.ReadingStop.{ReadingStop}
+use Rattle.asl_preprocess.specs.declared.stop.ReadingStop.TheVariants.{At, ReadFault, Memory}
 use Rattle.asl_preprocess.specs.Preprocess.{Preprocessed, Stopped, Absent}
 
 -- exactly what the main file comes to; nothing is said where a file could not be read or memory is wanting
@@ -40,3 +42,9 @@ Keeps (by.Refused told names) message files = (told ≡ message) × (names ≡ f
 Keeps by.Absent message files = ⊥
 Keeps by.ReadFault message files = ⊥
 Keeps by.Memory message files = ⊤
+
+-- what the early end of the reading comes to, where these files were fetched
+abbrev pub EndsWith : PreStop → ReadingStop → List (List ℕ) → Type 0
+EndsWith stop (At message) files = Keeps stop message files
+EndsWith stop ReadFault files = stop ≡ by.ReadFault
+EndsWith stop Memory files = stop ≡ by.Memory

@@ -3,9 +3,11 @@ ghost use Rattle.std.specs.Prelude.{◌≡◌, ◌∷◌, ◌≤◌, [], List, l
 ghost use Rattle.std.specs.Option.{ForSome};
 ghost use Rattle.iasl_ports.specs.Fetched.{most_bytes};
 ghost use Rattle.asl_preprocess.specs.Preprocess as spec;
+ghost use Rattle.asl_preprocess.specs.State.{blank};
 ghost use Rattle.asl_preprocess.specs.Sound.{IsGoodLine, IsGoodNote};
 ghost use Rattle.asl_preprocess.specs.Told.{Shows};
-ghost use Rattle.asl_preprocess.specs.Stops.{IsStop, HasPlace, Causes, MainCauses, Keeps};
+ghost use Rattle.asl_preprocess.specs.declared.main_file.PreStop.TheVariants.{Memory};
+ghost use Rattle.asl_preprocess.specs.Stops.{IsStop, HasPlace, Causes, MainCauses, Keeps, EndsWith};
 
 use crate::define::Defines;
 use crate::reading::{OpenFile, Setting, read_file};
@@ -13,10 +15,11 @@ use crate::stop::ReadingStop;
 use crate::work::{OWN_NAME, Work};
 use iasl_messages::message::{Message, Messages};
 use iasl_messages::number::TEXT_IS_TOO_LARGE;
-use iasl_messages::place::{Lines, Place};
+use iasl_messages::place::{LineList, Lines, Place};
 use iasl_ports::files::{FetchFault, Files};
 use iasl_ports::list::{Text, Texts};
 use std::alloc::{AllocError, Global};
+use std::mem::replace;
 
 /// How many levels of included files there may be below the main file.
 const MOST_LEVELS: u32 = 32;
@@ -52,32 +55,40 @@ impl From<AllocError> for PreStop {
     }
 }
 
-// What is known before the first line.
-fn first_work(alloc: Global, name: &str, defines: &Defines) -> Result<Work, AllocError>
-    ensures { IfOk result (λ work. Shows work (spec.first_state name.now defines.now)) }
+// Puts what is known before the first line, where nothing is known.
+fn begin(alloc: Global, work: &mut Work, name: &str, defines: &Defines) -> Result<(), AllocError>
+    ensures { OnOk result (Shows work.old blank → Shows work.new (spec.first_state name.now defines.now)) }
 {
-    let mut work = Work::new(alloc);
     work.add_file(alloc, name.as_bytes())?;
     work.define(alloc, &OWN_NAME, b"1")?;
     for define in defines.as_slice() {
         work.define(alloc, define.name.as_bytes(), define.text.as_bytes())?;
     }
+    Ok(())
+}
+
+// What is known before the first line.
+fn first_work(alloc: Global, name: &str, defines: &Defines) -> Result<Work, AllocError>
+    ensures { IfOk result (λ work. Shows work (spec.first_state name.now defines.now)) }
+{
+    let mut work = Work::new(alloc);
+    begin(alloc, &mut work, name, defines)?;
     Ok(work)
 }
 
-// What is known behind the last line.
-fn last_work(alloc: Global, work: Work) -> Result<Preprocessed, AllocError>
-    ensures files { IfOk result (λ it. it.lines.files ≡ work.files) }
-    ensures lines { IfOk result (λ it. it.lines.list ≡ work.lines) }
-    ensures notes { IfOk result (λ it. it.notes ≡ work.notes) }
+// What is left behind the last line.
+fn last_work(alloc: Global, work: &mut Work) -> Result<Preprocessed, PreStop>
+    ensures files { IfOk result (λ it. it.lines.files ≡ work.old.files) }
+    ensures lines { IfOk result (λ it. it.lines.list ≡ work.old.lines) }
+    ensures notes { IfOk result (λ it. it.notes ≡ work.old.notes) }
+    ensures memory { IfErr result (λ stop. stop ≡ Memory) }
 {
     let files = work.files.texts(alloc)?;
+    let list = replace(&mut work.lines, LineList::new(alloc));
+    let notes = replace(&mut work.notes, Messages::new(alloc));
     Ok(Preprocessed {
-        lines: Lines {
-            files,
-            list: work.lines,
-        },
-        notes: work.notes,
+        lines: Lines { files, list },
+        notes,
     })
 }
 
@@ -88,6 +99,17 @@ fn refused(alloc: Global, message: Message, work: &Work) -> PreStop
     match work.files.texts(alloc) {
         Ok(files) => PreStop::Refused { message, files },
         Err(AllocError) => PreStop::Memory,
+    }
+}
+
+// Why nothing is left, where the reading ended early.
+fn stopped(alloc: Global, stop: ReadingStop, work: &Work) -> PreStop
+    ensures { EndsWith result stop work.now.files }
+{
+    match stop {
+        ReadingStop::At(message) => refused(alloc, message, work),
+        ReadingStop::ReadFault => PreStop::ReadFault,
+        ReadingStop::Memory => PreStop::Memory,
     }
 }
 
@@ -124,10 +146,8 @@ fn read_main<F: Files>(
         levels: MOST_LEVELS,
     };
     match read_file(alloc, files, &setting, &main, bytes, &mut work) {
-        Ok(()) => Ok(last_work(alloc, work)?),
-        Err(ReadingStop::At(message)) => Err(refused(alloc, message, &work)),
-        Err(ReadingStop::ReadFault) => Err(PreStop::ReadFault),
-        Err(ReadingStop::Memory) => Err(PreStop::Memory),
+        Ok(()) => last_work(alloc, &mut work),
+        Err(stop) => Err(stopped(alloc, stop, &work)),
     }
 }
 

@@ -15,7 +15,7 @@ ghost use Rattle.asl_preprocess.specs.Searching.{SeekStops};
 use crate::directives::{Wanted, directive};
 use crate::lines::{OrdinaryLine, line as ordinary};
 use crate::rows::{Row, Rows};
-use crate::search::{SearchResult, names_for, search};
+use crate::search::{SearchResult, search_for};
 use crate::stop::{ReadingStop, refusal};
 use crate::work::Work;
 use asl_directives::branches::Branches;
@@ -98,8 +98,7 @@ fn seek<F: Files>(
     ensures contents { F.contents files.new ≡ F.contents files.old }
     ensures later { F.faults files.old ≤ F.faults files.new }
 {
-    let names = names_for(alloc, directories, own, wanted)?;
-    match search(alloc, files, names.as_slice()) {
+    match search_for(alloc, files, directories, own, wanted) {
         Ok(SearchResult::Whole { name, bytes }) => {
             let number = work.add_file(alloc, name.as_bytes())?;
             Ok(Fetched {

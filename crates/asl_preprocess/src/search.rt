@@ -99,8 +99,28 @@ fn add_names(
     Ok(())
 }
 
-/// The names to be tried for a file that is asked for in the file of the name `own`.
-pub(crate) fn names_for(
+// Puts behind names those to be tried for a file that is asked for in the file of the name `own`.
+fn put_names(
+    alloc: Global,
+    names: &mut Texts,
+    directories: &Texts,
+    own: &[u8],
+    wanted: &Wanted,
+) -> Result<(), AllocError>
+    ensures { OnOk result (names.new ≡ names.old ++ spec.names_for directories.now own.now (asked_for wanted.now)) }
+{
+    let name = wanted.name.as_bytes();
+    if begins_with_slash(name) {
+        return names.push(Text::from_bytes(alloc, name)?);
+    }
+    if wanted.quoted {
+        names.push(beside(alloc, name, own)?)?;
+    }
+    add_names(alloc, names, directories, name)
+}
+
+// The names to be tried for a file that is asked for in the file of the name `own`.
+fn names_for(
     alloc: Global,
     directories: &Texts,
     own: &[u8],
@@ -109,15 +129,7 @@ pub(crate) fn names_for(
     ensures { IfOk result (λ names. names ≡ spec.names_for directories.now own.now (asked_for wanted.now)) }
 {
     let mut names = Texts::new(alloc);
-    let name = wanted.name.as_bytes();
-    if begins_with_slash(name) {
-        names.push(Text::from_bytes(alloc, name)?)?;
-        return Ok(names);
-    }
-    if wanted.quoted {
-        names.push(beside(alloc, name, own)?)?;
-    }
-    add_names(alloc, &mut names, directories, name)?;
+    put_names(alloc, &mut names, directories, own, wanted)?;
     Ok(names)
 }
 
@@ -149,8 +161,8 @@ fn fetch<F: Files>(
     }
 }
 
-/// The first of the names that there is a file of.
-pub(crate) fn search<F: Files>(
+// The first of the names that there is a file of.
+fn search<F: Files>(
     alloc: Global,
     files: &mut F,
     names: &[Text],
@@ -170,4 +182,23 @@ pub(crate) fn search<F: Files>(
         }
     }
     Ok(SearchResult::Missing)
+}
+
+/// The file that is asked for in the file of the name `own`.
+pub(crate) fn search_for<F: Files>(
+    alloc: Global,
+    files: &mut F,
+    directories: &Texts,
+    own: &[u8],
+    wanted: &Wanted,
+) -> Result<SearchResult, ReadingStop>
+    ensures found { IfOk result (λ found. ForSome (F.contents files.old) (λ told. spec.search told (spec.names_for directories.now own.now (asked_for wanted.now)) ≡ found_by found)) }
+    ensures size { IfOk result FoundHasRoom }
+    ensures fault { IfErr result (λ stop. SearchStops stop (Rose (F.faults files.old) (F.faults files.new))) }
+    ensures faults { OnOk result (F.faults files.new ≡ F.faults files.old) }
+    ensures contents { F.contents files.new ≡ F.contents files.old }
+    ensures later { F.faults files.old ≤ F.faults files.new }
+{
+    let names = names_for(alloc, directories, own, wanted)?;
+    search(alloc, files, names.as_slice())
 }

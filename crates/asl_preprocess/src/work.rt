@@ -54,13 +54,13 @@ impl Work {
     ghost use Rattle.asl_macros.specs.Replacement.{replaced};
     ghost use Rattle.asl_macros.specs.declared.context.Within.TheVariants.{InLine};
     ghost use Rattle.asl_directives.specs.declared.branches.Branch.{Branch};
-    ghost use Rattle.asl_preprocess.specs.State.{State, with_history, with_notes, with_file, with_files, number_of};
+    ghost use Rattle.asl_preprocess.specs.State.{State, blank, with_history, with_notes, with_file, with_files, number_of};
     ghost use Rattle.asl_preprocess.specs.Lines.{with_line, text_left};
     ghost use Rattle.asl_preprocess.specs.Told.{Shows, Steps};
 
     /// Nothing is known.
     pub(crate) fn new(alloc: Global) -> Self
-        ensures { Shows result (record { history = []; lines = []; notes = []; files = [] }) }
+        ensures { Shows result blank }
     {
         Work {
             macros: Macros::new(alloc),

@@ -1,7 +1,0 @@
-use Rattle.std.proofs.Common.{take}
-use Rattle.asl_preprocess.specs.Preprocess as spec
-use Rattle.asl_preprocess.specs.Told.{Shows}
-use Rattle.asl_preprocess.proofs.main_file.first_work.Given as goal
-
-abbrev pub invariant-loop-define : goal.invariant-loop-define
-invariant-loop-define l = Shows l.work (spec.first_state l.name (take l.define-index l.define-items))
