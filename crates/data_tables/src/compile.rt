@@ -110,17 +110,28 @@ fn with_text(alloc: Global, lines: &SourceLines<'_>, piece: Piece) -> Result<Pie
     })
 }
 
+// Pieces with the texts of their lines.
+fn pieces_with_texts(
+    alloc: Global,
+    lines: &SourceLines<'_>,
+    pieces: Pieces,
+) -> Result<Pieces, AllocError>
+    ensures { IfOk result (λ out. out ≡ map (with_text lines.now) pieces) }
+{
+    let mut out = Pieces::new(alloc);
+    for piece in pieces.into_vec() {
+        out.push(with_text(alloc, lines, piece)?)?;
+    }
+    Ok(out)
+}
+
 // The table whose pieces have the texts of their lines.
 fn with_texts(alloc: Global, lines: &[Line], table: Compiled) -> Result<Compiled, AllocError>
     ensures { IfOk result (λ out. out ≡ record table { pieces = with_texts lines.now table.pieces }) }
 {
     let index = SourceLines::new(alloc, lines)?;
-    let mut pieces = Pieces::new(alloc);
-    for piece in table.pieces.into_vec() {
-        pieces.push(with_text(alloc, &index, piece)?)?;
-    }
     Ok(Compiled {
-        pieces,
+        pieces: pieces_with_texts(alloc, &index, table.pieces)?,
         signature: table.signature,
         notes: table.notes,
     })

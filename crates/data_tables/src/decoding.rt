@@ -12,7 +12,7 @@ use data_text::field_line::FieldLine;
 use data_text::values::{Number, number_in};
 
 /// A field that decoded lines may follow: its flags, its value, and whether its line has a part in brackets.
-#[derive(Clone, Copy, Debug)]
+#[derive(Clone, Copy)]
 pub(crate) struct Decoded {
     pub flags: FlagSet,
     pub number: u64,
@@ -20,7 +20,7 @@ pub(crate) struct Decoded {
 }
 
 /// What a decoded line tells.
-#[derive(Clone, Copy, PartialEq, Eq, Debug)]
+#[derive(Clone, Copy, PartialEq, Eq)]
 pub(crate) enum Told {
     /// What the field says, too.
     Nothing,

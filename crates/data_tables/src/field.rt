@@ -20,7 +20,7 @@ use std::alloc::{AllocError, Global};
 const MOST_LOCALITIES: u64 = 4000;
 
 /// How a value is written.
-#[derive(Clone, Copy, PartialEq, Eq, Debug)]
+#[derive(Clone, Copy, PartialEq, Eq)]
 pub(crate) enum Form {
     Number,
     Text,

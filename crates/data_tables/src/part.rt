@@ -12,7 +12,7 @@ use data_layout::table::{
 use iasl_messages::number::{BAD_LOCALITY_MATRIX, FIELD_IS_MISSING, TOO_MANY_LINES};
 
 /// What comes after the fields of a part.
-#[derive(Clone, Copy, PartialEq, Eq, Debug)]
+#[derive(Clone, Copy, PartialEq, Eq)]
 pub(crate) enum After {
     /// The fixed part behind the header.
     Fixed,
@@ -26,7 +26,7 @@ pub(crate) enum After {
 }
 
 /// The fields that are still to come in the header, the fixed part or a structure, and what comes after them.
-#[derive(Clone, Copy, Debug)]
+#[derive(Clone, Copy)]
 pub(crate) struct Part {
     pub table: Table,
     /// 0 until it has been read.
@@ -36,7 +36,6 @@ pub(crate) struct Part {
 }
 
 /// The next field and what comes after it, or the number of the message that there is none.
-#[derive(Debug)]
 pub(crate) enum Next {
     Field(Row, Part),
     Fault(u16),
