@@ -15,9 +15,9 @@ use Rattle.iasl_options.specs.Asking.{Asked}
 use Rattle.iasl_options.specs.Task.{generated_settings}
 use Rattle.generated_lines.specs.Generated.{generated_lines}
 use Rattle.table_outputs.specs.Files.{table_name, table_files}
-use Rattle.iasl_tool.specs.declared.compile.Compiled.{Compiled}
-use Rattle.iasl_tool.specs.declared.compile.Compiled.TheVariants.{Table, Refused}
-use Rattle.iasl_tool.specs.Compiled.{of_source}
+use Rattle.asl_tables.specs.declared.compile.Compiled.{Compiled}
+use Rattle.asl_tables.specs.declared.compile.Compiled.TheVariants.{Table, Refused}
+use Rattle.iasl_tool.specs.Sources.{of_source}
 use Rattle.iasl_tool.specs.Due.{console_text, made_or_in_use, style_of, answer_to_compiled, answer_to_generated}
 
 -- small lines of the first file are good ones of one file

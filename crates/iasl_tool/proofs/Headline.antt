@@ -44,16 +44,17 @@ use Rattle.program_shapes.proofs.Lexed.{lexed_short}
 use Rattle.program_shapes.proofs.Few.{few_tokens}
 use Rattle.program_shapes.proofs.Tables.{does_as}
 use Rattle.aml_writer.specs.Written.{most_table_bytes}
-use Rattle.iasl_tool.specs.declared.compile.Compiled.{Compiled}
-use Rattle.iasl_tool.specs.declared.compile.Compiled.TheVariants.{Table, Refused}
-use Rattle.iasl_tool.specs.declared.compile.Style.{Style}
-use Rattle.iasl_tool.specs.Compiled.{own_in, noted_in, with_notes, first_told, told_of_names, told_in, others_in, of_data, of_source, of_lines, of_items, of_terms, of_table, unless_wrong, with_others, of_outcome, of_tokens, written_in, cut_in, too_long}
+use Rattle.asl_tables.specs.declared.compile.Compiled.{Compiled}
+use Rattle.asl_tables.specs.declared.compile.Compiled.TheVariants.{Table, Refused}
+use Rattle.asl_tables.specs.declared.compile.Style.{Style}
+use Rattle.asl_tables.specs.Compiled.{own_in, noted_in, with_notes, first_told, told_of_names, told_in, others_in, of_lines, of_items, of_terms, of_table, unless_wrong, with_others, of_outcome, of_tokens, written_in, cut_in, too_long}
+use Rattle.iasl_tool.specs.Sources.{of_data, of_source}
 use Rattle.table_outputs.specs.Files.{table_name, table_files, name_in_use}
 use Rattle.table_outputs.specs.Decision.{only_by, asks_for_text}
 use Rattle.iasl_tool.specs.Due.{style_of, unless_in_use, made_files, refusal, made_or_in_use, has_warning, answer_to_text, answer_to_compiled, answer_to_preprocessed, answer_to_file, answer_to_task, answer_for}
 use Rattle.iasl_tool.specs.Headline.{Request, ComeFrom, a_file, devices, more_of, generated_request, table_of, table_for, data_file_of, further_of, further_data, files_of, data_files_of, LetsPass, NamesLines, NamesSource, NamesData, PutsFaithfulTable, PutsDataTable, AreItsFiles, WritesItsTable, WritesItsDataTable}
 use Rattle.iasl_tool.proofs.Bytes.{as_joined_pieces, as_joined}
-use Rattle.iasl_tool.proofs.Programs.{none_told, none_first, none_behind, none_of_others, both_right, some_behind}
+use Rattle.asl_tables.proofs.Programs.{none_told, none_first, none_behind, none_of_others, both_right, some_behind}
 use Rattle.iasl_tool.proofs.Sizes.{come_sizes}
 use Rattle.iasl_tool.proofs.Strict.{is_passed, lets_pass}
 

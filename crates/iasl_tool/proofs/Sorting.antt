@@ -4,7 +4,7 @@ use Rattle.std.specs.List.Sorted.{IsPermutation}
 use Rattle.std.proofs.lemmas.List.Sorted.{All-permutation}
 use Rattle.std.proofs.lemmas.List.Elements.{All-append}
 use Rattle.iasl_messages.specs.declared.message.Message.{Message}
-use Rattle.iasl_tool.specs.Compiled.{AreWithin}
+use Rattle.asl_tables.specs.Compiled.{AreWithin}
 
 pub sorted_within : (files : ℕ) (messages sorted : List Message) → IsPermutation messages sorted → AreWithin files messages → AreWithin files sorted
 sorted_within files messages sorted p h = All-permutation (λ (m : Message). m.place.file < files) messages sorted p h

@@ -17,10 +17,10 @@ use Rattle.generated_lines.specs.Generated.{generated_lines}
 use Rattle.iasl_options.specs.Names.{output_name}
 use Rattle.iasl_backends.specs.Table.{table_bytes}
 use Rattle.table_outputs.specs.Files.{name_in_use, table_name, table_files}
-use Rattle.iasl_tool.specs.declared.compile.Style.{Style}
-use Rattle.iasl_tool.specs.declared.compile.Compiled.{Compiled}
-use Rattle.iasl_tool.specs.declared.compile.Compiled.TheVariants.{Table, Refused}
-use Rattle.iasl_tool.specs.Compiled.{of_source}
+use Rattle.asl_tables.specs.declared.compile.Style.{Style}
+use Rattle.asl_tables.specs.declared.compile.Compiled.{Compiled}
+use Rattle.asl_tables.specs.declared.compile.Compiled.TheVariants.{Table, Refused}
+use Rattle.iasl_tool.specs.Sources.{of_source}
 
 -- the messages in order, in the brief form or the full one, a line of what was made, and how many messages there are
 abbrev pub console_text : Bool → List (List ℕ) → List Message → List ℕ → List ℕ

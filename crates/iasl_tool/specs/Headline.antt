@@ -26,7 +26,7 @@ use Rattle.iasl_options.specs.Task.{Generates, IsTask, generated_settings}
 use Rattle.generated_lines.specs.Generated.{generated_lines}
 use Rattle.iasl_messages.specs.Console.{devices_line}
 use Rattle.program_shapes.specs.Sources.{IsRight, IsTableOf}
-use Rattle.iasl_tool.specs.Compiled.{own_in, noted_in, written_in, cut_in}
+use Rattle.asl_tables.specs.Compiled.{own_in, noted_in, written_in, cut_in}
 use Rattle.table_outputs.specs.Files.{table_name, further_files, name_in_use}
 use Rattle.iasl_tool.specs.Due.{style_of, answer_for}
 

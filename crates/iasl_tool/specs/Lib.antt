@@ -1,6 +1,3 @@
-pub mod Syntax
-pub mod Compiled
-pub mod Ready
+pub mod Sources
 pub mod Due
 pub mod Headline
-pub mod Spots

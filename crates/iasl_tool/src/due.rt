@@ -5,7 +5,8 @@ ghost use Rattle.iasl_runs.specs.Ends.{files_seen};
 ghost use Rattle.iasl_options.specs.Task.{settings_by};
 ghost use Rattle.asl_preprocess.specs.Sound.{IsGoodLine, IsGoodNote};
 ghost use Rattle.iasl_options.specs.Shown.{AreTexts, asked_of};
-ghost use Rattle.iasl_tool.specs.Compiled.{AreWithin, of_source};
+ghost use Rattle.asl_tables.specs.Compiled.{AreWithin};
+ghost use Rattle.iasl_tool.specs.Sources.{of_source};
 ghost use Rattle.iasl_backends.specs.Table.{table_bytes};
 ghost use Rattle.table_outputs.specs.Files.{table_name, table_files};
 ghost use Rattle.table_outputs.specs.Decision.{end_of, IsDecidedBy, IsDecidedFor, Settles};
@@ -15,10 +16,11 @@ ghost use Rattle.iasl_messages.specs.Severity.{severity_of, is_same};
 ghost use Rattle.iasl_messages.specs.Console.{table_line};
 ghost use Rattle.std.specs.Str.{IsAscii};
 
-use crate::compile::{Compiled, Style, both, one_message};
 use crate::generated::answer_to_generated;
 use crate::source::compile_source;
 use asl_preprocess::{PreStop, Preprocessed, preprocess};
+use asl_tables::compile::{Compiled, Style};
+use asl_tables::messages::{both, one_message};
 use iasl_messages::console::{preprocessed_line, render, summary, table_line};
 use iasl_messages::message::Messages;
 use iasl_messages::order::sort;
@@ -230,16 +232,17 @@ fn size_of(pieces: &[Piece]) -> Result<u64, AllocError>
     Ok(size)
 }
 
-// The line of a table, and a further line behind it.
+// The line of a table in pieces, and a further line behind it.
 fn table_lines(
     alloc: Global,
     name: &[u8],
     signature: &[u8],
-    size: u64,
+    pieces: &[Piece],
     more: &Text,
 ) -> Result<Text, AllocError>
-    ensures { IfOk result (λ text. text ≡ table_line name.now signature.now size ++ more.now) }
+    ensures { IfOk result (λ text. text ≡ table_line name.now signature.now (length (table_bytes pieces.now)) ++ more.now) }
 {
+    let size = size_of(pieces)?;
     let mut lines = Vec::new(alloc);
     push_text(&mut lines, &table_line(alloc, name, signature, size)?)?;
     push_text(&mut lines, more)?;
@@ -264,19 +267,18 @@ fn make_table(
     ensures due { IfOk result (λ decision. end_of decision ≡ made_or_refused (asked_of options.now) files.now notes (table_line (table_name (asked_of options.now) options.now.file own.now) signature.now (length (table_bytes pieces)) ++ more.now) (table_files (asked_of options.now) options.now.file own.now pieces)) }
     ensures decided { IfOk result (IsDecidedBy (asked_of options.now)) }
 {
-    let names = names_of_table(alloc, options, own)?;
     if is_refused(options, &notes) {
         return Ok(Decision::Ends(refuse(alloc, options.switches.brief, files, notes)?));
     }
+    let names = names_of_table(alloc, options, own)?;
     if let Some(name) = name_in_use(files.as_slice(), &names) {
         return Ok(Decision::Ends(refuse_name(alloc, name)?));
     }
-    let size = size_of(pieces.as_slice())?;
     let line = table_lines(
         alloc,
         names.table.as_bytes(),
         signature.as_bytes(),
-        size,
+        pieces.as_slice(),
         more,
     )?;
     let text = console_text(alloc, options.switches.brief, files, notes, &line)?;

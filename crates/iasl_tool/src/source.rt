@@ -1,9 +1,11 @@
 //! A source of either kind to its table, or its errors.
 ghost use Rattle.std.specs.Prelude.{◌≡◌, ◌<◌, ◌^◌, length, All, IfOk};
 ghost use Rattle.data_tables.specs.Compiling.{compiled};
-ghost use Rattle.iasl_tool.specs.Compiled.{of_data, of_source, HasAsciiName, TellsWithin};
+ghost use Rattle.asl_tables.specs.Compiled.{HasAsciiName, TellsWithin};
+ghost use Rattle.iasl_tool.specs.Sources.{of_data, of_source};
 
-use crate::compile::{Compiled, Style, compile, refusal};
+use asl_tables::compile::{Compiled, Style, compile};
+use asl_tables::messages::refusal;
 use data_tables::compile::compile_data;
 use data_text::kind::is_data_table;
 use iasl_messages::place::Lines;

@@ -1,5 +1,5 @@
 use Rattle.std.proofs.Common.{ℕ, length, sym, subst}
-use Rattle.iasl_tool.specs.Compiled.{AreWithin, TellsWithin}
+use Rattle.asl_tables.specs.Compiled.{AreWithin, TellsWithin}
 use Rattle.iasl_tool.proofs.Sorting.{both_within}
 use Rattle.iasl_tool.proofs.due.make_compiled.Goals as goal
 

@@ -1,0 +1,166 @@
+-- Messages and tokens are in files that there are.
+use Rattle.std.proofs.Common.{◌≡◌, ℕ, ◌-◌, ◌<◌, Bool, true, false, List, [], ◌∷◌, length, get_or, Option, Some, None, Result, Ok, Err, refl, sym, subst, arith}
+use Rattle.std.specs.Prelude.{nat_le, ◌++◌, if◌then◌else◌, slice_get, IfOk, map}
+use Rattle.std.specs.declared.alloc.AllocError.{AllocError}
+use Rattle.std.specs.List.{All}
+use Rattle.std.specs.Option.{option_map_or}
+use Rattle.std.proofs.lemmas.List.Elements.{All-push, All-map, All-append}
+use Rattle.std.proofs.lemmas.Option.{get_or_from_slice_get, slice_get_within}
+use Rattle.iasl_messages.specs.declared.place.Place.{Place}
+use Rattle.iasl_messages.specs.declared.place.Line.{Line}
+use Rattle.iasl_messages.specs.declared.place.Piece.{Piece}
+use Rattle.iasl_messages.specs.declared.message.Message.{Message}
+use Rattle.asl_lexer.specs.declared.token.Token.{Token}
+use Rattle.asl_parser.specs.declared.raw.Raw.{Raw}
+use Rattle.asl_parser.specs.Place.{first_place, place_behind, place_at}
+use Rattle.asl_tree.specs.Tree.{Trees as Trees'}
+use Rattle.acpi_names.specs.Errors.{NameError, Twice, DeclaredHere, Missing, NoContainer, LeavesRoot, Differs, TooLong, WrongCount, WrongKind, UnbuiltSpace, name_errors, type_errors}
+use Rattle.name_checks.specs.Messages.{message_of, first_errors, told_errors}
+use Rattle.named_sessions.specs.Places.{at_of, AreWithin as TreesWithin}
+use Rattle.named_sessions.proofs.Places.{errors_within as names_within}
+use Rattle.asl_parser.specs.Written.{Writtens, item, none, more, writtens}
+use Rattle.asl_parser.specs.Within.{AreWithin as PartsWithin}
+use Rattle.asl_shape.specs.Forms.{errors_at, block_place}
+use Rattle.asl_shape.proofs.Places.{errors_within}
+use Rattle.literal_checks.proofs.Places.{literals_within}
+use Rattle.program_shapes.specs.Sources.{source_in, names_in, uses_in, plans_in, terms_in, statements_in, layouts_in, regions_in, types_in, sizes_in, values_in, locals_in, notes_in, fields_in, width_in}
+use Rattle.program_shapes.proofs.Places.{terms_within}
+use Rattle.program_shapes.proofs.StatementPlaces.{statement_errors_within}
+use Rattle.program_shapes.proofs.ListPlaces.{list_errors_within}
+use Rattle.program_shapes.proofs.RegionPlaces.{access_errors_within}
+use Rattle.program_shapes.proofs.TypePlaces.{types_within, sizes_within}
+use Rattle.program_shapes.proofs.SwitchPlaces.{repeats_within, locals_within}
+use Rattle.program_shapes.proofs.NotePlaces.{source_notes_within}
+use Rattle.program_shapes.proofs.TreePlaces.{plans_within, source_within}
+use Rattle.descriptor_shapes.proofs.Places.{names_told_within, kinds_told_within}
+use Rattle.aml_writer.specs.Written.{most_table_bytes}
+use Rattle.source_pieces.specs.Places.{core_places}
+use Rattle.asl_tables.specs.declared.compile.Compiled.{Compiled}
+use Rattle.asl_tables.specs.declared.compile.Compiled.TheVariants.{Table, Refused}
+use Rattle.asl_tables.specs.Syntax.{at_token}
+use Rattle.asl_tables.specs.declared.compile.Style.{Style}
+use Rattle.asl_tables.specs.Compiled.{own_in, literals_in, noted_in, first_told, told_of_names, told_in, is_of_names, with_notes, others_in, AreWithin, too_long, of_table, unless_wrong, is_of_kinds, with_others, of_terms, of_items, written_in, cut_in, TellsWithin}
+
+module _ (files : ℕ) where
+  abbrev TokenHome : Token → Type 0
+  TokenHome token = token.place.file < files
+
+  -- ---- what the calls of the compiler need
+
+  one_home : (message : Message) → message.place.file < files → AreWithin files (message ∷ [])
+  one_home message h = All-push (λ (m : Message). m.place.file < files) [] message (λ i d lt. absurd (omega arith)) h
+
+  of_table_home : (place : Place) (signature own bytes : List ℕ) (pieces : List Piece) → place.file < files → TellsWithin files (of_table place signature own bytes pieces)
+  of_table_home place signature own bytes pieces h = by_length (nat_le (length bytes) most_table_bytes)
+    where
+      by_length : (c : Bool) → TellsWithin files (if c then Table signature own pieces [] else Refused (too_long place ∷ []))
+      by_length true = λ i d lt. absurd (omega arith)
+      by_length false = one_home (too_long place) h
+
+  wrong_home : (errors : List Message) (it : Compiled) → AreWithin files errors → TellsWithin files it → TellsWithin files (unless_wrong errors it)
+  wrong_home [] it h k = k
+  wrong_home (m ∷ ms) it h k = h
+
+  notes_home : (notes : List Message) (it : Compiled) → AreWithin files notes → TellsWithin files it → TellsWithin files (with_notes notes it)
+  notes_home notes (Table signature own pieces others) h k = All-append (λ (m : Message). m.place.file < files) others notes k h
+  notes_home notes (Refused []) h k = k
+  notes_home notes (Refused (m ∷ ms)) h k = by (is_of_names m.number)
+    where
+      by : (b : Bool) → AreWithin files (if b then m ∷ ms else (m ∷ ms) ++ notes)
+      by true = k
+      by false = All-append (λ (m : Message). m.place.file < files) (m ∷ ms) notes k h
+
+  messages_home : (errors : List NameError) → All (λ e. (at_of e).place.file < files) errors → AreWithin files (map message_of errors)
+  messages_home errors h = All-map (λ (m : Message). m.place.file < files) message_of errors (each errors h)
+    where
+      one : (e : NameError) → (at_of e).place.file < files → (message_of e).place.file < files
+      one (Twice at path) h = h
+      one (DeclaredHere at path) h = h
+      one (Missing at name) h = h
+      one (NoContainer at name) h = h
+      one (LeavesRoot at name) h = h
+      one (Differs at name) h = h
+      one (TooLong at name) h = h
+      one (WrongCount at name) h = h
+      one (WrongKind at name) h = h
+      one (UnbuiltSpace at) h = h
+
+      each : (es : List NameError) → All (λ e. (at_of e).place.file < files) es → All (λ e. (message_of e).place.file < files) es
+      each es h = λ i d lt. one (get_or es i d) (h i d lt)
+
+  told_home : (terms : Trees') → TreesWithin files terms → AreWithin files (told_errors terms)
+  told_home terms h =
+      let errors = names_within files terms h in
+      by (name_errors terms) (type_errors terms) errors.0 errors.1
+    where
+      by : (ns ts : List NameError) → All (λ e. (at_of e).place.file < files) ns → All (λ e. (at_of e).place.file < files) ts → AreWithin files (map message_of (first_errors ns ts))
+      by [] ts hn ht = messages_home ts ht
+      by (n ∷ ns) ts hn ht = messages_home (n ∷ ns) hn
+
+  first_home : (messages others : List Message) → AreWithin files messages → AreWithin files others → AreWithin files (first_told messages others)
+  first_home [] others h k = k
+  first_home (m ∷ ms) others h k = h
+
+  statements_home : (errors statements : List Message) → AreWithin files errors → AreWithin files statements → AreWithin files (with_others errors statements)
+  statements_home [] statements h k = k
+  statements_home (m ∷ ms) statements h k = by (is_of_kinds m.number)
+    where
+      by : (b : Bool) → AreWithin files (if b then (m ∷ ms) ++ statements else m ∷ ms)
+      by true = All-append (λ (m : Message). m.place.file < files) (m ∷ ms) statements h k
+      by false = h
+
+  block_home : (ws : Writtens) → PartsWithin files ws → 0 < files → (block_place ws).file < files
+  block_home (more (item place word args body) none) h main = h.0.0
+  block_home _ h main = main
+
+  -- a tree whose parts stand in the files tells nothing outside them
+  pub items_home : (style : Style) (lines : List Line) (items : List Raw) → PartsWithin files (writtens items) → 0 < files → TellsWithin files (of_items style lines items)
+  items_home style lines items parts main =
+      let written = terms_within files (writtens items) parts in
+      let before = first_home (names_in items) (uses_in items) (names_told_within files (source_in items) written) (kinds_told_within files (source_in items) written) in
+      let names = first_home (told_of_names (source_in items)) (told_errors (terms_in items)) before (told_home (terms_in items) (source_within files 0 (writtens items) parts)) in
+      let plans = plans_within files (writtens items) parts in
+      let lists = All-append (λ (m : Message). m.place.file < files) (statements_in items) (layouts_in items) (statement_errors_within files (plans_in items) plans) (list_errors_within files (plans_in items) plans) in
+      let accesses = All-append (λ (m : Message). m.place.file < files) (statements_in items ++ layouts_in items) (regions_in items) lists
+      (access_errors_within files (width_in items) (terms_in items) (plans_in items) (source_within files 0 (writtens items) parts)) in
+      let types = All-append (λ (m : Message). m.place.file < files) (statements_in items ++ layouts_in items ++ regions_in items) (types_in items) accesses (types_within files (terms_in items) (plans_in items) plans) in
+      let sizes = All-append (λ (m : Message). m.place.file < files) (statements_in items ++ layouts_in items ++ regions_in items ++ types_in items) (sizes_in items) types (sizes_within files (width_in items) (plans_in items) plans) in
+      let others = All-append (λ (m : Message). m.place.file < files) (statements_in items ++ layouts_in items ++ regions_in items ++ types_in items ++ sizes_in items) (values_in items) sizes (repeats_within files (width_in items) (plans_in items) plans) in
+      let notes = All-append (λ (m : Message). m.place.file < files) (literals_in items) (notes_in items) (literals_within files (width_in items) items parts) (source_notes_within files 0 (writtens items) parts) in
+      let told = of_terms style lines (block_place (writtens items)) (core_places (plans_in items)) (own_in items) (fields_in items) (told_in items) (others_in items) (locals_in items) (terms_in items) in
+      let table = of_table (block_place (writtens items)) (fields_in items).signature (own_in items) (written_in style items) (cut_in style lines items) in
+      wrong_home (errors_at items) (with_notes (noted_in items) told) (errors_within files main items parts)
+      (notes_home (noted_in items) told notes
+      (wrong_home (with_others (told_in items) (others_in items)) (unless_wrong (locals_in items) table) (statements_home (told_in items) (others_in items) names others)
+      (wrong_home (locals_in items) table (locals_within files (terms_in items) (plans_in items) main plans)
+      (of_table_home (block_place (writtens items)) (fields_in items).signature (own_in items) (written_in style items) (cut_in style lines items) (block_home (writtens items) parts main)))))
+
+  -- ---- tokens that are no source
+
+  token_home : (tokens : List Token) (number : ℕ) (token : Token) → All TokenHome tokens → slice_get tokens number ≡ Some token → TokenHome token
+  token_home tokens number token h e = subst TokenHome (get_or_from_slice_get tokens number token token e) (h number token (slice_get_within tokens number token e))
+
+  behind_home : (tokens : List Token) → All TokenHome tokens → 0 < files → (option_map_or place_behind (slice_get tokens (length tokens - 1)) first_place).file < files
+  behind_home tokens h main = by_last (slice_get tokens (length tokens - 1)) refl
+    where
+      by_last : (o : Option Token) → slice_get tokens (length tokens - 1) ≡ o → (option_map_or place_behind o first_place).file < files
+      by_last None e = main
+      by_last (Some token) e = token_home tokens (length tokens - 1) token h e
+
+  -- the place of a token, or behind the last one
+  place_home : (tokens : List Token) (number : ℕ) → All TokenHome tokens → 0 < files → (place_at tokens number).file < files
+  place_home tokens number h main = by_token (slice_get tokens number) refl (behind_home tokens h main)
+    where
+      by_token : (o : Option Token) → slice_get tokens number ≡ o → (option_map_or place_behind (slice_get tokens (length tokens - 1)) first_place).file < files
+          → (option_map_or (λ token. token.place) o (option_map_or place_behind (slice_get tokens (length tokens - 1)) first_place)).file < files
+      by_token None e behind = behind
+      by_token (Some token) e behind = token_home tokens number token h e
+
+  pub at_token_home : (number : ℕ) (tokens : List Token) (token : ℕ) → All (λ t. t.place.file < files) tokens → 0 < files → AreWithin files (at_token number tokens token ∷ [])
+  at_token_home number tokens token h main = one_home (at_token number tokens token) (place_home tokens token h main)
+
+  -- ---- what a call gives
+
+  pub same_home : (r : Result Compiled AllocError) (it : Compiled) → IfOk r (λ given. given ≡ it) → TellsWithin files it → IfOk r (TellsWithin files)
+  same_home (Ok given) it e h = subst (TellsWithin files) (sym e) h
+  same_home (Err error) it e h = tt

@@ -1,0 +1,10 @@
+pub mod Programs
+pub mod Written
+pub mod Findings
+pub mod Outcomes
+pub mod Homes
+pub mod Given
+pub mod Classes
+pub mod Resolving
+pub mod Spots
+pub mod Results

@@ -1,0 +1,315 @@
+-- What a block, a program and a source come to.
+use Rattle.std.proofs.Common.{ℕ, ◌≡◌, ◌<◌, ◌≤◌, ◌^◌, length, List, [], ◌∷◌, Result, Ok, Err, refl, sym, ap, ◌∙◌, subst, arith}
+use Rattle.std.specs.Prelude.{map, IfOk, nat_le, if◌then◌else◌, ◌++◌, Bool, true, false}
+use Rattle.statement_checks.specs.Statements.{errors_of_statements}
+use Rattle.std.specs.declared.alloc.AllocError.{AllocError}
+use Rattle.iasl_messages.specs.declared.message.Stage.{Stage}
+use Rattle.iasl_messages.specs.declared.message.Stage.TheVariants.{Refused as Refused'}
+use Rattle.name_checks.specs.Refusals.{Refuses}
+use Rattle.asl_shape.specs.AtRaw.{Refuses as ShapeRefuses}
+use Rattle.std.proofs.lemmas.Nat.{mod_below}
+use Rattle.iasl_messages.specs.declared.message.Message.{Message}
+use Rattle.asl_tree.specs.declared.program.Block.{Block}
+use Rattle.asl_tree.specs.Tree.{Trees}
+use Rattle.aml_code.specs.Header.{HeaderFields, fields_of}
+use Rattle.acpi_names.specs.Errors.{NameError, name_errors, type_errors}
+use Rattle.named_sessions.specs.Shaped.{AreFormed, AreNamed, AreShaped}
+use Rattle.asl_lower.specs.Nodes.{named_all}
+use Rattle.hidden_locals.specs.Switches.{without_switches}
+use Rattle.asl_parser.specs.declared.raw.Raw.{Raw}
+use Rattle.asl_parser.specs.Written.{writtens}
+use Rattle.asl_shape.specs.Plans.{Plans, plans_of, plan_at, number_of}
+use Rattle.asl_shape.specs.Forms.{IsBlock, IsBlockOf, errors_at, args_of, block_place}
+use Rattle.asl_numbers.specs.Numbers.{numbered_all}
+use Rattle.name_checks.specs.Messages.{message_of, first_errors, told_errors}
+use Rattle.program_shapes.specs.Kept.{IsKeptSource}
+use Rattle.program_shapes.specs.Sources.{plans_in, terms_in, statements_in, layouts_in, regions_in, types_in, sizes_in, values_in, locals_in, fields_in, width_in, IsRight}
+use Rattle.type_checks.specs.Types.{wrong_types}
+use Rattle.type_checks.specs.Sizes.{long_lists}
+use Rattle.switch_checks.specs.Repeats.{repeated_values}
+use Rattle.switch_checks.specs.Locals.{few_locals}
+use Rattle.name_notes.specs.Notes.{name_notes}
+use Rattle.std.specs.Str.{IsAscii}
+use Rattle.iasl_messages.specs.declared.place.Place.{Place}
+use Rattle.iasl_messages.specs.declared.place.Line.{Line}
+use Rattle.aml_writer.specs.Written.{most_table_bytes}
+use Rattle.source_pieces.specs.Places.{core_places}
+use Rattle.program_shapes.proofs.OwnNames.{own_is_ascii}
+use Rattle.program_shapes.proofs.Blocks.{terms_as, room_in}
+use Rattle.descriptor_names.specs.Resolved.{resolved_terms}
+use Rattle.program_shapes.proofs.Headers.{HaveRoom}
+use Rattle.field_checks.specs.Lists.{all_errors}
+use Rattle.region_checks.specs.Regions.{region_errors}
+use Rattle.program_shapes.proofs.Tables.{terms_are_formed, core_is_shaped}
+use Rattle.acpi_values.specs.declared.width.Width.{Width}
+use Rattle.acpi_values.specs.Revisions.{width_of}
+use Rattle.literal_checks.specs.Literals.{cut_literals_at}
+use Rattle.asl_tables.specs.declared.compile.Compiled.{Compiled}
+use Rattle.asl_tables.specs.declared.compile.Compiled.TheVariants.{Table, Refused}
+use Rattle.asl_tables.specs.declared.compile.Style.{Style}
+use Rattle.asl_tables.specs.Compiled.{table_with, its_pieces, with_notes, noted_in, unless_wrong, first_told, told_of_names, told_in, is_of_kinds, others_in, with_others, own_in, of_table, of_terms, of_items, written_in, cut_in, too_long, HasAsciiName}
+use Rattle.asl_tables.specs.Ready.{HasRoom}
+
+abbrev pub ok_block : Block → Result Block AllocError
+ok_block block = Ok block
+
+-- errors that there are
+pub refused_is : (messages errors : List Message) (it : Compiled) → (messages ≡ errors) × (errors ≡ [] → ⊥) → Refused messages ≡ unless_wrong errors it
+refused_is messages [] it h = absurd (h.1 refl)
+refused_is messages (m ∷ ms) it h = ap Refused h.0
+
+-- none
+pub right_is : (errors : List Message) (it other : Compiled) → errors ≡ [] → it ≡ other → it ≡ unless_wrong errors other
+right_is errors it other e h = h ∙ sym (ap (λ es. unless_wrong es other) e)
+
+-- the block that is found
+pub found_block : (found block : Block) → ok_block found ≡ ok_block block → found ≡ block
+found_block found block e = cc
+
+-- no errors of names, nor of kinds
+pub none_told : (terms : Trees) → name_errors terms ≡ [] → type_errors terms ≡ [] → told_errors terms ≡ []
+none_told terms names types = by (name_errors terms) (type_errors terms) names types
+  where
+    by : (ns ts : List NameError) → ns ≡ [] → ts ≡ [] → map message_of (first_errors ns ts) ≡ []
+    by [] [] en et = refl
+    by [] (t ∷ ts) en et = absurd cc
+    by (n ∷ ns) ts en et = absurd cc
+
+-- nothing is told first, nor else
+pub none_first : (messages others : List Message) → messages ≡ [] → others ≡ [] → first_told messages others ≡ []
+none_first messages others e f = ap (λ ms. first_told ms others) e ∙ f
+
+-- nor of statements
+pub none_behind : (errors statements : List Message) → errors ≡ [] → statements ≡ [] → with_others errors statements ≡ []
+none_behind errors statements e s = ap (λ es. with_others es statements) e ∙ s
+
+-- errors of statements alone
+pub behind_none : (errors statements : List Message) → errors ≡ [] → statements ≡ with_others errors statements
+behind_none errors statements e = sym (ap (λ es. with_others es statements) e)
+
+-- what is told of errors is something
+pub some_behind : (errors statements : List Message) → (errors ≡ [] → ⊥) → with_others errors statements ≡ [] → ⊥
+some_behind [] statements h e = h refl
+some_behind (m ∷ ms) statements h e = by (is_of_kinds m.number) e
+  where
+    by : (b : Bool) → (if b then (m ∷ ms) ++ statements else m ∷ ms) ≡ [] → ⊥
+    by true e = absurd cc
+    by false e = absurd cc
+
+-- messages that come first, with errors of statements behind them
+pub told_comes : (told errors statements all : List Message) (it : Compiled) → (length told ≡ 0 → ⊥) → all ≡ with_others told statements → Refused all ≡ unless_wrong (with_others (first_told told errors) statements) it
+told_comes [] errors statements all it h is = absurd (h refl)
+told_comes (m ∷ ms) errors statements all it h is = refused_is all (with_others (m ∷ ms) statements) it (is, some_behind (m ∷ ms) statements (λ e. absurd cc))
+
+-- a block as it is compiled: its source's, with the fields of its descriptors as constants
+abbrev pub IsResolvedOf : List Raw → Block → Type 0
+IsResolvedOf items block = IsBlock (block_place (writtens items)) (args_of (writtens items)) (plans_in items) block
+
+pub resolved_block : (items : List Raw) (block made : Block) → IsBlockOf items block → made.place ≡ block.place → made.file ≡ block.file → fields_of made ≡ fields_of block → plans_of made.terms.items ≡ resolved_terms (plans_of block.terms.items) → IsResolvedOf items made
+unfolding IsBlockOf
+resolved_block items block made h place file fields terms = record {
+  place = place ∙ h.place;
+  file = file ∙ h.file;
+  signature = ap (λ (f : HeaderFields). f.signature) fields ∙ h.signature;
+  revision = ap (λ (f : HeaderFields). f.revision) fields ∙ h.revision;
+  oem_id = ap (λ (f : HeaderFields). f.oem_id) fields ∙ h.oem_id;
+  table_id = ap (λ (f : HeaderFields). f.table_id) fields ∙ h.table_id;
+  oem_revision = ap (λ (f : HeaderFields). f.oem_revision) fields ∙ h.oem_revision;
+  terms = terms ∙ ap resolved_terms h.terms;
+}
+
+-- the terms of a source's block are formed as they are written
+pub written_formed : (items : List Raw) (block : Block) → errors_at items ≡ [] → IsBlockOf items block → IsKeptSource (writtens items) → AreFormed AreNamed (Unit {0}) (Unit {0}) (numbered_all 0 (plans_of block.terms.items))
+unfolding errors_at IsBlockOf
+written_formed items block e h k = subst (λ ps. AreFormed AreNamed (Unit {0}) (Unit {0}) (numbered_all 0 ps)) (sym h.terms) (terms_as (writtens items) e k 0)
+
+-- what is told of the names of a block's terms is what is told of those of its source
+pub same_told : (items : List Raw) (block : Block) (names : List Message) → IsBlockOf items block → names ≡ first_told (told_of_names (plans_of block.terms.items)) (told_errors (numbered_all 0 (resolved_terms (plans_of block.terms.items)))) → names ≡ told_in items
+unfolding IsBlockOf
+same_told items block names h e = e ∙ ap (λ ps. first_told (told_of_names ps) (told_errors (numbered_all 0 (resolved_terms ps)))) h.terms
+
+-- the header of a block has room
+pub block_room : (items : List Raw) (block : Block) → errors_at items ≡ [] → IsResolvedOf items block → IsKeptSource (writtens items) → HasRoom (fields_of block)
+unfolding errors_at
+block_room items block e h k =
+    let room : HaveRoom (args_of (writtens items)) = room_in (writtens items) e k in
+    record {
+      signature = ap length h.signature ∙ room.signature;
+      oem_id = subst (λ text. length text ≤ 6) (sym h.oem_id) room.oem_id;
+      table_id = subst (λ text. length text ≤ 8) (sym h.table_id) room.table_id;
+      oem_revision = subst (λ n. n < 2 ^ 32) (sym h.oem_revision) (mod_below (number_of (plan_at (args_of (writtens items)) 5)) 4294967296 (omega arith));
+    }
+
+same_terms : (items : List Raw) (block : Block) (terms : Trees) → IsResolvedOf items block → terms ≡ numbered_all 0 (plans_of block.terms.items) → terms ≡ terms_in items
+same_terms items block terms h e = e ∙ ap (numbered_all 0) h.terms
+
+-- what is wrong with the statements of some plans, then with their lists of fields and the accesses of these, and then with the kinds of
+-- arguments, the lengths of lists and the values of Cases, at a width
+abbrev pub others_of : Width → Trees → Plans → List Message
+others_of width terms ps = errors_of_statements ps ++ all_errors ps ++ region_errors width terms ps ++ wrong_types terms ps ++ long_lists width ps ++ repeated_values width ps
+
+same_others : (items : List Raw) (block : Block) (terms : Trees) → IsResolvedOf items block → terms ≡ numbered_all 0 (plans_of block.terms.items) → others_of (width_of block.revision) terms (plans_of block.terms.items) ≡ others_in items
+same_others items block terms h is =
+    ap (λ n. others_of (width_of n) terms (plans_of block.terms.items)) h.revision ∙ ap (λ ts. others_of (width_in items) ts (plans_of block.terms.items)) (same_terms items block terms h is)
+    ∙ ap (others_of (width_in items) (terms_in items)) h.terms
+
+-- its terms, numbered, are formed
+pub block_formed : (items : List Raw) (block : Block) (terms : Trees) → errors_at items ≡ [] → IsResolvedOf items block → IsKeptSource (writtens items) → terms ≡ numbered_all 0 (plans_of block.terms.items) → AreFormed AreNamed (Unit {0}) (Unit {0}) terms
+block_formed items block terms e h k is = subst (AreFormed AreNamed (Unit {0}) (Unit {0})) (sym (same_terms items block terms h is)) (terms_are_formed items e k)
+
+both_nil : (xs ys : List Message) → xs ++ ys ≡ [] → (xs ≡ []) × (ys ≡ [])
+both_nil [] ys e = (refl, e)
+both_nil (x ∷ xs) ys e = absurd cc
+
+-- nothing is wrong with statements, lists of fields and accesses, with kinds, with the lengths of lists and with the values of Cases
+pub record NoOthers (items : List Raw) : Type 0 where
+  pub statements : statements_in items ≡ []
+  pub layouts : layouts_in items ≡ []
+  pub regions : regions_in items ≡ []
+  pub types : types_in items ≡ []
+  pub sizes : sizes_in items ≡ []
+  pub values : values_in items ≡ []
+
+pub none_of_others : (items : List Raw) → others_in items ≡ [] → NoOthers items
+none_of_others items e =
+    let values = both_nil (statements_in items ++ layouts_in items ++ regions_in items ++ types_in items ++ sizes_in items) (values_in items) e in
+    let sizes = both_nil (statements_in items ++ layouts_in items ++ regions_in items ++ types_in items) (sizes_in items) values.0 in
+    let types = both_nil (statements_in items ++ layouts_in items ++ regions_in items) (types_in items) sizes.0 in
+    let regions = both_nil (statements_in items ++ layouts_in items) (regions_in items) types.0 in
+    let first = both_nil (statements_in items) (layouts_in items) regions.0 in
+    record { statements = first.0; layouts = first.1; regions = regions.1; types = types.1; sizes = sizes.1; values = values.1 }
+
+pub both_right : (items : List Raw) → IsRight items → others_in items ≡ []
+both_right items right =
+    ap (λ ms. ms ++ layouts_in items ++ regions_in items ++ types_in items ++ sizes_in items ++ values_in items) right.statements
+    ∙ ap (λ ms. ms ++ regions_in items ++ types_in items ++ sizes_in items ++ values_in items) right.layouts
+    ∙ ap (λ ms. ms ++ types_in items ++ sizes_in items ++ values_in items) right.regions
+    ∙ ap (λ ms. ms ++ sizes_in items ++ values_in items) right.types
+    ∙ ap (λ ms. ms ++ values_in items) right.sizes
+    ∙ right.values
+
+-- and shaped, where nothing else is wrong
+pub block_shaped : (items : List Raw) (block : Block) (terms : Trees) (others : List Message) → errors_at items ≡ [] → IsResolvedOf items block → IsKeptSource (writtens items) → terms ≡ numbered_all 0 (plans_of block.terms.items) → others ≡ others_of (width_of block.revision) terms (plans_of block.terms.items) → others ≡ [] → AreShaped (named_all (without_switches terms))
+block_shaped items block terms others e h k is are none =
+    let nothing : others_in items ≡ [] = sym (same_others items block terms h is) ∙ sym are ∙ none in
+    subst (λ ts. AreShaped (named_all (without_switches ts))) (sym (same_terms items block terms h is)) (core_is_shaped items e (none_of_others items nothing).layouts k)
+
+same_fields : (items : List Raw) (block : Block) → IsResolvedOf items block → fields_of block ≡ fields_in items
+same_fields items block h = cc (h.signature, h.revision, h.oem_id, h.table_id, h.oem_revision)
+
+same_own : (items : List Raw) (block : Block) → IsResolvedOf items block → block.file ≡ own_in items
+same_own items block h = h.file
+
+same_place : (items : List Raw) (block : Block) → IsResolvedOf items block → block.place ≡ block_place (writtens items)
+same_place items block h = h.place
+
+-- the places of its core's terms
+same_places : (items : List Raw) (block : Block) → IsResolvedOf items block → core_places (plans_of block.terms.items) ≡ core_places (plans_in items)
+same_places items block h = ap core_places h.terms
+
+-- its Switches for which too few Locals are free are those of its source
+same_locals : (items : List Raw) (block : Block) (terms : Trees) → IsResolvedOf items block → terms ≡ numbered_all 0 (plans_of block.terms.items) → few_locals terms (plans_of block.terms.items) ≡ locals_in items
+same_locals items block terms h is = ap (λ ts. few_locals ts (plans_of block.terms.items)) (same_terms items block terms h is) ∙ ap (few_locals (terms_in items)) h.terms
+
+-- the notes on its literals and on its names
+abbrev pub noted_at : Width → List Raw → Trees → List Message
+noted_at width items terms = cut_literals_at width items ++ name_notes terms
+
+-- are those of its source
+same_notes : (items : List Raw) (block : Block) (terms : Trees) → IsResolvedOf items block → terms ≡ numbered_all 0 (plans_of block.terms.items) → noted_at (width_of block.revision) items terms ≡ noted_in items
+same_notes items block terms h is = ap (λ n. noted_at (width_of n) items terms) h.revision ∙ ap (noted_at (width_in items) items) (same_terms items block terms h is)
+
+-- and it comes to what its source comes to
+pub block_comes : (style : Style) (lines : List Line) (items : List Raw) (block : Block) (terms : Trees) (inner : List Place) (names statements few : List Message) (it : Compiled) → errors_at items ≡ [] → IsResolvedOf items block → terms ≡ numbered_all 0 (plans_of block.terms.items)
+    → inner ≡ core_places (plans_of block.terms.items) → names ≡ told_in items → statements ≡ others_of (width_of block.revision) terms (plans_of block.terms.items) → few ≡ few_locals terms (plans_of block.terms.items)
+    → it ≡ with_notes (noted_at (width_of block.revision) items terms) (of_terms style lines block.place inner block.file (fields_of block) names statements few terms) → it ≡ of_items style lines items
+block_comes style lines items block terms inner names statements few it e h is places told are lacks comes =
+    let at = block_place (writtens items) in
+    let core = core_places (plans_in items) in
+    let whole = of_terms style lines at core (own_in items) (fields_in items) (told_in items) (others_in items) (locals_in items) (terms_in items) in
+    let same : of_terms style lines block.place inner block.file (fields_of block) names statements few terms ≡ whole =
+    ap (λ p. of_terms style lines p inner block.file (fields_of block) names statements few terms) (same_place items block h)
+    ∙ ap (λ ps. of_terms style lines at ps block.file (fields_of block) names statements few terms) (places ∙ same_places items block h)
+    ∙ ap (λ own. of_terms style lines at core own (fields_of block) names statements few terms) (same_own items block h)
+    ∙ ap (λ f. of_terms style lines at core (own_in items) f names statements few terms) (same_fields items block h)
+    ∙ ap (λ ns. of_terms style lines at core (own_in items) (fields_in items) ns statements few terms) told
+    ∙ ap (λ ss. of_terms style lines at core (own_in items) (fields_in items) (told_in items) ss few terms) (are ∙ same_others items block terms h is)
+    ∙ ap (λ fs. of_terms style lines at core (own_in items) (fields_in items) (told_in items) (others_in items) fs terms) (lacks ∙ same_locals items block terms h is)
+    ∙ ap (of_terms style lines at core (own_in items) (fields_in items) (told_in items) (others_in items) (locals_in items)) (same_terms items block terms h is) in
+    right_is (errors_at items) it (with_notes (noted_in items) whole) e
+    (comes ∙ ap (λ it. with_notes (noted_at (width_of block.revision) items terms) it) same ∙ ap (λ ns. with_notes ns whole) (same_notes items block terms h is))
+
+-- a block in whose names nothing is wrong
+pub right_comes : (r : Result Compiled AllocError) (errors : List Message) (it : Compiled) → errors ≡ [] → IfOk r (λ made. made ≡ it) → IfOk r (λ made. made ≡ unless_wrong errors it)
+right_comes (Ok made) errors it e h = right_is errors made it e h
+right_comes (Err error) errors it e h = tt
+
+-- what these parts of a block come to
+abbrev part_table : Style → List Line → Place → List Place → List ℕ → HeaderFields → Trees → Compiled
+part_table style lines place inner file fields terms = of_table place fields.signature file (table_with style fields terms) (its_pieces style lines (place ∷ inner) fields terms)
+
+-- a block with the place, the places, the file and the header of another
+pub like_another : (style : Style) (lines : List Line) (r : Result Compiled AllocError) (place other : Place) (inner places : List Place) (file own : List ℕ) (fields header : HeaderFields) (terms : Trees) → place ≡ other → inner ≡ places → file ≡ own → fields ≡ header
+    → IfOk r (λ it. it ≡ of_table place fields.signature file (table_with style fields terms) (its_pieces style lines (place ∷ inner) fields terms))
+    → IfOk r (λ it. it ≡ of_table other header.signature own (table_with style header terms) (its_pieces style lines (other ∷ places) header terms))
+like_another style lines r place other inner places file own fields header terms p i f h e =
+    subst (λ p. IfOk r (λ it. it ≡ part_table style lines p places own header terms)) p
+    (subst (λ i. IfOk r (λ it. it ≡ part_table style lines place i own header terms)) i
+    (subst (λ f. IfOk r (λ it. it ≡ part_table style lines place inner f header terms)) f
+    (subst (λ (h : HeaderFields). IfOk r (λ it. it ≡ part_table style lines place inner file h terms)) h e)))
+
+-- a stage that refuses, with errors of statements behind its own
+pub stage_comes : (stage : Stage) (messages errors statements all : List Message) (it : Compiled) → Refuses stage errors → stage ≡ Refused' messages → all ≡ with_others messages statements → Refused all ≡ unless_wrong (with_others errors statements) it
+stage_comes stage messages errors statements all it h e is =
+    let told = subst (λ (s : Stage). Refuses s errors) e h in
+    refused_is all (with_others errors statements) it (is ∙ ap (λ es. with_others es statements) told.0, some_behind errors statements told.1)
+
+pub shape_comes : (stage : Stage) (messages errors : List Message) (it : Compiled) → ShapeRefuses stage errors → stage ≡ Refused' messages → Refused messages ≡ unless_wrong errors it
+shape_comes stage messages errors it h e = refused_is messages errors it (subst (λ (s : Stage). ShapeRefuses s errors) e h)
+
+-- what a block that is compiled comes to is what its source comes to
+pub program_comes : (style : Style) (lines : List Line) (r : Result Compiled AllocError) (items : List Raw) (block : Block) (terms : Trees) (inner : List Place) (names statements few : List Message) → errors_at items ≡ [] → IsResolvedOf items block → terms ≡ numbered_all 0 (plans_of block.terms.items)
+    → inner ≡ core_places (plans_of block.terms.items) → names ≡ told_in items → statements ≡ others_of (width_of block.revision) terms (plans_of block.terms.items) → few ≡ few_locals terms (plans_of block.terms.items)
+    → IfOk r (λ it. it ≡ with_notes (noted_at (width_of block.revision) items terms) (of_terms style lines block.place inner block.file (fields_of block) names statements few terms)) → IfOk r (λ it. it ≡ of_items style lines items)
+program_comes style lines (Ok it) items block terms inner names statements few e h is places told are lacks comes = block_comes style lines items block terms inner names statements few it e h is places told are lacks comes
+program_comes style lines (Err error) items block terms inner names statements few e h is places told are lacks comes = tt
+
+-- lists that are empty, and others
+pub no_length : (messages : List Message) → length messages ≡ 0 → messages ≡ []
+no_length [] e = refl
+no_length (m ∷ ms) e = absurd (omega (arith, e))
+
+pub some_length : (messages : List Message) (it : Compiled) (errors : List Message) → errors ≡ [] → (length messages ≡ 0 → ⊥) → Refused messages ≡ unless_wrong (with_others errors messages) it
+some_length [] it errors e h = absurd (h refl)
+some_length (m ∷ ms) it errors e h = sym (ap (λ es. unless_wrong (with_others es (m ∷ ms)) it) e)
+
+-- the name that a source states for its file
+pub named_in_ascii : (style : Style) (lines : List Line) (items : List Raw) → IsKeptSource (writtens items) → HasAsciiName (of_items style lines items)
+named_in_ascii style lines items kept = by (errors_at items) refl
+  where
+    place : Place
+    place = block_place (writtens items)
+
+    by_length : (c : Bool) → IsAscii (own_in items) → HasAsciiName (if c then Table (fields_in items).signature (own_in items) (cut_in style lines items) [] else Refused (too_long place ∷ []))
+    by_length true h = h
+    by_length false h = tt
+
+    by_locals : (ms : List Message) → IsAscii (own_in items) → HasAsciiName (unless_wrong ms (of_table place (fields_in items).signature (own_in items) (written_in style items) (cut_in style lines items)))
+    by_locals [] h = by_length (nat_le (length (written_in style items)) most_table_bytes) h
+    by_locals (m ∷ ms) h = tt
+
+    by_names : (ms : List Message) → IsAscii (own_in items) → HasAsciiName (unless_wrong ms (unless_wrong (locals_in items) (of_table place (fields_in items).signature (own_in items) (written_in style items) (cut_in style lines items))))
+    by_names [] h = by_locals (locals_in items) h
+    by_names (m ∷ ms) h = tt
+
+    noted : (it : Compiled) → HasAsciiName it → HasAsciiName (with_notes (noted_in items) it)
+    noted (Table signature own pieces notes) h = h
+    noted (Refused messages) h = tt
+
+    by : (ms : List Message) → errors_at items ≡ ms → HasAsciiName (unless_wrong ms (with_notes (noted_in items) (of_terms style lines place (core_places (plans_in items)) (own_in items) (fields_in items) (told_in items) (others_in items) (locals_in items) (terms_in items))))
+    by [] e = noted (of_terms style lines place (core_places (plans_in items)) (own_in items) (fields_in items) (told_in items) (others_in items) (locals_in items) (terms_in items)) (by_names (with_others (told_in items) (others_in items)) (own_is_ascii items e kept))
+    by (m ∷ ms) e = tt
+
+pub ascii_comes : (r : Result Compiled AllocError) (it : Compiled) → HasAsciiName it → IfOk r (λ made. made ≡ it) → IfOk r HasAsciiName
+ascii_comes (Ok made) it h e = subst HasAsciiName (sym e) h
+ascii_comes (Err error) it h e = tt

@@ -1,0 +1,53 @@
+use Rattle.std.proofs.Common.{◌≡◌, ℕ, List, true, [], sym, ◌∙◌, subst}
+use Rattle.acpi_state.specs.Objects.{lookup}
+use Rattle.asl_meaning.specs.Declarations.{Declarations, is_named, written_external}
+use Rattle.acpi_values.specs.Paths.{AbsolutePath}
+use Rattle.acpi_names.specs.Spelled.{spelled_all}
+use Rattle.asl_lower.specs.Nodes.{named_all}
+use Rattle.hidden_locals.specs.Switches.{without_switches}
+use Rattle.loop_shapes.proofs.Names.{same_name_errors, same_type_errors}
+use Rattle.loop_shapes.proofs.Formed.{loops_formed}
+use Rattle.asl_lower.proofs.Errors.{no_name_errors, no_type_errors}
+use Rattle.aml_code.specs.Header.{fields_of}
+use Rattle.asl_tables.specs.Ready.{HasRoom}
+use Rattle.asl_tree.specs.Tree.{Trees}
+use Rattle.asl_tree.specs.View.{trees_of}
+use Rattle.acpi_names.specs.Errors.{whole_of, name_errors, type_errors}
+use Rattle.acpi_names.specs.Parts.{Agrees}
+use Rattle.acpi_names.specs.Tables.{Tabled}
+use Rattle.acpi_names.specs.Terms.{are_terms}
+use Rattle.acpi_values.specs.Revisions.{width_of}
+use Rattle.asl_fold.specs.Folds.{folded_where}
+use Rattle.asl_shape.specs.Plans.{plans_of}
+use Rattle.term_places.specs.Places.{places_of}
+use Rattle.source_pieces.specs.Places.{core_places}
+use Rattle.program_shapes.proofs.Cores.{core_looped}
+use Rattle.asl_fold.proofs.Asked.{where_shaped, where_name_errors, where_type_errors}
+use Rattle.named_sessions.specs.Shaped.{AreNamed}
+use Rattle.named_sessions.proofs.Terms.{formed_terms}
+use Rattle.asl_tables.proofs.Programs.{like_another}
+use Rattle.asl_tables.proofs.compile.table_of.Goals as goal
+
+pub returns : goal.returns
+returns c =
+    let block = c.args.block in
+    let terms : Trees = trees_of block.terms.items in
+    let names = c.requires.names in
+    let program : Trees = without_switches terms in
+    let formed = c.requires.formed in
+    let loops : are_terms program ≡ true = formed_terms AreNamed (Unit {0}) ⊥ program (loops_formed AreNamed (Unit {0}) (Unit {0}) terms formed) in
+    let named : name_errors program ≡ [] = same_name_errors AreNamed (Unit {0}) (Unit {0}) terms formed ∙ names.no_names in
+    let called : type_errors program ≡ [] = same_type_errors AreNamed (Unit {0}) (Unit {0}) terms formed ∙ names.no_kinds in
+    let lowered = c.in_ok-core in
+    let index = c.args.names.now.index in
+    let width = width_of block.revision in
+    let made : Trees = folded_where c.args.style.fold width (named_all program) in
+    let core = core_looped c.args.style.fold width c.args.style.shorten index.paths index.named.items c.as_slice.result.now terms (trees_of c.spell.new.terms.items) formed
+    (subst
+    (λ ts. (d : Declarations) (counts : List (AbsolutePath × ℕ)) → Agrees index.paths index.named.items d → Tabled index.paths c.as_slice.result.now (lookup counts) → trees_of c.spell.new.terms.items ≡ spelled_all c.args.style.shorten (is_named d) (written_external counts) ts [])
+    lowered.ensures.terms c.in_ok-spell.ensures.trees)
+    names.names (subst (λ table. Tabled index.paths table (lookup (whole_of terms).calls)) (sym c.as_slice.ensures.value) names.calls) in
+    let room : HasRoom (fields_of lowered.core) = subst HasRoom (sym lowered.ensures.fields) c.requires.room in
+    like_another c.args.style c.args.lines.now.list c.write_block.result lowered.core.place block.place (places_of c.spell.new.terms.items) (core_places (plans_of block.terms.items)) lowered.core.file block.file (fields_of lowered.core) (fields_of block) made
+    lowered.ensures.place (c.in_ok-spell.ensures.places ∙ lowered.ensures.places) lowered.ensures.file lowered.ensures.fields
+    (c.write_block.ensures made (record { room = room; shaped = where_shaped c.args.style.fold width (named_all program) c.requires.shaped; names = where_name_errors c.args.style.fold width (named_all program) ∙ no_name_errors program loops named; counts = where_type_errors c.args.style.fold width (named_all program) ∙ no_type_errors program loops called; core = core }))

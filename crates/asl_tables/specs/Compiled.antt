@@ -1,0 +1,181 @@
+-- What a source of ASL comes to: its table, or its errors.
+use Rattle.std.specs.Prelude.{ℕ, suc, ◌-◌, nat_le, nat_eq, Bool, false, ◌||◌, ◌&&◌, if◌then◌else◌, List, [], ◌∷◌, ◌++◌, length, All, ◌<◌, ⊤, Result, Ok, Err}
+use Rattle.iasl_messages.specs.declared.place.Place.{Place}
+use Rattle.iasl_messages.specs.declared.place.Line.{Line}
+use Rattle.iasl_messages.specs.declared.place.Piece.{Piece}
+use Rattle.iasl_messages.specs.declared.message.Message.{Message}
+use Rattle.asl_lexer.specs.declared.token.Token.{Token}
+use Rattle.asl_lexer.specs.declared.mode.Fault.{Fault}
+use Rattle.asl_lexer.specs.Marks.{tokens_of, message_of}
+use Rattle.acpi_values.specs.Revisions.{width_of}
+use Rattle.asl_tree.specs.Tree.{Trees}
+use Rattle.asl_tree.specs.declared.program.Block.{Block}
+use Rattle.aml_code.specs.Header.{HeaderFields, table_bytes, fields_of}
+use Rattle.aml_meaning.specs.Encoded.{encoded_all}
+use Rattle.aml_writer.specs.Written.{most_table_bytes}
+use Rattle.aml_writer.specs.Cuts.{table_parts, pieces_with}
+use Rattle.named_sessions.specs.Core.{core_of}
+use Rattle.asl_lower.specs.Nodes.{named_all}
+use Rattle.asl_fold.specs.Folds.{folded_where}
+use Rattle.hidden_locals.specs.Switches.{without_switches}
+use Rattle.name_checks.specs.Messages.{told_errors}
+use Rattle.descriptor_names.specs.Told.{names_told, kinds_told}
+use Rattle.asl_parser.specs.declared.raw.Raw.{Raw}
+use Rattle.asl_parser.specs.Parse.{ParseOutcome, outcome, read, stopped, sunk, tall}
+use Rattle.asl_parser.specs.Written.{writtens}
+use Rattle.std.specs.Str.{IsAscii}
+use Rattle.asl_shape.specs.Plans.{Plans, plan_at, text_of}
+use Rattle.asl_shape.specs.Forms.{errors_at, block_place, args_of}
+use Rattle.program_shapes.specs.Sources.{source_in, plans_in, terms_in, statements_in, layouts_in, regions_in, types_in, sizes_in, values_in, locals_in, notes_in, fields_in, width_in, table_in}
+use Rattle.source_pieces.specs.Places.{core_places}
+use Rattle.source_pieces.specs.Pieces.{pieces_in}
+use Rattle.literal_checks.specs.Literals.{cut_literals_at}
+use Rattle.asl_tables.specs.declared.compile.Style.{Style}
+use Rattle.asl_tables.specs.declared.compile.Compiled.{Compiled}
+use Rattle.asl_tables.specs.declared.compile.Compiled.TheVariants.{Table, Refused}
+use Rattle.asl_tables.specs.Syntax.{not_source, too_deep}
+
+-- a table of more than 16 MiB: 6080 at the block
+abbrev pub too_long : Place → Message
+too_long place = record { number = 6080; place = place; name = [] }
+
+-- a table of these bytes in pieces, if it is not too long, with its signature and the name that its block states for its file
+abbrev pub of_table : Place → List ℕ → List ℕ → List ℕ → List Piece → Compiled
+of_table place signature own bytes pieces = if nat_le (length bytes) most_table_bytes then Table signature own pieces [] else Refused (too_long place ∷ [])
+
+-- the table with this header of these terms, at the width that its revision gives
+abbrev pub table_with : Style → HeaderFields → Trees → List ℕ
+table_with style fields terms = table_bytes fields (encoded_all (width_of fields.revision) style.short (core_of style.shorten terms))
+
+-- the table of a block of these terms
+abbrev pub its_table : Style → Trees → Block → List ℕ
+its_table style terms block = table_with style (fields_of block) terms
+
+-- its pieces, at these places, with the texts of these lines
+abbrev pub its_pieces : Style → List Line → List Place → HeaderFields → Trees → List Piece
+its_pieces style lines places fields terms = pieces_with lines places (table_parts fields style.short (core_of style.shorten terms))
+
+-- terms with loops for their Switches, their symbols named, and their constants folded where that is asked for
+abbrev pub lowered_as : Style → HeaderFields → Trees → Trees
+lowered_as style fields terms = folded_where style.fold (width_of fields.revision) (named_all (without_switches terms))
+
+-- errors, where there are any
+abbrev pub unless_wrong : List Message → Compiled → Compiled
+unless_wrong [] it = it
+unless_wrong (m ∷ ms) it = Refused (m ∷ ms)
+
+-- messages, or others where there are none
+abbrev pub first_told : List Message → List Message → List Message
+first_told [] others = others
+first_told (m ∷ ms) others = m ∷ ms
+
+-- what is told of the names of terms as they are written, those of resource descriptors among these, or where nothing is, of what names stand for
+abbrev pub told_of_names : Plans → List Message
+told_of_names written = first_told (names_told written) (kinds_told written)
+
+-- the numbers of the errors of names that are of the class of kinds
+abbrev pub is_of_kinds : ℕ → Bool
+is_of_kinds number = nat_eq number 6051 || (nat_eq number 6054 || (nat_eq number 6050 || (nat_eq number 6056 || nat_eq number 6020)))
+
+-- the errors of statements and of the lists of fields are of the class of kinds: they come behind these, and not where names are
+-- wrong
+abbrev pub with_others : List Message → List Message → List Message
+with_others [] others = others
+with_others (m ∷ ms) others = if is_of_kinds m.number then (m ∷ ms) ++ others else m ∷ ms
+
+-- the table of a block of this form in which nothing is wrong, whose core's terms stand at these places
+abbrev pub of_right : Style → List Line → Place → List Place → List ℕ → HeaderFields → Trees → Compiled
+of_right style lines place inner own fields terms =
+    let lowered = lowered_as style fields terms in
+    of_table place fields.signature own (table_with style fields lowered) (its_pieces style lines (place ∷ inner) fields lowered)
+
+-- a block of this form that is refused with what is wrong with its names, its statements or the lists of its fields, and where nothing is, with
+-- its Switches for which too few Locals are free
+abbrev pub of_terms : Style → List Line → Place → List Place → List ℕ → HeaderFields → (names others few : List Message) → Trees → Compiled
+of_terms style lines place inner own fields names others few terms =
+    unless_wrong (with_others names others) (unless_wrong few (of_right style lines place inner own fields terms))
+
+-- the numbers of the errors of the class of names
+abbrev pub is_of_names : ℕ → Bool
+is_of_names number = nat_le 6040 number && nat_le number 6046
+
+-- whether errors are of the class of names, of which the first then is
+abbrev pub are_of_names : List Message → Bool
+are_of_names [] = false
+are_of_names (m ∷ ms) = is_of_names m.number
+
+-- notes are told behind errors of a later class than that of names
+abbrev pub with_notes_behind : List Message → List Message → List Message
+with_notes_behind notes [] = []
+with_notes_behind notes (m ∷ ms) = if is_of_names m.number then m ∷ ms else (m ∷ ms) ++ notes
+
+-- what terms come to, with the notes on them
+abbrev pub with_notes : List Message → Compiled → Compiled
+with_notes notes (Table signature own pieces others) = Table signature own pieces (others ++ notes)
+with_notes notes (Refused messages) = Refused (with_notes_behind notes messages)
+
+-- the table of a source in which nothing is wrong
+abbrev pub written_in : Style → List Raw → List ℕ
+written_in style items = table_in style.fold style.short style.shorten items
+
+-- its pieces, with the texts of these lines
+abbrev pub cut_in : Style → List Line → List Raw → List Piece
+cut_in style lines items = pieces_in lines style.fold style.short style.shorten items
+
+-- the literals of a source that are cut to 32 bits
+abbrev pub literals_in : List Raw → List Message
+literals_in items = cut_literals_at (width_in items) items
+
+-- the notes on a source: its literals that are cut, and what is noted of its names
+abbrev pub noted_in : List Raw → List Message
+noted_in items = literals_in items ++ notes_in items
+
+-- the name that a source's block states for its file
+abbrev pub own_in : List Raw → List ℕ
+own_in items = text_of (plan_at (args_of (writtens items)) 0)
+
+-- what is wrong with its statements, then with the lists of its fields and with their accesses, and then with the kinds of its arguments, the
+-- lengths of its lists and the values of its Cases
+abbrev pub others_in : List Raw → List Message
+others_in items = statements_in items ++ layouts_in items ++ regions_in items ++ types_in items ++ sizes_in items ++ values_in items
+
+-- what is told of its names: as they are written, or where nothing is, as they are left where its descriptors are resolved
+abbrev pub told_in : List Raw → List Message
+told_in items = first_told (told_of_names (source_in items)) (told_errors (terms_in items))
+
+-- the tree of a source's syntax, that is refused with what is wrong with its form
+abbrev pub of_items : Style → List Line → List Raw → Compiled
+of_items style lines items =
+    let place = block_place (writtens items) in
+    let told = of_terms style lines place (core_places (plans_in items)) (own_in items) (fields_in items) (told_in items) (others_in items) (locals_in items) (terms_in items) in
+    unless_wrong (errors_at items) (with_notes (noted_in items) told)
+
+-- tokens that are a source, or the place where they stop being one or nest too deep
+abbrev pub of_outcome : Style → List Line → List Token → ParseOutcome → Compiled
+of_outcome style lines tokens (read items) = of_items style lines items
+of_outcome style lines tokens (stopped rest) = Refused (not_source tokens (length tokens - length rest) ∷ [])
+of_outcome style lines tokens (sunk rest) = Refused (too_deep tokens (length tokens - suc (length rest)) ∷ [])
+of_outcome style lines tokens (tall number) = Refused (too_deep tokens number ∷ [])
+
+-- the first fault of the tokens, or what they come to
+abbrev pub of_tokens : Style → List Line → Result (List Token) Fault → Compiled
+of_tokens style lines (Err fault) = Refused (message_of fault ∷ [])
+of_tokens style lines (Ok tokens) = of_outcome style lines tokens (outcome tokens)
+
+-- what lines of ASL come to
+abbrev pub of_lines : Style → List Line → Compiled
+of_lines style lines = of_tokens style lines (tokens_of lines)
+
+-- each message stands in one of so many files
+abbrev pub AreWithin : ℕ → List Message → Type 0
+AreWithin files messages = All (λ m. m.place.file < files) messages
+
+-- each note, or each message of a refusal, is told in one of so many files
+abbrev pub TellsWithin : ℕ → Compiled → Type 0
+TellsWithin files (Table signature own pieces notes) = AreWithin files notes
+TellsWithin files (Refused messages) = AreWithin files messages
+
+-- the name that the block states for its file is ASCII
+abbrev pub HasAsciiName : Compiled → Type 0
+HasAsciiName (Table signature own pieces notes) = IsAscii own
+HasAsciiName (Refused messages) = ⊤

@@ -1,0 +1,5 @@
+pub mod Syntax
+pub mod Compiled
+pub mod Ready
+pub mod Findings
+pub mod Spots

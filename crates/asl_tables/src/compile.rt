@@ -1,0 +1,495 @@
+//! An ASL source to its table, or its errors.
+ghost use Rattle.std.specs.Prelude.{◌≡◌, ℕ, ◌<◌, ◌^◌, ◌++◌, ◌∷◌, [], length, All, Ok, IfOk, IfErr, true};
+ghost use Rattle.acpi_values.specs.Revisions.{width_of};
+ghost use Rattle.literal_checks.specs.Literals.{cut_literals_at};
+ghost use Rattle.name_notes.specs.Notes.{name_notes};
+ghost use Rattle.asl_tree.specs.Tree.{Trees};
+ghost use Rattle.asl_tree.specs.View.{trees_of};
+ghost use Rattle.asl_tree.specs.declared.program.Block.{Block as SpecBlock};
+ghost use Rattle.aml_code.specs.Header.{fields_of};
+ghost use Rattle.asl_parser.specs.declared.raw.Raw.{Raw};
+ghost use Rattle.asl_parser.specs.Parse.{outcome};
+ghost use Rattle.asl_shape.specs.Forms.{Forms};
+ghost use Rattle.asl_parser.specs.Written.{writtens};
+ghost use Rattle.field_checks.specs.Lists.{all_errors};
+ghost use Rattle.region_checks.specs.Regions.{region_errors};
+ghost use Rattle.type_checks.specs.Types.{wrong_types};
+ghost use Rattle.type_checks.specs.Sizes.{long_lists};
+ghost use Rattle.switch_checks.specs.Repeats.{repeated_values};
+ghost use Rattle.switch_checks.specs.Locals.{few_locals};
+ghost use Rattle.hidden_locals.specs.Switches.{without_switches};
+ghost use Rattle.acpi_names.specs.Terms.{are_terms};
+ghost use Rattle.statement_checks.specs.Statements.{errors_of_statements};
+ghost use Rattle.asl_shape.specs.Plans.{plans_of};
+ghost use Rattle.term_places.specs.Places.{places_of};
+ghost use Rattle.source_pieces.specs.Places.{core_places};
+ghost use Rattle.named_sessions.specs.Shaped.{AreFormed, AreNamed, AreShaped};
+ghost use Rattle.asl_lower.specs.Nodes.{named_all};
+ghost use Rattle.program_shapes.specs.Kept.{IsKeptSource};
+ghost use Rattle.asl_fold.specs.Folds.{folded_where};
+ghost use Rattle.program_shapes.proofs.Kept.{HaveShortTexts};
+ghost use Rattle.iasl_messages.specs.declared.message.Stage.TheVariants as stages;
+ghost use Rattle.aml_writer.specs.Pieces.{joined_pieces};
+ghost use Rattle.aml_writer.specs.Cuts.{IsCut};
+ghost use Rattle.aml_writer.specs.Written.{IsTable, RefusedFor};
+ghost use Rattle.asl_tables.specs.Syntax.{at_token};
+ghost use Rattle.asl_tables.specs.Ready.{HasRoom, IsCoreOf};
+ghost use Rattle.asl_tables.specs.Findings.{AreNamesOf, FindsFew, Finds};
+ghost use Rattle.asl_tables.specs.declared.compile.Compiled.TheVariants.{Refused};
+ghost use Rattle.name_checks.specs.Messages.{told_errors};
+ghost use Rattle.asl_tables.specs.Compiled.{first_told, are_of_names as are_names, its_table, its_pieces, of_table, of_right, of_terms, is_of_kinds as of_kinds, is_of_names as of_names, with_notes, with_notes_behind, with_others, of_items, of_lines, of_outcome, HasAsciiName, TellsWithin};
+
+use crate::messages::{both, one_message, refusal};
+use crate::resolved::{Resolved, resolve_block};
+use acpi_values::width::Width;
+use aml_writer::stop::WriteStop;
+use aml_writer::write::write;
+use asl_fold::fold::fold_where;
+use asl_lexer::token::Tokens;
+use asl_lexer::tokens;
+use asl_lower::lower::lower;
+use asl_parser::{RawUnit, Syntax, parse, place_at};
+use asl_shape::shape;
+use asl_tree::program::{Block, Blocks, Core, Program};
+use asl_tree::term::Node;
+use field_checks::check::list_faults;
+use iasl_messages::message::{Message, Messages, Stage};
+use iasl_messages::number::{
+    FIELD_NOT_WHOLE_BYTES, NAME_DECLARED_TWICE, NESTING_TOO_DEEP, PATH_IS_TOO_LONG, SYNTAX,
+    UNKNOWN_OPERATOR, WRONG_CALL_ARGUMENT_COUNT, WRONG_OBJECT_KIND, WRONG_TYPE,
+};
+use iasl_messages::place::{Lines, Pieces};
+use iasl_ports::list::{List, Text};
+use literal_checks::check::cut_literals;
+use name_checks::check::{Names, check};
+use name_notes::check::notes as notes_on_names;
+use name_spelling::spell::spell;
+use region_checks::check::region_faults;
+use statement_checks::check::statement_errors;
+use std::alloc::{AllocError, Global};
+use switch_checks::locals::few_locals;
+use switch_checks::repeat::repeated_values;
+use switch_loops::loops::loops;
+use type_checks::check::wrong_types;
+use type_checks::size::long_lists;
+
+/// The most tokens that are numbered.
+const MOST_TOKENS: usize = 4_294_967_295;
+
+/// How a table is written.
+#[derive(Clone, Copy)]
+pub struct Style {
+    /// Whether constants are folded.
+    pub fold: bool,
+    /// Whether 0, 1 and Ones are written by their opcodes where they are literals too.
+    pub short: bool,
+    /// Whether names have their shortest spelling.
+    pub shorten: bool,
+}
+
+/// What a source comes to.
+#[derive(Drop)]
+pub enum Compiled {
+    /// Its table in pieces, with the signature, the name that the block states for its file, which is empty where it states none, and
+    /// the notes on its text.
+    Table {
+        signature: Text,
+        own: Text,
+        pieces: Pieces,
+        notes: Messages,
+    },
+    /// Its errors, of which there is at least one.
+    Refused(Messages),
+}
+
+// The core of one block.
+fn core_of(alloc: Global, block: Block) -> Result<Core, AllocError>
+    ensures { IfOk result (λ core. core.program.blocks ≡ block ∷ []) }
+{
+    let mut blocks = Blocks::new(alloc);
+    blocks.push(block)?;
+    Ok(Core {
+        program: Program { blocks },
+    })
+}
+
+// The pieces of a core's block, with the texts of the lines.
+fn pieces_of(alloc: Global, short: bool, lines: &Lines, block: Block) -> Result<Pieces, WriteStop>
+    ensures table { IfOk result (λ pieces. IsTable block short (joined_pieces pieces)) }
+    ensures cut { IfOk result (λ pieces. IsCut lines.now.list block short pieces) }
+    ensures refused { IfErr result (RefusedFor block short) }
+{
+    match core_of(alloc, block) {
+        Ok(core) => write(alloc, &core, lines, 0, short),
+        Err(AllocError) => Err(WriteStop::Memory),
+    }
+}
+
+// The table of a core's block in pieces, with the texts of the lines, or its refusal where that is too long.
+fn write_block(
+    alloc: Global,
+    style: Style,
+    lines: &Lines,
+    block: Block,
+) -> Result<Compiled, AllocError>
+    ensures { (terms : Trees) → IsCoreOf style.shorten terms block → IfOk result (λ it. it ≡ of_table block.place block.signature block.file (its_table style terms block) (its_pieces style lines.now.list (block.place ∷ places_of block.terms.items) (fields_of block) terms)) }
+{
+    let signature = Text::from_bytes(alloc, block.signature.as_bytes())?;
+    let own = Text::from_bytes(alloc, block.file.as_bytes())?;
+    match pieces_of(alloc, style.short, lines, block) {
+        Ok(pieces) => Ok(Compiled::Table {
+            signature,
+            own,
+            pieces,
+            notes: Messages::new(alloc),
+        }),
+        Err(WriteStop::TooLong(message)) => Ok(Compiled::Refused(one_message(alloc, message)?)),
+        Err(WriteStop::Memory) => Err(AllocError),
+    }
+}
+
+// Whether an error of names is of the class of kinds.
+fn is_of_kinds(number: u16) -> bool
+    ensures { result ≡ of_kinds number }
+{
+    number == WRONG_CALL_ARGUMENT_COUNT
+        || number == WRONG_OBJECT_KIND
+        || number == WRONG_TYPE
+        || number == FIELD_NOT_WHOLE_BYTES
+        || number == UNKNOWN_OPERATOR
+}
+
+// The errors of statements, of the lists of fields and of their accesses behind those of kinds.
+fn with_others(errors: Messages, others: Messages) -> Result<Messages, AllocError>
+    ensures { IfOk result (λ all. all ≡ with_others errors others) }
+{
+    let number = match errors.get(0) {
+        Some(first) => first.number,
+        None => return Ok(others),
+    };
+    if is_of_kinds(number) {
+        both(errors, others)
+    } else {
+        Ok(errors)
+    }
+}
+
+// Terms with loops for their Switches, their symbolic operators named and their ElseIfs nested, and their constants folded where that is asked for.
+#[tactic(auto, using(crate::proofs::Given::are_given, source_pieces::proofs::Planned::places_planned))]
+fn lowered_terms(
+    alloc: Global,
+    fold: bool,
+    width: Width,
+    terms: Vec<Node>,
+) -> Result<Vec<Node>, AllocError>
+    requires { AreFormed AreNamed (Unit {0}) (Unit {0}) (trees_of terms.items) }
+    ensures terms { IfOk result (λ core. trees_of core.items ≡ folded_where fold width (named_all (without_switches (trees_of terms.items)))) }
+    ensures places { IfOk result (λ core. places_of core.items ≡ core_places (plans_of terms.items)) }
+{
+    let terms = loops(alloc, terms)?;
+    let named = lower(alloc, terms)?;
+    fold_where(alloc, fold, width, named)
+}
+
+// The block with its terms lowered.
+fn lowered(alloc: Global, style: Style, block: Block) -> Result<Block, AllocError>
+    requires { AreFormed AreNamed (Unit {0}) (Unit {0}) (trees_of block.terms.items) }
+    ensures terms { IfOk result (λ core. trees_of core.terms.items ≡ folded_where style.fold (width_of block.revision) (named_all (without_switches (trees_of block.terms.items)))) }
+    ensures places { IfOk result (λ core. places_of core.terms.items ≡ core_places (plans_of block.terms.items)) }
+    ensures place { IfOk result (λ core. core.place ≡ block.place) }
+    ensures file { IfOk result (λ core. core.file ≡ block.file) }
+    ensures fields { IfOk result (λ core. fields_of core ≡ fields_of block) }
+{
+    let Block {
+        place,
+        file,
+        signature,
+        revision,
+        oem_id,
+        table_id,
+        oem_revision,
+        terms,
+    } = block;
+    let terms = lowered_terms(alloc, style.fold, Width::of_revision(revision), terms)?;
+    Ok(Block {
+        place,
+        file,
+        signature,
+        revision,
+        oem_id,
+        table_id,
+        oem_revision,
+        terms,
+    })
+}
+
+/// What is found of a block's terms: their names, where nothing is wrong, or what is wrong.
+#[derive(Drop)]
+enum Findings {
+    Right(Names),
+    Wrong(Messages),
+}
+
+// The names, or else the Switches for which too few Locals are free.
+fn right_or_few(alloc: Global, terms: &[Node], names: Names) -> Result<Findings, AllocError>
+    ensures { IfOk result (λ found. FindsFew found names (few_locals (trees_of terms.now) (plans_of terms.now))) }
+{
+    let few = few_locals(alloc, terms)?;
+    if few.is_empty() {
+        Ok(Findings::Right(names))
+    } else {
+        Ok(Findings::Wrong(few))
+    }
+}
+
+// What is wrong with the names of terms, some of which may be told of before, with their statements and the lists of their fields, or else the
+// Switches for which too few Locals are free; and where nothing is, their names.
+fn find(
+    alloc: Global,
+    terms: &[Node],
+    told: Messages,
+    others: Messages,
+) -> Result<Findings, AllocError>
+    requires { are_terms (trees_of terms.now) ≡ true }
+    ensures { IfOk result (λ found. Finds found (first_told told (told_errors (trees_of terms.now))) others (few_locals (trees_of terms.now) (plans_of terms.now)) (trees_of terms.now)) }
+{
+    if !told.is_empty() {
+        return Ok(Findings::Wrong(with_others(told, others)?));
+    }
+    match check(alloc, terms) {
+        Ok(names) if others.is_empty() => right_or_few(alloc, terms, names),
+        Ok(_) => Ok(Findings::Wrong(others)),
+        Err(stage) => Ok(Findings::Wrong(with_others(refusal(stage)?, others)?)),
+    }
+}
+
+// The table of a block in which nothing is wrong, whose names are these: with loops for its Switches, its symbols named and its names spelled.
+fn table_of(
+    alloc: Global,
+    style: Style,
+    lines: &Lines,
+    block: Block,
+    names: &mut Names,
+) -> Result<Compiled, AllocError>
+    requires room { HasRoom (fields_of block) }
+    requires formed { AreFormed AreNamed (Unit {0}) (Unit {0}) (trees_of block.terms.items) }
+    requires shaped { AreShaped (named_all (without_switches (trees_of block.terms.items))) }
+    requires names { AreNamesOf (trees_of block.terms.items) names.old }
+    ensures { IfOk result (λ it. it ≡ of_right style lines.now.list block.place (core_places (plans_of block.terms.items)) block.file (fields_of block) (trees_of block.terms.items)) }
+{
+    let mut core = lowered(alloc, style, block)?;
+    spell(
+        alloc,
+        &mut names.index,
+        names.calls.as_slice(),
+        style.shorten,
+        &mut core.terms,
+    )?;
+    write_block(alloc, style, lines, core)
+}
+
+// A block whose nodes have their numbers: its table, or what is wrong with its names, some of which may be told of before, its statements and
+// the lists of its fields, or else the Switches for which too few Locals are free.
+fn compile_block(
+    alloc: Global,
+    style: Style,
+    lines: &Lines,
+    block: Block,
+    told: Messages,
+    others: Messages,
+) -> Result<Compiled, AllocError>
+    requires room { HasRoom (fields_of block) }
+    requires formed { AreFormed AreNamed (Unit {0}) (Unit {0}) (trees_of block.terms.items) }
+    requires shaped { others ≡ [] → AreShaped (named_all (without_switches (trees_of block.terms.items))) }
+    ensures { IfOk result (λ it. it ≡ of_terms style lines.now.list block.place (core_places (plans_of block.terms.items)) block.file (fields_of block) (first_told told (told_errors (trees_of block.terms.items))) others (few_locals (trees_of block.terms.items) (plans_of block.terms.items)) (trees_of block.terms.items)) }
+{
+    match find(alloc, block.terms.as_slice(), told, others)? {
+        Findings::Right(mut names) => table_of(alloc, style, lines, block, &mut names),
+        Findings::Wrong(errors) => Ok(Compiled::Refused(errors)),
+    }
+}
+
+// Whether an error is of the class of names.
+fn is_of_names(number: u16) -> bool
+    ensures { result ≡ of_names number }
+{
+    NAME_DECLARED_TWICE <= number && number <= PATH_IS_TOO_LONG
+}
+
+/// Whether errors are of the class of names, of which the first then is.
+pub(crate) fn are_of_names(errors: &Messages) -> bool
+    ensures { result ≡ are_names errors.now }
+{
+    match errors.get(0) {
+        Some(first) => is_of_names(first.number),
+        None => false,
+    }
+}
+
+// Notes behind errors of a later class than that of names.
+fn with_notes_behind(notes: Messages, errors: Messages) -> Result<Messages, AllocError>
+    ensures { IfOk result (λ all. all ≡ with_notes_behind notes errors) }
+{
+    let number = match errors.get(0) {
+        Some(first) => first.number,
+        None => return Ok(errors),
+    };
+    if is_of_names(number) {
+        Ok(errors)
+    } else {
+        both(errors, notes)
+    }
+}
+
+// What a block comes to, with the notes on it.
+fn with_notes(notes: Messages, it: Compiled) -> Result<Compiled, AllocError>
+    ensures { IfOk result (λ noted. noted ≡ with_notes notes it) }
+{
+    match it {
+        Compiled::Table {
+            signature,
+            own,
+            pieces,
+            notes: others,
+        } => Ok(Compiled::Table {
+            signature,
+            own,
+            pieces,
+            notes: both(others, notes)?,
+        }),
+        Compiled::Refused(errors) => Ok(Compiled::Refused(with_notes_behind(notes, errors)?)),
+    }
+}
+
+// The notes on the literals of a block's source and on its names.
+fn notes_of(alloc: Global, unit: &RawUnit, block: &Block) -> Result<Messages, AllocError>
+    ensures { IfOk result (λ notes. notes ≡ cut_literals_at (width_of block.now.revision) unit.now.items ++ name_notes (trees_of block.now.terms.items)) }
+{
+    let literals = cut_literals(alloc, Width::of_revision(block.revision), unit)?;
+    both(literals, notes_on_names(alloc, block.terms.as_slice())?)
+}
+
+// A block, with the notes on the literals of its source and on its names.
+fn compile_noted(
+    alloc: Global,
+    style: Style,
+    lines: &Lines,
+    unit: &RawUnit,
+    block: Block,
+    told: Messages,
+    others: Messages,
+) -> Result<Compiled, AllocError>
+    requires room { HasRoom (fields_of block) }
+    requires formed { AreFormed AreNamed (Unit {0}) (Unit {0}) (trees_of block.terms.items) }
+    requires shaped { others ≡ [] → AreShaped (named_all (without_switches (trees_of block.terms.items))) }
+    ensures { IfOk result (λ it. it ≡ with_notes (cut_literals_at (width_of block.revision) unit.now.items ++ name_notes (trees_of block.terms.items)) (of_terms style lines.now.list block.place (core_places (plans_of block.terms.items)) block.file (fields_of block) (first_told told (told_errors (trees_of block.terms.items))) others (few_locals (trees_of block.terms.items) (plans_of block.terms.items)) (trees_of block.terms.items))) }
+{
+    let notes = notes_of(alloc, unit, &block)?;
+    let it = compile_block(alloc, style, lines, block, told, others)?;
+    with_notes(notes, it)
+}
+
+// The one block of a program.
+fn block_of(program: Program) -> Result<Block, AllocError>
+    ensures { (block : SpecBlock) → program.blocks ≡ block ∷ [] → result ≡ Ok block }
+{
+    match program.blocks.into_vec().pop() {
+        Some(block) => Ok(block),
+        None => Err(AllocError),
+    }
+}
+
+// What is wrong with statements, then with the lists of fields and their accesses, and then with the kinds of arguments, the lengths of lists
+// and the values of Cases.
+fn other_errors(alloc: Global, width: Width, terms: &[Node]) -> Result<Messages, AllocError>
+    requires { are_terms (trees_of terms.now) ≡ true }
+    ensures { IfOk result (λ ms. ms ≡ errors_of_statements (plans_of terms.now) ++ all_errors (plans_of terms.now) ++ region_errors width (trees_of terms.now) (plans_of terms.now) ++ wrong_types (trees_of terms.now) (plans_of terms.now) ++ long_lists width (plans_of terms.now) ++ repeated_values width (plans_of terms.now)) }
+{
+    let errors = both(statement_errors(alloc, terms)?, list_faults(alloc, terms)?)?;
+    let errors = both(errors, region_faults(alloc, width, terms)?)?;
+    let errors = both(errors, wrong_types(alloc, terms)?)?;
+    let errors = both(errors, long_lists(alloc, width, terms)?)?;
+    both(errors, repeated_values(alloc, width, terms)?)
+}
+
+// The tree of a source's syntax.
+fn compile_unit(
+    alloc: Global,
+    style: Style,
+    lines: &Lines,
+    unit: &RawUnit,
+) -> Result<Compiled, AllocError>
+    requires { IsKeptSource (writtens unit.now.items) }
+    ensures value { IfOk result (λ compiled. compiled ≡ of_items style lines.now.list unit.now.items) }
+    ensures own { IfOk result HasAsciiName }
+{
+    match shape(alloc, unit) {
+        Ok(program) => {
+            let Resolved { block, told } = resolve_block(alloc, block_of(program)?)?;
+            let width = Width::of_revision(block.revision);
+            let others = other_errors(alloc, width, block.terms.as_slice())?;
+            compile_noted(alloc, style, lines, unit, block, told, others)
+        }
+        Err(stage) => Ok(Compiled::Refused(refusal(stage)?)),
+    }
+}
+
+// The refusal with this message at the token of that number.
+fn refuse_at(
+    alloc: Global,
+    tokens: &Tokens,
+    number: u16,
+    token: u32,
+) -> Result<Compiled, AllocError>
+    ensures { IfOk result (λ compiled. compiled ≡ Refused (at_token number tokens.now token ∷ [])) }
+{
+    let place = place_at(tokens.as_slice(), token);
+    let name = Text::new(alloc);
+    Ok(Compiled::Refused(one_message(
+        alloc,
+        Message {
+            number,
+            place,
+            name,
+        },
+    )?))
+}
+
+#[tactic(auto, using(crate::proofs::Outcomes::read_is, crate::proofs::Outcomes::stop_is, crate::proofs::Outcomes::deep_is))]
+fn compile_tokens(
+    alloc: Global,
+    style: Style,
+    lines: &Lines,
+    tokens: &Tokens,
+) -> Result<Compiled, AllocError>
+    requires few { length tokens.now < 2 ^ 32 }
+    requires short { HaveShortTexts tokens.now }
+    ensures value { IfOk result (λ compiled. compiled ≡ of_outcome style lines.now.list tokens.now (outcome tokens.now)) }
+    ensures own { IfOk result HasAsciiName }
+    ensures within { (files : ℕ) → 0 < files → All (λ token. token.place.file < files) tokens.now → IfOk result (TellsWithin files) }
+{
+    match parse(alloc, tokens) {
+        Ok(unit) => compile_unit(alloc, style, lines, &unit),
+        Err(Syntax::Stop { token }) => refuse_at(alloc, tokens, SYNTAX, token),
+        Err(Syntax::TooDeep { token }) => refuse_at(alloc, tokens, NESTING_TOO_DEEP, token),
+        Err(Syntax::Memory) => Err(AllocError),
+    }
+}
+
+/// What lines of ASL come to: a table in pieces (ACPI Specification 6.4, 19.6 and 20.2), or errors, of which there is at least one. Each refusal stands in one of their files.
+#[tactic(auto, using(crate::proofs::Outcomes::fault_is))]
+pub fn compile(alloc: Global, style: Style, lines: &Lines) -> Result<Compiled, AllocError>
+    requires short { All (λ line. length line.text < 2 ^ 32) lines.now.list }
+    requires main { 0 < length lines.now.files }
+    requires files { All (λ line. line.file < length lines.now.files) lines.now.list }
+    ensures value { IfOk result (λ it. it ≡ of_lines style lines.now.list) }
+    ensures own { IfOk result HasAsciiName }
+    ensures within { IfOk result (TellsWithin (length lines.now.files)) }
+{
+    match tokens(alloc, lines) {
+        // (no more tokens have room)
+        Ok(tokens) if tokens.len() > MOST_TOKENS => Err(AllocError),
+        Ok(tokens) => compile_tokens(alloc, style, lines, &tokens),
+        Err(stage) => Ok(Compiled::Refused(refusal(stage)?)),
+    }
+}

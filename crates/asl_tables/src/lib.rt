@@ -1,0 +1,6 @@
+//! ASL: the lines of a source to its table in pieces, or its errors.
+#![tactic(auto)]
+
+pub mod compile;
+pub mod messages;
+mod resolved;
