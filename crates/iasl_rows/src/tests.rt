@@ -94,6 +94,14 @@ fn are(texts: &Texts, wanted: &[&[u8]]) -> bool {
     same
 }
 
+// Whether a run ended with this status, put files of these names and texts, and told this.
+fn ended_as(ran: &Ran, status: u8, names: &[&[u8]], bodies: &[&[u8]], told: &[u8]) -> bool {
+    ran.status == status
+        && are(ran.outs.names(), names)
+        && are(ran.outs.bodies(), bodies)
+        && ran.console.as_bytes() == told
+}
+
 // A source of one block with these terms.
 fn source(alloc: Global, terms: &str) -> Result<Vec<u8>, AllocError> {
     let mut text = Vec::new(alloc);

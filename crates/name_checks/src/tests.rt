@@ -240,125 +240,137 @@ fn errors(alloc: Global, text: &str) -> Result<String, AllocError> {
     told(alloc, examined.errors.as_slice())
 }
 
+// Terms that declare and use names, and their errors.
+static NAMES: [(&str, &str); 11] = [
+    // Declared twice, also in a Scope that is opened again, and of the root.
+    ("N:X___ N:X___", "6040 2.2 \\X___; "),
+    (
+        "S:\\_SB_ N:X___ } S:\\_SB_ N:X___ N:Y___ }",
+        "6040 5.2 \\_SB_.X___; ",
+    ),
+    ("N:\\_SB_ N:\\", "6040 1.2 \\_SB_; 6040 2.2 \\; "),
+    (
+        "D:D___ N:X___ } N:X___ N:\\D___.X___",
+        "6040 5.2 \\D___.X___; ",
+    ),
+    // The scope of a declared name, and the steps of any.
+    ("N:\\D___.X___", "6041 1.2 \\D___.X___; "),
+    ("D:D___ N:^X___ N:^^Y___ }", "6043 3.2 ^^Y___; "),
+    (
+        "M0:M___ R:^^AB__.CD__ }",
+        "6043 2.2 ^^AB__.CD__; 6041 2.2 ^^AB__.CD__; ",
+    ),
+    // A used name may stand before its declaration, and that of CondRefOf may lead nowhere.
+    ("R:X___ N:X___", ""),
+    ("M0:M___ U:Y___ } C0:Y___", "6041 2.2 Y___; 6041 4.2 Y___; "),
+    ("Q:Y___ Q:^Y___", "6043 2.2 ^Y___; "),
+    (
+        "N:X___=Z___ A:Y___=X___",
+        "6041 1.3 Z___; 6041 2.2 Y___; 6040 2.3 \\X___; ",
+    ),
+];
+
+// Terms with Scopes and Externals, and their errors.
+static SCOPES_AND_EXTERNALS: [(&str, &str); 14] = [
+    // A Scope opens a container, through aliases too, and the same one wherever it is searched.
+    ("S:Y___ }", "6041 1.2 Y___; "),
+    ("N:X___ S:X___ }", "6042 2.1 X___; "),
+    ("D:D___ } A:D___=A___ S:A___ }", ""),
+    ("A:B___=A___ A:A___=B___ S:A___ }", "6042 3.1 A___; "),
+    ("S:D___ } D:D___ }", ""),
+    ("D:B___ } S:\\_SB_ S:B___ } D:B___ } }", "6041 4.2 B___; "),
+    ("E6:X___ S:X___ } E0:Y___ S:Y___ }", ""),
+    ("E0:Y___ S:Y___ } C1:Y___", "6042 2.1 Y___; "),
+    // Externals: declared here, not as before, or called otherwise.
+    ("E0:X___ N:X___", "6044 1.2 \\X___; "),
+    ("E1:X___ E2:X___ E2:X___", "6045 2.1 X___; "),
+    ("E80:X___ E81:X___", "6045 2.1 X___; "),
+    ("E1:\\_REV E2:\\_REV", ""),
+    ("E8:X___ C1:X___ C2:X___ C1:X___", "6045 3.2 X___; "),
+    ("E81:X___ C1:X___", ""),
+];
+
 #[test]
 fn tells_each_error_at_its_place(rt: HostRuntime) -> Result<(), Fail> {
     let alloc = rt.alloc();
-    for (text, want) in [
-        // Declared twice, also in a Scope that is opened again, and of the root.
-        ("N:X___ N:X___", "6040 2.2 \\X___; "),
-        (
-            "S:\\_SB_ N:X___ } S:\\_SB_ N:X___ N:Y___ }",
-            "6040 5.2 \\_SB_.X___; ",
-        ),
-        ("N:\\_SB_ N:\\", "6040 1.2 \\_SB_; 6040 2.2 \\; "),
-        (
-            "D:D___ N:X___ } N:X___ N:\\D___.X___",
-            "6040 5.2 \\D___.X___; ",
-        ),
-        // The scope of a declared name, and the steps of any.
-        ("N:\\D___.X___", "6041 1.2 \\D___.X___; "),
-        ("D:D___ N:^X___ N:^^Y___ }", "6043 3.2 ^^Y___; "),
-        (
-            "M0:M___ R:^^AB__.CD__ }",
-            "6043 2.2 ^^AB__.CD__; 6041 2.2 ^^AB__.CD__; ",
-        ),
-        // A used name may stand before its declaration, and that of CondRefOf may lead nowhere.
-        ("R:X___ N:X___", ""),
-        ("M0:M___ U:Y___ } C0:Y___", "6041 2.2 Y___; 6041 4.2 Y___; "),
-        ("Q:Y___ Q:^Y___", "6043 2.2 ^Y___; "),
-        (
-            "N:X___=Z___ A:Y___=X___",
-            "6041 1.3 Z___; 6041 2.2 Y___; 6040 2.3 \\X___; ",
-        ),
-    ] {
-        assert_eq!(rt; errors(alloc, text)?.as_str(), want);
+    for (text, want) in &NAMES {
+        assert_eq!(rt; errors(alloc, text)?.as_str(), *want);
     }
-    for (text, want) in [
-        // A Scope opens a container, through aliases too, and the same one wherever it is searched.
-        ("S:Y___ }", "6041 1.2 Y___; "),
-        ("N:X___ S:X___ }", "6042 2.1 X___; "),
-        ("D:D___ } A:D___=A___ S:A___ }", ""),
-        ("A:B___=A___ A:A___=B___ S:A___ }", "6042 3.1 A___; "),
-        ("S:D___ } D:D___ }", ""),
-        ("D:B___ } S:\\_SB_ S:B___ } D:B___ } }", "6041 4.2 B___; "),
-        ("E6:X___ S:X___ } E0:Y___ S:Y___ }", ""),
-        ("E0:Y___ S:Y___ } C1:Y___", "6042 2.1 Y___; "),
-        // Externals: declared here, not as before, or called otherwise.
-        ("E0:X___ N:X___", "6044 1.2 \\X___; "),
-        ("E1:X___ E2:X___ E2:X___", "6045 2.1 X___; "),
-        ("E80:X___ E81:X___", "6045 2.1 X___; "),
-        ("E1:\\_REV E2:\\_REV", ""),
-        ("E8:X___ C1:X___ C2:X___ C1:X___", "6045 3.2 X___; "),
-        ("E81:X___ C1:X___", ""),
-    ] {
-        assert_eq!(rt; errors(alloc, text)?.as_str(), want);
+    for (text, want) in &SCOPES_AND_EXTERNALS {
+        assert_eq!(rt; errors(alloc, text)?.as_str(), *want);
     }
     Ok(())
 }
+
+// Terms that use and call names, and the errors of what the names denote.
+static CALLS: [(&str, &str); 9] = [
+    ("M1:M___ } U:M___ R:M___", "6051 3.2 M___; 6051 4.2 M___; "),
+    (
+        "M1:M___ } C1:M___ C0:M___ C2:M___",
+        "6051 4.2 M___; 6051 5.2 M___; ",
+    ),
+    ("N:X___ C0:X___ U:X___", "6051 2.2 X___; "),
+    (
+        "M1:M___ } A:M___=A___ A:A___=B___ C1:B___ C2:B___",
+        "6051 6.2 B___; ",
+    ),
+    ("A:B___=A___ A:A___=B___ U:A___ C0:A___", "6051 4.2 A___; "),
+    ("C1:_OSI C0:_OSI", "6051 2.2 _OSI; "),
+    ("E81:X___ C2:X___", "6051 2.2 X___; "),
+    ("E0:X___ C2:X___ U:X___", "6051 3.2 X___; "),
+    // Kinds are told only where all names are right.
+    ("N:X___ C0:X___ N:X___", "6040 3.2 \\X___; "),
+];
 
 #[test]
 fn tells_kinds_behind_names(rt: HostRuntime) -> Result<(), Fail> {
     let alloc = rt.alloc();
-    for (text, want) in [
-        ("M1:M___ } U:M___ R:M___", "6051 3.2 M___; 6051 4.2 M___; "),
-        (
-            "M1:M___ } C1:M___ C0:M___ C2:M___",
-            "6051 4.2 M___; 6051 5.2 M___; ",
-        ),
-        ("N:X___ C0:X___ U:X___", "6051 2.2 X___; "),
-        (
-            "M1:M___ } A:M___=A___ A:A___=B___ C1:B___ C2:B___",
-            "6051 6.2 B___; ",
-        ),
-        ("A:B___=A___ A:A___=B___ U:A___ C0:A___", "6051 4.2 A___; "),
-        ("C1:_OSI C0:_OSI", "6051 2.2 _OSI; "),
-        ("E81:X___ C2:X___", "6051 2.2 X___; "),
-        ("E0:X___ C2:X___ U:X___", "6051 3.2 X___; "),
-        // Kinds are told only where all names are right.
-        ("N:X___ C0:X___ N:X___", "6040 3.2 \\X___; "),
-    ] {
-        assert_eq!(rt; errors(alloc, text)?.as_str(), want);
+    for (text, want) in &CALLS {
+        assert_eq!(rt; errors(alloc, text)?.as_str(), *want);
     }
     Ok(())
 }
 
+// Terms that ask for objects of a kind, and their errors.
+static OBJECTS: [(&str, &str); 19] = [
+    // Mutexes and events, through aliases too, and those of other tables by their types.
+    ("X0:M___ K:M___ L:M___ K:_GL_", ""),
+    ("X0:M___ A:M___=N___ K:N___", ""),
+    ("N:X___ K:X___ L:X___", "6054 2.2 X___; 6054 3.2 X___; "),
+    (
+        "X0:M___ V:E___ K:E___ W:M___",
+        "6054 3.2 E___; 6054 4.2 M___; ",
+    ),
+    ("A:B___=A___ A:A___=B___ K:A___", "6054 3.2 A___; "),
+    ("E9:M___ E7:E___ K:M___ W:E___", ""),
+    ("E0:M___ K:M___", "6054 2.2 M___; "),
+    // What fields lie in, and their units.
+    ("G1:R___ F:R___=U___ U:U___", ""),
+    ("F:R___=U___ N:U___", "6041 1.2 R___; 6040 2.2 \\U___; "),
+    ("G1:R___ F:R___=U___=U___", "6040 2.4 \\U___; "),
+    ("N:X___ F:X___=U___", "6054 2.2 X___; "),
+    ("G1:R___ F:R___=A___=B___ I:A___=B___=C___", ""),
+    ("G1:R___ F:R___=A___ I:A___=R___=C___", "6054 3.3 R___; "),
+    ("G1:R___ F:R___=A___ B:R___=A___=C___", ""),
+    (
+        "G1:R___ F:R___=A___ B:A___=R___=C___",
+        "6054 3.2 A___; 6054 3.3 R___; ",
+    ),
+    ("E5:A___ I:A___=A___=C___", ""),
+    ("E0:A___ F:A___=C___", "6054 2.2 A___; "),
+    // Spaces that no field can lie in.
+    ("G4:R___ F:R___=A___", "6020 2.1 ; "),
+    (
+        "G8:R___ A:R___=S___ G1:T___ F:T___=A___ B:S___=A___=B___",
+        "6020 5.1 ; ",
+    ),
+];
+
 #[test]
 fn tells_kinds_of_objects(rt: HostRuntime) -> Result<(), Fail> {
     let alloc = rt.alloc();
-    for (text, want) in [
-        // Mutexes and events, through aliases too, and those of other tables by their types.
-        ("X0:M___ K:M___ L:M___ K:_GL_", ""),
-        ("X0:M___ A:M___=N___ K:N___", ""),
-        ("N:X___ K:X___ L:X___", "6054 2.2 X___; 6054 3.2 X___; "),
-        (
-            "X0:M___ V:E___ K:E___ W:M___",
-            "6054 3.2 E___; 6054 4.2 M___; ",
-        ),
-        ("A:B___=A___ A:A___=B___ K:A___", "6054 3.2 A___; "),
-        ("E9:M___ E7:E___ K:M___ W:E___", ""),
-        ("E0:M___ K:M___", "6054 2.2 M___; "),
-        // What fields lie in, and their units.
-        ("G1:R___ F:R___=U___ U:U___", ""),
-        ("F:R___=U___ N:U___", "6041 1.2 R___; 6040 2.2 \\U___; "),
-        ("G1:R___ F:R___=U___=U___", "6040 2.4 \\U___; "),
-        ("N:X___ F:X___=U___", "6054 2.2 X___; "),
-        ("G1:R___ F:R___=A___=B___ I:A___=B___=C___", ""),
-        ("G1:R___ F:R___=A___ I:A___=R___=C___", "6054 3.3 R___; "),
-        ("G1:R___ F:R___=A___ B:R___=A___=C___", ""),
-        (
-            "G1:R___ F:R___=A___ B:A___=R___=C___",
-            "6054 3.2 A___; 6054 3.3 R___; ",
-        ),
-        ("E5:A___ I:A___=A___=C___", ""),
-        ("E0:A___ F:A___=C___", "6054 2.2 A___; "),
-        // Spaces that no field can lie in.
-        ("G4:R___ F:R___=A___", "6020 2.1 ; "),
-        (
-            "G8:R___ A:R___=S___ G1:T___ F:T___=A___ B:S___=A___=B___",
-            "6020 5.1 ; ",
-        ),
-    ] {
-        assert_eq!(rt; errors(alloc, text)?.as_str(), want);
+    for (text, want) in &OBJECTS {
+        assert_eq!(rt; errors(alloc, text)?.as_str(), *want);
     }
     Ok(())
 }
@@ -372,18 +384,22 @@ fn long(alloc: Global, count: u32) -> Result<String, AllocError> {
     Ok(text)
 }
 
+// How many errors a path of so many segments has, and the number of the last.
+fn errors_of_long(alloc: Global, count: u32) -> Result<(usize, u16), AllocError> {
+    let nodes = terms(alloc, long(alloc, count)?.as_str())?;
+    let errors = examine(alloc, &nodes)?.errors;
+    match errors.last() {
+        Some(last) => Ok((errors.len(), last.number)),
+        None => Ok((0, 0)),
+    }
+}
+
 #[test]
 fn paths_have_at_most_255_segments(rt: HostRuntime) -> Result<(), Fail> {
     let alloc = rt.alloc();
-    let nodes = terms(alloc, long(alloc, 255)?.as_str())?;
-    assert_eq!(rt; examine(alloc, &nodes)?.errors.len(), 1);
-    let nodes = terms(alloc, long(alloc, 256)?.as_str())?;
-    let errors = examine(alloc, &nodes)?.errors;
-    assert_eq!(rt; errors.len(), 2);
-    let Some(last) = errors.last() else {
-        return Ok(());
-    };
-    assert_eq!(rt; last.number, 6046);
+    assert_eq!(rt; errors_of_long(alloc, 255)?.0, 1);
+    let (count, last) = errors_of_long(alloc, 256)?;
+    assert!(rt; count == 2 && last == 6046);
     Ok(())
 }
 

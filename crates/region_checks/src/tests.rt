@@ -255,139 +255,154 @@ const DWORD: u64 = 0x33;
 
 const QWORD: u64 = 4;
 
+const FOUR: Item = Item::Region("R___", Size::Number(4));
+
+const TWO: Item = Item::Region("R___", Size::Number(2));
+
+const ONE: Item = Item::Region("R___", Size::Number(1));
+
+const NONE: Item = Item::Region("R___", Size::Number(0));
+
+// Whether a block of these items, with these in a device behind them, is told of on just these lines.
+fn tells(
+    alloc: Global,
+    width: Width,
+    outer: &[Item],
+    inner: &[Item],
+    lines: &[u32],
+) -> Result<bool, AllocError> {
+    let nodes = block(alloc, outer, inner)?;
+    let messages = seen_faults(alloc, width, &nodes)?;
+    Ok(are_on(&messages, lines))
+}
+
+// Items, and the lines that are told of.
+static ACCESSES: [(&[Item], &[u32]); 9] = [
+    (
+        &[
+            FOUR,
+            Item::Field("R___", BYTE, 8),
+            Item::Field("R___", DWORD, 8),
+        ],
+        &[],
+    ),
+    (
+        &[
+            FOUR,
+            Item::Field("R___", QWORD, 8),
+            Item::Field("R___", WORD, 8),
+            Item::Field("R___", QWORD, 8),
+        ],
+        &[2, 4],
+    ),
+    (
+        &[
+            ONE,
+            Item::Field("R___", ANY, 8),
+            Item::Field("R___", WORD, 8),
+            Item::Field("R___", DWORD, 8),
+        ],
+        &[3, 4],
+    ),
+    (
+        &[
+            NONE,
+            Item::Field("R___", ANY, 8),
+            Item::Field("R___", BYTE, 8),
+        ],
+        &[2, 3],
+    ),
+    // A region that is declared behind its field, and a region of another table.
+    (&[Item::Field("R___", WORD, 8), ONE], &[1]),
+    (
+        &[Item::External("R___", 10), Item::Field("R___", QWORD, 8)],
+        &[],
+    ),
+    // By aliases.
+    (
+        &[
+            ONE,
+            Item::Alias("R___", "S___"),
+            Item::Alias("S___", "T___"),
+            Item::Field("T___", WORD, 8),
+            Item::Field("S___", BYTE, 8),
+        ],
+        &[4],
+    ),
+    // A field in a bank of a region, and one behind an index.
+    (
+        &[
+            ONE,
+            Item::Bank("R___", "B___", WORD, 8),
+            Item::Bank("R___", "B___", BYTE, 8),
+            Item::Index("A___", "B___", QWORD, 8),
+        ],
+        &[2],
+    ),
+    // A list with another error has no second one.
+    (
+        &[
+            ONE,
+            Item::Field("R___", WORD, 0x1000_0000),
+            Item::Back("R___", WORD),
+            Item::Bank("R___", "B___", WORD, 0x1000_0000),
+            Item::Field("R___", WORD, 0),
+        ],
+        &[5],
+    ),
+];
+
 #[test]
 fn accesses_are_no_wider_than_regions(rt: HostRuntime) -> Result<(), Fail> {
-    let alloc = rt.alloc();
-    let four = Item::Region("R___", Size::Number(4));
-    let one = Item::Region("R___", Size::Number(1));
-    let none = Item::Region("R___", Size::Number(0));
-    let cases: [(&[Item], &[u32]); 9] = [
-        (
-            &[
-                four,
-                Item::Field("R___", BYTE, 8),
-                Item::Field("R___", DWORD, 8),
-            ],
-            &[],
-        ),
-        (
-            &[
-                four,
-                Item::Field("R___", QWORD, 8),
-                Item::Field("R___", WORD, 8),
-                Item::Field("R___", QWORD, 8),
-            ],
-            &[2, 4],
-        ),
-        (
-            &[
-                one,
-                Item::Field("R___", ANY, 8),
-                Item::Field("R___", WORD, 8),
-                Item::Field("R___", DWORD, 8),
-            ],
-            &[3, 4],
-        ),
-        (
-            &[
-                none,
-                Item::Field("R___", ANY, 8),
-                Item::Field("R___", BYTE, 8),
-            ],
-            &[2, 3],
-        ),
-        // A region that is declared behind its field, and a region of another table.
-        (&[Item::Field("R___", WORD, 8), one], &[1]),
-        (
-            &[Item::External("R___", 10), Item::Field("R___", QWORD, 8)],
-            &[],
-        ),
-        // By aliases.
-        (
-            &[
-                one,
-                Item::Alias("R___", "S___"),
-                Item::Alias("S___", "T___"),
-                Item::Field("T___", WORD, 8),
-                Item::Field("S___", BYTE, 8),
-            ],
-            &[4],
-        ),
-        // A field in a bank of a region, and one behind an index.
-        (
-            &[
-                one,
-                Item::Bank("R___", "B___", WORD, 8),
-                Item::Bank("R___", "B___", BYTE, 8),
-                Item::Index("A___", "B___", QWORD, 8),
-            ],
-            &[2],
-        ),
-        // A list with another error has no second one.
-        (
-            &[
-                one,
-                Item::Field("R___", WORD, 0x1000_0000),
-                Item::Back("R___", WORD),
-                Item::Bank("R___", "B___", WORD, 0x1000_0000),
-                Item::Field("R___", WORD, 0),
-            ],
-            &[5],
-        ),
-    ];
-    for (items, lines) in cases {
-        let nodes = block(alloc, items, &[])?;
-        let messages = seen_faults(alloc, Width::W64, &nodes)?;
-        assert!(rt; are_on(&messages, lines));
+    for (items, lines) in &ACCESSES {
+        assert!(rt; tells(rt.alloc(), Width::W64, items, &[], lines)?);
     }
     Ok(())
 }
+
+// A width, the length of a region, and which of the lines of a field of two bytes and one of four are told of.
+static LENGTHS: [(Width, Size, &[u32]); 10] = [
+    (Width::W64, Size::Add(1, 1), &[3]),
+    (Width::W64, Size::Add(2, 2), &[]),
+    (Width::W64, Size::Plus(1, 1), &[3]),
+    (Width::W64, Size::Plus(0xFFFF_FFFF_FFFF_FFFF, 2), &[2, 3]),
+    (Width::W64, Size::Number(0x1_0000_0000), &[]),
+    (Width::W64, Size::Divide(1, 0), &[]),
+    (Width::W64, Size::Local, &[]),
+    (Width::W64, Size::Plus(0xFFFF_FFFF, 2), &[]),
+    (Width::W32, Size::Plus(0xFFFF_FFFF, 2), &[2, 3]),
+    (Width::W32, Size::Number(0x1_0000_0000), &[2, 3]),
+];
 
 #[test]
 fn a_length_is_a_constant(rt: HostRuntime) -> Result<(), Fail> {
-    let alloc = rt.alloc();
-    let cases: [(Width, Size, &[u32]); 10] = [
-        (Width::W64, Size::Add(1, 1), &[3]),
-        (Width::W64, Size::Add(2, 2), &[]),
-        (Width::W64, Size::Plus(1, 1), &[3]),
-        (Width::W64, Size::Plus(0xFFFF_FFFF_FFFF_FFFF, 2), &[2, 3]),
-        (Width::W64, Size::Number(0x1_0000_0000), &[]),
-        (Width::W64, Size::Divide(1, 0), &[]),
-        (Width::W64, Size::Local, &[]),
-        (Width::W64, Size::Plus(0xFFFF_FFFF, 2), &[]),
-        (Width::W32, Size::Plus(0xFFFF_FFFF, 2), &[2, 3]),
-        (Width::W32, Size::Number(0x1_0000_0000), &[2, 3]),
-    ];
-    for (width, size, lines) in cases {
+    for (width, size, lines) in &LENGTHS {
         let items = [
-            Item::Region("R___", size),
+            Item::Region("R___", *size),
             Item::Field("R___", WORD, 8),
             Item::Field("R___", DWORD, 8),
         ];
-        let nodes = block(alloc, &items, &[])?;
-        let messages = seen_faults(alloc, width, &nodes)?;
-        assert!(rt; are_on(&messages, lines));
+        assert!(rt; tells(rt.alloc(), *width, &items, &[], lines)?);
     }
     Ok(())
 }
 
+const FIELD: Item = Item::Field("R___", WORD, 8);
+
+const FROM_ROOT: Item = Item::Field("\\R___", WORD, 8);
+
+// Items, those of a device behind them, and the lines that are told of.
+static NEAREST: [(&[Item], &[Item], &[u32]); 4] = [
+    (&[ONE], &[FIELD], &[100]),
+    (&[TWO, FIELD], &[ONE, FIELD, FROM_ROOT], &[101]),
+    (&[ONE, FIELD], &[FIELD, TWO, FROM_ROOT], &[2, 102]),
+    (&[Item::Field("\\D___R___", WORD, 8)], &[ONE], &[1]),
+];
+
 #[test]
 fn a_region_is_the_nearest(rt: HostRuntime) -> Result<(), Fail> {
-    let alloc = rt.alloc();
-    let one = Item::Region("R___", Size::Number(1));
-    let two = Item::Region("R___", Size::Number(2));
-    let field = Item::Field("R___", WORD, 8);
-    let from_root = Item::Field("\\R___", WORD, 8);
-    let cases: [(&[Item], &[Item], &[u32]); 4] = [
-        (&[one], &[field], &[100]),
-        (&[two, field], &[one, field, from_root], &[101]),
-        (&[one, field], &[field, two, from_root], &[2, 102]),
-        (&[Item::Field("\\D___R___", WORD, 8)], &[one], &[1]),
-    ];
-    for (outer, inner, lines) in cases {
-        let nodes = block(alloc, outer, inner)?;
-        let messages = seen_faults(alloc, Width::W64, &nodes)?;
-        assert!(rt; are_on(&messages, lines));
+    for (outer, inner, lines) in &NEAREST {
+        assert!(rt; tells(rt.alloc(), Width::W64, outer, inner, lines)?);
     }
     Ok(())
 }

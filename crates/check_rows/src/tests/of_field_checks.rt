@@ -73,39 +73,44 @@ const PLACE: Place = Place {
     column: 1,
 };
 
+// A declaration, the list behind it, and the number and the column of its one error, or zeros.
+static LISTS: [(Declaration, &[Item], (u16, u32)); 8] = [
+    (
+        Declaration::Field,
+        &[Item::Unit(8), Item::Skip(0), Item::Offset(1)],
+        (0, 0),
+    ),
+    (
+        Declaration::Field,
+        &[Item::Unit(9), Item::Offset(1)],
+        (6070, 3),
+    ),
+    (
+        Declaration::Field,
+        &[Item::Skip(4), Item::Unit(0), Item::Offset(0)],
+        (6071, 3),
+    ),
+    (Declaration::Field, &[Item::Unit(0x0FFF_FFFF)], (0, 0)),
+    (Declaration::Field, &[Item::Unit(0x1000_0000)], (6071, 2)),
+    (
+        Declaration::IndexField,
+        &[Item::Skip(0x1000_0000)],
+        (6071, 2),
+    ),
+    (
+        Declaration::BankField,
+        &[Item::Offset(0x0200_0000)],
+        (6071, 2),
+    ),
+    (Declaration::Method, &[Item::Unit(0)], (0, 0)),
+];
+
 #[test]
 fn lists_have_at_most_one_fault(rt: HostRuntime) -> Result<(), Fail> {
     let alloc = rt.alloc();
-    let field = Declaration::Field;
-    let cases: [(Declaration, &[Item], (u16, u32)); 8] = [
-        (
-            field,
-            &[Item::Unit(8), Item::Skip(0), Item::Offset(1)],
-            (0, 0),
-        ),
-        (field, &[Item::Unit(9), Item::Offset(1)], (6070, 3)),
-        (
-            field,
-            &[Item::Skip(4), Item::Unit(0), Item::Offset(0)],
-            (6071, 3),
-        ),
-        (field, &[Item::Unit(0x0FFF_FFFF)], (0, 0)),
-        (field, &[Item::Unit(0x1000_0000)], (6071, 2)),
-        (
-            Declaration::IndexField,
-            &[Item::Skip(0x1000_0000)],
-            (6071, 2),
-        ),
-        (
-            Declaration::BankField,
-            &[Item::Offset(0x0200_0000)],
-            (6071, 2),
-        ),
-        (Declaration::Method, &[Item::Unit(0)], (0, 0)),
-    ];
-    for (op, items, want) in cases {
-        let seen = told(alloc, op, items)?;
-        assert!(rt; seen == want);
+    for (op, items, want) in &LISTS {
+        let seen = told(alloc, *op, items)?;
+        assert!(rt; seen == *want);
     }
     Ok(())
 }

@@ -63,6 +63,13 @@ struct Failing {
     write: u64,
 }
 
+// No failure.
+static NONE: Failing = Failing {
+    fetch: 9,
+    put: 9,
+    write: 9,
+};
+
 #[derive(Drop)]
 struct Ran {
     status: u8,
@@ -98,120 +105,128 @@ fn are(texts: &Texts, wanted: &[&[u8]]) -> bool {
     same
 }
 
+// Runs with no failure, each with its words, its text, and what is told and put.
+static RUNS: [Row; 13] = [
+    Row {
+        words: &["d.txt"],
+        text: SMALL,
+        status: 0,
+        names: &[b"ssdt1.dat"],
+        told: b"ssdt1.dat: SSDT, 36 bytes\n0 errors, 0 warnings, 0 remarks\n",
+    },
+    Row {
+        words: &["-l", "d.txt"],
+        text: SMALL,
+        status: 0,
+        names: &[],
+        told: b"SSDT 36 bytes\n0 errors, 0 warnings, 0 remarks\n",
+    },
+    Row {
+        words: &["d.txt"],
+        text: THREE,
+        status: 0,
+        names: &[b"dsdt.dat", b"ssdt1.dat", b"ssdt2.dat"],
+        told: b"dsdt.dat: DSDT, 8 bytes\nssdt1.dat: SSDT, 8 bytes\nssdt2.dat: ssdt, 9 bytes\n0 errors, 0 warnings, 0 remarks\n",
+    },
+    Row {
+        words: &["d.txt"],
+        text: THREE_CUT,
+        status: 1,
+        names: &[],
+        told: b"d.txt:7:1: error 6101: bad pair\n1 errors, 0 warnings, 0 remarks\n",
+    },
+    Row {
+        words: &["d.txt"],
+        text: OTHERS,
+        status: 0,
+        names: &[],
+        told: b"0 errors, 0 warnings, 0 remarks\n",
+    },
+    Row {
+        words: &["-a", "d.txt"],
+        text: OTHERS,
+        status: 0,
+        names: &[
+            b"rsdp.dat",
+            b"facp.dat",
+            b"facp2.dat",
+            b"rsdp2.dat",
+            b"facp3.dat",
+        ],
+        told: b"rsdp.dat: RSD PTR, 2 bytes\nfacp.dat: FACP, 8 bytes\nfacp2.dat: facp, 8 bytes\nrsdp2.dat: RSDP, 0 bytes\nfacp3.dat: Facp, 8 bytes\n0 errors, 0 warnings, 0 remarks\n",
+    },
+    Row {
+        words: &["-s", "RsdP", "d.txt"],
+        text: OTHERS,
+        status: 0,
+        names: &[b"rsdp.dat", b"rsdp2.dat"],
+        told: b"rsdp.dat: RSD PTR, 2 bytes\nrsdp2.dat: RSDP, 0 bytes\n0 errors, 0 warnings, 0 remarks\n",
+    },
+    Row {
+        words: &["-l", "d.txt"],
+        text: OTHERS,
+        status: 0,
+        names: &[],
+        told: b"RSD PTR 2 bytes\nFACP 8 bytes\nfacp 8 bytes\nRSDP 0 bytes\nFacp 8 bytes\n0 errors, 0 warnings, 0 remarks\n",
+    },
+    Row {
+        words: &["-s", "", "d.txt"],
+        text: SMALL,
+        status: 2,
+        names: &[],
+        told: b"usage: acpixtract [options] FILE\n",
+    },
+    Row {
+        words: &["-x", "d.txt"],
+        text: SMALL,
+        status: 2,
+        names: &[],
+        told: b"usage: acpixtract [options] FILE\n",
+    },
+    Row {
+        words: &["d.txt", "-l"],
+        text: SMALL,
+        status: 2,
+        names: &[],
+        told: b"usage: acpixtract [options] FILE\n",
+    },
+    Row {
+        words: &[],
+        text: SMALL,
+        status: 2,
+        names: &[],
+        told: b"usage: acpixtract [options] FILE\n",
+    },
+    Row {
+        words: &["e.txt"],
+        text: SMALL,
+        status: 3,
+        names: &[],
+        told: b"acpixtract: file fault\n",
+    },
+];
+
+// Whether a run with no failure is that of its row.
+fn is_right(alloc: Global, row: &Row) -> Result<bool, AllocError> {
+    let ran = run(alloc, row.words, row.text, &NONE)?;
+    Ok(
+        ran.status == row.status
+            && are(ran.outs.names(), row.names)
+            && ran.console.as_bytes() == row.told,
+    )
+}
+
+fn gives_small(alloc: Global) -> Result<bool, AllocError> {
+    let ran = run(alloc, &["d.txt"], SMALL, &NONE)?;
+    Ok(are(ran.outs.bodies(), &[SMALL_TABLE]))
+}
+
 #[test]
 fn words_and_dumps(rt: HostRuntime) -> Result<(), AllocError> {
-    let rows = [
-        Row {
-            words: &["d.txt"],
-            text: SMALL,
-            status: 0,
-            names: &[b"ssdt1.dat"],
-            told: b"ssdt1.dat: SSDT, 36 bytes\n0 errors, 0 warnings, 0 remarks\n",
-        },
-        Row {
-            words: &["-l", "d.txt"],
-            text: SMALL,
-            status: 0,
-            names: &[],
-            told: b"SSDT 36 bytes\n0 errors, 0 warnings, 0 remarks\n",
-        },
-        Row {
-            words: &["d.txt"],
-            text: THREE,
-            status: 0,
-            names: &[b"dsdt.dat", b"ssdt1.dat", b"ssdt2.dat"],
-            told: b"dsdt.dat: DSDT, 8 bytes\nssdt1.dat: SSDT, 8 bytes\nssdt2.dat: ssdt, 9 bytes\n0 errors, 0 warnings, 0 remarks\n",
-        },
-        Row {
-            words: &["d.txt"],
-            text: THREE_CUT,
-            status: 1,
-            names: &[],
-            told: b"d.txt:7:1: error 6101: bad pair\n1 errors, 0 warnings, 0 remarks\n",
-        },
-        Row {
-            words: &["d.txt"],
-            text: OTHERS,
-            status: 0,
-            names: &[],
-            told: b"0 errors, 0 warnings, 0 remarks\n",
-        },
-        Row {
-            words: &["-a", "d.txt"],
-            text: OTHERS,
-            status: 0,
-            names: &[
-                b"rsdp.dat",
-                b"facp.dat",
-                b"facp2.dat",
-                b"rsdp2.dat",
-                b"facp3.dat",
-            ],
-            told: b"rsdp.dat: RSD PTR, 2 bytes\nfacp.dat: FACP, 8 bytes\nfacp2.dat: facp, 8 bytes\nrsdp2.dat: RSDP, 0 bytes\nfacp3.dat: Facp, 8 bytes\n0 errors, 0 warnings, 0 remarks\n",
-        },
-        Row {
-            words: &["-s", "RsdP", "d.txt"],
-            text: OTHERS,
-            status: 0,
-            names: &[b"rsdp.dat", b"rsdp2.dat"],
-            told: b"rsdp.dat: RSD PTR, 2 bytes\nrsdp2.dat: RSDP, 0 bytes\n0 errors, 0 warnings, 0 remarks\n",
-        },
-        Row {
-            words: &["-l", "d.txt"],
-            text: OTHERS,
-            status: 0,
-            names: &[],
-            told: b"RSD PTR 2 bytes\nFACP 8 bytes\nfacp 8 bytes\nRSDP 0 bytes\nFacp 8 bytes\n0 errors, 0 warnings, 0 remarks\n",
-        },
-        Row {
-            words: &["-s", "", "d.txt"],
-            text: SMALL,
-            status: 2,
-            names: &[],
-            told: b"usage: acpixtract [options] FILE\n",
-        },
-        Row {
-            words: &["-x", "d.txt"],
-            text: SMALL,
-            status: 2,
-            names: &[],
-            told: b"usage: acpixtract [options] FILE\n",
-        },
-        Row {
-            words: &["d.txt", "-l"],
-            text: SMALL,
-            status: 2,
-            names: &[],
-            told: b"usage: acpixtract [options] FILE\n",
-        },
-        Row {
-            words: &[],
-            text: SMALL,
-            status: 2,
-            names: &[],
-            told: b"usage: acpixtract [options] FILE\n",
-        },
-        Row {
-            words: &["e.txt"],
-            text: SMALL,
-            status: 3,
-            names: &[],
-            told: b"acpixtract: file fault\n",
-        },
-    ];
-    let none = Failing {
-        fetch: 9,
-        put: 9,
-        write: 9,
-    };
-    for row in &rows {
-        let ran = run(rt.alloc(), row.words, row.text, &none)?;
-        assert_eq!(rt; ran.status, row.status);
-        assert!(rt; are(ran.outs.names(), row.names));
-        assert!(rt; ran.console.as_bytes() == row.told);
+    for row in &RUNS {
+        assert!(rt; is_right(rt.alloc(), row)?);
     }
-    let small = run(rt.alloc(), &["d.txt"], SMALL, &none)?;
-    assert!(rt; are(small.outs.bodies(), &[SMALL_TABLE]));
+    assert!(rt; gives_small(rt.alloc())?);
     Ok(())
 }
 
@@ -245,130 +260,143 @@ fn first_fault(alloc: Global, text: &[u8]) -> (u16, u32, u32) {
     }
 }
 
+// Dumps that are refused, each with the number and the line of its one fault.
+static FAULTS: [Fault; 11] = [
+    Fault {
+        text: b"\n \t\nDSDT @ 0x\n",
+        number: 6100,
+        line: 3,
+    },
+    Fault {
+        text: b"RSDP @ 0x0\n\n  0000: 00\n",
+        number: 6100,
+        line: 3,
+    },
+    Fault {
+        text: b"A/CD @ 0x0\n",
+        number: 6100,
+        line: 1,
+    },
+    Fault {
+        text: b"RSDP @ 0x0\n 0000: 00 \n",
+        number: 6101,
+        line: 2,
+    },
+    Fault {
+        text: b"RSDP @ 0x0\n 0000: 00 01 02 03 04 05 06 07 08 09 0A 0B 0C 0D 0E 0F 10\n",
+        number: 6101,
+        line: 2,
+    },
+    Fault {
+        text: b"RSDP @ 0x0\n 0000 : 00\n",
+        number: 6101,
+        line: 2,
+    },
+    Fault {
+        text: b"SSDT @ 0x0\n    0000: 53 53 44 54 24 00 00 00 02 8B 4F 45 4D 58 30 30\n    0020: 54 41 42 4C\n",
+        number: 6102,
+        line: 3,
+    },
+    Fault {
+        text: b"RSDP @ 0x0\n 10000000000000000: 00\n",
+        number: 6102,
+        line: 2,
+    },
+    Fault {
+        text: b"RSDP @ 0x0\nSSDT @ 0x0\n 0000: 53 53 44 54 07 00 00\n",
+        number: 6103,
+        line: 2,
+    },
+    Fault {
+        text: b"SSDT @ 0x0\n 0000: 53 53 44 54 09 00 00 00\n\nstray\n",
+        number: 6103,
+        line: 1,
+    },
+    Fault {
+        text: b"SSDT @ 0x0\n 0000: 53 53 44 54 09 00 00 00\nzz\n",
+        number: 6101,
+        line: 3,
+    },
+];
+
 #[test]
 fn faults(rt: HostRuntime) -> Result<(), AllocError> {
-    let rows = [
-        Fault {
-            text: b"\n \t\nDSDT @ 0x\n",
-            number: 6100,
-            line: 3,
-        },
-        Fault {
-            text: b"RSDP @ 0x0\n\n  0000: 00\n",
-            number: 6100,
-            line: 3,
-        },
-        Fault {
-            text: b"A/CD @ 0x0\n",
-            number: 6100,
-            line: 1,
-        },
-        Fault {
-            text: b"RSDP @ 0x0\n 0000: 00 \n",
-            number: 6101,
-            line: 2,
-        },
-        Fault {
-            text: b"RSDP @ 0x0\n 0000: 00 01 02 03 04 05 06 07 08 09 0A 0B 0C 0D 0E 0F 10\n",
-            number: 6101,
-            line: 2,
-        },
-        Fault {
-            text: b"RSDP @ 0x0\n 0000 : 00\n",
-            number: 6101,
-            line: 2,
-        },
-        Fault {
-            text: b"SSDT @ 0x0\n    0000: 53 53 44 54 24 00 00 00 02 8B 4F 45 4D 58 30 30\n    0020: 54 41 42 4C\n",
-            number: 6102,
-            line: 3,
-        },
-        Fault {
-            text: b"RSDP @ 0x0\n 10000000000000000: 00\n",
-            number: 6102,
-            line: 2,
-        },
-        Fault {
-            text: b"RSDP @ 0x0\nSSDT @ 0x0\n 0000: 53 53 44 54 07 00 00\n",
-            number: 6103,
-            line: 2,
-        },
-        Fault {
-            text: b"SSDT @ 0x0\n 0000: 53 53 44 54 09 00 00 00\n\nstray\n",
-            number: 6103,
-            line: 1,
-        },
-        Fault {
-            text: b"SSDT @ 0x0\n 0000: 53 53 44 54 09 00 00 00\nzz\n",
-            number: 6101,
-            line: 3,
-        },
-    ];
-    for row in &rows {
+    for row in &FAULTS {
         assert!(rt; first_fault(rt.alloc(), row.text) == (row.number, row.line, 1));
     }
     Ok(())
 }
 
+// What fails, and how many files stand then.
+static FAILURES: [(Failing, usize); 4] = [
+    (
+        Failing {
+            fetch: 1,
+            put: 9,
+            write: 9,
+        },
+        0,
+    ),
+    (
+        Failing {
+            fetch: 9,
+            put: 1,
+            write: 9,
+        },
+        1,
+    ),
+    (
+        Failing {
+            fetch: 9,
+            put: 3,
+            write: 9,
+        },
+        3,
+    ),
+    (
+        Failing {
+            fetch: 9,
+            put: 9,
+            write: 1,
+        },
+        3,
+    ),
+];
+
+// Whether a run of three tables ends with a file fault and so many files.
+fn stops(alloc: Global, failing: &Failing, files: usize) -> Result<bool, AllocError> {
+    let ran = run(alloc, &["d.txt"], THREE, failing)?;
+    Ok(
+        ran.status == 3
+            && ran.outs.names().len() == files
+            && ran.console.as_bytes() == b"acpixtract: file fault\n".as_slice(),
+    )
+}
+
 #[test]
 fn failing_ports(rt: HostRuntime) -> Result<(), AllocError> {
-    let rows = [
-        (
-            Failing {
-                fetch: 1,
-                put: 9,
-                write: 9,
-            },
-            0,
-        ),
-        (
-            Failing {
-                fetch: 9,
-                put: 1,
-                write: 9,
-            },
-            1,
-        ),
-        (
-            Failing {
-                fetch: 9,
-                put: 3,
-                write: 9,
-            },
-            3,
-        ),
-        (
-            Failing {
-                fetch: 9,
-                put: 9,
-                write: 1,
-            },
-            3,
-        ),
-    ];
-    for (failing, files) in &rows {
-        let ran = run(rt.alloc(), &["d.txt"], THREE, failing)?;
-        assert_eq!(rt; ran.status, 3);
-        assert_eq!(rt; ran.outs.names().len(), *files);
-        assert!(rt; ran.console.as_bytes() == b"acpixtract: file fault\n".as_slice());
+    for (failing, files) in &FAILURES {
+        assert!(rt; stops(rt.alloc(), failing, *files)?);
     }
     Ok(())
+}
+
+// Whether the list of a text is refused because it is too large.
+fn is_refused(alloc: Global, text: &[u8]) -> Result<bool, AllocError> {
+    let ran = run(alloc, &["-l", "d.txt"], text, &NONE)?;
+    let told = b"d.txt:1:1: error 6007: text is too large\n1 errors, 0 warnings, 0 remarks\n";
+    Ok(ran.status == 1 && ran.outs.names().len() == 0 && ran.console.as_bytes() == told.as_slice())
+}
+
+fn status_of(alloc: Global, text: &[u8]) -> Result<u8, AllocError> {
+    let ran = run(alloc, &["d.txt"], text, &NONE)?;
+    Ok(ran.status)
 }
 
 #[test]
 fn too_large(rt: HostRuntime) -> Result<(), AllocError> {
     let text = vec![in rt.alloc(); b'\n'; MOST_BYTES + 1]?;
-    let none = Failing {
-        fetch: 9,
-        put: 9,
-        write: 9,
-    };
-    let ran = run(rt.alloc(), &["-l", "d.txt"], &text, &none)?;
-    assert_eq!(rt; ran.status, 1);
-    assert_eq!(rt; ran.outs.names().len(), 0);
-    let told = b"d.txt:1:1: error 6007: text is too large\n1 errors, 0 warnings, 0 remarks\n";
-    assert!(rt; ran.console.as_bytes() == told.as_slice());
-    let full = run(rt.alloc(), &["d.txt"], &text[1..], &none)?;
-    assert_eq!(rt; full.status, 0);
+    assert!(rt; is_refused(rt.alloc(), &text)?);
+    assert_eq!(rt; status_of(rt.alloc(), &text[1..])?, 0);
     Ok(())
 }

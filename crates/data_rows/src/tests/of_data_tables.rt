@@ -271,39 +271,46 @@ fn fadt_messages(
     Ok(told)
 }
 
+// The revision of a FADT, how many of its parts the text has, the lines behind them, and what is told.
+static REFUSALS: [(&[u8], usize, &[u8], &[u8]); 6] = [
+    (b"01", 1, b"[0001] Space ID : 01\n", b"6092@48 "),
+    (
+        b"01",
+        1,
+        b" Hardware Reduced (V5) : 1\n Low Power S0 Idle (V5) : 0\n",
+        b"6096@49 ",
+    ),
+    (b"02", 1, b"", b"6093@3 "),
+    (b"106", 4, b"", b"6093@3 "),
+    (b"03", 1, b"", b"6091@47 "),
+    (b"06", 4, b"[0001] Space ID : 01\n", b"6092@109 "),
+];
+
 #[test]
 fn texts_of_the_fadt_are_refused(rt: HostRuntime) -> Result<(), AllocError> {
-    let rows: [(&[u8], usize, &[u8], &[u8]); 6] = [
-        (b"01", 1, b"[0001] Space ID : 01\n", b"6092@48 "),
-        (
-            b"01",
-            1,
-            b" Hardware Reduced (V5) : 1\n Low Power S0 Idle (V5) : 0\n",
-            b"6096@49 ",
-        ),
-        (b"02", 1, b"", b"6093@3 "),
-        (b"106", 4, b"", b"6093@3 "),
-        (b"03", 1, b"", b"6091@47 "),
-        (b"06", 4, b"[0001] Space ID : 01\n", b"6092@109 "),
-    ];
-    for (revision, parts, more, expected) in rows {
-        let told = fadt_messages(rt.alloc(), revision, parts, more)?;
-        assert_eq!(rt; told.as_slice(), expected);
+    for (revision, parts, more, expected) in &REFUSALS {
+        let told = fadt_messages(rt.alloc(), revision, *parts, more)?;
+        assert_eq!(rt; told.as_slice(), *expected);
     }
     Ok(())
 }
 
-// A text without a field has its message in its last line, or at 1:1.
+// A text without a field, and what is told in its last line, or at 1:1.
+static NO_FIELDS: [(&[u8], &[u8]); 3] = [
+    (b"", b"6091@1 "),
+    (b"\n// a\n\n", b"6091@3 "),
+    (b"[a] Heading :\nRaw Table Data\n", b"6091@1 "),
+];
+
+fn messages(alloc: Global, text: &[u8]) -> Result<Vec<u8>, AllocError> {
+    let (_, told) = outcome(alloc, text)?;
+    Ok(told)
+}
+
 #[test]
 fn no_field_at_all(rt: HostRuntime) -> Result<(), AllocError> {
-    let rows: [(&[u8], &[u8]); 3] = [
-        (b"", b"6091@1 "),
-        (b"\n// a\n\n", b"6091@3 "),
-        (b"[a] Heading :\nRaw Table Data\n", b"6091@1 "),
-    ];
-    for (text, expected) in rows {
-        let (_, told) = outcome(rt.alloc(), text)?;
-        assert_eq!(rt; told.as_slice(), expected);
+    for (text, expected) in &NO_FIELDS {
+        assert_eq!(rt; messages(rt.alloc(), text)?.as_slice(), *expected);
     }
     Ok(())
 }

@@ -37,22 +37,23 @@ fn told(alloc: Global, text: &[u8]) -> Result<Vec<u8>, AllocError> {
     Ok(told)
 }
 
+// A text, and its field lines.
+static FIELD_LINES: [(&[u8], &[u8]); 9] = [
+    (b"", b""),
+    (b"[0004] Oem  ID : 12", b"[oemid= 12;"),
+    (b"Flags : 1 [remark : 2]", b"flags= 1 ;"),
+    (b"A : \"x [y] // z\" [remark]", b"a= \"x [y] // z\" ;"),
+    (b"A : 1 // 2\nB :\n\n  \t\nC : 3", b"a= 1     ;c= 3;"),
+    (b"A : 1 /* 2\nB : 3\n*/ C : 4", b"a= 1     ;c= 4;"),
+    (b"A : 1 \\\n2 : 3\nB : 4", b"a= 1  2 : 3;b= 4;"),
+    (b"no colon\nA : 1", b";a= 1;"),
+    (b"A : 1\n Raw Table Data: Length 4\nB : 2", b"a= 1;"),
+];
+
 #[test]
 fn texts_have_their_field_lines(rt: HostRuntime) -> Result<(), AllocError> {
-    let rows: [(&[u8], &[u8]); 9] = [
-        (b"", b""),
-        (b"[0004] Oem  ID : 12", b"[oemid= 12;"),
-        (b"Flags : 1 [remark : 2]", b"flags= 1 ;"),
-        (b"A : \"x [y] // z\" [remark]", b"a= \"x [y] // z\" ;"),
-        (b"A : 1 // 2\nB :\n\n  \t\nC : 3", b"a= 1     ;c= 3;"),
-        (b"A : 1 /* 2\nB : 3\n*/ C : 4", b"a= 1     ;c= 4;"),
-        (b"A : 1 \\\n2 : 3\nB : 4", b"a= 1  2 : 3;b= 4;"),
-        (b"no colon\nA : 1", b";a= 1;"),
-        (b"A : 1\n Raw Table Data: Length 4\nB : 2", b"a= 1;"),
-    ];
-    for (text, expected) in rows {
-        let told = told(rt.alloc(), text)?;
-        assert_eq!(rt; told.as_slice(), expected);
+    for (text, expected) in &FIELD_LINES {
+        assert_eq!(rt; told(rt.alloc(), text)?.as_slice(), *expected);
     }
     Ok(())
 }
@@ -65,73 +66,90 @@ fn the_end_is_the_last_line(rt: HostRuntime) -> Result<(), AllocError> {
     Ok(())
 }
 
+// A value, and the number that it is.
+static NUMBERS: [(&[u8], Number); 9] = [
+    (b" 0x1F ", Number::Is(31)),
+    (b"fF\t", Number::Is(255)),
+    (b"FFFFFFFFFFFFFFFF", Number::Is(0xffff_ffff_ffff_ffff)),
+    (b"00000000000000000001", Number::Is(1)),
+    (b"10000000000000000", Number::Wide),
+    (b"0X1", Number::Malformed),
+    (b"1 2", Number::Malformed),
+    (b"0x", Number::Malformed),
+    (b"", Number::Malformed),
+];
+
 #[test]
 fn values_are_numbers(rt: HostRuntime) {
-    let rows: [(&[u8], Number); 9] = [
-        (b" 0x1F ", Number::Is(31)),
-        (b"fF\t", Number::Is(255)),
-        (b"FFFFFFFFFFFFFFFF", Number::Is(0xffff_ffff_ffff_ffff)),
-        (b"00000000000000000001", Number::Is(1)),
-        (b"10000000000000000", Number::Wide),
-        (b"0X1", Number::Malformed),
-        (b"1 2", Number::Malformed),
-        (b"0x", Number::Malformed),
-        (b"", Number::Malformed),
-    ];
-    for (value, expected) in rows {
-        assert!(rt; number_in(value) == expected);
+    for (value, expected) in &NUMBERS {
+        assert!(rt; number_in(value) == *expected);
     }
 }
 
+// A value, and the text that it is.
+static TEXTS: [(&[u8], Option<&[u8]>); 6] = [
+    (b" \"AB C\" ", Some(b"AB C")),
+    (b"\"\"", Some(b"")),
+    (b"\"A\\\"", Some(b"A\\")),
+    (b"\"A", None),
+    (b"AB", None),
+    (b"\"A\" B", None),
+];
+
 #[test]
 fn values_are_texts(rt: HostRuntime) {
-    let rows: [(&[u8], Option<&[u8]>); 6] = [
-        (b" \"AB C\" ", Some(b"AB C")),
-        (b"\"\"", Some(b"")),
-        (b"\"A\\\"", Some(b"A\\")),
-        (b"\"A", None),
-        (b"AB", None),
-        (b"\"A\" B", None),
-    ];
-    for (value, expected) in rows {
-        assert!(rt; text_in(value) == expected);
+    for (value, expected) in &TEXTS {
+        assert!(rt; text_in(value) == *expected);
     }
+}
+
+// A value, and the bytes that it is.
+static BYTES: [(&[u8], Option<&[u8]>); 5] = [
+    (b" 0a FF\t00 ", Some(b"\x0a\xff\x00")),
+    (b"7f", Some(b"\x7f")),
+    (b"1 02", None),
+    (b"0x10", None),
+    (b"10 2", None),
+];
+
+// Whether a value is these bytes, or none.
+fn are_bytes(alloc: Global, value: &[u8], expected: Option<&[u8]>) -> Result<bool, AllocError> {
+    let found = bytes_in(alloc, value)?;
+    Ok(found.as_ref().map(|bytes| bytes.as_slice()) == expected)
 }
 
 #[test]
 fn values_are_bytes(rt: HostRuntime) -> Result<(), AllocError> {
-    let rows: [(&[u8], Option<&[u8]>); 5] = [
-        (b" 0a FF\t00 ", Some(b"\x0a\xff\x00")),
-        (b"7f", Some(b"\x7f")),
-        (b"1 02", None),
-        (b"0x10", None),
-        (b"10 2", None),
-    ];
-    for (value, expected) in rows {
-        let found = bytes_in(rt.alloc(), value)?;
-        assert!(rt; found.as_ref().map(|bytes| bytes.as_slice()) == expected);
+    for (value, expected) in &BYTES {
+        assert!(rt; are_bytes(rt.alloc(), value, *expected)?);
     }
     Ok(())
 }
 
+// A text, and whether it is that of a data table.
+static KINDS: [(&[u8], bool); 11] = [
+    (b"[0004] Signature : \"HPET\"", true),
+    (b"\n  \t\n  sIgNaTuRe \t: \"HPET\"", true),
+    (b"/* a\n b */ // c\n [", true),
+    (b"Signature:", true),
+    (b"", false),
+    (b"// Signature :", false),
+    (b"/* [\n", false),
+    (b"Signature \"HPET\"", false),
+    (b"Signatures : 1", false),
+    (b"Table Length : 1\n[0004]", false),
+    (b"DefinitionBlock (\"\", \"SSDT\", 2, \"\", \"\", 1)", false),
+];
+
+fn is_of_data_table(alloc: Global, text: &[u8]) -> Result<bool, AllocError> {
+    let lines = lines_of(alloc, text)?;
+    is_data_table(alloc, lines.as_slice())
+}
+
 #[test]
 fn the_first_line_tells_the_kind(rt: HostRuntime) -> Result<(), AllocError> {
-    let rows: [(&[u8], bool); 11] = [
-        (b"[0004] Signature : \"HPET\"", true),
-        (b"\n  \t\n  sIgNaTuRe \t: \"HPET\"", true),
-        (b"/* a\n b */ // c\n [", true),
-        (b"Signature:", true),
-        (b"", false),
-        (b"// Signature :", false),
-        (b"/* [\n", false),
-        (b"Signature \"HPET\"", false),
-        (b"Signatures : 1", false),
-        (b"Table Length : 1\n[0004]", false),
-        (b"DefinitionBlock (\"\", \"SSDT\", 2, \"\", \"\", 1)", false),
-    ];
-    for (text, expected) in rows {
-        let lines = lines_of(rt.alloc(), text)?;
-        assert_eq!(rt; is_data_table(rt.alloc(), lines.as_slice())?, expected);
+    for (text, expected) in &KINDS {
+        assert_eq!(rt; is_of_data_table(rt.alloc(), text)?, *expected);
     }
     Ok(())
 }

@@ -24,71 +24,75 @@ fn shown(alloc: Global, text: &[u8]) -> Result<String, AllocError> {
     }
 }
 
+// An expression of numbers and operators, and its value.
+static OPERATORS: [&str; 32] = [
+    "1 => 1",
+    "017 => 15",
+    "0x1f => 31",
+    "0xFFFFFFFFFFFFFFFF => 18446744073709551615",
+    "18446744073709551615 + 1 => 0",
+    "0 - 1 => 18446744073709551615",
+    "1 + 2 * 3 => 7",
+    "(1 + 2) * 3 => 9",
+    "7 - 2 - 1 => 4",
+    "100 / 10 / 2 => 5",
+    "7 % 4 * 2 => 6",
+    "1 << 4 >> 2 => 4",
+    "1 << 63 << 1 => 0",
+    "1 << 64 => 0",
+    "1 >> 64 => 0",
+    "1 << 2 + 1 => 8",
+    "3 > 2 > 1 => 0",
+    "1 < 2 => 1",
+    "2 <= 2 => 1",
+    "2 >= 3 => 0",
+    "1 == 1 == 1 => 1",
+    "1 != 2 & 3 => 1",
+    "6 & 3 ^ 1 | 8 => 11",
+    "2 && 4 => 1",
+    "0 || 0 => 0",
+    "1 || 0 && 0 => 1",
+    "5 & 6 == 6 => 1",
+    "!0 => 1",
+    "!5 => 0",
+    "~0 => 18446744073709551615",
+    "!~~0 + 1 => 2",
+    "~ 1 & 3 => 2",
+];
+
 #[test]
 fn values_of_operators(rt: HostRuntime) -> Result<(), Fail> {
-    let cases: [&str; 32] = [
-        "1 => 1",
-        "017 => 15",
-        "0x1f => 31",
-        "0xFFFFFFFFFFFFFFFF => 18446744073709551615",
-        "18446744073709551615 + 1 => 0",
-        "0 - 1 => 18446744073709551615",
-        "1 + 2 * 3 => 7",
-        "(1 + 2) * 3 => 9",
-        "7 - 2 - 1 => 4",
-        "100 / 10 / 2 => 5",
-        "7 % 4 * 2 => 6",
-        "1 << 4 >> 2 => 4",
-        "1 << 63 << 1 => 0",
-        "1 << 64 => 0",
-        "1 >> 64 => 0",
-        "1 << 2 + 1 => 8",
-        "3 > 2 > 1 => 0",
-        "1 < 2 => 1",
-        "2 <= 2 => 1",
-        "2 >= 3 => 0",
-        "1 == 1 == 1 => 1",
-        "1 != 2 & 3 => 1",
-        "6 & 3 ^ 1 | 8 => 11",
-        "2 && 4 => 1",
-        "0 || 0 => 0",
-        "1 || 0 && 0 => 1",
-        "5 & 6 == 6 => 1",
-        "!0 => 1",
-        "!5 => 0",
-        "~0 => 18446744073709551615",
-        "!~~0 + 1 => 2",
-        "~ 1 & 3 => 2",
-    ];
-    for case in cases.iter() {
+    for case in &OPERATORS {
         let (text, expected) = case.split_once(" => ").ok_or("no case")?;
         let value = shown(rt.alloc(), text.as_bytes())?;
         assert_eq!(rt; value.as_str(), expected, "{text}");
     }
     Ok(())
 }
+
+// An expression with names, and its value.
+static NAMES: [&str; 16] = [
+    "A => 7",
+    "B => 0",
+    "defined A => 1",
+    "defined B => 0",
+    "defined ( A ) => 1",
+    "defined(B) || A == 7 => 1",
+    "!defined B => 1",
+    "C => 1",
+    "C + C => 2",
+    "defined defined => 0",
+    "1 E => 1",
+    "A/**/+\t1 => 8",
+    "P + 1) => 3",
+    "((((A)))) => 7",
+    "A R + 1 => 8",
+    "4294967296 * 4294967296 => 0",
+];
 
 #[test]
 fn values_of_names(rt: HostRuntime) -> Result<(), Fail> {
-    let cases: [&str; 16] = [
-        "A => 7",
-        "B => 0",
-        "defined A => 1",
-        "defined B => 0",
-        "defined ( A ) => 1",
-        "defined(B) || A == 7 => 1",
-        "!defined B => 1",
-        "C => 1",
-        "C + C => 2",
-        "defined defined => 0",
-        "1 E => 1",
-        "A/**/+\t1 => 8",
-        "P + 1) => 3",
-        "((((A)))) => 7",
-        "A R + 1 => 8",
-        "4294967296 * 4294967296 => 0",
-    ];
-    for case in cases.iter() {
+    for case in &NAMES {
         let (text, expected) = case.split_once(" => ").ok_or("no case")?;
         let value = shown(rt.alloc(), text.as_bytes())?;
         assert_eq!(rt; value.as_str(), expected, "{text}");
@@ -96,47 +100,49 @@ fn values_of_names(rt: HostRuntime) -> Result<(), Fail> {
     Ok(())
 }
 
+// An expression that is refused.
+static FAULTS: [&str; 36] = [
+    "",
+    " ",
+    "E",
+    "1 2",
+    "1 +",
+    "+ 1",
+    "- 1",
+    "()",
+    "(1",
+    "1)",
+    "1 / 0",
+    "1 % 0",
+    "0 && 1 / 0",
+    "1 || 1 / 0",
+    "Z",
+    "08",
+    "0x",
+    "0X1",
+    "0b1",
+    "1a",
+    "5_",
+    "18446744073709551616",
+    "0x10000000000000000",
+    "\"a\"",
+    "'a'",
+    "1 = 1",
+    "1 ? 2 : 3",
+    "defined",
+    "defined 1",
+    "defined (A",
+    "defined ((A))",
+    "defined ()",
+    "1 & & 2",
+    "1 ! 2",
+    "A B",
+    "1.2",
+];
+
 #[test]
 fn faults(rt: HostRuntime) -> Result<(), Fail> {
-    let cases: [&str; 36] = [
-        "",
-        " ",
-        "E",
-        "1 2",
-        "1 +",
-        "+ 1",
-        "- 1",
-        "()",
-        "(1",
-        "1)",
-        "1 / 0",
-        "1 % 0",
-        "0 && 1 / 0",
-        "1 || 1 / 0",
-        "Z",
-        "08",
-        "0x",
-        "0X1",
-        "0b1",
-        "1a",
-        "5_",
-        "18446744073709551616",
-        "0x10000000000000000",
-        "\"a\"",
-        "'a'",
-        "1 = 1",
-        "1 ? 2 : 3",
-        "defined",
-        "defined 1",
-        "defined (A",
-        "defined ((A))",
-        "defined ()",
-        "1 & & 2",
-        "1 ! 2",
-        "A B",
-        "1.2",
-    ];
-    for text in cases.iter() {
+    for text in &FAULTS {
         let value = shown(rt.alloc(), text.as_bytes())?;
         assert_eq!(rt; value.as_str(), "bad", "{text}");
     }
@@ -156,21 +162,28 @@ fn nested(alloc: Global, front: &[u8], back: &[u8], count: u32) -> Result<Vec<u8
     Ok(text)
 }
 
+// The value of a nested text.
+fn shown_nested(alloc: Global, front: &str, back: &str, count: u32) -> Result<String, AllocError> {
+    let text = nested(alloc, front.as_bytes(), back.as_bytes(), count)?;
+    shown(alloc, text.as_slice())
+}
+
+// What stands before a 1 and what stands behind it, how many times each does, and the value.
+static NESTINGS: [(&str, &str, u32, &str); 8] = [
+    ("(", ")", 128, "1"),
+    ("(", ")", 129, "bad"),
+    ("!", "", 128, "1"),
+    ("!", "", 129, "bad"),
+    ("~(", ")", 64, "1"),
+    ("~(", ")", 65, "bad"),
+    ("(1)+", "", 5000, "5001"),
+    ("1*2+", "-1", 3000, "3001"),
+];
+
 #[test]
 fn depth_and_length(rt: HostRuntime) -> Result<(), Fail> {
-    let cases: [(&str, &str, u32, &str); 8] = [
-        ("(", ")", 128, "1"),
-        ("(", ")", 129, "bad"),
-        ("!", "", 128, "1"),
-        ("!", "", 129, "bad"),
-        ("~(", ")", 64, "1"),
-        ("~(", ")", 65, "bad"),
-        ("(1)+", "", 5000, "5001"),
-        ("1*2+", "-1", 3000, "3001"),
-    ];
-    for (front, back, count, expected) in cases.iter() {
-        let text = nested(rt.alloc(), front.as_bytes(), back.as_bytes(), *count)?;
-        let value = shown(rt.alloc(), text.as_slice())?;
+    for (front, back, count, expected) in &NESTINGS {
+        let value = shown_nested(rt.alloc(), front, back, *count)?;
         assert_eq!(rt; value.as_str(), *expected, "{front}");
     }
     Ok(())

@@ -1,68 +1,83 @@
 use asl_fragments::fragment::{FragmentKind, first_fragment};
 use asl_fragments::{ends_in_comment, without_comments};
+use std::alloc::{AllocError, Global};
 use std::test::Fail;
+
+// A line, whether it begins in a comment, and its fragments: a letter for the kind of each, and its length.
+static FRAGMENTS: [(&[u8], bool, &[u8]); 12] = [
+    (b"Name(_A1,0x1F)", false, b"i4 o1 i3 o1 n4 o1 "),
+    (b"5_a b", false, b"n3 o1 i1 "),
+    (b"\"a\\\"b\" c", false, b"q6 o1 i1 "),
+    (b"\"a\\", false, b"q3 "),
+    (b"a//b", false, b"i1 c3 "),
+    (b"a/*b*/c", false, b"i1 c5 i1 "),
+    (b"/*/ x", false, b"c5 "),
+    (b"x*/y", true, b"c3 i1 "),
+    (b"/ *", false, b"o1 o1 o1 "),
+    (b"\"/*\"/**/", false, b"q4 c4 "),
+    (b"/", true, b"c1 "),
+    (b"", true, b""),
+];
+
+// The fragments of a line, each by the letter of its kind and its length.
+fn shown(alloc: Global, text: &[u8], in_comment: bool) -> Result<Vec<u8>, AllocError> {
+    let mut shown = Vec::new(alloc);
+    let mut rest = text;
+    let mut inside = in_comment;
+    for _ in 0..text.len() {
+        if rest.is_empty() {
+            break;
+        }
+        let fragment = first_fragment(rest, inside);
+        shown.push(match fragment.kind {
+            FragmentKind::Identifier => b'i',
+            FragmentKind::Number => b'n',
+            FragmentKind::Quoted => b'q',
+            FragmentKind::Comment => b'c',
+            FragmentKind::Other => b'o',
+        })?;
+        let length = format!(in alloc; "{} ", fragment.length)?;
+        shown.extend_from_slice(length.as_str().as_bytes())?;
+        rest = rest.split_at(fragment.length).1;
+        inside = false;
+    }
+    Ok(shown)
+}
 
 #[test]
 fn fragments_of_a_line(rt: HostRuntime) -> Result<(), Fail> {
-    let cases: [(&[u8], bool, &[u8]); 12] = [
-        (b"Name(_A1,0x1F)", false, b"i4 o1 i3 o1 n4 o1 "),
-        (b"5_a b", false, b"n3 o1 i1 "),
-        (b"\"a\\\"b\" c", false, b"q6 o1 i1 "),
-        (b"\"a\\", false, b"q3 "),
-        (b"a//b", false, b"i1 c3 "),
-        (b"a/*b*/c", false, b"i1 c5 i1 "),
-        (b"/*/ x", false, b"c5 "),
-        (b"x*/y", true, b"c3 i1 "),
-        (b"/ *", false, b"o1 o1 o1 "),
-        (b"\"/*\"/**/", false, b"q4 c4 "),
-        (b"/", true, b"c1 "),
-        (b"", true, b""),
-    ];
-    for (text, in_comment, expected) in cases.iter() {
-        let mut shown = Vec::new(rt.alloc());
-        let mut rest = *text;
-        let mut inside = *in_comment;
-        for _ in 0..text.len() {
-            if rest.is_empty() {
-                break;
-            }
-            let fragment = first_fragment(rest, inside);
-            shown.push(match fragment.kind {
-                FragmentKind::Identifier => b'i',
-                FragmentKind::Number => b'n',
-                FragmentKind::Quoted => b'q',
-                FragmentKind::Comment => b'c',
-                FragmentKind::Other => b'o',
-            })?;
-            let length = format!(in rt.alloc(); "{} ", fragment.length)?;
-            shown.extend_from_slice(length.as_str().as_bytes())?;
-            rest = rest.split_at(fragment.length).1;
-            inside = false;
-        }
-        assert_eq!(rt; shown.as_slice(), *expected);
+    for (text, in_comment, expected) in &FRAGMENTS {
+        assert_eq!(rt; shown(rt.alloc(), text, *in_comment)?.as_slice(), *expected);
     }
     Ok(())
 }
 
+// A line, whether it begins in a comment, the line with blanks in the place of comments, and whether it ends in one.
+static COMMENTS: [(&[u8], bool, &[u8], bool); 11] = [
+    (b"a /* b */ c", false, b"a         c", false),
+    (b"a // b", false, b"a     ", false),
+    (b"a /* b", false, b"a     ", true),
+    (b"a /*/", false, b"a    ", true),
+    (b"a */ b", true, b"     b", false),
+    (b"/* a */ b", true, b"        b", false),
+    (b"", true, b"", true),
+    (b"", false, b"", false),
+    (b"\"// /*\"", false, b"\"// /*\"", false),
+    (b"a /**/ /*", false, b"a        ", true),
+    (b"// /*", false, b"     ", false),
+];
+
+// Whether a line without its comments is this one.
+fn gives(alloc: Global, text: &[u8], in_comment: bool, line: &[u8]) -> Result<bool, AllocError> {
+    let found = without_comments(alloc, text, in_comment)?;
+    Ok(found.as_slice() == line)
+}
+
 #[test]
 fn comments_of_a_line(rt: HostRuntime) -> Result<(), Fail> {
-    let cases: [(&[u8], bool, &[u8], bool); 11] = [
-        (b"a /* b */ c", false, b"a         c", false),
-        (b"a // b", false, b"a     ", false),
-        (b"a /* b", false, b"a     ", true),
-        (b"a /*/", false, b"a    ", true),
-        (b"a */ b", true, b"     b", false),
-        (b"/* a */ b", true, b"        b", false),
-        (b"", true, b"", true),
-        (b"", false, b"", false),
-        (b"\"// /*\"", false, b"\"// /*\"", false),
-        (b"a /**/ /*", false, b"a        ", true),
-        (b"// /*", false, b"     ", false),
-    ];
-    for (text, in_comment, expected, open) in cases.iter() {
-        let line = without_comments(rt.alloc(), text, *in_comment)?;
-        assert_eq!(rt; line.as_slice(), *expected);
-        assert_eq!(rt; ends_in_comment(text, *in_comment), *open);
+    for (text, in_comment, expected, open) in &COMMENTS {
+        let given = gives(rt.alloc(), text, *in_comment, expected)?;
+        assert!(rt; given && ends_in_comment(text, *in_comment) == *open);
     }
     Ok(())
 }

@@ -112,7 +112,7 @@ fn lines_of(alloc: Global, source: &[u8]) -> Result<Lines, AllocError> {
     Ok(lines)
 }
 
-const GOOD: [(&[u8], &[u8]); 20] = [
+static GOOD: [(&[u8], &[u8]); 20] = [
     (b"", b""),
     (
         b"Name (X, 5)",
@@ -168,7 +168,7 @@ const GOOD: [(&[u8], &[u8]); 20] = [
     (b"((a))", b"s1:1 (;s1:2 (;w1:3 A;s1:4 );s1:5 );"),
 ];
 
-const BAD: [(&[u8], &[u8]); 33] = [
+static BAD: [(&[u8], &[u8]); 33] = [
     (b"a $", b"6010 1:3"),
     (b"\t@", b"6010 1:2"),
     (b"a.", b"6010 1:2"),
@@ -207,9 +207,9 @@ const BAD: [(&[u8], &[u8]); 33] = [
 #[test]
 fn sources_give_their_tokens(rt: HostRuntime) -> Result<(), AllocError> {
     let alloc = rt.alloc();
-    for (source, expected) in GOOD {
+    for (source, expected) in &GOOD {
         let found = shown(alloc, &lines_of(alloc, source)?)?;
-        assert!(rt; found.as_slice() == expected, "{source:?}");
+        assert!(rt; found.as_slice() == *expected, "{source:?}");
     }
     Ok(())
 }
@@ -217,15 +217,15 @@ fn sources_give_their_tokens(rt: HostRuntime) -> Result<(), AllocError> {
 #[test]
 fn bad_sources_give_their_first_fault(rt: HostRuntime) -> Result<(), AllocError> {
     let alloc = rt.alloc();
-    for (source, expected) in BAD {
+    for (source, expected) in &BAD {
         let found = shown(alloc, &lines_of(alloc, source)?)?;
-        assert!(rt; found.as_slice() == expected, "{source:?}");
+        assert!(rt; found.as_slice() == *expected, "{source:?}");
     }
     Ok(())
 }
 
 // Where each token of a line begins and ends: the columns of its first character and behind its last.
-const SPANS: [(&[u8], &[(u32, u32)]); 4] = [
+static SPANS: [(&[u8], &[(u32, u32)]); 4] = [
     (b"A 12345,0x1F ", &[(1, 2), (3, 8), (8, 9), (9, 13)]),
     (b"\"\" \"a\\x41\\\"\"0", &[(1, 3), (4, 13), (13, 14)]),
     (b" ^^Ab.cD>>=~7", &[(2, 9), (9, 12), (12, 13), (13, 14)]),
@@ -235,8 +235,10 @@ const SPANS: [(&[u8], &[(u32, u32)]); 4] = [
     ),
 ];
 
-fn spans_of(alloc: Global, lines: &Lines) -> Result<Vec<(u32, u32)>, AllocError> {
+fn spans_of(alloc: Global, source: &[u8]) -> Result<Vec<(u32, u32)>, AllocError> {
     let mut spans = Vec::new(alloc);
+    let mut lines = no_lines(alloc);
+    add_line(alloc, &mut lines, 0, 1, source)?;
     if !lines
         .list
         .as_slice()
@@ -245,7 +247,7 @@ fn spans_of(alloc: Global, lines: &Lines) -> Result<Vec<(u32, u32)>, AllocError>
     {
         return Ok(spans);
     }
-    match tokens(alloc, lines) {
+    match tokens(alloc, &lines) {
         Ok(tokens) => {
             for token in tokens.as_slice() {
                 spans.push((token.place.column, token.end))?;
@@ -259,11 +261,8 @@ fn spans_of(alloc: Global, lines: &Lines) -> Result<Vec<(u32, u32)>, AllocError>
 #[test]
 fn tokens_keep_where_they_end(rt: HostRuntime) -> Result<(), AllocError> {
     let alloc = rt.alloc();
-    for (source, spans) in SPANS {
-        let mut lines = no_lines(alloc);
-        add_line(alloc, &mut lines, 0, 1, source)?;
-        let found = spans_of(alloc, &lines)?;
-        assert!(rt; found.as_slice() == spans, "{source:?}");
+    for (source, spans) in &SPANS {
+        assert!(rt; spans_of(alloc, source)?.as_slice() == *spans, "{source:?}");
     }
     Ok(())
 }

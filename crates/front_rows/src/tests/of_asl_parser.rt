@@ -118,8 +118,74 @@ fn answer(alloc: Global, text: &str) -> Result<String, AllocError> {
     Ok(out)
 }
 
-/// A text with a part in it that stands many times.
-fn repeated(
+// A source, and its tree.
+static FORMS: [(&str, &str); 11] = [
+    ("", ""),
+    ("A B C", "A B C "),
+    ("A ( ) B ( , ) C ( { } )", "A( ) B( _ _ ) C( [ ] ) "),
+    (
+        "A ( B , , { C , { D } } , ) { X = Y = ! Z + 1 * 2 - 3 < 4 ++ ; Q , ( 1 ) }",
+        "A( B _ [ C [ D ] ] _ ){ <Assign@16 X <Assign@18 Y <Less@27 <Subtract@25 <Add@21 <LogicalNot@19 Z > <Multiply@23 1 2 > > 3 > <Increment@29 4 > > > > ; Q , 1 } ",
+    ),
+    ("A { B - C - D }", "A{ <Subtract@5 <Subtract@3 B C > D > } "),
+    (
+        "A { B += C >>= D }",
+        "A{ <AddAssign@3 B <ShiftRightAssign@5 C D > > } ",
+    ),
+    (
+        "A { B || C && D | E ^ F & G == H < I << J + K * L }",
+        "A{ <LogicalOr@3 B <LogicalAnd@5 C <Or@7 D <Xor@9 E <And@11 F <Equal@13 G <Less@15 H <ShiftLeft@17 I <Add@19 J <Multiply@21 K L > > > > > > > > > > } ",
+    ),
+    (
+        "A { B % C - D >> E >= F != G & H ^ I | J && K || L }",
+        "A{ <LogicalOr@21 <LogicalAnd@19 <Or@17 <Xor@15 <And@13 <NotEqual@11 <GreaterEqual@9 <ShiftRight@7 <Subtract@5 <Modulo@3 B C > D > E > F > G > H > I > J > K > L > } ",
+    ),
+    (
+        "A { ! ~ B -- * ( C = D ) }",
+        "A{ <Multiply@6 <LogicalNot@2 <Not@3 <Decrement@5 B > > > <Assign@9 C D > > } ",
+    ),
+    ("A { ( 2 ) 3 ; ( 4 ) }", "A{ 2 3 ; 4 } "),
+    (
+        "A { B [ C ] [ \\D ] ! E ( \"x ) { } }",
+        "A{ <Index@6 <Index@3 B C > \\D > <LogicalNot@9 E( \"x ){ } > } ",
+    ),
+];
+
+#[test]
+fn reads_each_form(rt: HostRuntime) -> Result<(), Fail> {
+    for (text, want) in &FORMS {
+        assert_eq!(rt; answer(rt.alloc(), text)?.as_str(), *want);
+    }
+    Ok(())
+}
+
+// A source, and the token that no source has there.
+static STOPS: [(&str, &str); 13] = [
+    ("1", "stop 0"),
+    ("A - B", "stop 1"),
+    ("A ( B", "stop 3"),
+    ("A ( ) { } {", "stop 5"),
+    ("A { B ( 1 ) ( 2 ) }", "stop 6"),
+    ("A { B ++ ( 2 ) }", "stop 4"),
+    ("A { - B }", "stop 2"),
+    ("A { ++ B }", "stop 2"),
+    ("A { @ }", "stop 2"),
+    ("A ( { , } )", "stop 3"),
+    ("A ( { \\B } )", "stop 3"),
+    ("A ( { B ( ) } )", "stop 4"),
+    ("A ( B ; C )", "stop 3"),
+];
+
+#[test]
+fn stops_where_no_source_goes_on(rt: HostRuntime) -> Result<(), Fail> {
+    for (text, want) in &STOPS {
+        assert_eq!(rt; answer(rt.alloc(), text)?.as_str(), *want);
+    }
+    Ok(())
+}
+
+/// How the call answers to a text with a part in it that stands many times.
+fn answer_repeated(
     alloc: Global,
     before: &str,
     part: &str,
@@ -131,92 +197,31 @@ fn repeated(
         text.push_str(part)?;
     }
     text.push_str(after)?;
-    Ok(text)
+    answer(alloc, text.as_str())
 }
 
-#[test]
-fn reads_each_form(rt: HostRuntime) -> Result<(), Fail> {
-    for (text, want) in [
-        ("", ""),
-        ("A B C", "A B C "),
-        ("A ( ) B ( , ) C ( { } )", "A( ) B( _ _ ) C( [ ] ) "),
-        (
-            "A ( B , , { C , { D } } , ) { X = Y = ! Z + 1 * 2 - 3 < 4 ++ ; Q , ( 1 ) }",
-            "A( B _ [ C [ D ] ] _ ){ <Assign@16 X <Assign@18 Y <Less@27 <Subtract@25 <Add@21 <LogicalNot@19 Z > <Multiply@23 1 2 > > 3 > <Increment@29 4 > > > > ; Q , 1 } ",
-        ),
-        ("A { B - C - D }", "A{ <Subtract@5 <Subtract@3 B C > D > } "),
-        (
-            "A { B += C >>= D }",
-            "A{ <AddAssign@3 B <ShiftRightAssign@5 C D > > } ",
-        ),
-        (
-            "A { B || C && D | E ^ F & G == H < I << J + K * L }",
-            "A{ <LogicalOr@3 B <LogicalAnd@5 C <Or@7 D <Xor@9 E <And@11 F <Equal@13 G <Less@15 H <ShiftLeft@17 I <Add@19 J <Multiply@21 K L > > > > > > > > > > } ",
-        ),
-        (
-            "A { B % C - D >> E >= F != G & H ^ I | J && K || L }",
-            "A{ <LogicalOr@21 <LogicalAnd@19 <Or@17 <Xor@15 <And@13 <NotEqual@11 <GreaterEqual@9 <ShiftRight@7 <Subtract@5 <Modulo@3 B C > D > E > F > G > H > I > J > K > L > } ",
-        ),
-        (
-            "A { ! ~ B -- * ( C = D ) }",
-            "A{ <Multiply@6 <LogicalNot@2 <Not@3 <Decrement@5 B > > > <Assign@9 C D > > } ",
-        ),
-        ("A { ( 2 ) 3 ; ( 4 ) }", "A{ 2 3 ; 4 } "),
-        (
-            "A { B [ C ] [ \\D ] ! E ( \"x ) { } }",
-            "A{ <Index@6 <Index@3 B C > \\D > <LogicalNot@9 E( \"x ){ } > } ",
-        ),
-    ] {
-        assert_eq!(rt; answer(rt.alloc(), text)?.as_str(), want);
-    }
-    Ok(())
-}
-
-#[test]
-fn stops_where_no_source_goes_on(rt: HostRuntime) -> Result<(), Fail> {
-    for (text, want) in [
-        ("1", "stop 0"),
-        ("A - B", "stop 1"),
-        ("A ( B", "stop 3"),
-        ("A ( ) { } {", "stop 5"),
-        ("A { B ( 1 ) ( 2 ) }", "stop 6"),
-        ("A { B ++ ( 2 ) }", "stop 4"),
-        ("A { - B }", "stop 2"),
-        ("A { ++ B }", "stop 2"),
-        ("A { @ }", "stop 2"),
-        ("A ( { , } )", "stop 3"),
-        ("A ( { \\B } )", "stop 3"),
-        ("A ( { B ( ) } )", "stop 4"),
-        ("A ( B ; C )", "stop 3"),
-    ] {
-        assert_eq!(rt; answer(rt.alloc(), text)?.as_str(), want);
-    }
-    Ok(())
-}
+// What stands before a part, the part, how many times it stands, what stands behind it, and how the source is refused.
+static NESTINGS: [(&str, &str, u8, &str, &str); 11] = [
+    // The brace and the operators before B are open at once.
+    ("A { B -", " !", 127, " C } }", "stop 133"),
+    ("A { B -", " !", 127, " C }", "deep 131"),
+    ("A { B -", " !", 128, " C }", "deep 131"),
+    // The leftmost operand stands under A and each operator.
+    ("A { B", " - C", 127, " } }", "stop 258"),
+    ("A { B", " - C", 128, " }", "deep 2"),
+    ("A { B ( D )", " - C", 127, " }", "deep 4"),
+    ("A { B ( D )", " - C", 200, "", "stop 406"),
+    ("A { B ( D , E ( F ) )", " - C", 126, " }", "deep 8"),
+    ("A { B ( D , E ( F ) )", " - C", 127, " }", "deep 4"),
+    ("A { ( ! B )", " - C", 129, " }", "deep 3"),
+    ("A { B ( , )", " - C", 127, " }", "deep 4"),
+];
 
 #[test]
 fn nests_128_deep_and_no_deeper(rt: HostRuntime) -> Result<(), Fail> {
-    for (before, part, count, after, want) in [
-        // The brace and the operators before B are open at once.
-        ("A { B -", " !", 127, " C } }", "stop 133"),
-        ("A { B -", " !", 127, " C }", "deep 131"),
-        ("A { B -", " !", 128, " C }", "deep 131"),
-        // The leftmost operand stands under A and each operator.
-        ("A { B", " - C", 127, " } }", "stop 258"),
-        ("A { B", " - C", 128, " }", "deep 2"),
-        ("A { B ( D )", " - C", 127, " }", "deep 4"),
-        ("A { B ( D )", " - C", 200, "", "stop 406"),
-        ("A { B ( D , E ( F ) )", " - C", 126, " }", "deep 8"),
-        ("A { B ( D , E ( F ) )", " - C", 127, " }", "deep 4"),
-        ("A { ( ! B )", " - C", 129, " }", "deep 3"),
-        ("A { B ( , )", " - C", 127, " }", "deep 4"),
-    ] {
-        let text = repeated(rt.alloc(), before, part, count, after)?;
-        assert_eq!(rt;
-            answer(rt.alloc(), text.as_str())?.as_str(),
-            want,
-            "{before}"
-        );
+    for (before, part, count, after, want) in &NESTINGS {
+        let found = answer_repeated(rt.alloc(), before, part, *count, after)?;
+        assert_eq!(rt; found.as_str(), *want, "{before}");
     }
     Ok(())
 }

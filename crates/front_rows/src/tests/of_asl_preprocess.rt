@@ -383,41 +383,37 @@ fn includes(rt: HostRuntime) -> Result<(), AllocError> {
     Ok(())
 }
 
+// What is shown of a run in which this fetch fails.
+fn run_failing(
+    alloc: Global,
+    given: &[(&str, &str)],
+    dirs: &[&str],
+    call: u64,
+) -> Result<String, AllocError> {
+    let mut files = ports(alloc, given)?;
+    files.fail_at(call)?;
+    let dirs = texts_of(alloc, dirs)?;
+    let defines = Defines::new(alloc);
+    shown(
+        alloc,
+        &preprocess(alloc, &mut files, "t.asl", &dirs, &defines, true),
+    )
+}
+
 #[test]
 fn the_33rd_level_is_not_fetched(rt: HostRuntime) -> Result<(), AllocError> {
-    let alloc = rt.alloc();
+    let files = [("t.asl", "#include \"t.asl\"\n")];
     for (call, wanted) in [(33, "fault"), (34, "!6002 0:1:1 t.asl\nt.asl;")] {
-        let mut files = ports(alloc, &[("t.asl", "#include \"t.asl\"\n")])?;
-        files.fail_at(call)?;
-        let answer = preprocess(
-            alloc,
-            &mut files,
-            "t.asl",
-            &Texts::new(alloc),
-            &Defines::new(alloc),
-            true,
-        );
-        assert!(rt; shown(alloc, &answer)?.as_str() == wanted);
+        assert!(rt; run_failing(rt.alloc(), &files, &[], call)?.as_str() == wanted);
     }
     Ok(())
 }
 
 #[test]
 fn a_failed_fetch_is_no_absent_file(rt: HostRuntime) -> Result<(), AllocError> {
-    let alloc = rt.alloc();
+    let files = [("t.asl", "#include <a>\n"), ("a", "x")];
     for call in 1..4 {
-        let mut files = ports(alloc, &[("t.asl", "#include <a>\n"), ("a", "x")])?;
-        files.fail_at(call)?;
-        let dirs = texts_of(alloc, &["no", ""])?;
-        let answer = preprocess(
-            alloc,
-            &mut files,
-            "t.asl",
-            &dirs,
-            &Defines::new(alloc),
-            true,
-        );
-        assert!(rt; shown(alloc, &answer)?.as_str() == "fault");
+        assert!(rt; run_failing(rt.alloc(), &files, &["no", ""], call)?.as_str() == "fault");
     }
     Ok(())
 }
@@ -457,21 +453,43 @@ fn count(alloc: Global, main: &[u8], other: &[u8]) -> Result<String, AllocError>
     }
 }
 
+// A text without its first byte.
+fn shorter(text: &[u8]) -> &[u8] {
+    match text {
+        [_, rest @ ..] => rest,
+        [] => text,
+    }
+}
+
+// Whether that is this.
+fn gives(alloc: Global, main: &[u8], other: &[u8], wanted: &str) -> Result<bool, AllocError> {
+    Ok(count(alloc, main, other)?.as_str() == wanted)
+}
+
 #[test]
-fn texts_that_are_too_large(rt: HostRuntime) -> Result<(), AllocError> {
+fn main_files_that_are_too_large(rt: HostRuntime) -> Result<(), AllocError> {
     let alloc = rt.alloc();
-    let whole = count(alloc, &large(alloc, 1, MOST_BYTES - 1, "")?, b"")?;
-    assert!(rt; whole.as_str() == "1 lines");
-    let main = count(alloc, &large(alloc, 1, MOST_BYTES, "")?, b"")?;
-    assert!(rt; main.as_str() == "!6007 0:1:1 \nt.asl;");
-    let other = large(alloc, 1, MOST_BYTES, "")?;
-    let included = count(alloc, b"x\n #include \"a\"\n", &other)?;
-    assert!(rt; included.as_str() == "!6007 0:2:1 \nt.asl;");
+    let text = large(alloc, 1, MOST_BYTES, "")?;
+    assert!(rt; gives(alloc, shorter(&text), b"", "1 lines")?);
+    assert!(rt; gives(alloc, &text, b"", "!6007 0:1:1 \nt.asl;")?);
+    assert!(rt;
+        gives(
+            alloc,
+            b"x\n #include \"a\"\n",
+            &text,
+            "!6007 0:2:1 \nt.asl;"
+        )?
+    );
+    Ok(())
+}
+
+#[test]
+fn lines_that_are_too_large_together(rt: HostRuntime) -> Result<(), AllocError> {
+    let alloc = rt.alloc();
     let text = large(alloc, 16383, 1023, "#include \"a\"\n")?;
-    let most = count(alloc, &text, &large(alloc, 1, 1024, "")?)?;
-    assert!(rt; most.as_str() == "16384 lines");
-    let more = count(alloc, &text, &large(alloc, 1, 1025, "")?)?;
-    assert!(rt; more.as_str() == "!6007 1:1:1 \nt.asl;a;");
+    let more = large(alloc, 1, 1025, "")?;
+    assert!(rt; gives(alloc, &text, shorter(&more), "16384 lines")?);
+    assert!(rt; gives(alloc, &text, &more, "!6007 1:1:1 \nt.asl;a;")?);
     Ok(())
 }
 
@@ -484,10 +502,8 @@ fn replacement_has_room(rt: HostRuntime) -> Result<(), AllocError> {
     for _ in 0..16368 {
         text.extend_from_slice(b"A\n")?;
     }
-    let most = count(alloc, &text, b"")?;
-    assert!(rt; most.as_str() == "16368 lines");
+    assert!(rt; gives(alloc, &text, b"", "16368 lines")?);
     text.extend_from_slice(b"A\n")?;
-    let more = count(alloc, &text, b"")?;
-    assert!(rt; more.as_str() == "!6007 0:16370:1 \nt.asl;");
+    assert!(rt; gives(alloc, &text, b"", "!6007 0:16370:1 \nt.asl;")?);
     Ok(())
 }

@@ -1,6 +1,6 @@
 // Data tables: their bytes and messages through the whole call.
-use super::{are, run};
-use std::alloc::AllocError;
+use super::{ended_as, run};
+use std::alloc::{AllocError, Global};
 
 // The text of an HPET up to its minimum clock ticks.
 const HPET: &[u8] =
@@ -81,68 +81,71 @@ struct DataRow {
     told: &'static [u8],
 }
 
+const ROWS: &[DataRow] = &[
+    DataRow {
+        words: &["t.asl"],
+        parts: [HPET, TICKS, PROTECT],
+        status: 0,
+        names: &[b"t.aml"],
+        bodies: &[HPET_TABLE],
+        told: b"t.aml: HPET, 56 bytes\n0 errors, 0 warnings, 0 remarks\n",
+    },
+    DataRow {
+        words: &["t.asl"],
+        parts: [HPET, TICKS, OTHER_PROTECT],
+        status: 1,
+        names: &[],
+        bodies: &[],
+        told: b"t.asl:20:1: error 6096: decoded line disagrees\n1 errors, 0 warnings, 0 remarks\n",
+    },
+    DataRow {
+        words: &["t.asl"],
+        parts: [HPET, OTHER_TICKS, PROTECT],
+        status: 0,
+        names: &[b"t.aml"],
+        bodies: &[HPET_TABLE],
+        told: b"t.asl:18:1: warning 3005: label differs\nt.aml: HPET, 56 bytes\n0 errors, 1 warnings, 0 remarks\n",
+    },
+    DataRow {
+        words: &["-we", "t.asl"],
+        parts: [HPET, OTHER_TICKS, PROTECT],
+        status: 1,
+        names: &[],
+        bodies: &[],
+        told: b"t.asl:18:1: warning 3005: label differs\n0 errors, 1 warnings, 0 remarks\n",
+    },
+    DataRow {
+        words: &["t.asl"],
+        parts: [MCFG, LAST_BUS, b""],
+        status: 0,
+        names: &[b"t.aml"],
+        bodies: &[MCFG_TABLE],
+        told: b"t.aml: MCFG, 60 bytes\n0 errors, 0 warnings, 0 remarks\n",
+    },
+    DataRow {
+        words: &["t.asl"],
+        parts: [MCFG, WIDE_BUS, b""],
+        status: 1,
+        names: &[],
+        bodies: &[],
+        told: b"t.asl:15:1: error 6094: value is too wide\n1 errors, 0 warnings, 0 remarks\n",
+    },
+];
+
+// Whether a run over a text in parts comes to what it is to come to.
+fn is_right(alloc: Global, row: &DataRow) -> Result<bool, AllocError> {
+    let mut text = Vec::new(alloc);
+    for part in &row.parts {
+        text.extend_from_slice(part)?;
+    }
+    let ran = run(alloc, row.words, &text)?;
+    Ok(ended_as(&ran, row.status, row.names, row.bodies, row.told))
+}
+
 #[test]
 fn data_tables(rt: HostRuntime) -> Result<(), AllocError> {
-    let rows = [
-        DataRow {
-            words: &["t.asl"],
-            parts: [HPET, TICKS, PROTECT],
-            status: 0,
-            names: &[b"t.aml"],
-            bodies: &[HPET_TABLE],
-            told: b"t.aml: HPET, 56 bytes\n0 errors, 0 warnings, 0 remarks\n",
-        },
-        DataRow {
-            words: &["t.asl"],
-            parts: [HPET, TICKS, OTHER_PROTECT],
-            status: 1,
-            names: &[],
-            bodies: &[],
-            told: b"t.asl:20:1: error 6096: decoded line disagrees\n1 errors, 0 warnings, 0 remarks\n",
-        },
-        DataRow {
-            words: &["t.asl"],
-            parts: [HPET, OTHER_TICKS, PROTECT],
-            status: 0,
-            names: &[b"t.aml"],
-            bodies: &[HPET_TABLE],
-            told: b"t.asl:18:1: warning 3005: label differs\nt.aml: HPET, 56 bytes\n0 errors, 1 warnings, 0 remarks\n",
-        },
-        DataRow {
-            words: &["-we", "t.asl"],
-            parts: [HPET, OTHER_TICKS, PROTECT],
-            status: 1,
-            names: &[],
-            bodies: &[],
-            told: b"t.asl:18:1: warning 3005: label differs\n0 errors, 1 warnings, 0 remarks\n",
-        },
-        DataRow {
-            words: &["t.asl"],
-            parts: [MCFG, LAST_BUS, b""],
-            status: 0,
-            names: &[b"t.aml"],
-            bodies: &[MCFG_TABLE],
-            told: b"t.aml: MCFG, 60 bytes\n0 errors, 0 warnings, 0 remarks\n",
-        },
-        DataRow {
-            words: &["t.asl"],
-            parts: [MCFG, WIDE_BUS, b""],
-            status: 1,
-            names: &[],
-            bodies: &[],
-            told: b"t.asl:15:1: error 6094: value is too wide\n1 errors, 0 warnings, 0 remarks\n",
-        },
-    ];
-    for row in &rows {
-        let mut text = Vec::new(rt.alloc());
-        for part in &row.parts {
-            text.extend_from_slice(part)?;
-        }
-        let ran = run(rt.alloc(), row.words, &text)?;
-        assert_eq!(rt; ran.status, row.status);
-        assert!(rt; are(ran.outs.names(), row.names));
-        assert!(rt; are(ran.outs.bodies(), row.bodies));
-        assert!(rt; ran.console.as_bytes() == row.told);
+    for row in ROWS {
+        assert!(rt; is_right(rt.alloc(), row)?);
     }
     Ok(())
 }

@@ -1,6 +1,6 @@
 // Data tables with structures and rows, and the revisions of the FADT, through the whole call.
 use super::{are, run};
-use std::alloc::AllocError;
+use std::alloc::{AllocError, Global};
 
 // The header of a table behind its signature and before its revision, and behind that.
 const LENGTH: &[u8] = b"Table Length : 00000000
@@ -100,80 +100,92 @@ struct Row {
     told: &'static [u8],
 }
 
+const ROWS: &[Row] = &[
+    Row {
+        signature: b"Signature : \"SRAT\"\n",
+        revision: b"03",
+        lines: SRAT,
+        more: b"",
+        status: 0,
+        bodies: &[SRAT_TABLE],
+        told: b"t.aml: SRAT, 64 bytes\n0 errors, 0 warnings, 0 remarks\n",
+    },
+    Row {
+        signature: b"Signature : \"SLIT\"\n",
+        revision: b"01",
+        lines: SLIT,
+        more: b"",
+        status: 0,
+        bodies: &[SLIT_TABLE],
+        told: b"t.aml: SLIT, 48 bytes\n0 errors, 0 warnings, 0 remarks\n",
+    },
+    Row {
+        signature: b"Signature : \"SLIT\"\n",
+        revision: b"01",
+        lines: SHORT_SLIT,
+        more: b"",
+        status: 1,
+        bodies: &[],
+        told: b"t.asl:12:1: error 6097: bad locality matrix\n1 errors, 0 warnings, 0 remarks\n",
+    },
+    Row {
+        signature: b"Signature : \"FACP\"\n",
+        revision: b"01",
+        lines: FADT,
+        more: b"",
+        status: 0,
+        bodies: &[FADT_TABLE],
+        told: b"t.aml: FACP, 116 bytes\n0 errors, 0 warnings, 0 remarks\n",
+    },
+    Row {
+        signature: b"Signature : \"FACP\"\n",
+        revision: b"01",
+        lines: FADT,
+        more: b"[0001] Space ID : 01\n",
+        status: 1,
+        bodies: &[],
+        told: b"t.asl:48:1: error 6092: too many lines\n1 errors, 0 warnings, 0 remarks\n",
+    },
+    Row {
+        signature: b"Signature : \"FACP\"\n",
+        revision: b"02",
+        lines: FADT,
+        more: b"",
+        status: 1,
+        bodies: &[],
+        told: b"t.asl:3:1: error 6093: bad value\n1 errors, 0 warnings, 0 remarks\n",
+    },
+];
+
+fn text_of(alloc: Global, row: &Row) -> Result<Vec<u8>, AllocError> {
+    let mut text = Vec::new(alloc);
+    for part in [
+        row.signature,
+        LENGTH,
+        row.revision,
+        HEADER,
+        row.lines,
+        row.more,
+    ] {
+        text.extend_from_slice(part)?;
+    }
+    Ok(text)
+}
+
+// Whether a run over a text comes to what it is to come to.
+fn is_right(alloc: Global, row: &Row) -> Result<bool, AllocError> {
+    let ran = run(alloc, &["t.asl"], &text_of(alloc, row)?)?;
+    Ok(
+        ran.status == row.status
+            && are(ran.outs.bodies(), row.bodies)
+            && ran.console.as_bytes() == row.told,
+    )
+}
+
 #[test]
 fn tables_of_more_than_one_length(rt: HostRuntime) -> Result<(), AllocError> {
-    let rows = [
-        Row {
-            signature: b"Signature : \"SRAT\"\n",
-            revision: b"03",
-            lines: SRAT,
-            more: b"",
-            status: 0,
-            bodies: &[SRAT_TABLE],
-            told: b"t.aml: SRAT, 64 bytes\n0 errors, 0 warnings, 0 remarks\n",
-        },
-        Row {
-            signature: b"Signature : \"SLIT\"\n",
-            revision: b"01",
-            lines: SLIT,
-            more: b"",
-            status: 0,
-            bodies: &[SLIT_TABLE],
-            told: b"t.aml: SLIT, 48 bytes\n0 errors, 0 warnings, 0 remarks\n",
-        },
-        Row {
-            signature: b"Signature : \"SLIT\"\n",
-            revision: b"01",
-            lines: SHORT_SLIT,
-            more: b"",
-            status: 1,
-            bodies: &[],
-            told: b"t.asl:12:1: error 6097: bad locality matrix\n1 errors, 0 warnings, 0 remarks\n",
-        },
-        Row {
-            signature: b"Signature : \"FACP\"\n",
-            revision: b"01",
-            lines: FADT,
-            more: b"",
-            status: 0,
-            bodies: &[FADT_TABLE],
-            told: b"t.aml: FACP, 116 bytes\n0 errors, 0 warnings, 0 remarks\n",
-        },
-        Row {
-            signature: b"Signature : \"FACP\"\n",
-            revision: b"01",
-            lines: FADT,
-            more: b"[0001] Space ID : 01\n",
-            status: 1,
-            bodies: &[],
-            told: b"t.asl:48:1: error 6092: too many lines\n1 errors, 0 warnings, 0 remarks\n",
-        },
-        Row {
-            signature: b"Signature : \"FACP\"\n",
-            revision: b"02",
-            lines: FADT,
-            more: b"",
-            status: 1,
-            bodies: &[],
-            told: b"t.asl:3:1: error 6093: bad value\n1 errors, 0 warnings, 0 remarks\n",
-        },
-    ];
-    for row in &rows {
-        let mut text = Vec::new(rt.alloc());
-        for part in [
-            row.signature,
-            LENGTH,
-            row.revision,
-            HEADER,
-            row.lines,
-            row.more,
-        ] {
-            text.extend_from_slice(part)?;
-        }
-        let ran = run(rt.alloc(), &["t.asl"], &text)?;
-        assert_eq!(rt; ran.status, row.status);
-        assert!(rt; are(ran.outs.bodies(), row.bodies));
-        assert!(rt; ran.console.as_bytes() == row.told);
+    for row in ROWS {
+        assert!(rt; is_right(rt.alloc(), row)?);
     }
     Ok(())
 }

@@ -299,24 +299,27 @@ fn source(alloc: Global, terms: &str) -> Result<Vec<u8>, AllocError> {
     Ok(text)
 }
 
+// Whether this is told of these terms.
+fn is_told(alloc: Global, row: &Told) -> Result<bool, AllocError> {
+    let ran = run(alloc, &["t.asl"], &source(alloc, row.terms)?)?;
+    Ok(ran.status == 1 && ran.console.as_bytes() == row.told)
+}
+
 #[test]
 fn errors_of_descriptors(rt: HostRuntime) -> Result<(), AllocError> {
     for row in TOLD {
-        let text = source(rt.alloc(), row.terms)?;
-        let ran = run(rt.alloc(), &["t.asl"], &text)?;
-        assert_eq!(rt; ran.status, 1);
-        assert!(rt; ran.console.as_bytes() == row.told);
+        assert!(rt; is_told(rt.alloc(), row)?);
     }
     Ok(())
 }
 
+const OUT_OF_RANGE: &str =
+    "Name (V, ResourceTemplate () { IRQ (Edge, ActiveHigh, Exclusive) {16} })";
+
 #[test]
 fn a_list_out_of_range(rt: HostRuntime) -> Result<(), AllocError> {
-    let told = tells(
-        rt.alloc(),
-        "Name (V, ResourceTemplate () { IRQ (Edge, ActiveHigh, Exclusive) {16} })",
-        b"t.asl:3:71: error 6024: value is out of range\n1 errors, 0 warnings, 0 remarks\n",
-    )?;
-    assert!(rt; told);
+    let told =
+        b"t.asl:3:71: error 6024: value is out of range\n1 errors, 0 warnings, 0 remarks\n".as_slice();
+    assert!(rt; tells(rt.alloc(), OUT_OF_RANGE, told)?);
     Ok(())
 }

@@ -1,5 +1,5 @@
 // Tables whose integers have 32 bits, beside those of 64 bits, without folding. The bytes are those of ACPICA's compiler where it computes them.
-use super::run;
+use super::{ended_as, run};
 use std::alloc::{AllocError, Global};
 
 const HEADER: usize = 36;
@@ -96,36 +96,41 @@ pub(super) fn compiled(
     Ok(bytes)
 }
 
+// Whether terms have these bytes in tables of revision 0 and 1, and those in one of revision 2.
+fn is_right(alloc: Global, row: &Row) -> Result<bool, AllocError> {
+    let words = ["-of", "t.asl"];
+    Ok(
+        compiled(alloc, &words, "0", row.terms)?.as_slice() == row.narrow
+            && compiled(alloc, &words, "1", row.terms)?.as_slice() == row.narrow
+            && compiled(alloc, &words, "2", row.terms)?.as_slice() == row.wide,
+    )
+}
+
 #[test]
 fn tables_of_both_widths(rt: HostRuntime) -> Result<(), AllocError> {
-    let alloc = rt.alloc();
-    let words = ["-of", "t.asl"];
     for row in ROWS {
-        assert!(rt; compiled(alloc, &words, "0", row.terms)?.as_slice() == row.narrow);
-        assert!(rt; compiled(alloc, &words, "1", row.terms)?.as_slice() == row.narrow);
-        assert!(rt; compiled(alloc, &words, "2", row.terms)?.as_slice() == row.wide);
+        assert!(rt; is_right(rt.alloc(), row)?);
     }
     Ok(())
 }
 
 // Name (X, 0x1FFFFFFFF) in a table of revision 1, with its header.
+const CUT_TABLE: &[u8] =
+    b"SSDT\x2A\x00\x00\x00\x01\x0AOEMX00TABLE001\x01\x00\x00\x00INTL\x05\x01\x21\x20\x08X___\xFF";
+
+const CUT: &[u8] =
+    b"t.asl:3:14: warning 3002: constant is cut to 32 bits\nt.aml: SSDT, 42 bytes\n0 errors, 1 warnings, 0 remarks\n";
+
+// Whether it has that table with a warning, which is refused where that is asked for.
+fn is_cut(alloc: Global) -> Result<bool, AllocError> {
+    let text = source(alloc, "1", "Name (X, 0x1FFFFFFFF)")?;
+    let ran = run(alloc, &["t.asl"], &text)?;
+    let strict = run(alloc, &["-we", "t.asl"], &text)?;
+    Ok(ended_as(&ran, 0, &[b"t.aml"], &[CUT_TABLE], CUT) && strict.status == 1)
+}
+
 #[test]
 fn a_whole_table_of_revision_1(rt: HostRuntime) -> Result<(), AllocError> {
-    let text = source(rt.alloc(), "1", "Name (X, 0x1FFFFFFFF)")?;
-    let ran = run(rt.alloc(), &["t.asl"], &text)?;
-    assert_eq!(rt; ran.status, 0);
-    let table =
-        b"SSDT\x2A\x00\x00\x00\x01\x0AOEMX00TABLE001\x01\x00\x00\x00INTL\x05\x01\x21\x20\x08X___\xFF".as_slice();
-    assert!(rt;
-        ran.outs
-            .bodies()
-            .get(0)
-            .is_some_and(|body| body.as_bytes() == table)
-    );
-    let told =
-        b"t.asl:3:14: warning 3002: constant is cut to 32 bits\nt.aml: SSDT, 42 bytes\n0 errors, 1 warnings, 0 remarks\n".as_slice();
-    assert!(rt; ran.console.as_bytes() == told);
-    let strict = run(rt.alloc(), &["-we", "t.asl"], &text)?;
-    assert_eq!(rt; strict.status, 1);
+    assert!(rt; is_cut(rt.alloc())?);
     Ok(())
 }

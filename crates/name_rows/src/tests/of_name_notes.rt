@@ -1,4 +1,4 @@
-use asl_tree::path::{Path, Segs};
+use asl_tree::path::{NameSeg, Path, Segs};
 use asl_tree::term::{Control, Declaration, Node, Op, Special, Term};
 use iasl_messages::place::Place;
 use name_notes::check::notes;
@@ -219,99 +219,106 @@ fn told(alloc: Global, text: &str) -> Result<String, AllocError> {
     Ok(out)
 }
 
+// Terms with methods, and the notes on them.
+static METHODS: [(&str, &str); 9] = [
+    ("M0:_STA } M4:_DSM } M3:_OST } M1:_EJ0 } M0:_ON_ }", ""),
+    ("M1:_STA }", "3001 1.2 \\_STA; "),
+    ("M0:_EJ0 }", "3001 1.2 \\_EJ0; "),
+    ("D:D___ M3:_DSM } M4:_OSC } }", "3001 2.2 \\D___._DSM; "),
+    // The last segment counts, wherever the method is declared.
+    ("D:D___ } M1:\\D___._CRS }", "3001 3.2 \\D___._CRS; "),
+    ("D:_STA M1:M___ } }", ""),
+    // A method that is serialized, names that are not reserved, and what is no method.
+    ("M8:_INI } M9:_DIS }", "3001 3.2 \\_DIS; "),
+    ("M4:_Q00 } M3:STA_ }", ""),
+    ("N:_STA E:_CRS V:_DSM", ""),
+];
+
 #[test]
 fn methods_of_reserved_names_take_their_arguments(rt: HostRuntime) -> Result<(), Fail> {
     let alloc = rt.alloc();
-    for (text, want) in [
-        ("M0:_STA } M4:_DSM } M3:_OST } M1:_EJ0 } M0:_ON_ }", ""),
-        ("M1:_STA }", "3001 1.2 \\_STA; "),
-        ("M0:_EJ0 }", "3001 1.2 \\_EJ0; "),
-        ("D:D___ M3:_DSM } M4:_OSC } }", "3001 2.2 \\D___._DSM; "),
-        // The last segment counts, wherever the method is declared.
-        ("D:D___ } M1:\\D___._CRS }", "3001 3.2 \\D___._CRS; "),
-        ("D:_STA M1:M___ } }", ""),
-        // A method that is serialized, names that are not reserved, and what is no method.
-        ("M8:_INI } M9:_DIS }", "3001 3.2 \\_DIS; "),
-        ("M4:_Q00 } M3:STA_ }", ""),
-        ("N:_STA E:_CRS V:_DSM", ""),
-    ] {
-        assert_eq!(rt; told(alloc, text)?.as_str(), want);
+    for (text, want) in &METHODS {
+        assert_eq!(rt; told(alloc, text)?.as_str(), *want);
     }
     Ok(())
 }
+
+// Terms with names of methods, and the notes on them.
+static NAMES: [(&str, &str); 15] = [
+    ("M0:M___ N:X___ }", "3003 2.2 \\M___.X___; "),
+    ("M0:M___ N:X___ U:X___ }", ""),
+    ("M0:M___ U:X___ N:X___ }", ""),
+    ("N:X___ D:D___ N:Y___ }", ""),
+    // A use from outside, and one that denotes another path.
+    ("M0:M___ N:X___ } U:\\M___.X___", ""),
+    ("M0:M___ N:X___ } N:X___ U:X___", "3003 2.2 \\M___.X___; "),
+    // A call, and a name that may lead nowhere.
+    ("M0:M___ N:X___ C:X___ }", ""),
+    ("M0:M___ N:X___ Q:X___ }", ""),
+    // An alias uses its source, and is a name itself.
+    ("M0:M___ N:X___ A:X___=Y___ }", "3003 3.3 \\M___.Y___; "),
+    ("M0:M___ N:X___ A:X___=Y___ U:Y___ }", ""),
+    // Whatever is declared, in a loop too.
+    (
+        "M0:M___ W:M___ X:A___ V:_B__ } }",
+        "3003 3.2 \\M___.A___; 3003 4.2 \\M___._B__; ",
+    ),
+    (
+        "M0:M___ G:R___ F:R___=A___=B___ U:A___ }",
+        "3003 3.4 \\M___.B___; ",
+    ),
+    (
+        "N:S___ M0:M___ B:S___=A___ B:S___=B___ U:B___ }",
+        "3003 3.3 \\M___.A___; ",
+    ),
+    // An External declares nothing.
+    ("M0:M___ E:X___ }", ""),
+    (
+        "M1:_STA N:X___ }",
+        "3001 1.2 \\_STA; 3003 2.2 \\_STA.X___; ",
+    ),
+];
 
 #[test]
 fn names_of_methods_are_used(rt: HostRuntime) -> Result<(), Fail> {
     let alloc = rt.alloc();
-    for (text, want) in [
-        ("M0:M___ N:X___ }", "3003 2.2 \\M___.X___; "),
-        ("M0:M___ N:X___ U:X___ }", ""),
-        ("M0:M___ U:X___ N:X___ }", ""),
-        ("N:X___ D:D___ N:Y___ }", ""),
-        // A use from outside, and one that denotes another path.
-        ("M0:M___ N:X___ } U:\\M___.X___", ""),
-        ("M0:M___ N:X___ } N:X___ U:X___", "3003 2.2 \\M___.X___; "),
-        // A call, and a name that may lead nowhere.
-        ("M0:M___ N:X___ C:X___ }", ""),
-        ("M0:M___ N:X___ Q:X___ }", ""),
-        // An alias uses its source, and is a name itself.
-        ("M0:M___ N:X___ A:X___=Y___ }", "3003 3.3 \\M___.Y___; "),
-        ("M0:M___ N:X___ A:X___=Y___ U:Y___ }", ""),
-        // Whatever is declared, in a loop too.
-        (
-            "M0:M___ W:M___ X:A___ V:_B__ } }",
-            "3003 3.2 \\M___.A___; 3003 4.2 \\M___._B__; ",
-        ),
-        (
-            "M0:M___ G:R___ F:R___=A___=B___ U:A___ }",
-            "3003 3.4 \\M___.B___; ",
-        ),
-        (
-            "N:S___ M0:M___ B:S___=A___ B:S___=B___ U:B___ }",
-            "3003 3.3 \\M___.A___; ",
-        ),
-        // An External declares nothing.
-        ("M0:M___ E:X___ }", ""),
-        (
-            "M1:_STA N:X___ }",
-            "3001 1.2 \\_STA; 3003 2.2 \\_STA.X___; ",
-        ),
-    ] {
-        assert_eq!(rt; told(alloc, text)?.as_str(), want);
+    for (text, want) in &NAMES {
+        assert_eq!(rt; told(alloc, text)?.as_str(), *want);
     }
     Ok(())
 }
 
+// Names, and how many arguments they ask for.
+static RESERVED: [(&[&NameSeg], Option<u64>); 7] = [
+    (
+        &[b"_STA", b"_INI", b"_CRS", b"_PRS", b"_DIS", b"_ON_"],
+        Some(0),
+    ),
+    (
+        &[b"_OFF", b"_PS0", b"_PS1", b"_PS2", b"_PS3", b"_BQC"],
+        Some(0),
+    ),
+    (
+        &[
+            b"_SRS", b"_PTS", b"_WAK", b"_TTS", b"_BCM", b"_PSW", b"_EJ0", b"_LCK",
+        ],
+        Some(1),
+    ),
+    (&[b"_REG"], Some(2)),
+    (&[b"_DSW", b"_OST"], Some(3)),
+    (&[b"_DSM", b"_OSC"], Some(4)),
+    (
+        &[b"_ON0", b"_PS4", b"STA_", b"_HID", b"____", b"_on_"],
+        None,
+    ),
+];
+
 #[test]
 fn reserved_names_ask_for_these_arguments(rt: HostRuntime) -> Result<(), Fail> {
-    for (names, want) in [
-        (
-            [*b"_STA", *b"_INI", *b"_CRS", *b"_PRS", *b"_DIS", *b"_ON_"],
-            Some(0),
-        ),
-        (
-            [*b"_OFF", *b"_PS0", *b"_PS1", *b"_PS2", *b"_PS3", *b"_BQC"],
-            Some(0),
-        ),
-        (
-            [*b"_SRS", *b"_PTS", *b"_WAK", *b"_TTS", *b"_BCM", *b"_PSW"],
-            Some(1),
-        ),
-        (
-            [*b"_ON0", *b"_PS4", *b"STA_", *b"_HID", *b"____", *b"_on_"],
-            None,
-        ),
-    ] {
-        for name in names {
-            assert_eq!(rt; arguments_of(name), want);
+    for (names, want) in &RESERVED {
+        for name in *names {
+            assert_eq!(rt; arguments_of(**name), *want);
         }
     }
-    assert_eq!(rt; arguments_of(*b"_EJ0"), Some(1));
-    assert_eq!(rt; arguments_of(*b"_LCK"), Some(1));
-    assert_eq!(rt; arguments_of(*b"_REG"), Some(2));
-    assert_eq!(rt; arguments_of(*b"_DSW"), Some(3));
-    assert_eq!(rt; arguments_of(*b"_OST"), Some(3));
-    assert_eq!(rt; arguments_of(*b"_DSM"), Some(4));
-    assert_eq!(rt; arguments_of(*b"_OSC"), Some(4));
     Ok(())
 }

@@ -196,7 +196,8 @@ struct Outside {
     written: &'static [u8],
 }
 
-const OUTSIDE: [Outside; 6] = [
+// Externals with a type or none, and with parameters, a call or neither.
+static OUTSIDE: [Outside; 6] = [
     Outside {
         object: 8,
         parameters: Some(2),
@@ -235,28 +236,32 @@ const OUTSIDE: [Outside; 6] = [
     },
 ];
 
+// What is written of an External.
+fn written(alloc: Global, case: &Outside) -> Result<Vec<u8>, AllocError> {
+    let mut numbers = Vec::new(alloc);
+    add(&mut numbers, Term::Integer(case.object))?;
+    if let Some(count) = case.parameters {
+        add(&mut numbers, Term::Integer(count))?;
+    }
+    let mut terms = Vec::new(alloc);
+    add(
+        &mut terms,
+        named_form(
+            alloc,
+            Declaration::External,
+            *b"E___",
+            numbers,
+            Vec::new(alloc),
+        )?,
+    )?;
+    spelled(alloc, false, terms, *b"E___", case.first)
+}
+
 #[test]
 fn externals_say_type_and_arity(rt: HostRuntime) -> Result<(), Fail> {
     let alloc = rt.alloc();
     for case in &OUTSIDE {
-        let mut numbers = Vec::new(alloc);
-        add(&mut numbers, Term::Integer(case.object))?;
-        if let Some(count) = case.parameters {
-            add(&mut numbers, Term::Integer(count))?;
-        }
-        let mut terms = Vec::new(alloc);
-        add(
-            &mut terms,
-            named_form(
-                alloc,
-                Declaration::External,
-                *b"E___",
-                numbers,
-                Vec::new(alloc),
-            )?,
-        )?;
-        let seen = spelled(alloc, false, terms, *b"E___", case.first)?;
-        assert_eq!(rt; seen.as_slice(), case.written);
+        assert_eq!(rt; written(alloc, case)?.as_slice(), case.written);
     }
     Ok(())
 }

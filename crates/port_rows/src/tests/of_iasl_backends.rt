@@ -66,39 +66,48 @@ const LISTING: &str = "     1  DefinitionBlock (\"\", \"SSDT\", 2, \"OEMX00\", \
 00000024  08 58 5F 5F 5F 0A 05
 ";
 
+// Whether C text and a listing are asked for, and how many outputs stay.
+static ASKED: [(bool, bool, usize); 3] = [(true, true, 3), (true, false, 2), (false, false, 1)];
+
+// Whether the outputs that are asked for are those of the table.
+fn are_right(
+    backends: &mut Vec<Box<dyn Backend>>,
+    pieces: &[Piece],
+    c_text: bool,
+    listing: bool,
+    count: usize,
+) -> Result<bool, AllocError> {
+    keep_asked(backends, Asked { c_text, listing });
+    render_all(backends, pieces)?;
+    let raw = text_of_kind(backends, Kind::RawAml);
+    let is_raw = raw.is_some_and(|text| text.len() == 43
+        && text.starts_with(&HEADER)
+        && text.ends_with(&NAME));
+    let array = if c_text {
+        Some(C_TEXT.as_bytes())
+    } else {
+        None
+    };
+    let lines = if listing {
+        Some(LISTING.as_bytes())
+    } else {
+        None
+    };
+    Ok(
+        backends.len() == count
+            && is_raw
+            && text_of_kind(backends, Kind::CHex) == array
+            && text_of_kind(backends, Kind::Listing) == lines,
+    )
+}
+
 #[test]
 fn outputs_of_a_table(rt: HostRuntime) -> Result<(), AllocError> {
     let alloc = rt.alloc();
     let pieces = table(alloc)?;
     let mut backends = outputs(alloc)?;
-    for (c_text, listing, count) in [(true, true, 3), (true, false, 2), (false, false, 1)] {
-        keep_asked(&mut backends, Asked { c_text, listing });
-        render_all(&mut backends, &pieces)?;
-        assert_eq!(rt; backends.len(), count);
-        let raw = text_of_kind(&backends, Kind::RawAml);
-        assert!(rt;
-            raw.is_some_and(|text| text.len() == 43
-                && text.starts_with(&HEADER)
-                && text.ends_with(&NAME))
-        );
-        let array = text_of_kind(&backends, Kind::CHex);
-        assert!(rt;
-            array
-                == if c_text {
-                    Some(C_TEXT.as_bytes())
-                } else {
-                    None
-                }
-        );
-        let lines = text_of_kind(&backends, Kind::Listing);
-        assert!(rt;
-            lines
-                == if listing {
-                    Some(LISTING.as_bytes())
-                } else {
-                    None
-                }
-        );
+    for (c_text, listing, count) in &ASKED {
+        assert!(rt; are_right(&mut backends, &pieces, *c_text, *listing, *count)?);
     }
     Ok(())
 }

@@ -109,15 +109,22 @@ fn other_lines_of_the_console(rt: HostRuntime) -> Result<(), AllocError> {
     assert!(rt; line.as_bytes() == "t.i: preprocessed\n".as_bytes());
     let line = devices_line(alloc, 2)?;
     assert!(rt; line.as_bytes() == "generated: 2 devices\n".as_bytes());
-    for (number, text) in [
-        (6028, "no definition block"),
-        (6097, "bad locality matrix"),
-        (6103, "length disagrees with the header"),
-        (3002, "constant is cut to 32 bits"),
-        (6030, ""),
-        (0, ""),
-    ] {
-        assert!(rt; text_of(number) == text);
-    }
     Ok(())
+}
+
+// The number of a message, and its text.
+static TEXTS: [(u16, &str); 6] = [
+    (6028, "no definition block"),
+    (6097, "bad locality matrix"),
+    (6103, "length disagrees with the header"),
+    (3002, "constant is cut to 32 bits"),
+    (6030, ""),
+    (0, ""),
+];
+
+#[test]
+fn texts_of_messages(rt: HostRuntime) {
+    for (number, text) in &TEXTS {
+        assert!(rt; text_of(*number) == *text);
+    }
 }

@@ -91,139 +91,141 @@ const PLAIN: Good = Good {
     switches: NONE,
 };
 
+// Words that are taken, each with what they ask for.
+static GOOD_WORDS: [Good; 19] = [
+    PLAIN,
+    Good {
+        words: &["-p", "out", "t.asl"],
+        prefix: Some(b"out"),
+        ..PLAIN
+    },
+    Good {
+        words: &["-pout", "t.asl"],
+        prefix: Some(b"out"),
+        ..PLAIN
+    },
+    Good {
+        words: &["t.asl", "-p", "-P"],
+        prefix: Some(b"-P"),
+        ..PLAIN
+    },
+    Good {
+        words: &["-p", "", "t.asl"],
+        prefix: Some(b""),
+        ..PLAIN
+    },
+    Good {
+        words: &["-I", "a", "t.asl", "-Ib", "-I", "-D"],
+        dirs: &[b"a", b"b", b"-D"],
+        ..PLAIN
+    },
+    Good {
+        words: &["-D", "A", "t.asl"],
+        defines: &[(b"A", b"")],
+        ..PLAIN
+    },
+    Good {
+        words: &[
+            "-D", "A=7", "-DA=B=C", "t.asl", "-DB=", "-D", "=x", "-D", "",
+        ],
+        defines: &[
+            (b"A", b"7"),
+            (b"A", b"B=C"),
+            (b"B", b""),
+            (b"", b"x"),
+            (b"", b""),
+        ],
+        ..PLAIN
+    },
+    Good {
+        words: &["-P", "t.asl", "-P"],
+        only: true,
+        ..PLAIN
+    },
+    Good {
+        words: &["t.asl", "-Pn", "-Pn"],
+        enabled: false,
+        ..PLAIN
+    },
+    Good {
+        words: &["-vi", "t.asl", "-vi"],
+        switches: Switches {
+            brief: true,
+            ..NONE
+        },
+        ..PLAIN
+    },
+    Good {
+        words: &["-we", "-P", "t.asl", "-we"],
+        only: true,
+        switches: Switches {
+            strict: true,
+            ..NONE
+        },
+        ..PLAIN
+    },
+    Good {
+        words: &["-oi", "t.asl"],
+        switches: Switches {
+            short: false,
+            ..NONE
+        },
+        ..PLAIN
+    },
+    Good {
+        words: &["t.asl", "-on", "-on"],
+        switches: Switches {
+            shorten: false,
+            ..NONE
+        },
+        ..PLAIN
+    },
+    Good {
+        words: &["-of", "t.asl", "-of"],
+        switches: Switches {
+            fold: false,
+            ..NONE
+        },
+        ..PLAIN
+    },
+    Good {
+        words: &["-oa", "-oi", "t.asl"],
+        switches: Switches {
+            fold: false,
+            short: false,
+            shorten: false,
+            ..NONE
+        },
+        ..PLAIN
+    },
+    Good {
+        words: &["-tc", "t.asl", "-tc"],
+        switches: Switches {
+            c_text: true,
+            ..NONE
+        },
+        ..PLAIN
+    },
+    Good {
+        words: &["-l", "t.asl", "-tc"],
+        switches: Switches {
+            c_text: true,
+            listing: true,
+            ..NONE
+        },
+        ..PLAIN
+    },
+    Good {
+        words: &["-p", "-we", "-I-vi", "t.asl"],
+        prefix: Some(b"-we"),
+        dirs: &[b"-vi"],
+        ..PLAIN
+    },
+];
+
 #[test]
 fn good_words(rt: HostRuntime) -> Result<(), AllocError> {
-    let rows = [
-        PLAIN,
-        Good {
-            words: &["-p", "out", "t.asl"],
-            prefix: Some(b"out"),
-            ..PLAIN
-        },
-        Good {
-            words: &["-pout", "t.asl"],
-            prefix: Some(b"out"),
-            ..PLAIN
-        },
-        Good {
-            words: &["t.asl", "-p", "-P"],
-            prefix: Some(b"-P"),
-            ..PLAIN
-        },
-        Good {
-            words: &["-p", "", "t.asl"],
-            prefix: Some(b""),
-            ..PLAIN
-        },
-        Good {
-            words: &["-I", "a", "t.asl", "-Ib", "-I", "-D"],
-            dirs: &[b"a", b"b", b"-D"],
-            ..PLAIN
-        },
-        Good {
-            words: &["-D", "A", "t.asl"],
-            defines: &[(b"A", b"")],
-            ..PLAIN
-        },
-        Good {
-            words: &[
-                "-D", "A=7", "-DA=B=C", "t.asl", "-DB=", "-D", "=x", "-D", "",
-            ],
-            defines: &[
-                (b"A", b"7"),
-                (b"A", b"B=C"),
-                (b"B", b""),
-                (b"", b"x"),
-                (b"", b""),
-            ],
-            ..PLAIN
-        },
-        Good {
-            words: &["-P", "t.asl", "-P"],
-            only: true,
-            ..PLAIN
-        },
-        Good {
-            words: &["t.asl", "-Pn", "-Pn"],
-            enabled: false,
-            ..PLAIN
-        },
-        Good {
-            words: &["-vi", "t.asl", "-vi"],
-            switches: Switches {
-                brief: true,
-                ..NONE
-            },
-            ..PLAIN
-        },
-        Good {
-            words: &["-we", "-P", "t.asl", "-we"],
-            only: true,
-            switches: Switches {
-                strict: true,
-                ..NONE
-            },
-            ..PLAIN
-        },
-        Good {
-            words: &["-oi", "t.asl"],
-            switches: Switches {
-                short: false,
-                ..NONE
-            },
-            ..PLAIN
-        },
-        Good {
-            words: &["t.asl", "-on", "-on"],
-            switches: Switches {
-                shorten: false,
-                ..NONE
-            },
-            ..PLAIN
-        },
-        Good {
-            words: &["-of", "t.asl", "-of"],
-            switches: Switches {
-                fold: false,
-                ..NONE
-            },
-            ..PLAIN
-        },
-        Good {
-            words: &["-oa", "-oi", "t.asl"],
-            switches: Switches {
-                fold: false,
-                short: false,
-                shorten: false,
-                ..NONE
-            },
-            ..PLAIN
-        },
-        Good {
-            words: &["-tc", "t.asl", "-tc"],
-            switches: Switches {
-                c_text: true,
-                ..NONE
-            },
-            ..PLAIN
-        },
-        Good {
-            words: &["-l", "t.asl", "-tc"],
-            switches: Switches {
-                c_text: true,
-                listing: true,
-                ..NONE
-            },
-            ..PLAIN
-        },
-        Good {
-            words: &["-p", "-we", "-I-vi", "t.asl"],
-            prefix: Some(b"-we"),
-            dirs: &[b"-vi"],
-            ..PLAIN
-        },
-    ];
-    for row in &rows {
+    for row in &GOOD_WORDS {
         let same = match asked(rt.alloc(), row.words)? {
             Ok(options) => ask_for(&options, row),
             Err(_) => false,
@@ -233,35 +235,37 @@ fn good_words(rt: HostRuntime) -> Result<(), AllocError> {
     Ok(())
 }
 
+// Words, and where they are refused: the number of a word, or how many there are.
+static BAD_WORDS: [(&[&str], usize); 24] = [
+    (&[], 0),
+    (&["-P"], 1),
+    (&[""], 0),
+    (&["t.asl", "u.asl", "v.asl"], 1),
+    (&["-p", "t.asl"], 2),
+    (&["t.asl", "-D"], 2),
+    (&["-D"], 1),
+    (&["-I"], 1),
+    (&["-P", "-Pn", "t.asl"], 1),
+    (&["t.asl", "-Pn", "-I", "d", "-P"], 4),
+    (&["-p", "a", "-p", "b", "t.asl"], 2),
+    (&["-p", "a", "-pb", "t.asl"], 2),
+    (&["-pa", "t.asl", "-p"], 2),
+    (&["-x", "t.asl"], 0),
+    (&["t.asl", "-"], 1),
+    (&["-Pfoo", "t.asl"], 0),
+    (&["t.asl", "--generate", "2"], 1),
+    (&["--generate", "2"], 0),
+    (&["-L", "t.asl"], 0),
+    (&["-vi", "-we", "-oa", "-of", "-oi", "-on"], 6),
+    (&["-v", "t.asl"], 0),
+    (&["t.asl", "-vi", "-wea"], 2),
+    (&["-vi", "-we"], 2),
+    (&["-i", "-d", "t.asl"], 0),
+];
+
 #[test]
 fn bad_words(rt: HostRuntime) -> Result<(), AllocError> {
-    let rows: [(&[&str], usize); 24] = [
-        (&[], 0),
-        (&["-P"], 1),
-        (&[""], 0),
-        (&["t.asl", "u.asl", "v.asl"], 1),
-        (&["-p", "t.asl"], 2),
-        (&["t.asl", "-D"], 2),
-        (&["-D"], 1),
-        (&["-I"], 1),
-        (&["-P", "-Pn", "t.asl"], 1),
-        (&["t.asl", "-Pn", "-I", "d", "-P"], 4),
-        (&["-p", "a", "-p", "b", "t.asl"], 2),
-        (&["-p", "a", "-pb", "t.asl"], 2),
-        (&["-pa", "t.asl", "-p"], 2),
-        (&["-x", "t.asl"], 0),
-        (&["t.asl", "-"], 1),
-        (&["-Pfoo", "t.asl"], 0),
-        (&["t.asl", "--generate", "2"], 1),
-        (&["--generate", "2"], 0),
-        (&["-L", "t.asl"], 0),
-        (&["-vi", "-we", "-oa", "-of", "-oi", "-on"], 6),
-        (&["-v", "t.asl"], 0),
-        (&["t.asl", "-vi", "-wea"], 2),
-        (&["-vi", "-we"], 2),
-        (&["-i", "-d", "t.asl"], 0),
-    ];
-    for (words, wanted) in &rows {
+    for (words, wanted) in &BAD_WORDS {
         let same = match asked(rt.alloc(), words)? {
             Err(WordsStop::Bad { word }) => word == *wanted,
             _ => false,
@@ -271,23 +275,25 @@ fn bad_words(rt: HostRuntime) -> Result<(), AllocError> {
     Ok(())
 }
 
+// Words, an extension, and the name of the output.
+static NAMES: [(&[&str], &str, &str); 12] = [
+    (&["t.asl"], ".aml", "t.aml"),
+    (&["d.x/t"], ".aml", "d.x/t.aml"),
+    (&["d.x/t.asl"], ".i", "d.x/t.i"),
+    (&["a.b.c"], ".i", "a.b.i"),
+    (&[".asl"], ".aml", ".aml"),
+    (&["d/.asl"], ".aml", "d/.aml"),
+    (&["t."], ".aml", "t.aml"),
+    (&["t"], ".aml", "t.aml"),
+    (&["d.x/"], ".aml", "d.x/.aml"),
+    (&["-p", "out", "d/t.asl"], ".aml", "out.aml"),
+    (&["-p", "o.u/t.x", "t.asl"], ".i", "o.u/t.x.i"),
+    (&["-p", "", "t.asl"], ".aml", ".aml"),
+];
+
 #[test]
 fn names_of_outputs(rt: HostRuntime) -> Result<(), AllocError> {
-    let rows: [(&[&str], &str, &str); 12] = [
-        (&["t.asl"], ".aml", "t.aml"),
-        (&["d.x/t"], ".aml", "d.x/t.aml"),
-        (&["d.x/t.asl"], ".i", "d.x/t.i"),
-        (&["a.b.c"], ".i", "a.b.i"),
-        (&[".asl"], ".aml", ".aml"),
-        (&["d/.asl"], ".aml", "d/.aml"),
-        (&["t."], ".aml", "t.aml"),
-        (&["t"], ".aml", "t.aml"),
-        (&["d.x/"], ".aml", "d.x/.aml"),
-        (&["-p", "out", "d/t.asl"], ".aml", "out.aml"),
-        (&["-p", "o.u/t.x", "t.asl"], ".i", "o.u/t.x.i"),
-        (&["-p", "", "t.asl"], ".aml", ".aml"),
-    ];
-    for (words, extension, wanted) in &rows {
+    for (words, extension, wanted) in &NAMES {
         let same = match asked(rt.alloc(), words)? {
             Ok(options) => output_name(rt.alloc(), &options, extension)?.as_str() == *wanted,
             Err(_) => false,

@@ -80,41 +80,47 @@ struct Delivery {
     told: &'static [u8],
 }
 
+// A delivery with no fault, one with a put that fails, and one with a write that fails.
+static DELIVERIES: [Delivery; 3] = [
+    Delivery {
+        put: 9,
+        write: 9,
+        outcome: Ok(0),
+        files: 2,
+        told: b"done\nlast\n",
+    },
+    Delivery {
+        put: 1,
+        write: 9,
+        outcome: Err(Stop::Fault),
+        files: 1,
+        told: b"last\n",
+    },
+    Delivery {
+        put: 9,
+        write: 1,
+        outcome: Err(Stop::Fault),
+        files: 2,
+        told: b"last\n",
+    },
+];
+
+// Whether a delivery is that of its row.
+fn is_right(alloc: Global, row: &Delivery) -> Result<bool, AllocError> {
+    let due = two_files(alloc)?;
+    let mut outs = MemoryOutputs::new(alloc);
+    outs.fail_at(row.put)?;
+    let mut console = MemorySink::new(alloc, 100)?;
+    console.fail_at(row.write)?;
+    let outcome = deliver(&mut outs, &mut console, &due);
+    tell(&mut console, b"last\n");
+    Ok(outcome == row.outcome && outs.names().len() == row.files && console.as_bytes() == row.told)
+}
+
 #[test]
 fn a_delivery_stops_at_a_fault(rt: HostRuntime) -> Result<(), AllocError> {
-    let rows = [
-        Delivery {
-            put: 9,
-            write: 9,
-            outcome: Ok(0),
-            files: 2,
-            told: b"done\nlast\n",
-        },
-        Delivery {
-            put: 1,
-            write: 9,
-            outcome: Err(Stop::Fault),
-            files: 1,
-            told: b"last\n",
-        },
-        Delivery {
-            put: 9,
-            write: 1,
-            outcome: Err(Stop::Fault),
-            files: 2,
-            told: b"last\n",
-        },
-    ];
-    for row in &rows {
-        let due = two_files(rt.alloc())?;
-        let mut outs = MemoryOutputs::new(rt.alloc());
-        outs.fail_at(row.put)?;
-        let mut console = MemorySink::new(rt.alloc(), 100)?;
-        console.fail_at(row.write)?;
-        assert!(rt; deliver(&mut outs, &mut console, &due) == row.outcome);
-        tell(&mut console, b"last\n");
-        assert_eq!(rt; outs.names().len(), row.files);
-        assert!(rt; console.as_bytes() == row.told);
+    for row in &DELIVERIES {
+        assert!(rt; is_right(rt.alloc(), row)?);
     }
     Ok(())
 }
@@ -141,17 +147,19 @@ fn two_files(alloc: Global) -> Result<Due<'static>, AllocError> {
     })
 }
 
+// A text of no byte, one of some, the longest that stands in place, and one byte more.
+static TEXTS: [&[u8]; 4] = [b"", b"_Abz09\\.^{z", b"abcdefghijklmn", b"abcdefghijklmno"];
+
+fn keeps(alloc: Global, bytes: &[u8]) -> Result<bool, AllocError> {
+    let text = Text::from_bytes(alloc, bytes)?;
+    Ok(text.as_bytes() == bytes)
+}
+
 #[test]
 fn texts_of_every_length_keep_their_bytes(rt: HostRuntime) -> Result<(), AllocError> {
     let alloc = rt.alloc();
-    for bytes in [
-        b"".as_slice(),
-        b"_Abz09\\.^{z",
-        b"abcdefghijklmn",
-        b"abcdefghijklmno",
-    ] {
-        let text = Text::from_bytes(alloc, bytes)?;
-        assert!(rt; text.as_bytes() == bytes);
+    for bytes in &TEXTS {
+        assert!(rt; keeps(alloc, bytes)?);
     }
     let short = Text::from_uppercase(alloc, b"_ab.z09[`{")?;
     assert!(rt; short.as_bytes() == b"_AB.Z09[`{".as_slice());

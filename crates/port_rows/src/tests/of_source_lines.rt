@@ -21,22 +21,77 @@ fn lines(alloc: Global) -> Result<LineList, AllocError> {
     Ok(lines)
 }
 
+// A place, and the text of its line.
+static PLACES: [(Place, &[u8]); 7] = [
+    (
+        Place {
+            file: 0,
+            line: 1,
+            column: 1,
+        },
+        b"first",
+    ),
+    (
+        Place {
+            file: 0,
+            line: 1,
+            column: 7,
+        },
+        b"first",
+    ),
+    (
+        Place {
+            file: 1,
+            line: 1,
+            column: 1,
+        },
+        b"of the other file",
+    ),
+    (
+        Place {
+            file: 0,
+            line: 2,
+            column: 1,
+        },
+        b"second",
+    ),
+    (
+        Place {
+            file: 0,
+            line: 3,
+            column: 1,
+        },
+        b"",
+    ),
+    (
+        Place {
+            file: 1,
+            line: 2,
+            column: 1,
+        },
+        b"",
+    ),
+    (
+        Place {
+            file: 2,
+            line: 1,
+            column: 1,
+        },
+        b"",
+    ),
+];
+
+// Whether the line of a place has this text, also where it is sought without an index.
+fn has_text(lines: &[Line], index: &SourceLines<'_>, place: Place, text: &[u8]) -> bool {
+    index.text_at(place) == text && text_at(lines, place) == text
+}
+
 #[test]
 fn first_line_of_a_place(rt: HostRuntime) -> Result<(), AllocError> {
     let lines = lines(rt.alloc())?;
     let index = SourceLines::new(rt.alloc(), lines.as_slice())?;
-    for (file, line, column, text) in [
-        (0, 1, 1, b"first".as_slice()),
-        (0, 1, 7, b"first".as_slice()),
-        (1, 1, 1, b"of the other file".as_slice()),
-        (0, 2, 1, b"second".as_slice()),
-        (0, 3, 1, b"".as_slice()),
-        (1, 2, 1, b"".as_slice()),
-        (2, 1, 1, b"".as_slice()),
-    ] {
-        let place = Place { file, line, column };
-        assert!(rt; index.text_at(place) == text);
-        assert!(rt; text_at(lines.as_slice(), place) == text);
+    for (place, text) in &PLACES {
+        assert!(rt; has_text(lines.as_slice(), &index, *place, text));
     }
     Ok(())
 }

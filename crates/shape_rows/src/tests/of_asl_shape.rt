@@ -79,212 +79,228 @@ fn errors(alloc: Global, text: &str) -> Result<String, AllocError> {
     }
 }
 
+const HEAD: &str = "DEFINITIONBLOCK ( \"a , \"DSDT , 2 , \"O , \"T , 1 ) {";
+
+/// The errors of a block with these terms.
+fn errors_within(alloc: Global, text: &str) -> Result<String, AllocError> {
+    let source = format!(in alloc; "{HEAD} {text} }}")?;
+    errors(alloc, source.as_str())
+}
+
+// A source, and its errors, each with its column.
+static ERRORS_OF_BLOCKS: [(&str, &str); 7] = [
+    // No definition block, or something beside it.
+    ("", "6028@1 "),
+    ("NAME ( A , 1 ) B", "6028@0 "),
+    (
+        "DEFINITIONBLOCK ( \"a , \"DSDT , 2 , \"O , \"T , 1 ) { } NAME ( A , 1 )",
+        "6028@16 ",
+    ),
+    // Its own arguments, all of them.
+    (
+        "DEFINITIONBLOCK ( \"a , \"DSDT , 2 , \"O , \"T ) { }",
+        "6021@0 ",
+    ),
+    (
+        "DEFINITIONBLOCK ( \"a , \"DSDT , 2 , \"O , \"T , 1 )",
+        "6023@0 ",
+    ),
+    (
+        "DEFINITIONBLOCK ( A , \"OEMX , 256 , \"OEMOEMO , \"T , B ) { NAME ( C ) }",
+        "6022@2 6024@6 6024@8 6022@12 6021@15 ",
+    ),
+    (
+        "DEFINITIONBLOCK ( \" , \"XSDT , 256 , \"OEMOEM , \"TABLETAB , ONES ) { }",
+        "6024@4 6024@6 6024@12 ",
+    ),
+];
+
+// The terms of a block, and their errors.
+static ERRORS_OF_TERMS: [(&str, &str); 26] = [
+    // Unknown operators, also those of later, and nothing inside of them.
+    ("FOO12 ( BARBAR )", "6020@15 "),
+    ("FOR ( 1 ) { NAME ( ) }", "6020@15 "),
+    ("LOAD ( A )", "6020@15 "),
+    ("FOO { }", "6020@15 "),
+    // Paths: a long segment, and one in a method.
+    ("NAME ( \\A.BCDEF , 1 )", "6024@17 "),
+    ("METHOD ( M ) { NAME ( \\A , 1 ) }", "6025@22 "),
+    ("\\A.B { }", "6023@15 "),
+    ("SCOPE ( \\ ) { NAME ( \\A.B.CDEF , 1 ) }", "none"),
+    // The first of 6020, 6025, 6021 and 6023 alone.
+    ("RETURN ( 1 , 2 )", "6025@15 "),
+    (
+        "METHOD ( M ) { METHOD ( N , 1 , 2 , 3 , 4 , 5 , 6 ) }",
+        "6025@20 ",
+    ),
+    ("METHOD ( M ) { RETURN ( ADD ( ARG0 ) ) }", "6021@22 "),
+    ("METHOD ( M , 8 )", "6023@15 "),
+    ("NAME ( A , 1 ) { }", "6023@15 "),
+    ("NAME ( A , 1 , 2 )", "6021@15 "),
+    ("METHOD ( M ) { ADD ( 1 , , LOCAL0 ) }", "6021@20 "),
+    ("A ( 1 , , 2 )", "6021@15 "),
+    // Literals and words of the language are no terms, and an Else stands behind an If.
+    ("1 \"a SERIALIZED", "6025@15 6025@16 6025@17 "),
+    (
+        "METHOD ( M ) { ELSE { } IF ( 1 ) { } ; ELSE { } ELSE { } }",
+        "6025@20 6025@33 ",
+    ),
+    // What the arguments are, one error for each.
+    ("NAME ( 1 , METHOD ( M ) { } )", "6022@17 6022@19 "),
+    (
+        "METHOD ( M , ARG0 , 1 , 16 ) { }",
+        "6022@19 6022@21 6024@23 ",
+    ),
+    (
+        "METHOD ( M , 8 , SERIALIZED , DIVIDE ( 1 , 0 ) ) { }",
+        "6024@19 6024@23 ",
+    ),
+    (
+        "METHOD ( M ) { ADD ( 1 , 2 , 3 ) INCREMENT ( \"a ) }",
+        "6022@26 6022@30 ",
+    ),
+    // The error inside a constant stands alone.
+    ("METHOD ( M , ADD ( 1 ) ) { }", "6021@19 "),
+    ("NAME ( ABCDE , 1 )", "6020@17 "),
+    (
+        "EXTERNAL ( A , INTOBJ , { INTOBJ , B } , 1 )",
+        "6022@21 6022@27 ",
+    ),
+    // No error: what may be left out, and where a constant may be an operator.
+    (
+        "METHOD ( M , ADD ( 1 , 2 ) , , ) { RETURN ( ) ADD ( ARG0 , 1 ) }",
+        "none",
+    ),
+];
+
 #[test]
 fn tells_each_error_at_its_place(rt: HostRuntime) -> Result<(), Fail> {
     let alloc = rt.alloc();
-    for (text, want) in [
-        // No definition block, or something beside it.
-        ("", "6028@1 "),
-        ("NAME ( A , 1 ) B", "6028@0 "),
-        (
-            "DEFINITIONBLOCK ( \"a , \"DSDT , 2 , \"O , \"T , 1 ) { } NAME ( A , 1 )",
-            "6028@16 ",
-        ),
-        // Its own arguments, all of them.
-        (
-            "DEFINITIONBLOCK ( \"a , \"DSDT , 2 , \"O , \"T ) { }",
-            "6021@0 ",
-        ),
-        (
-            "DEFINITIONBLOCK ( \"a , \"DSDT , 2 , \"O , \"T , 1 )",
-            "6023@0 ",
-        ),
-        (
-            "DEFINITIONBLOCK ( A , \"OEMX , 256 , \"OEMOEMO , \"T , B ) { NAME ( C ) }",
-            "6022@2 6024@6 6024@8 6022@12 6021@15 ",
-        ),
-        (
-            "DEFINITIONBLOCK ( \" , \"XSDT , 256 , \"OEMOEM , \"TABLETAB , ONES ) { }",
-            "6024@4 6024@6 6024@12 ",
-        ),
-    ] {
-        assert_eq!(rt; errors(alloc, text)?.as_str(), want);
+    for (text, want) in &ERRORS_OF_BLOCKS {
+        assert_eq!(rt; errors(alloc, text)?.as_str(), *want);
     }
-    for (text, want) in [
-        // Unknown operators, also those of later, and nothing inside of them.
-        ("FOO12 ( BARBAR )", "6020@15 "),
-        ("FOR ( 1 ) { NAME ( ) }", "6020@15 "),
-        ("LOAD ( A )", "6020@15 "),
-        ("FOO { }", "6020@15 "),
-        // Paths: a long segment, and one in a method.
-        ("NAME ( \\A.BCDEF , 1 )", "6024@17 "),
-        ("METHOD ( M ) { NAME ( \\A , 1 ) }", "6025@22 "),
-        ("\\A.B { }", "6023@15 "),
-        ("SCOPE ( \\ ) { NAME ( \\A.B.CDEF , 1 ) }", "none"),
-        // The first of 6020, 6025, 6021 and 6023 alone.
-        ("RETURN ( 1 , 2 )", "6025@15 "),
-        (
-            "METHOD ( M ) { METHOD ( N , 1 , 2 , 3 , 4 , 5 , 6 ) }",
-            "6025@20 ",
-        ),
-        ("METHOD ( M ) { RETURN ( ADD ( ARG0 ) ) }", "6021@22 "),
-        ("METHOD ( M , 8 )", "6023@15 "),
-        ("NAME ( A , 1 ) { }", "6023@15 "),
-        ("NAME ( A , 1 , 2 )", "6021@15 "),
-        ("METHOD ( M ) { ADD ( 1 , , LOCAL0 ) }", "6021@20 "),
-        ("A ( 1 , , 2 )", "6021@15 "),
-        // Literals and words of the language are no terms, and an Else stands behind an If.
-        ("1 \"a SERIALIZED", "6025@15 6025@16 6025@17 "),
-        (
-            "METHOD ( M ) { ELSE { } IF ( 1 ) { } ; ELSE { } ELSE { } }",
-            "6025@20 6025@33 ",
-        ),
-        // What the arguments are, one error for each.
-        ("NAME ( 1 , METHOD ( M ) { } )", "6022@17 6022@19 "),
-        (
-            "METHOD ( M , ARG0 , 1 , 16 ) { }",
-            "6022@19 6022@21 6024@23 ",
-        ),
-        (
-            "METHOD ( M , 8 , SERIALIZED , DIVIDE ( 1 , 0 ) ) { }",
-            "6024@19 6024@23 ",
-        ),
-        (
-            "METHOD ( M ) { ADD ( 1 , 2 , 3 ) INCREMENT ( \"a ) }",
-            "6022@26 6022@30 ",
-        ),
-        // The error inside a constant stands alone.
-        ("METHOD ( M , ADD ( 1 ) ) { }", "6021@19 "),
-        ("NAME ( ABCDE , 1 )", "6020@17 "),
-        (
-            "EXTERNAL ( A , INTOBJ , { INTOBJ , B } , 1 )",
-            "6022@21 6022@27 ",
-        ),
-        // No error: what may be left out, and where a constant may be an operator.
-        (
-            "METHOD ( M , ADD ( 1 , 2 ) , , ) { RETURN ( ) ADD ( ARG0 , 1 ) }",
-            "none",
-        ),
-    ] {
-        let head = "DEFINITIONBLOCK ( \"a , \"DSDT , 2 , \"O , \"T , 1 ) {";
-        let source = format!(in alloc; "{head} {text} }}")?;
-        assert_eq!(rt; errors(alloc, source.as_str())?.as_str(), want);
+    for (text, want) in &ERRORS_OF_TERMS {
+        assert_eq!(rt; errors_within(alloc, text)?.as_str(), *want);
     }
     Ok(())
 }
 
-const HEAD: &str = "DEFINITIONBLOCK ( \"a , \"DSDT , 2 , \"O , \"T , 1 ) {";
+// The terms of a block, and the errors of their regions and fields.
+static ERRORS_OF_REGIONS_AND_FIELDS: [(&str, &str); 19] = [
+    ("OPERATIONREGION ( R , SYSTEMIO , 128 , 4 )", "none"),
+    (
+        "FIELD ( R , WORDACC , NOLOCK , PRESERVE ) { A , 12 , B , 8 , C , 12 }",
+        "none",
+    ),
+    (
+        "INDEXFIELD ( IX , DT , BYTEACC , NOLOCK , PRESERVE ) { , 16 , V , 8 }",
+        "none",
+    ),
+    (
+        "BANKFIELD ( R , B , 1 , ANYACC , LOCK , WRITEASONES ) { OFFSET ( 4 ) , A , ADD ( 1 , 2 ) , }",
+        "none",
+    ),
+    // Spaces: a word for one, or a number from 0x80.
+    ("OPERATIONREGION ( R , 255 , 0 , 1 )", "none"),
+    ("OPERATIONREGION ( R , 127 , 0 , 1 )", "6024@19 "),
+    ("OPERATIONREGION ( R , BYTEACC , 0 , 1 )", "6022@19 "),
+    ("OPERATIONREGION ( R , SYSTEMIO , 0 )", "6021@15 "),
+    // The words of a field, and its list.
+    ("FIELD ( R , NOLOCK , NOLOCK , 1 ) { }", "6022@19 6022@23 "),
+    (
+        "FIELD ( R , BUFFERACC , NOLOCK , PRESERVE ) { }",
+        "6020@19 ",
+    ),
+    ("FIELD ( R , ANYACC , LOCK , PRESERVE )", "6023@15 "),
+    // A list that is not elements with commas between them is told at the field.
+    (
+        "FIELD ( R , ANYACC , LOCK , PRESERVE ) { A , 12 B , 8 }",
+        "6022@15 ",
+    ),
+    (
+        "FIELD ( R , ANYACC , LOCK , PRESERVE ) { A ; 8 }",
+        "6022@15 ",
+    ),
+    ("FIELD ( R , ANYACC , LOCK , PRESERVE ) { A }", "6022@15 "),
+    // A unit without its comma is told at its name.
+    (
+        "FIELD ( R , ANYACC , LOCK , PRESERVE ) { A 12 , B , 8 }",
+        "6022@26 ",
+    ),
+    // Names are single segments, and numbers of bits constants.
+    (
+        "FIELD ( R , ANYACC , LOCK , PRESERVE ) { \\A.B , 8 , ABCDE , 8 , 5 , 8 }",
+        "6022@26 6020@30 6022@34 ",
+    ),
+    (
+        "FIELD ( R , ANYACC , LOCK , PRESERVE ) { A , B , C , DIVIDE ( 1 , 0 ) }",
+        "6022@28 6024@32 ",
+    ),
+    // An Offset stands in a field's list alone, with one argument and no braces.
+    (
+        "FIELD ( R , ANYACC , LOCK , PRESERVE ) { OFFSET ( ) , OFFSET ( 1 ) { } }",
+        "6021@26 6023@30 ",
+    ),
+    ("OFFSET ( 1 ) NAME ( A , OFFSET ( 1 ) )", "6025@15 6025@23 "),
+];
 
 #[test]
 fn tells_errors_of_regions_and_fields(rt: HostRuntime) -> Result<(), Fail> {
     let alloc = rt.alloc();
-    for (text, want) in [
-        ("OPERATIONREGION ( R , SYSTEMIO , 128 , 4 )", "none"),
-        (
-            "FIELD ( R , WORDACC , NOLOCK , PRESERVE ) { A , 12 , B , 8 , C , 12 }",
-            "none",
-        ),
-        (
-            "INDEXFIELD ( IX , DT , BYTEACC , NOLOCK , PRESERVE ) { , 16 , V , 8 }",
-            "none",
-        ),
-        (
-            "BANKFIELD ( R , B , 1 , ANYACC , LOCK , WRITEASONES ) { OFFSET ( 4 ) , A , ADD ( 1 , 2 ) , }",
-            "none",
-        ),
-        // Spaces: a word for one, or a number from 0x80.
-        ("OPERATIONREGION ( R , 255 , 0 , 1 )", "none"),
-        ("OPERATIONREGION ( R , 127 , 0 , 1 )", "6024@19 "),
-        ("OPERATIONREGION ( R , BYTEACC , 0 , 1 )", "6022@19 "),
-        ("OPERATIONREGION ( R , SYSTEMIO , 0 )", "6021@15 "),
-        // The words of a field, and its list.
-        ("FIELD ( R , NOLOCK , NOLOCK , 1 ) { }", "6022@19 6022@23 "),
-        (
-            "FIELD ( R , BUFFERACC , NOLOCK , PRESERVE ) { }",
-            "6020@19 ",
-        ),
-        ("FIELD ( R , ANYACC , LOCK , PRESERVE )", "6023@15 "),
-        // A list that is not elements with commas between them is told at the field.
-        (
-            "FIELD ( R , ANYACC , LOCK , PRESERVE ) { A , 12 B , 8 }",
-            "6022@15 ",
-        ),
-        (
-            "FIELD ( R , ANYACC , LOCK , PRESERVE ) { A ; 8 }",
-            "6022@15 ",
-        ),
-        ("FIELD ( R , ANYACC , LOCK , PRESERVE ) { A }", "6022@15 "),
-        // A unit without its comma is told at its name.
-        (
-            "FIELD ( R , ANYACC , LOCK , PRESERVE ) { A 12 , B , 8 }",
-            "6022@26 ",
-        ),
-        // Names are single segments, and numbers of bits constants.
-        (
-            "FIELD ( R , ANYACC , LOCK , PRESERVE ) { \\A.B , 8 , ABCDE , 8 , 5 , 8 }",
-            "6022@26 6020@30 6022@34 ",
-        ),
-        (
-            "FIELD ( R , ANYACC , LOCK , PRESERVE ) { A , B , C , DIVIDE ( 1 , 0 ) }",
-            "6022@28 6024@32 ",
-        ),
-        // An Offset stands in a field's list alone, with one argument and no braces.
-        (
-            "FIELD ( R , ANYACC , LOCK , PRESERVE ) { OFFSET ( ) , OFFSET ( 1 ) { } }",
-            "6021@26 6023@30 ",
-        ),
-        ("OFFSET ( 1 ) NAME ( A , OFFSET ( 1 ) )", "6025@15 6025@23 "),
-    ] {
-        let source = format!(in alloc; "{HEAD} {text} }}")?;
-        assert_eq!(rt; errors(alloc, source.as_str())?.as_str(), want);
+    for (text, want) in &ERRORS_OF_REGIONS_AND_FIELDS {
+        assert_eq!(rt; errors_within(alloc, text)?.as_str(), *want);
     }
     Ok(())
 }
+
+// The terms of a block, and the errors of what is written with symbols.
+static ERRORS_OF_SYMBOLS: [(&str, &str); 12] = [
+    ("NAME ( A , 1 + 2 )", "none"),
+    ("A = B + C [ 1 ] A -- ! A", "none"),
+    // A constant may be written with symbols, and has to be in its range.
+    ("METHOD ( M , 3 + 4 ) { }", "none"),
+    ("METHOD ( M , 4 + 4 ) { }", "6024@20 "),
+    ("METHOD ( M , A + 4 ) { }", "6022@20 "),
+    ("METHOD ( M , A = 4 ) { }", "6022@20 "),
+    // A symbol stands for no name, and for a place only where it is an Index.
+    ("NAME ( A + B , 1 )", "6022@18 "),
+    ("ACQUIRE ( A ++ , 1 )", "6022@18 "),
+    ("A [ 0 ] = 1", "none"),
+    ("A + 0 = 1", "6022@16 "),
+    // Its operands are what its operator asks for, one error for each.
+    ("1 += \"a", "6022@15 "),
+    ("A = NAME ( B , 1 ) + FOO12 ( )", "6022@17 6020@24 "),
+];
 
 #[test]
 fn tells_errors_of_symbols(rt: HostRuntime) -> Result<(), Fail> {
     let alloc = rt.alloc();
-    for (text, want) in [
-        ("NAME ( A , 1 + 2 )", "none"),
-        ("A = B + C [ 1 ] A -- ! A", "none"),
-        // A constant may be written with symbols, and has to be in its range.
-        ("METHOD ( M , 3 + 4 ) { }", "none"),
-        ("METHOD ( M , 4 + 4 ) { }", "6024@20 "),
-        ("METHOD ( M , A + 4 ) { }", "6022@20 "),
-        ("METHOD ( M , A = 4 ) { }", "6022@20 "),
-        // A symbol stands for no name, and for a place only where it is an Index.
-        ("NAME ( A + B , 1 )", "6022@18 "),
-        ("ACQUIRE ( A ++ , 1 )", "6022@18 "),
-        ("A [ 0 ] = 1", "none"),
-        ("A + 0 = 1", "6022@16 "),
-        // Its operands are what its operator asks for, one error for each.
-        ("1 += \"a", "6022@15 "),
-        ("A = NAME ( B , 1 ) + FOO12 ( )", "6022@17 6020@24 "),
-    ] {
-        let source = format!(in alloc; "{HEAD} {text} }}")?;
-        assert_eq!(rt; errors(alloc, source.as_str())?.as_str(), want);
+    for (text, want) in &ERRORS_OF_SYMBOLS {
+        assert_eq!(rt; errors_within(alloc, text)?.as_str(), *want);
     }
     Ok(())
 }
 
+// The terms of a block, and the errors of their runs of ElseIfs.
+static ERRORS_OF_RUNS: [(&str, &str); 6] = [
+    (
+        "IF ( 1 ) { } ; ELSEIF ( 2 ) { } ELSEIF ( 3 ) { } ELSE { }",
+        "none",
+    ),
+    // Behind nothing, behind a While and behind an Else; what follows is accepted.
+    ("ELSEIF ( 1 ) { } ELSEIF ( 2 ) { } ELSE { }", "6025@15 "),
+    ("WHILE ( 1 ) { } ELSEIF ( 1 ) { }", "6025@21 "),
+    ("IF ( 1 ) { } ELSE { } ELSEIF ( 1 ) { }", "6025@24 "),
+    // Its test and its braces.
+    ("IF ( 1 ) { } ELSEIF { }", "6021@21 "),
+    ("IF ( 1 ) { } ELSEIF ( 1 ) ELSE { }", "6023@21 "),
+];
+
 #[test]
 fn tells_errors_of_runs(rt: HostRuntime) -> Result<(), Fail> {
     let alloc = rt.alloc();
-    for (text, want) in [
-        (
-            "IF ( 1 ) { } ; ELSEIF ( 2 ) { } ELSEIF ( 3 ) { } ELSE { }",
-            "none",
-        ),
-        // Behind nothing, behind a While and behind an Else; what follows is accepted.
-        ("ELSEIF ( 1 ) { } ELSEIF ( 2 ) { } ELSE { }", "6025@15 "),
-        ("WHILE ( 1 ) { } ELSEIF ( 1 ) { }", "6025@21 "),
-        ("IF ( 1 ) { } ELSE { } ELSEIF ( 1 ) { }", "6025@24 "),
-        // Its test and its braces.
-        ("IF ( 1 ) { } ELSEIF { }", "6021@21 "),
-        ("IF ( 1 ) { } ELSEIF ( 1 ) ELSE { }", "6023@21 "),
-    ] {
-        let source = format!(in alloc; "{HEAD} {text} }}")?;
-        assert_eq!(rt; errors(alloc, source.as_str())?.as_str(), want);
+    for (text, want) in &ERRORS_OF_RUNS {
+        assert_eq!(rt; errors_within(alloc, text)?.as_str(), *want);
     }
     Ok(())
 }
@@ -348,18 +364,21 @@ fn last_number(alloc: Global, text: &str) -> Result<Option<u64>, AllocError> {
     }
 }
 
+// A field, and the number of its words.
+static WORDS_OF_FIELDS: [(&str, u64); 3] = [
+    ("FIELD ( R , WORDACC , NOLOCK , PRESERVE ) { A , 12 }", 0x02),
+    ("FIELD ( R , WORDACC , NOLOCK , WRITEASONES ) { }", 0x22),
+    (
+        "INDEXFIELD ( I , D , QWORDACC , LOCK , WRITEASZEROS ) { }",
+        0x54,
+    ),
+];
+
 #[test]
 fn the_words_of_a_field_are_one_number(rt: HostRuntime) -> Result<(), Fail> {
     let alloc = rt.alloc();
-    for (text, want) in [
-        ("FIELD ( R , WORDACC , NOLOCK , PRESERVE ) { A , 12 }", 0x02),
-        ("FIELD ( R , WORDACC , NOLOCK , WRITEASONES ) { }", 0x22),
-        (
-            "INDEXFIELD ( I , D , QWORDACC , LOCK , WRITEASZEROS ) { }",
-            0x54,
-        ),
-    ] {
-        assert!(rt; last_number(alloc, text)? == Some(want));
+    for (text, want) in &WORDS_OF_FIELDS {
+        assert!(rt; last_number(alloc, text)? == Some(*want));
     }
     Ok(())
 }
@@ -398,81 +417,89 @@ fn operator_in(
     }
 }
 
-fn number(op: IntOp) -> Op {
-    Op::Symbolic(Symbolic::Operator(Plain::Number(op)))
-}
-
-fn data(op: DataOp) -> Op {
-    Op::Symbolic(Symbolic::Operator(Plain::Data(op)))
-}
+// A term, the number of one of its arguments, and the operator of that, or of the term itself.
+static SYMBOLS: [(&str, Option<usize>, Symbolic); 9] = [
+    ("X = Y + 1 * 2", None, Symbolic::Assign),
+    (
+        "X = Y + 1 * 2",
+        Some(1),
+        Symbolic::Operator(Plain::Number(IntOp::Add)),
+    ),
+    (
+        "Y + 1 * 2",
+        Some(1),
+        Symbolic::Operator(Plain::Number(IntOp::Multiply)),
+    ),
+    ("X [ 1 ] = 2", None, Symbolic::Assign),
+    (
+        "X [ 1 ] = 2",
+        Some(0),
+        Symbolic::Operator(Plain::Data(DataOp::Index)),
+    ),
+    (
+        "X ++",
+        None,
+        Symbolic::Operator(Plain::Data(DataOp::Increment)),
+    ),
+    ("! X", None, Symbolic::Operator(Plain::Number(IntOp::LNot))),
+    ("~ X", None, Symbolic::Operator(Plain::Number(IntOp::Not))),
+    ("X <<= 1", None, Symbolic::AssignBy(Compound::ShiftLeft)),
+];
 
 #[test]
 fn symbols_are_operators(rt: HostRuntime) -> Result<(), Fail> {
     let alloc = rt.alloc();
-    let assign = Op::Symbolic(Symbolic::Assign);
-    for (text, argument, want) in [
-        ("X = Y + 1 * 2", None, assign),
-        ("X = Y + 1 * 2", Some(1), number(IntOp::Add)),
-        ("Y + 1 * 2", Some(1), number(IntOp::Multiply)),
-        ("X [ 1 ] = 2", None, assign),
-        ("X [ 1 ] = 2", Some(0), data(DataOp::Index)),
-        ("X ++", None, data(DataOp::Increment)),
-        ("! X", None, number(IntOp::LNot)),
-        ("~ X", None, number(IntOp::Not)),
-        (
-            "X <<= 1",
-            None,
-            Op::Symbolic(Symbolic::AssignBy(Compound::ShiftLeft)),
-        ),
-    ] {
-        assert!(rt; operator_in(alloc, text, argument)? == Some(want));
+    for (text, argument, want) in &SYMBOLS {
+        assert!(rt; operator_in(alloc, text, *argument)? == Some(Op::Symbolic(*want)));
     }
     // A constant argument is its value.
     assert!(rt; last_number(alloc, "MUTEX ( M , 1 + 2 )")? == Some(3));
     Ok(())
 }
 
+// The terms of a block, and the errors of their macros.
+static ERRORS_OF_MACROS: [(&str, &str); 19] = [
+    ("NAME ( A , EISAID ( \"PNP0C09 ) )", "none"),
+    (
+        "NAME ( A , PACKAGE ( ) { EISAID ( \"PNP0c0a ) , TOUUID ( \"e5c937d0-3553-4d7a-9117-ea4d19c3434d ) , UNICODE ( \"A ) } )",
+        "none",
+    ),
+    // A string of another form is told at itself.
+    ("NAME ( A , EISAID ( \"PnP0C09 ) )", "6026@21 "),
+    ("NAME ( A , EISAID ( \"PNP0C0 ) )", "6026@21 "),
+    (
+        "NAME ( A , TOUUID ( \"e5c937d0-3553-4d7a-9117-ea4d19c3434 ) )",
+        "6027@21 ",
+    ),
+    // The one argument is a string, and there are no braces.
+    ("NAME ( A , EISAID ( B ) )", "6022@21 "),
+    ("NAME ( A , UNICODE ( 1 ) )", "6022@21 "),
+    ("NAME ( A , EISAID )", "6021@19 "),
+    ("NAME ( A , TOUUID ( \"a , \"b ) )", "6021@19 "),
+    ("NAME ( A , UNICODE ( \"A ) { } )", "6023@19 "),
+    // A macro is no term, no place and no constant, also under an operator.
+    ("EISAID ( \"PNP0C09 )", "6025@15 "),
+    ("STORE ( 1 , EISAID ( \"PNP0C09 ) )", "6022@19 "),
+    ("MUTEX ( M , EISAID ( \"PNP0C09 ) )", "6022@19 "),
+    ("MUTEX ( M , EISAID ( \"PNP0C09 ) & 1 )", "6022@23 "),
+    (
+        "MUTEX ( M , ADD ( 1 , NOT ( EISAID ( \"PNP0C09 ) ) ) )",
+        "6022@19 ",
+    ),
+    ("MUTEX ( M , EISAID ( \"P ) & 1 )", "6026@21 "),
+    ("NAME ( B , BUFFER ( ) { UNICODE ( \"A ) } )", "6022@23 "),
+    (
+        "NAME ( P , PACKAGE ( ) { 1 + EISAID ( \"PNP0C09 ) } )",
+        "6022@24 ",
+    ),
+    ("A = 1 + EISAID ( \"PNP0C09 )", "none"),
+];
+
 #[test]
 fn tells_errors_of_macros(rt: HostRuntime) -> Result<(), Fail> {
     let alloc = rt.alloc();
-    for (text, want) in [
-        ("NAME ( A , EISAID ( \"PNP0C09 ) )", "none"),
-        (
-            "NAME ( A , PACKAGE ( ) { EISAID ( \"PNP0c0a ) , TOUUID ( \"e5c937d0-3553-4d7a-9117-ea4d19c3434d ) , UNICODE ( \"A ) } )",
-            "none",
-        ),
-        // A string of another form is told at itself.
-        ("NAME ( A , EISAID ( \"PnP0C09 ) )", "6026@21 "),
-        ("NAME ( A , EISAID ( \"PNP0C0 ) )", "6026@21 "),
-        (
-            "NAME ( A , TOUUID ( \"e5c937d0-3553-4d7a-9117-ea4d19c3434 ) )",
-            "6027@21 ",
-        ),
-        // The one argument is a string, and there are no braces.
-        ("NAME ( A , EISAID ( B ) )", "6022@21 "),
-        ("NAME ( A , UNICODE ( 1 ) )", "6022@21 "),
-        ("NAME ( A , EISAID )", "6021@19 "),
-        ("NAME ( A , TOUUID ( \"a , \"b ) )", "6021@19 "),
-        ("NAME ( A , UNICODE ( \"A ) { } )", "6023@19 "),
-        // A macro is no term, no place and no constant, also under an operator.
-        ("EISAID ( \"PNP0C09 )", "6025@15 "),
-        ("STORE ( 1 , EISAID ( \"PNP0C09 ) )", "6022@19 "),
-        ("MUTEX ( M , EISAID ( \"PNP0C09 ) )", "6022@19 "),
-        ("MUTEX ( M , EISAID ( \"PNP0C09 ) & 1 )", "6022@23 "),
-        (
-            "MUTEX ( M , ADD ( 1 , NOT ( EISAID ( \"PNP0C09 ) ) ) )",
-            "6022@19 ",
-        ),
-        ("MUTEX ( M , EISAID ( \"P ) & 1 )", "6026@21 "),
-        ("NAME ( B , BUFFER ( ) { UNICODE ( \"A ) } )", "6022@23 "),
-        (
-            "NAME ( P , PACKAGE ( ) { 1 + EISAID ( \"PNP0C09 ) } )",
-            "6022@24 ",
-        ),
-        ("A = 1 + EISAID ( \"PNP0C09 )", "none"),
-    ] {
-        let source = format!(in alloc; "{HEAD} {text} }}")?;
-        assert_eq!(rt; errors(alloc, source.as_str())?.as_str(), want);
+    for (text, want) in &ERRORS_OF_MACROS {
+        assert_eq!(rt; errors_within(alloc, text)?.as_str(), *want);
     }
     Ok(())
 }

@@ -10,45 +10,54 @@ use resource_macros::template::template;
 use std::alloc::{AllocError, Global};
 use std::test::Fail;
 
+// A text, and the number of the identifier that it is.
+static EISA_IDENTIFIERS: [(&[u8], Option<u32>); 10] = [
+    (b"PNP0C09", Some(0x090C_D041)),
+    (b"PNP0A08", Some(0x080A_D041)),
+    (b"ACPIabc", None),
+    (b"AAA0000", Some(0x0000_2104)),
+    (b"ZZZffFF", Some(0xFFFF_5A6B)),
+    (b"PnP0C09", None),
+    (b"PNP0C0G", None),
+    (b"PNP0C0", None),
+    (b"PNP0C099", None),
+    (b"", None),
+];
+
 #[test]
 fn eisa_identifiers_are_numbers(rt: HostRuntime) {
-    for (text, number) in [
-        (b"PNP0C09".as_slice(), Some(0x090C_D041)),
-        (b"PNP0A08", Some(0x080A_D041)),
-        (b"ACPIabc", None),
-        (b"AAA0000", Some(0x0000_2104)),
-        (b"ZZZffFF", Some(0xFFFF_5A6B)),
-        (b"PnP0C09", None),
-        (b"PNP0C0G", None),
-        (b"PNP0C0", None),
-        (b"PNP0C099", None),
-        (b"", None),
-    ] {
-        assert!(rt; eisaid(text) == number);
+    for (text, number) in &EISA_IDENTIFIERS {
+        assert!(rt; eisaid(text) == *number);
     }
 }
 
-// The bytes of a UUID are those of its first three parts backwards, and then the others.
+// A text of the one UUID.
+static UUIDS: [&[u8]; 2] = [
+    b"e5c937d0-3553-4d7a-9117-ea4d19c3434d",
+    b"E5C937D0-3553-4D7A-9117-EA4D19C3434D",
+];
+
+// A text that is no UUID.
+static NO_UUIDS: [&[u8]; 6] = [
+    b"e5c937d0-3553-4d7a-9117-ea4d19c3434",
+    b"e5c937d0-3553-4d7a-9117-ea4d19c3434dd",
+    b"e5c937d0 3553-4d7a-9117-ea4d19c3434d",
+    b"e5c937d-03553-4d7a-9117-ea4d19c3434d",
+    b"g5c937d0-3553-4d7a-9117-ea4d19c3434d",
+    b"{5c937d0-3553-4d7a-9117-ea4d19c3434d",
+];
+
+// The bytes of the UUID: those of its first three parts backwards, and then the others.
+static UUID: [u8; 16] = [
+    0xD0, 0x37, 0xC9, 0xE5, 0x53, 0x35, 0x7A, 0x4D, 0x91, 0x17, 0xEA, 0x4D, 0x19, 0xC3, 0x43, 0x4D,
+];
+
 #[test]
 fn uuids_are_bytes(rt: HostRuntime) {
-    let bytes = [
-        0xD0, 0x37, 0xC9, 0xE5, 0x53, 0x35, 0x7A, 0x4D, 0x91, 0x17, 0xEA, 0x4D, 0x19, 0xC3, 0x43,
-        0x4D,
-    ];
-    for text in [
-        b"e5c937d0-3553-4d7a-9117-ea4d19c3434d".as_slice(),
-        b"E5C937D0-3553-4D7A-9117-EA4D19C3434D",
-    ] {
-        assert!(rt; uuid(text) == Some(bytes));
+    for text in &UUIDS {
+        assert!(rt; uuid(text) == Some(UUID));
     }
-    for text in [
-        b"e5c937d0-3553-4d7a-9117-ea4d19c3434".as_slice(),
-        b"e5c937d0-3553-4d7a-9117-ea4d19c3434dd",
-        b"e5c937d0 3553-4d7a-9117-ea4d19c3434d",
-        b"e5c937d-03553-4d7a-9117-ea4d19c3434d",
-        b"g5c937d0-3553-4d7a-9117-ea4d19c3434d",
-        b"{5c937d0-3553-4d7a-9117-ea4d19c3434d",
-    ] {
+    for text in &NO_UUIDS {
         assert!(rt; uuid(text).is_none());
     }
 }
@@ -158,83 +167,95 @@ const MEMORY: [Given; 16] = [
     Given::Word(Kind::Translation, 0),
 ];
 
-// Bytes of the ACPI Specification 6.4, 6.4.2 and 6.4.3, without the end tag.
+// A descriptor, its arguments, its list, and its bytes of the ACPI Specification 6.4, 6.4.2 and 6.4.3, without the end tag.
+static DESCRIPTORS: [(Descriptor, &[Given], &[Given], &[u8]); 7] = [
+    (
+        Descriptor::Irq,
+        &[
+            Given::Word(Kind::Mode, 1),
+            Given::Word(Kind::Level, 0),
+            Given::Word(Kind::Sharing, 0),
+        ],
+        &[Number(3)],
+        b"\x23\x08\x00\x01",
+    ),
+    (
+        Descriptor::Io,
+        &IO_PORT,
+        &[],
+        b"\x47\x01\x62\x00\x62\x00\x00\x01",
+    ),
+    (
+        Descriptor::QWordMemory,
+        &MEMORY,
+        &[],
+        b"\x8A\x2B\x00\x00\x0C\x03\0\0\0\0\0\0\0\0\0\0\0\0\x01\0\0\0\xFF\xFF\xFF\xFF\x01\0\0\0\0\0\0\0\0\0\0\0\0\0\0\0\x01\0\0\0",
+    ),
+    (
+        Descriptor::Interrupt,
+        &[
+            LeftOut,
+            Given::Word(Kind::Mode, 0),
+            Given::Word(Kind::Level, 1),
+        ],
+        &[Number(9), Number(0x1234_5678)],
+        b"\x89\x0A\x00\x05\x02\x09\0\0\0\x78\x56\x34\x12",
+    ),
+    (
+        Descriptor::WordBusNumber,
+        &[
+            Given::Word(Kind::Usage, 0),
+            Given::Word(Kind::MinimumFixed, 1),
+            Given::Word(Kind::MaximumFixed, 1),
+            LeftOut,
+            Number(0),
+            Number(0),
+            Number(0xFF),
+            Number(0),
+            Number(0x100),
+            Number(5),
+            Letter(b'A'),
+        ],
+        &[],
+        b"\x88\x10\x00\x02\x0C\x00\0\0\0\0\xFF\0\0\0\0\x01\x05A\0",
+    ),
+    (
+        Descriptor::VendorShort,
+        &[],
+        &[Number(1), Number(2)],
+        b"\x72\x01\x02",
+    ),
+    (
+        Descriptor::StartDependentFn,
+        &[Number(1), Number(2)],
+        &[],
+        b"\x31\x09",
+    ),
+];
+
+// Whether the template of a descriptor has these bytes before the end tag.
+fn has_bytes(
+    alloc: Global,
+    descriptor: Descriptor,
+    args: &[Given],
+    members: &[Given],
+    bytes: &[u8],
+) -> Result<bool, AllocError> {
+    let mut list = Vec::new(alloc);
+    list.push(resource(alloc, descriptor, args, members)?)?;
+    match template(alloc, &list) {
+        Ok(made) => {
+            let ended = [bytes, b"\x79\0".as_slice()].concat(alloc)?;
+            Ok(made.bytes.as_bytes() == ended.as_slice())
+        }
+        Err(_) => Ok(false),
+    }
+}
+
 #[test]
 fn descriptors_are_bytes(rt: HostRuntime) -> Result<(), Fail> {
-    for (descriptor, args, members, bytes) in [
-        (
-            Descriptor::Irq,
-            [
-                Given::Word(Kind::Mode, 1),
-                Given::Word(Kind::Level, 0),
-                Given::Word(Kind::Sharing, 0),
-            ]
-            .as_slice(),
-            [Number(3)].as_slice(),
-            b"\x23\x08\x00\x01".as_slice(),
-        ),
-        (
-            Descriptor::Io,
-            &IO_PORT,
-            &[],
-            b"\x47\x01\x62\x00\x62\x00\x00\x01",
-        ),
-        (
-            Descriptor::QWordMemory,
-            &MEMORY,
-            &[],
-            b"\x8A\x2B\x00\x00\x0C\x03\0\0\0\0\0\0\0\0\0\0\0\0\x01\0\0\0\xFF\xFF\xFF\xFF\x01\0\0\0\0\0\0\0\0\0\0\0\0\0\0\0\x01\0\0\0",
-        ),
-        (
-            Descriptor::Interrupt,
-            &[
-                LeftOut,
-                Given::Word(Kind::Mode, 0),
-                Given::Word(Kind::Level, 1),
-            ],
-            &[Number(9), Number(0x1234_5678)],
-            b"\x89\x0A\x00\x05\x02\x09\0\0\0\x78\x56\x34\x12",
-        ),
-        (
-            Descriptor::WordBusNumber,
-            &[
-                Given::Word(Kind::Usage, 0),
-                Given::Word(Kind::MinimumFixed, 1),
-                Given::Word(Kind::MaximumFixed, 1),
-                LeftOut,
-                Number(0),
-                Number(0),
-                Number(0xFF),
-                Number(0),
-                Number(0x100),
-                Number(5),
-                Letter(b'A'),
-            ],
-            &[],
-            b"\x88\x10\x00\x02\x0C\x00\0\0\0\0\xFF\0\0\0\0\x01\x05A\0",
-        ),
-        (
-            Descriptor::VendorShort,
-            &[],
-            &[Number(1), Number(2)],
-            b"\x72\x01\x02",
-        ),
-        (
-            Descriptor::StartDependentFn,
-            &[Number(1), Number(2)],
-            &[],
-            b"\x31\x09",
-        ),
-    ] {
-        let mut list = Vec::new(rt.alloc());
-        list.push(resource(rt.alloc(), descriptor, args, members)?)?;
-        match template(rt.alloc(), &list) {
-            Ok(made) => {
-                let ended = [bytes, b"\x79\0".as_slice()].concat(rt.alloc())?;
-                assert!(rt; made.bytes.as_bytes() == ended.as_slice());
-            }
-            Err(_) => assert!(rt; false),
-        }
+    for (descriptor, args, members, bytes) in &DESCRIPTORS {
+        assert!(rt; has_bytes(rt.alloc(), *descriptor, args, members, bytes)?);
     }
     Ok(())
 }
@@ -250,52 +271,61 @@ fn begins_with(made: &Result<Template, Stage>, number: u16, at: Place) -> bool {
     }
 }
 
-// The first fault of a descriptor: its number, and the line and the column of its place.
+const FLAGS: [Given; 2] = [Given::Word(Kind::Mode, 1), Given::Word(Kind::Level, 0)];
+
+// A descriptor, its arguments, its list, and its first fault: the number, and the line and the column of its place.
+static FAULTS: [(Descriptor, &[Given], &[Given], u16, u32, u32); 8] = [
+    (Descriptor::Irq, &FLAGS, &[Number(16)], 6024, 3, 1),
+    (Descriptor::Irq, &FLAGS, &[Letter(b'A')], 6022, 3, 1),
+    (Descriptor::Interrupt, &FLAGS, &[Number(1)], 6022, 2, 1),
+    (Descriptor::VendorShort, &[], &[], 6024, 1, 1),
+    (Descriptor::VendorShort, &[], &[Number(0); 8], 6024, 1, 1),
+    (
+        Descriptor::StartDependentFn,
+        &[Number(1), Number(3)],
+        &[],
+        6024,
+        2,
+        2,
+    ),
+    (
+        Descriptor::FixedIo,
+        &[Number(0x1_0000), Number(1)],
+        &[],
+        6024,
+        2,
+        1,
+    ),
+    (
+        Descriptor::FixedIo,
+        &[Number(0), Number(1), Number(2)],
+        &[],
+        6022,
+        2,
+        3,
+    ),
+];
+
+// Whether the first fault of a descriptor is this one.
+fn has_fault(
+    alloc: Global,
+    descriptor: Descriptor,
+    args: &[Given],
+    members: &[Given],
+    number: u16,
+    at: Place,
+) -> Result<bool, AllocError> {
+    let mut list = Vec::new(alloc);
+    list.push(resource(alloc, descriptor, args, members)?)?;
+    let made = template(alloc, &list);
+    Ok(begins_with(&made, number, at))
+}
+
 #[test]
 fn arguments_and_lists_have_faults(rt: HostRuntime) -> Result<(), Fail> {
-    let flags = [Given::Word(Kind::Mode, 1), Given::Word(Kind::Level, 0)];
-    for (descriptor, args, members, number, line, column) in [
-        (
-            Descriptor::Irq,
-            flags.as_slice(),
-            [Number(16)].as_slice(),
-            6024,
-            3,
-            1,
-        ),
-        (Descriptor::Irq, &flags, &[Letter(b'A')], 6022, 3, 1),
-        (Descriptor::Interrupt, &flags, &[Number(1)], 6022, 2, 1),
-        (Descriptor::VendorShort, &[], &[], 6024, 1, 1),
-        (Descriptor::VendorShort, &[], &[Number(0); 8], 6024, 1, 1),
-        (
-            Descriptor::StartDependentFn,
-            &[Number(1), Number(3)],
-            &[],
-            6024,
-            2,
-            2,
-        ),
-        (
-            Descriptor::FixedIo,
-            &[Number(0x1_0000), Number(1)],
-            &[],
-            6024,
-            2,
-            1,
-        ),
-        (
-            Descriptor::FixedIo,
-            &[Number(0), Number(1), Number(2)],
-            &[],
-            6022,
-            2,
-            3,
-        ),
-    ] {
-        let mut list = Vec::new(rt.alloc());
-        list.push(resource(rt.alloc(), descriptor, args, members)?)?;
-        let made = template(rt.alloc(), &list);
-        assert!(rt; begins_with(&made, number, place(line, column)));
+    for (descriptor, args, members, number, line, column) in &FAULTS {
+        let at = place(*line, *column);
+        assert!(rt; has_fault(rt.alloc(), *descriptor, args, members, *number, at)?);
     }
     Ok(())
 }

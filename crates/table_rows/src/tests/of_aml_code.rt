@@ -17,43 +17,45 @@ struct Length {
     bytes: &'static [u8],
 }
 
+// The first and the last content that a number of bytes can tell.
+static LENGTHS: [Length; 8] = [
+    Length {
+        content: 0,
+        bytes: b"\x01",
+    },
+    Length {
+        content: 62,
+        bytes: b"\x3F",
+    },
+    Length {
+        content: 63,
+        bytes: b"\x41\x04",
+    },
+    Length {
+        content: 4_093,
+        bytes: b"\x4F\xFF",
+    },
+    Length {
+        content: 4_094,
+        bytes: b"\x81\x00\x01",
+    },
+    Length {
+        content: 1_048_572,
+        bytes: b"\x8F\xFF\xFF",
+    },
+    Length {
+        content: 1_048_573,
+        bytes: b"\xC1\x00\x00\x01",
+    },
+    Length {
+        content: 268_435_451,
+        bytes: b"\xCF\xFF\xFF\xFF",
+    },
+];
+
 #[test]
 fn package_lengths(rt: HostRuntime) {
-    let rows = [
-        Length {
-            content: 0,
-            bytes: b"\x01",
-        },
-        Length {
-            content: 62,
-            bytes: b"\x3F",
-        },
-        Length {
-            content: 63,
-            bytes: b"\x41\x04",
-        },
-        Length {
-            content: 4_093,
-            bytes: b"\x4F\xFF",
-        },
-        Length {
-            content: 4_094,
-            bytes: b"\x81\x00\x01",
-        },
-        Length {
-            content: 1_048_572,
-            bytes: b"\x8F\xFF\xFF",
-        },
-        Length {
-            content: 1_048_573,
-            bytes: b"\xC1\x00\x00\x01",
-        },
-        Length {
-            content: 268_435_451,
-            bytes: b"\xCF\xFF\xFF\xFF",
-        },
-    ];
-    for row in &rows {
+    for row in &LENGTHS {
         match pkg_length(row.content) {
             Some(coded) => assert!(rt; is(&coded, row.bytes)),
             None => assert!(rt; false),
@@ -70,76 +72,78 @@ struct Number {
     bytes: &'static [u8],
 }
 
+// Integers in each form, and their bytes.
+static NUMBERS: [Number; 13] = [
+    Number {
+        value: 0,
+        short: true,
+        bytes: b"\x00",
+    },
+    Number {
+        value: 1,
+        short: true,
+        bytes: b"\x01",
+    },
+    Number {
+        value: 0x12,
+        short: true,
+        bytes: b"\x0A\x12",
+    },
+    Number {
+        value: 0xFF,
+        short: true,
+        bytes: b"\x0A\xFF",
+    },
+    Number {
+        value: 0x1234,
+        short: true,
+        bytes: b"\x0B\x34\x12",
+    },
+    Number {
+        value: 0x1_0000,
+        short: true,
+        bytes: b"\x0C\x00\x00\x01\x00",
+    },
+    Number {
+        value: 0x1234_5678,
+        short: true,
+        bytes: b"\x0C\x78\x56\x34\x12",
+    },
+    Number {
+        value: 0xFFFF_FFFF,
+        short: true,
+        bytes: b"\x0C\xFF\xFF\xFF\xFF",
+    },
+    Number {
+        value: 0x1122_3344_5566_7788,
+        short: true,
+        bytes: b"\x0E\x88\x77\x66\x55\x44\x33\x22\x11",
+    },
+    Number {
+        value: 0xFFFF_FFFF_FFFF_FFFF,
+        short: true,
+        bytes: b"\xFF",
+    },
+    Number {
+        value: 0,
+        short: false,
+        bytes: b"\x0A\x00",
+    },
+    Number {
+        value: 1,
+        short: false,
+        bytes: b"\x0A\x01",
+    },
+    Number {
+        value: 0xFFFF_FFFF_FFFF_FFFF,
+        short: false,
+        bytes: b"\x0E\xFF\xFF\xFF\xFF\xFF\xFF\xFF\xFF",
+    },
+];
+
 #[test]
 fn integers(rt: HostRuntime) {
-    let rows = [
-        Number {
-            value: 0,
-            short: true,
-            bytes: b"\x00",
-        },
-        Number {
-            value: 1,
-            short: true,
-            bytes: b"\x01",
-        },
-        Number {
-            value: 0x12,
-            short: true,
-            bytes: b"\x0A\x12",
-        },
-        Number {
-            value: 0xFF,
-            short: true,
-            bytes: b"\x0A\xFF",
-        },
-        Number {
-            value: 0x1234,
-            short: true,
-            bytes: b"\x0B\x34\x12",
-        },
-        Number {
-            value: 0x1_0000,
-            short: true,
-            bytes: b"\x0C\x00\x00\x01\x00",
-        },
-        Number {
-            value: 0x1234_5678,
-            short: true,
-            bytes: b"\x0C\x78\x56\x34\x12",
-        },
-        Number {
-            value: 0xFFFF_FFFF,
-            short: true,
-            bytes: b"\x0C\xFF\xFF\xFF\xFF",
-        },
-        Number {
-            value: 0x1122_3344_5566_7788,
-            short: true,
-            bytes: b"\x0E\x88\x77\x66\x55\x44\x33\x22\x11",
-        },
-        Number {
-            value: 0xFFFF_FFFF_FFFF_FFFF,
-            short: true,
-            bytes: b"\xFF",
-        },
-        Number {
-            value: 0,
-            short: false,
-            bytes: b"\x0A\x00",
-        },
-        Number {
-            value: 1,
-            short: false,
-            bytes: b"\x0A\x01",
-        },
-        Number {
-            value: 0xFFFF_FFFF_FFFF_FFFF,
-            short: false,
-            bytes: b"\x0E\xFF\xFF\xFF\xFF\xFF\xFF\xFF\xFF",
-        },
-    ];
-    for row in &rows {
+    for row in &NUMBERS {
         assert!(rt; is(&integer_bytes(row.value, Width::W64, row.short), row.bytes));
     }
     assert!(rt; is(&integer_bytes(0xFFFF_FFFF, Width::W32, true), b"\xFF"));
@@ -172,55 +176,56 @@ fn written(alloc: Global, name: &Name) -> Result<Vec<u8>, AllocError> {
     Ok(out)
 }
 
+// Names of no segment, of one, of two and of more, and their bytes.
+static NAMES: [Name; 7] = [
+    Name {
+        root: false,
+        up: 0,
+        segs: &[],
+        bytes: b"\x00",
+    },
+    Name {
+        root: false,
+        up: 0,
+        segs: &[b"ABCD"],
+        bytes: b"ABCD",
+    },
+    Name {
+        root: true,
+        up: 0,
+        segs: &[b"ABCD"],
+        bytes: b"\\ABCD",
+    },
+    Name {
+        root: true,
+        up: 0,
+        segs: &[],
+        bytes: b"\\\x00",
+    },
+    Name {
+        root: false,
+        up: 2,
+        segs: &[b"AB__"],
+        bytes: b"^^AB__",
+    },
+    Name {
+        root: false,
+        up: 0,
+        segs: &[b"ABCD", b"EFGH"],
+        bytes: b"\x2EABCDEFGH",
+    },
+    Name {
+        root: true,
+        up: 0,
+        segs: &[b"_SB_", b"PCI0", b"ISA_"],
+        bytes: b"\\\x2F\x03_SB_PCI0ISA_",
+    },
+];
+
 #[test]
 fn names(rt: HostRuntime) -> Result<(), AllocError> {
-    let rows = [
-        Name {
-            root: false,
-            up: 0,
-            segs: &[],
-            bytes: b"\x00",
-        },
-        Name {
-            root: false,
-            up: 0,
-            segs: &[b"ABCD"],
-            bytes: b"ABCD",
-        },
-        Name {
-            root: true,
-            up: 0,
-            segs: &[b"ABCD"],
-            bytes: b"\\ABCD",
-        },
-        Name {
-            root: true,
-            up: 0,
-            segs: &[],
-            bytes: b"\\\x00",
-        },
-        Name {
-            root: false,
-            up: 2,
-            segs: &[b"AB__"],
-            bytes: b"^^AB__",
-        },
-        Name {
-            root: false,
-            up: 0,
-            segs: &[b"ABCD", b"EFGH"],
-            bytes: b"\x2EABCDEFGH",
-        },
-        Name {
-            root: true,
-            up: 0,
-            segs: &[b"_SB_", b"PCI0", b"ISA_"],
-            bytes: b"\\\x2F\x03_SB_PCI0ISA_",
-        },
-    ];
-    for row in &rows {
-        let bytes = written(rt.alloc(), row)?;
-        assert!(rt; bytes.as_slice() == row.bytes);
+    for row in &NAMES {
+        assert!(rt; written(rt.alloc(), row)?.as_slice() == row.bytes);
     }
     Ok(())
 }

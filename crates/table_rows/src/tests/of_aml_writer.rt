@@ -103,58 +103,63 @@ fn joined(alloc: Global, pieces: &Pieces) -> Result<Vec<u8>, AllocError> {
     Ok(bytes)
 }
 
+// Heads of blocks, and their tables.
+static TABLES: [Row; 3] = [
+    Row {
+        signature: b"SSDT",
+        revision: 2,
+        oem_id: b"RATTLE",
+        table_id: b"FIRST   ",
+        oem_revision: 1,
+        method: false,
+        pieces: 2,
+        bytes: b"SSDT\x2B\x00\x00\x00\x02\x34RATTLEFIRST   \x01\x00\x00\x00INTL\x05\x01\x21\x20\x08ABCD\x0A\x12",
+    },
+    Row {
+        signature: b"DSDT",
+        revision: 1,
+        oem_id: b"AB",
+        table_id: b"C",
+        oem_revision: 0x1234_5678,
+        method: false,
+        pieces: 2,
+        bytes: b"DSDT\x2B\x00\x00\x00\x01\x1FAB\x00\x00\x00\x00C\x00\x00\x00\x00\x00\x00\x00\x78\x56\x34\x12INTL\x05\x01\x21\x20\x08ABCD\x0A\x12",
+    },
+    Row {
+        signature: b"SSDT",
+        revision: 2,
+        oem_id: b"RATTLE",
+        table_id: b"FIRST   ",
+        oem_revision: 1,
+        method: true,
+        pieces: 4,
+        bytes: b"SSDT\x34\x00\x00\x00\x02\x42RATTLEFIRST   \x01\x00\x00\x00INTL\x05\x01\x21\x20\x08ABCD\x0A\x12\x14\x08MAIN\x03\xA4\x01",
+    },
+];
+
+// Whether the block of a row comes to its table.
+fn is_right(alloc: Global, row: &Row) -> Result<bool, AllocError> {
+    let lines = Lines {
+        files: Texts::new(alloc),
+        list: LineList::new(alloc),
+    };
+    let core = core(alloc, row)?;
+    if core.program.blocks.is_empty() {
+        return Ok(false);
+    }
+    match write(alloc, &core, &lines, 0, true) {
+        Ok(pieces) => {
+            let bytes = joined(alloc, &pieces)?;
+            Ok(pieces.len() == row.pieces && bytes.as_slice() == row.bytes)
+        }
+        Err(_) => Ok(false),
+    }
+}
+
 #[test]
 fn tables(rt: HostRuntime) -> Result<(), AllocError> {
-    let rows = [
-        Row {
-            signature: b"SSDT",
-            revision: 2,
-            oem_id: b"RATTLE",
-            table_id: b"FIRST   ",
-            oem_revision: 1,
-            method: false,
-            pieces: 2,
-            bytes: b"SSDT\x2B\x00\x00\x00\x02\x34RATTLEFIRST   \x01\x00\x00\x00INTL\x05\x01\x21\x20\x08ABCD\x0A\x12",
-        },
-        Row {
-            signature: b"DSDT",
-            revision: 1,
-            oem_id: b"AB",
-            table_id: b"C",
-            oem_revision: 0x1234_5678,
-            method: false,
-            pieces: 2,
-            bytes: b"DSDT\x2B\x00\x00\x00\x01\x1FAB\x00\x00\x00\x00C\x00\x00\x00\x00\x00\x00\x00\x78\x56\x34\x12INTL\x05\x01\x21\x20\x08ABCD\x0A\x12",
-        },
-        Row {
-            signature: b"SSDT",
-            revision: 2,
-            oem_id: b"RATTLE",
-            table_id: b"FIRST   ",
-            oem_revision: 1,
-            method: true,
-            pieces: 4,
-            bytes: b"SSDT\x34\x00\x00\x00\x02\x42RATTLEFIRST   \x01\x00\x00\x00INTL\x05\x01\x21\x20\x08ABCD\x0A\x12\x14\x08MAIN\x03\xA4\x01",
-        },
-    ];
-    let lines = Lines {
-        files: Texts::new(rt.alloc()),
-        list: LineList::new(rt.alloc()),
-    };
-    for row in &rows {
-        let core = core(rt.alloc(), row)?;
-        if core.program.blocks.is_empty() {
-            assert!(rt; false);
-            return Ok(());
-        }
-        match write(rt.alloc(), &core, &lines, 0, true) {
-            Ok(pieces) => {
-                let bytes = joined(rt.alloc(), &pieces)?;
-                assert_eq!(rt; pieces.len(), row.pieces);
-                assert!(rt; bytes.as_slice() == row.bytes);
-            }
-            Err(_) => assert!(rt; false),
-        }
+    for row in &TABLES {
+        assert!(rt; is_right(rt.alloc(), row)?);
     }
     Ok(())
 }

@@ -1,7 +1,7 @@
 // Devices that are generated, through the whole call.
-use super::super::are;
-use super::{Case, Failing, ONE_NAME, USAGE, run, run_case};
-use std::alloc::AllocError;
+use super::super::{are, ended_as};
+use super::{Case, Failing, NONE_FAILS, ONE_NAME, USAGE, is_right, run};
+use std::alloc::{AllocError, Global};
 
 const ONE_DEVICE_TABLE: &[u8] =
     b"SSDT=\x00\x00\x00\x02qGENER8DEVICES\x00\x01\x00\x00\x00INTL\x05\x01! \
@@ -53,62 +53,61 @@ const REFUSED: &[&[&str]] = &[
 #[test]
 fn generated_devices(rt: HostRuntime) -> Result<(), AllocError> {
     for case in CASES {
-        let ran = run_case(rt.alloc(), case)?;
-        assert_eq!(rt; ran.status, case.status);
-        assert!(rt; are(ran.outs.names(), case.names));
-        assert!(rt; are(ran.outs.bodies(), case.bodies));
-        assert!(rt; ran.console.as_bytes() == case.told);
+        assert!(rt; is_right(rt.alloc(), case)?);
     }
     Ok(())
+}
+
+// Whether words are refused.
+fn is_refused(alloc: Global, words: &[&str]) -> Result<bool, AllocError> {
+    let ran = run(alloc, words, ONE_NAME, &NONE_FAILS)?;
+    Ok(ended_as(&ran, 2, &[], &[], USAGE))
 }
 
 #[test]
 fn refused_generations(rt: HostRuntime) -> Result<(), AllocError> {
-    let none = Failing {
-        fetch: 9,
-        put: 9,
-        write: 9,
-    };
     for words in REFUSED {
-        let ran = run(rt.alloc(), words, ONE_NAME, &none)?;
-        assert_eq!(rt; ran.status, 2);
-        assert_eq!(rt; ran.outs.names().len(), 0);
-        assert!(rt; ran.console.as_bytes() == USAGE);
+        assert!(rt; is_refused(rt.alloc(), words)?);
     }
     Ok(())
 }
 
-// The put fails; no fetch can, since none is made.
-#[test]
-fn failing_generation(rt: HostRuntime) -> Result<(), AllocError> {
+// Whether a generation of which the put fails ends with a fault. No fetch can fail, since none is made.
+fn faults(alloc: Global) -> Result<bool, AllocError> {
     let failing = Failing {
         fetch: 1,
         put: 1,
         write: 9,
     };
-    let ran = run(rt.alloc(), &["--generate", "2"], ONE_NAME, &failing)?;
-    assert_eq!(rt; ran.status, 3);
-    assert!(rt; ran.console.as_bytes() == b"iasl: file fault\n".as_slice());
+    let ran = run(alloc, &["--generate", "2"], ONE_NAME, &failing)?;
+    Ok(ran.status == 3 && ran.console.as_bytes() == b"iasl: file fault\n".as_slice())
+}
+
+#[test]
+fn failing_generation(rt: HostRuntime) -> Result<(), AllocError> {
+    assert!(rt; faults(rt.alloc())?);
     Ok(())
+}
+
+const MOST_DEVICES: &[u8] =
+    b"generated.aml: SSDT, 118304 bytes\ngenerated: 4096 devices\n0 errors, 0 warnings, 0 remarks\n";
+
+// Whether the largest generation ends with its last device.
+fn has_last_device(alloc: Global) -> Result<bool, AllocError> {
+    let ran = run(alloc, &["--generate", "4096"], ONE_NAME, &NONE_FAILS)?;
+    let is_table = ran.outs.bodies().get(0).is_some_and(|body| {
+        body.as_bytes().len() == 118304 && body.as_bytes().ends_with(LAST_DEVICE)
+    });
+    Ok(
+        ran.status == 0
+            && is_table
+            && are(ran.outs.names(), &[b"generated.aml"])
+            && ran.console.as_bytes() == MOST_DEVICES,
+    )
 }
 
 #[test]
 fn most_devices(rt: HostRuntime) -> Result<(), AllocError> {
-    let none = Failing {
-        fetch: 1,
-        put: 9,
-        write: 9,
-    };
-    let ran = run(rt.alloc(), &["--generate", "4096"], ONE_NAME, &none)?;
-    assert_eq!(rt; ran.status, 0);
-    assert!(rt; are(ran.outs.names(), &[b"generated.aml"]));
-    assert!(rt;
-        ran.outs.bodies().get(0).is_some_and(|body| body.as_bytes().len() == 118304
-            && body.as_bytes().ends_with(LAST_DEVICE))
-    );
-    assert!(rt;
-        ran.console.as_bytes()
-            == b"generated.aml: SSDT, 118304 bytes\ngenerated: 4096 devices\n0 errors, 0 warnings, 0 remarks\n".as_slice()
-    );
+    assert!(rt; has_last_device(rt.alloc())?);
     Ok(())
 }

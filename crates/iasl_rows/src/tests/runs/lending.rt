@@ -2,7 +2,7 @@
 ghost use Rattle.std.specs.Prelude.{IfOk};
 ghost use Rattle.iasl_backends.specs.Asked.{IsOneOfEach};
 
-use super::super::{are, boxes, given_words};
+use super::super::{boxes, given_words};
 use super::{ONE_NAME, WRONG_ARGUMENTS};
 use iasl_backends::backend::{Backend, Kind};
 use iasl_backends::c_hex::CHex;
@@ -195,52 +195,48 @@ fn are_left(backends: &Vec<Box<dyn Backend>>, wanted: &[Kind]) -> bool {
     same
 }
 
-#[test]
-fn boxes_that_are_left(rt: HostRuntime) -> Result<(), AllocError> {
-    let alloc = rt.alloc();
-    for lending in LENDINGS {
-        let mut files = MemoryFiles::new(alloc);
-        files.add(lending.file.0, lending.file.1)?;
-        let mut outs = MemoryOutputs::new(alloc);
-        let mut console = MemorySink::new(alloc, 1000)?;
-        let words = given_words(alloc, lending.words)?;
-        let mut backends = boxes(alloc)?;
-        let status = iasl(
-            alloc,
-            &words,
-            &mut files,
-            &mut outs,
-            &mut console,
-            &mut backends,
-        );
-        assert_eq!(rt; status, lending.status);
-        assert!(rt; are_left(&backends, lending.left));
-    }
-    Ok(())
+// How a run ended: its status, how many files it put, and what it told.
+#[derive(Drop)]
+struct Ended {
+    status: u8,
+    put: usize,
+    console: MemorySink,
+}
+
+// A run of these words over these boxes, where there is this one file.
+fn run_on(
+    alloc: Global,
+    words: &[&str],
+    file: (&str, &[u8]),
+    backends: &mut Vec<Box<dyn Backend>>,
+) -> Result<Ended, AllocError>
+    requires { IsOneOfEach (λ b. kind_of b) backends.old.items }
+{
+    let words = given_words(alloc, words)?;
+    let mut files = MemoryFiles::new(alloc);
+    files.add(file.0, file.1)?;
+    let mut outs = MemoryOutputs::new(alloc);
+    let mut console = MemorySink::new(alloc, 1000)?;
+    let status = iasl(alloc, &words, &mut files, &mut outs, &mut console, backends);
+    Ok(Ended {
+        status,
+        put: outs.names().len(),
+        console,
+    })
+}
+
+// Whether a run ends with its status and leaves its boxes.
+fn is_right(alloc: Global, lending: &Lending) -> Result<bool, AllocError> {
+    let mut backends = boxes(alloc)?;
+    let ended = run_on(alloc, lending.words, lending.file, &mut backends)?;
+    Ok(ended.status == lending.status && are_left(&backends, lending.left))
 }
 
 #[test]
-fn a_box_that_refuses(rt: HostRuntime) -> Result<(), AllocError> {
-    let alloc = rt.alloc();
-    let mut files = MemoryFiles::new(alloc);
-    files.add("t.asl", ONE_NAME)?;
-    let mut outs = MemoryOutputs::new(alloc);
-    let mut console = MemorySink::new(alloc, 1000)?;
-    let mut backends = refusing_boxes(alloc)?;
-
-    let words = given_words(alloc, &["-tc", "t.asl"])?;
-    let status = iasl(
-        alloc,
-        &words,
-        &mut files,
-        &mut outs,
-        &mut console,
-        &mut backends,
-    );
-    assert_eq!(rt; status, 4);
-    assert!(rt; are(outs.names(), &[]));
-    assert!(rt; console.as_bytes() == b"iasl: out of memory\n".as_slice());
-    assert!(rt; are_left(&backends, &[Kind::RawAml, Kind::CHex]));
+fn boxes_that_are_left(rt: HostRuntime) -> Result<(), AllocError> {
+    for lending in LENDINGS {
+        assert!(rt; is_right(rt.alloc(), lending)?);
+    }
     Ok(())
 }
 
@@ -252,34 +248,72 @@ const TWO_NAMES: &[u8] = b"DefinitionBlock (\"\", \"SSDT\", 2, \"OEMX00\", \"TAB
 }
 ";
 
+// A run over boxes of which one may refuse a piece: its option, its source, its status, how many files it puts, what it tells, and the kind of the box
+// that is left beside that of the table.
+#[derive(Drop)]
+struct Refusal {
+    word: &'static str,
+    source: &'static [u8],
+    status: u8,
+    put: usize,
+    told: &'static [u8],
+    left: Kind,
+}
+
+// Whether a run over these boxes is that.
+fn is_refusal(
+    alloc: Global,
+    row: &Refusal,
+    mut backends: Vec<Box<dyn Backend>>,
+) -> Result<bool, AllocError>
+    requires { IsOneOfEach (λ b. kind_of b) backends.items }
+{
+    let ended = run_on(
+        alloc,
+        &[row.word, "t.asl"],
+        ("t.asl", row.source),
+        &mut backends,
+    )?;
+    Ok(
+        ended.status == row.status
+            && ended.put == row.put
+            && ended.console.as_bytes() == row.told
+            && are_left(&backends, &[Kind::RawAml, row.left]),
+    )
+}
+
+const FIRST_PIECE: Refusal = Refusal {
+    word: "-tc",
+    source: ONE_NAME,
+    status: 4,
+    put: 0,
+    told: b"iasl: out of memory\n",
+    left: Kind::CHex,
+};
+
+const THIRD_PIECE: Refusal = Refusal {
+    word: "-l",
+    source: TWO_NAMES,
+    status: 4,
+    put: 0,
+    told: b"iasl: out of memory\n",
+    left: Kind::Listing,
+};
+
+const NO_THIRD_PIECE: Refusal = Refusal {
+    word: "-l",
+    source: ONE_NAME,
+    status: 0,
+    put: 2,
+    told: b"t.aml: SSDT, 43 bytes\n0 errors, 0 warnings, 0 remarks\n",
+    left: Kind::Listing,
+};
+
 #[test]
-fn a_box_that_refuses_its_third_piece(rt: HostRuntime) -> Result<(), AllocError> {
+fn boxes_that_refuse(rt: HostRuntime) -> Result<(), AllocError> {
     let alloc = rt.alloc();
-    for (source, status, console_text) in [
-        (
-            ONE_NAME,
-            0,
-            b"t.aml: SSDT, 43 bytes\n0 errors, 0 warnings, 0 remarks\n".as_slice(),
-        ),
-        (TWO_NAMES, 4, b"iasl: out of memory\n".as_slice()),
-    ] {
-        let mut files = MemoryFiles::new(alloc);
-        files.add("t.asl", source)?;
-        let mut outs = MemoryOutputs::new(alloc);
-        let mut console = MemorySink::new(alloc, 1000)?;
-        let mut backends = boxes_of_two_pieces(alloc)?;
-        let words = given_words(alloc, &["-l", "t.asl"])?;
-        let ended = iasl(
-            alloc,
-            &words,
-            &mut files,
-            &mut outs,
-            &mut console,
-            &mut backends,
-        );
-        assert_eq!(rt; ended, status);
-        assert!(rt; console.as_bytes() == console_text);
-        assert!(rt; are_left(&backends, &[Kind::RawAml, Kind::Listing]));
-    }
+    assert!(rt; is_refusal(alloc, &FIRST_PIECE, refusing_boxes(alloc)?)?);
+    assert!(rt; is_refusal(alloc, &THIRD_PIECE, boxes_of_two_pieces(alloc)?)?);
+    assert!(rt; is_refusal(alloc, &NO_THIRD_PIECE, boxes_of_two_pieces(alloc)?)?);
     Ok(())
 }

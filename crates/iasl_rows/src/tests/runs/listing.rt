@@ -1,7 +1,6 @@
 // The listing, through the whole call.
-use super::super::are;
 use super::options::ONE_NAME_ARRAY;
-use super::{Case, ONE_METHOD_TABLE, ONE_NAME, ONE_NAME_TABLE, OWN_NAME, USAGE, run_case};
+use super::{Case, ONE_METHOD_TABLE, ONE_NAME, ONE_NAME_TABLE, OWN_NAME, USAGE, is_right};
 use std::alloc::AllocError;
 
 const ONE_NAME_LINES: &[u8] =
@@ -175,11 +174,7 @@ const CASES: &[Case] = &[
 #[test]
 fn listings(rt: HostRuntime) -> Result<(), AllocError> {
     for case in CASES {
-        let ran = run_case(rt.alloc(), case)?;
-        assert_eq!(rt; ran.status, case.status);
-        assert!(rt; are(ran.outs.names(), case.names));
-        assert!(rt; are(ran.outs.bodies(), case.bodies));
-        assert!(rt; ran.console.as_bytes() == case.told);
+        assert!(rt; is_right(rt.alloc(), case)?);
     }
     Ok(())
 }

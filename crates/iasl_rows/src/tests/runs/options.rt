@@ -1,8 +1,7 @@
 // The options of the console, of warnings and of outputs, through the whole call.
-use super::super::are;
 use super::{
     Case, NAMES, NOTED, NOTED_AND_STRAY, NOTHING_TABLE, ONE_NAME, ONE_NAME_TABLE, OWN_NAME,
-    run_case,
+    is_right,
 };
 use std::alloc::AllocError;
 
@@ -161,11 +160,7 @@ const CASES: &[Case] = &[
 #[test]
 fn brief_messages_refused_warnings_and_further_outputs(rt: HostRuntime) -> Result<(), AllocError> {
     for case in CASES {
-        let ran = run_case(rt.alloc(), case)?;
-        assert_eq!(rt; ran.status, case.status);
-        assert!(rt; are(ran.outs.names(), case.names));
-        assert!(rt; are(ran.outs.bodies(), case.bodies));
-        assert!(rt; ran.console.as_bytes() == case.told);
+        assert!(rt; is_right(rt.alloc(), case)?);
     }
     Ok(())
 }
