@@ -168,8 +168,7 @@ static FORMS: [(&str, &str); 30] = [
 #[test]
 fn directives_and_their_forms(rt: HostRuntime) -> Result<(), AllocError> {
     for (text, wanted) in &FORMS {
-        let shown = run_alone(rt.alloc(), text)?;
-        assert!(rt; shown.as_str() == *wanted, "{text:?} gives {shown:?}");
+        assert_eq!(rt; run_alone(rt.alloc(), text)?.as_str(), *wanted, "{text:?}");
     }
     Ok(())
 }
@@ -211,8 +210,7 @@ static CONDITIONALS: [(&str, &str); 19] = [
 #[test]
 fn conditionals(rt: HostRuntime) -> Result<(), AllocError> {
     for (text, wanted) in &CONDITIONALS {
-        let shown = run_alone(rt.alloc(), text)?;
-        assert!(rt; shown.as_str() == *wanted, "{text:?} gives {shown:?}");
+        assert_eq!(rt; run_alone(rt.alloc(), text)?.as_str(), *wanted, "{text:?}");
     }
     Ok(())
 }
@@ -373,12 +371,7 @@ static INCLUDES: [Row; 16] = [
 #[test]
 fn includes(rt: HostRuntime) -> Result<(), AllocError> {
     for row in &INCLUDES {
-        let shown = run(rt.alloc(), row)?;
-        assert!(rt;
-            shown.as_str() == row.shown,
-            "{:?} gives {shown:?}",
-            row.shown
-        );
+        assert_eq!(rt; run(rt.alloc(), row)?.as_str(), row.shown);
     }
     Ok(())
 }
