@@ -27,10 +27,16 @@ use asl_tree::term::{Node, Op};
 use std::alloc::{AllocError, Global};
 
 /// All paths that a block speaks of, and of each number whether its path is named.
-#[derive(Drop)]
 pub struct Index {
     pub paths: Paths,
     pub named: Vec<bool>,
+}
+
+// By hand, so that an owner lets go of it by one call (docs/DECISIONS.md).
+impl Drop for Index {
+    fn drop(self) {
+        let Index { paths: _, named: _ } = self;
+    }
 }
 
 /// The number of the path of these segments below a scope; nothing more is named.

@@ -22,7 +22,6 @@ use std::mem::replace;
 
 /// The trees that were read last, which are held, and the frames that stand open around them, the innermost first. The nodes
 /// of all of them lie on one vector.
-#[derive(Drop)]
 pub struct Stack {
     alloc: Global,
     nodes: Vec<Raw>,
@@ -30,6 +29,20 @@ pub struct Stack {
     innermost: OpenFrame,
     hand: FrameGroup,
     depth: usize,
+}
+
+// By hand, so that an owner lets go of it by one call (docs/DECISIONS.md).
+impl Drop for Stack {
+    fn drop(self) {
+        let Stack {
+            alloc: _,
+            nodes: _,
+            outer: _,
+            innermost: _,
+            hand: _,
+            depth: _,
+        } = self;
+    }
 }
 
 impl Model for Stack {

@@ -1,5 +1,5 @@
 //! What is known between two rows.
-ghost use Rattle.std.specs.Prelude.{◌≡◌, ◌∷◌, ◌++◌, ◌≤◌, ◌<◌, [], ℕ, Bool, List, length, OnOk, IfErr, IfOk, true, false};
+ghost use Rattle.std.specs.Prelude.{◌≡◌, ◌+◌, ◌∷◌, ◌++◌, ◌≤◌, ◌<◌, [], ℕ, Bool, List, length, OnOk, IfErr, IfOk, true, false};
 ghost use Rattle.iasl_ports.specs.Fetched.{most_bytes};
 ghost use Rattle.std.specs.Str.{bytes_eq};
 ghost use Rattle.asl_preprocess.specs.OwnName.{own_name};
@@ -23,7 +23,6 @@ pub(crate) const OWN_NAME: [u8; 8] = *b"__IASL__";
 
 /// The definitions, and whether there were any but that of `__IASL__`; the lines so far, with their size joined and an
 /// LF behind each; the notes so far; and the names of the files that were fetched.
-#[derive(Drop)]
 pub(crate) struct Work {
     pub(crate) macros: Macros,
     pub(crate) others: bool,
@@ -31,6 +30,20 @@ pub(crate) struct Work {
     pub(crate) size: usize,
     pub(crate) notes: Messages,
     pub(crate) files: FileNames,
+}
+
+// By hand, so that an owner lets go of it by one call (docs/DECISIONS.md).
+impl Drop for Work {
+    fn drop(self) {
+        let Work {
+            macros: _,
+            others: _,
+            lines: _,
+            size: _,
+            notes: _,
+            files: _,
+        } = self;
+    }
 }
 
 // A text as it is, if it has room.
@@ -54,7 +67,7 @@ impl Work {
     ghost use Rattle.asl_macros.specs.Replacement.{replaced};
     ghost use Rattle.asl_macros.specs.declared.context.Within.TheVariants.{InLine};
     ghost use Rattle.asl_directives.specs.declared.branches.Branch.{Branch};
-    ghost use Rattle.asl_preprocess.specs.State.{State, blank, with_history, with_notes, with_file, with_files, number_of};
+    ghost use Rattle.asl_preprocess.specs.State.{State, blank, with_history, with_lines, with_notes, with_file, with_files, number_of};
     ghost use Rattle.asl_preprocess.specs.Lines.{with_line, text_left};
     ghost use Rattle.asl_preprocess.specs.Told.{Shows, Steps};
 
@@ -159,6 +172,17 @@ impl Work {
         Ok(Text::from_vec(alloc, left)?)
     }
 
+    // One more line, for which there is room.
+    fn push(&mut self, line: Line) -> Result<(), AllocError>
+        requires { self.old.size ≤ most_bytes }
+        ensures { OnOk result ((state : State) → Shows self.old state → self.old.size + length line.text ≤ most_bytes → Shows self.new (with_lines state (state.lines ++ line ∷ []))) }
+    {
+        let size = line.text.as_bytes().len();
+        self.lines.push(line)?;
+        self.size += size + 1;
+        Ok(())
+    }
+
     /// Keeps a line, with its defined names replaced where the preprocessor is enabled.
     pub(crate) fn keep(
         &mut self,
@@ -179,13 +203,11 @@ impl Work {
         };
         match self.text_left(alloc, enabled, line, room) {
             Ok(text) => {
-                let size = text.as_bytes().len();
-                self.lines.push(Line {
+                self.push(Line {
                     file: line.file,
                     number: line.number,
                     text,
                 })?;
-                self.size += size + 1;
                 Ok(())
             }
             Err(ReplaceStop::TooLong) => Err(refusal(alloc, TEXT_IS_TOO_LARGE, place, b"")),

@@ -67,6 +67,7 @@ use name_spelling::spell::spell;
 use region_checks::check::region_faults;
 use statement_checks::check::statement_errors;
 use std::alloc::{AllocError, Global};
+use std::mem::replace;
 use switch_checks::locals::few_locals;
 use switch_checks::repeat::repeated_values;
 use switch_loops::loops::loops;
@@ -200,27 +201,10 @@ fn lowered(alloc: Global, style: Style, block: Block) -> Result<Block, AllocErro
     ensures file { IfOk result (λ core. core.file ≡ block.file) }
     ensures fields { IfOk result (λ core. fields_of core ≡ fields_of block) }
 {
-    let Block {
-        place,
-        file,
-        signature,
-        revision,
-        oem_id,
-        table_id,
-        oem_revision,
-        terms,
-    } = block;
-    let terms = lowered_terms(alloc, style.fold, Width::of_revision(revision), terms)?;
-    Ok(Block {
-        place,
-        file,
-        signature,
-        revision,
-        oem_id,
-        table_id,
-        oem_revision,
-        terms,
-    })
+    let mut core = block;
+    let terms = replace(&mut core.terms, Vec::new(alloc));
+    core.terms = lowered_terms(alloc, style.fold, Width::of_revision(core.revision), terms)?;
+    Ok(core)
 }
 
 /// What is found of a block's terms: their names, where nothing is wrong, or what is wrong.

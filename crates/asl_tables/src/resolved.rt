@@ -29,6 +29,7 @@ use iasl_messages::place::Place;
 use indexmap::IndexSet;
 use name_checks::check::check;
 use std::alloc::{AllocError, Global};
+use std::mem::replace;
 
 /// A block as it is compiled: the fields of its descriptors are constants, and its nodes have their numbers. With it stands what is
 /// told of the names of descriptors and, where it has such, of its other names; of a block without them nothing is told here.
@@ -269,28 +270,9 @@ pub(crate) fn resolve_block(alloc: Global, block: Block) -> Result<Resolved, All
     ensures file { IfOk result (λ made. made.block.file ≡ block.file) }
     ensures fields { IfOk result (λ made. fields_of made.block ≡ fields_of block) }
 {
-    let Block {
-        place,
-        file,
-        signature,
-        revision,
-        oem_id,
-        table_id,
-        oem_revision,
-        terms,
-    } = block;
+    let mut made = block;
+    let terms = replace(&mut made.terms, Vec::new(alloc));
     let Described { terms, told } = describe(alloc, terms)?;
-    Ok(Resolved {
-        block: Block {
-            place,
-            file,
-            signature,
-            revision,
-            oem_id,
-            table_id,
-            oem_revision,
-            terms,
-        },
-        told,
-    })
+    made.terms = terms;
+    Ok(Resolved { block: made, told })
 }

@@ -22,6 +22,7 @@ use iasl_messages::place::{Line, Lines, Piece, Pieces, Place};
 use iasl_ports::list::{List, Text};
 use source_lines::lines::SourceLines;
 use std::alloc::{AllocError, Global};
+use std::mem::replace;
 
 // One message.
 fn refuse(alloc: Global, number: u16, place: Place) -> Stage
@@ -50,9 +51,11 @@ fn sealed_table(alloc: Global, signature: &[u8], walker: Walker) -> Result<Compi
     ensures table { IfOk result (λ table. table ≡ record { pieces = sealed walker.pieces; signature = signature.now; notes = walker.notes }) }
     ensures within { OnOk result (length (joined walker.pieces) < 2 ^ 32) }
 {
+    let signature = Text::from_bytes(alloc, signature)?;
+    let pieces = seal(alloc, walker.pieces)?;
     Ok(Compiled {
-        pieces: seal(alloc, walker.pieces)?,
-        signature: Text::from_bytes(alloc, signature)?,
+        pieces,
+        signature,
         notes: walker.notes,
     })
 }
@@ -111,16 +114,13 @@ fn with_text(alloc: Global, lines: &SourceLines<'_>, piece: Piece) -> Result<Pie
 }
 
 // Pieces with the texts of their lines.
-fn pieces_with_texts(
-    alloc: Global,
-    lines: &SourceLines<'_>,
-    pieces: Pieces,
-) -> Result<Pieces, AllocError>
-    ensures { IfOk result (λ out. out ≡ map (with_text lines.now) pieces) }
+fn pieces_with_texts(alloc: Global, lines: &[Line], pieces: Pieces) -> Result<Pieces, AllocError>
+    ensures { IfOk result (λ out. out ≡ with_texts lines.now pieces) }
 {
+    let index = SourceLines::new(alloc, lines)?;
     let mut out = Pieces::new(alloc);
     for piece in pieces.into_vec() {
-        out.push(with_text(alloc, lines, piece)?)?;
+        out.push(with_text(alloc, &index, piece)?)?;
     }
     Ok(out)
 }
@@ -129,12 +129,10 @@ fn pieces_with_texts(
 fn with_texts(alloc: Global, lines: &[Line], table: Compiled) -> Result<Compiled, AllocError>
     ensures { IfOk result (λ out. out ≡ record table { pieces = with_texts lines.now table.pieces }) }
 {
-    let index = SourceLines::new(alloc, lines)?;
-    Ok(Compiled {
-        pieces: pieces_with_texts(alloc, &index, table.pieces)?,
-        signature: table.signature,
-        notes: table.notes,
-    })
+    let mut made = table;
+    let pieces = replace(&mut made.pieces, Pieces::new(alloc));
+    made.pieces = pieces_with_texts(alloc, lines, pieces)?;
+    Ok(made)
 }
 
 /// The table of a text of fields, with a piece for each field line; or its faults, in order of the text: 6090 to 6097.

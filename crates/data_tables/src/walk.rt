@@ -51,11 +51,11 @@ pub(crate) fn message_at(alloc: Global, number: u16, place: Place) -> Message
 fn computed_bytes(alloc: Global, row: &Row) -> Result<Option<Vec<u8>>, AllocError>
     ensures { IfOk result (λ found. MatchOption found ((value : Given) → field_bytes row.now value ≡ value_bytes row.now.width value) (λ bytes. (value : Given) → field_bytes row.now value ≡ bytes.items)) }
 {
-    match row.kind {
-        Kind::TableLength | Kind::Checksum => Ok(Some(little_bytes(alloc, row.width, 0)?)),
-        Kind::CompilerId => Ok(Some(COMPILER_ID.to_vec(alloc)?)),
-        Kind::CompilerRevision => Ok(Some(COMPILER_REVISION.to_le_bytes().to_vec(alloc)?)),
-        Kind::Length(size) => Ok(Some(little_bytes(alloc, row.width, u64::from(size))?)),
+    let bytes = match row.kind {
+        Kind::TableLength | Kind::Checksum => little_bytes(alloc, row.width, 0),
+        Kind::CompilerId => COMPILER_ID.to_vec(alloc),
+        Kind::CompilerRevision => COMPILER_REVISION.to_le_bytes().to_vec(alloc),
+        Kind::Length(size) => little_bytes(alloc, row.width, u64::from(size)),
         Kind::Number
         | Kind::Text
         | Kind::Bytes
@@ -63,8 +63,9 @@ fn computed_bytes(alloc: Global, row: &Row) -> Result<Option<Vec<u8>>, AllocErro
         | Kind::Revision
         | Kind::StructureType
         | Kind::Localities
-        | Kind::Locality(_) => Ok(None),
-    }
+        | Kind::Locality(_) => return Ok(None),
+    };
+    Ok(Some(bytes?))
 }
 
 // The bytes of a field that is a number.

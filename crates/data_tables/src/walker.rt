@@ -161,6 +161,18 @@ impl Walker {
             None => Ok(()),
         }
     }
+
+    // Takes lines as far as none halts, and where none does the end of the text.
+    fn take_all(&mut self, lines: &[FieldLine], end: Place) -> Result<(), AllocError>
+        ensures { OnOk result (told_with self.old end lines.now ≡ so_far self.new) }
+    {
+        for line in lines {
+            if !self.take(line)? {
+                return Ok(());
+            }
+        }
+        self.end(end)
+    }
 }
 
 /// What the lines of a table's text come to.
@@ -173,11 +185,6 @@ pub(crate) fn walk_lines(
     ensures { IfOk result (λ walker. so_far walker ≡ outcome_of (walk end (first_part table) None lines.now)) }
 {
     let mut walker = Walker::new(alloc, table);
-    for line in lines {
-        if !walker.take(line)? {
-            return Ok(walker);
-        }
-    }
-    walker.end(end)?;
+    walker.take_all(lines, end)?;
     Ok(walker)
 }

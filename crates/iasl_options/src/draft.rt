@@ -11,7 +11,6 @@ use iasl_ports::list::{Text, Texts};
 use std::alloc::{AllocError, Global};
 
 // What the words so far ask for.
-#[derive(Drop)]
 pub(crate) struct Draft {
     file: Option<Text>,
     prefix: Option<Text>,
@@ -20,6 +19,21 @@ pub(crate) struct Draft {
     only: bool,
     enabled: bool,
     switches: Switches,
+}
+
+// By hand, so that an owner lets go of it by one call (docs/DECISIONS.md).
+impl Drop for Draft {
+    fn drop(self) {
+        let Draft {
+            file: _,
+            prefix: _,
+            dirs: _,
+            defines: _,
+            only: _,
+            enabled: _,
+            switches: _,
+        } = self;
+    }
 }
 
 // What one more word does: the option that then waits for its value, or that no words make them good any more.
@@ -132,15 +146,24 @@ impl Draft {
     pub(crate) fn finish(self, waiting: Option<Key>, count: usize) -> Result<Options, WordsStop>
         ensures { Answers result (at_end (asked_in self) waiting (asked_in self).file count) }
     {
-        match (waiting, self.file) {
+        let Draft {
+            file,
+            prefix,
+            dirs,
+            defines,
+            only,
+            enabled,
+            switches,
+        } = self;
+        match (waiting, file) {
             (None, Some(file)) => Ok(Options {
                 file,
-                prefix: self.prefix,
-                dirs: self.dirs,
-                defines: self.defines,
-                only: self.only,
-                enabled: self.enabled,
-                switches: self.switches,
+                prefix,
+                dirs,
+                defines,
+                only,
+                enabled,
+                switches,
             }),
             _ => Err(WordsStop::Bad { word: count }),
         }

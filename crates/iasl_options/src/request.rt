@@ -7,7 +7,6 @@ use iasl_ports::list::{Text, Texts};
 use std::alloc::AllocError;
 
 /// What the words of a call ask for (docs/OPTIONS.md).
-#[derive(Drop)]
 pub struct Options {
     /// The source's file.
     pub file: Text,
@@ -23,6 +22,21 @@ pub struct Options {
     pub enabled: bool,
     /// What the options without value ask for that may stand together with every other.
     pub switches: Switches,
+}
+
+// By hand, so that an owner lets go of it by one call (docs/DECISIONS.md).
+impl Drop for Options {
+    fn drop(self) {
+        let Options {
+            file: _,
+            prefix: _,
+            dirs: _,
+            defines: _,
+            only: _,
+            enabled: _,
+            switches: _,
+        } = self;
+    }
 }
 
 /// Why words give no options.

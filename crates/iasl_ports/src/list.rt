@@ -106,9 +106,15 @@ enum Bytes {
 }
 
 /// A list of bytes, of 16 bytes itself. One of at most 14 bytes takes no memory beside these.
-#[derive(Drop)]
 pub struct Text {
     bytes: Bytes,
+}
+
+// By hand, so that an owner lets go of it by one call (docs/DECISIONS.md).
+impl Drop for Text {
+    fn drop(self) {
+        let Text { bytes: _ } = self;
+    }
 }
 
 impl Model for Text {

@@ -1,14 +1,8 @@
 mod controller;
 mod data;
 mod data_rows;
-mod descriptors;
-mod folding;
-mod kinds;
-mod rows;
 mod runs;
-mod spelling;
-mod switches;
-mod widths;
+mod terms;
 
 ghost use Rattle.std.specs.Prelude.{IfOk};
 ghost use Rattle.iasl_backends.specs.Asked.{IsOneOfEach};
@@ -23,13 +17,21 @@ use iasl_ports::memory::{MemoryFiles, MemoryOutputs, MemorySink};
 use iasl_tool::run::iasl;
 use std::alloc::{AllocError, Global};
 
-const HEADER: usize = 36;
-
-#[derive(Drop)]
+// How a run ended, what it put, and what it told.
 struct Ran {
     status: u8,
     outs: MemoryOutputs,
     console: MemorySink,
+}
+
+impl Drop for Ran {
+    fn drop(self) {
+        let Ran {
+            status: _,
+            outs: _,
+            console: _,
+        } = self;
+    }
 }
 
 // One box of each kind of outputs.
@@ -100,36 +102,4 @@ fn ended_as(ran: &Ran, status: u8, names: &[&[u8]], bodies: &[&[u8]], told: &[u8
         && are(ran.outs.names(), names)
         && are(ran.outs.bodies(), bodies)
         && ran.console.as_bytes() == told
-}
-
-// A source of one block with these terms.
-fn source(alloc: Global, terms: &str) -> Result<Vec<u8>, AllocError> {
-    let mut text = Vec::new(alloc);
-    text.extend_from_slice(
-        b"DefinitionBlock (\"\", \"SSDT\", 2, \"OEMX00\", \"TABLE001\", 1)\n{\n    ",
-    )?;
-    text.extend_from_slice(terms.as_bytes())?;
-    text.extend_from_slice(b"\n}\n")?;
-    Ok(text)
-}
-
-// Whether these terms come to these bytes behind the header of the table.
-fn comes_to(alloc: Global, terms: &str, bytes: &[u8]) -> Result<bool, AllocError> {
-    let ran = run(alloc, &["t.asl"], &source(alloc, terms)?)?;
-    let is_table = ran.outs.bodies().get(0).is_some_and(|body| {
-        body.as_bytes().len() == HEADER + bytes.len() && body.as_bytes().ends_with(bytes)
-    });
-    Ok(ran.status == 0 && is_table)
-}
-
-// Whether this is told of these terms, which are refused.
-fn tells(alloc: Global, terms: &str, told: &[u8]) -> Result<bool, AllocError> {
-    let ran = run(alloc, &["t.asl"], &source(alloc, terms)?)?;
-    Ok(ran.status == 1 && ran.console.as_bytes() == told)
-}
-
-// Whether this is told of these terms, which have a table.
-fn notes(alloc: Global, terms: &str, told: &[u8]) -> Result<bool, AllocError> {
-    let ran = run(alloc, &["t.asl"], &source(alloc, terms)?)?;
-    Ok(ran.status == 0 && ran.console.as_bytes() == told)
 }

@@ -229,11 +229,11 @@ pub(crate) fn examine(alloc: Global, terms: &[Node]) -> Result<Examined, AllocEr
     let faults = faults(alloc, &facts, &found.mentions)?;
     let count = facts.index.paths.len();
     let errors = messages(alloc, &facts.index.paths, &faults)?;
-    let names = Names {
-        index: facts.index,
-        calls: facts.tables.calls,
-    };
-    Ok(Examined { names, errors })
+    let (index, calls) = facts.into_names();
+    Ok(Examined {
+        names: Names { index, calls },
+        errors,
+    })
 }
 
 /// The names of the terms of a block, where all are right (ACPI Specification 6.4, 5.3 and 19.6). Otherwise it is

@@ -120,8 +120,6 @@ pub fn describe_all(
     let places = places_of(alloc, &index, mentions)?;
     let facts = facts_of(alloc, index, mentions)?;
     let said = descriptions(alloc, &facts, &places)?;
-    Ok(Described {
-        index: facts.index,
-        said,
-    })
+    let (index, _) = facts.into_names();
+    Ok(Described { index, said })
 }

@@ -20,12 +20,39 @@ use acpi_names::paths::Paths;
 use std::alloc::{AllocError, Global};
 
 /// The names of a block, what it says of each, how many segments the path with each number has, and where it ends.
-#[derive(Drop)]
 pub struct Facts {
     pub index: Index,
     pub tables: Tables,
     pub depths: Vec<usize>,
     pub ends: Vec<Option<End>>,
+}
+
+// By hand, so that an owner lets go of it by one call (docs/DECISIONS.md).
+impl Drop for Facts {
+    fn drop(self) {
+        let Facts {
+            index: _,
+            tables: _,
+            depths: _,
+            ends: _,
+        } = self;
+    }
+}
+
+impl Facts {
+    /// The names, and of each path how many arguments calls have by what stands there.
+    pub fn into_names(self) -> (Index, Vec<Option<usize>>)
+        ensures index { result.0 ≡ self.index }
+        ensures calls { result.1 ≡ self.tables.calls }
+    {
+        let Facts {
+            index,
+            tables,
+            depths: _,
+            ends: _,
+        } = self;
+        (index, tables.calls)
+    }
 }
 
 /// Tables that say nothing yet.

@@ -7,6 +7,7 @@ use descriptor_names::declare::names_descriptors;
 use descriptor_names::strip::stripped;
 use iasl_messages::message::Message;
 use std::alloc::{AllocError, Global};
+use std::mem::replace;
 use std::test::Fail;
 
 // The constants of fields among terms, in preorder.
@@ -66,11 +67,12 @@ fn outcome(alloc: Global, text: &str) -> Result<String, AllocError> {
         return String::from_str(alloc, "refused");
     };
     let mut blocks = program.blocks.into_vec();
-    let Some(block) = blocks.pop() else {
+    let Some(mut block) = blocks.pop() else {
         return String::from_str(alloc, "no block");
     };
     let named = names_descriptors(&block.terms);
-    let checked = check(alloc, block.terms)?;
+    let written = replace(&mut block.terms, Vec::new(alloc));
+    let checked = check(alloc, written)?;
     let all = checked.terms.len();
     let below = checked.below;
     let faults = checked.faults;

@@ -70,31 +70,74 @@ static NONE: Failing = Failing {
     write: 9,
 };
 
-#[derive(Drop)]
+// A run's ports, and its status.
 struct Ran {
     status: u8,
+    files: MemoryFiles,
     outs: MemoryOutputs,
     console: MemorySink,
 }
 
-fn run(alloc: Global, words: &[&str], text: &[u8], failing: &Failing) -> Result<Ran, AllocError> {
+impl Drop for Ran {
+    fn drop(self) {
+        let Ran {
+            status: _,
+            files: _,
+            outs: _,
+            console: _,
+        } = self;
+    }
+}
+
+fn files_of(alloc: Global, text: &[u8], failing: u64) -> Result<MemoryFiles, AllocError> {
     let mut files = MemoryFiles::new(alloc);
     files.add("d.txt", text)?;
-    files.fail_at(failing.fetch)?;
+    files.fail_at(failing)?;
+    Ok(files)
+}
+
+fn outs_of(alloc: Global, failing: u64) -> Result<MemoryOutputs, AllocError> {
     let mut outs = MemoryOutputs::new(alloc);
-    outs.fail_at(failing.put)?;
+    outs.fail_at(failing)?;
+    Ok(outs)
+}
+
+fn console_of(alloc: Global, failing: u64) -> Result<MemorySink, AllocError> {
     let mut console = MemorySink::new(alloc, 1000)?;
-    console.fail_at(failing.write)?;
+    console.fail_at(failing)?;
+    Ok(console)
+}
+
+// A run that is to begin.
+fn ready(alloc: Global, text: &[u8], failing: &Failing) -> Result<Ran, AllocError> {
+    Ok(Ran {
+        status: 0,
+        files: files_of(alloc, text, failing.fetch)?,
+        outs: outs_of(alloc, failing.put)?,
+        console: console_of(alloc, failing.write)?,
+    })
+}
+
+fn words_of(alloc: Global, words: &[&str]) -> Result<Vec<String>, AllocError> {
     let mut given = Vec::new(alloc);
     for word in words {
         given.push(String::from_str(alloc, word)?)?;
     }
-    let status = extract(alloc, &given, &mut files, &mut outs, &mut console);
-    Ok(Ran {
-        status,
-        outs,
-        console,
-    })
+    Ok(given)
+}
+
+fn run(alloc: Global, words: &[&str], text: &[u8], failing: &Failing) -> Result<Ran, AllocError> {
+    let given = words_of(alloc, words)?;
+    let mut ran = ready(alloc, text, failing)?;
+    let status = extract(
+        alloc,
+        &given,
+        &mut ran.files,
+        &mut ran.outs,
+        &mut ran.console,
+    );
+    ran.status = status;
+    Ok(ran)
 }
 
 fn are(texts: &Texts, wanted: &[&[u8]]) -> bool {
@@ -388,15 +431,19 @@ fn is_refused(alloc: Global, text: &[u8]) -> Result<bool, AllocError> {
     Ok(ran.status == 1 && ran.outs.names().len() == 0 && ran.console.as_bytes() == told.as_slice())
 }
 
-fn status_of(alloc: Global, text: &[u8]) -> Result<u8, AllocError> {
+fn has_status(alloc: Global, text: &[u8], status: u8) -> Result<bool, AllocError> {
     let ran = run(alloc, &["d.txt"], text, &NONE)?;
-    Ok(ran.status)
+    Ok(ran.status == status)
+}
+
+// Whether a text is too large, and is not without its first byte.
+fn is_just_too_large(alloc: Global) -> Result<bool, AllocError> {
+    let text = vec![in alloc; b'\n'; MOST_BYTES + 1]?;
+    Ok(is_refused(alloc, &text)? && has_status(alloc, &text[1..], 0)?)
 }
 
 #[test]
 fn too_large(rt: HostRuntime) -> Result<(), AllocError> {
-    let text = vec![in rt.alloc(); b'\n'; MOST_BYTES + 1]?;
-    assert!(rt; is_refused(rt.alloc(), &text)?);
-    assert_eq!(rt; status_of(rt.alloc(), &text[1..])?, 0);
+    assert!(rt; is_just_too_large(rt.alloc())?);
     Ok(())
 }

@@ -2,10 +2,10 @@ mod cases;
 mod fadt;
 mod parts;
 
-use cases::{CASES, Case, HPET, SLIT};
+use cases::{CASES, Case, THE_HPET, THE_SLIT};
 use data_tables::compile::compile_data;
 use data_tables::compiled::Compiled;
-use iasl_messages::message::{Messages, Stage};
+use iasl_messages::message::{Message, Messages, Stage};
 use iasl_messages::place::{Line, Lines, Pieces};
 use iasl_ports::list::{List, Text};
 use std::alloc::{AllocError, Global};
@@ -14,27 +14,25 @@ fn put(out: &mut Vec<u8>, text: &[u8]) -> Result<(), AllocError> {
     out.extend_from_slice(text)
 }
 
+const AFTER_SIGNATURE: &[u8] =
+    b"    [Description]\n[0004]             Table Length : 00000000\n[0001]                 Revision : ";
+
+const AFTER_REVISION: &[u8] = b"
+[0001]                 Checksum : 00
+[0006]                   Oem ID : \"OEMX00\"
+[0008]             Oem Table ID : \"TABLE001\"
+[0004]             Oem Revision : 00000001
+[0004]          Asl Compiler ID : \"INTL\"
+[0004]    Asl Compiler Revision : 20100528
+";
+
 // The header's lines, 1 to 9.
 fn put_header(out: &mut Vec<u8>, signature: &[u8], revision: &[u8]) -> Result<(), AllocError> {
     put(out, b"[0004]                Signature : ")?;
     put(out, signature)?;
-    put(
-        out,
-        b"    [Description]\n[0004]             Table Length : 00000000\n[0001]                 Revision : ",
-    )?;
+    put(out, AFTER_SIGNATURE)?;
     put(out, revision)?;
-    put(
-        out,
-        b"\n[0001]                 Checksum : 00\n[0006]                   Oem ID : \"OEMX00\"\n",
-    )?;
-    put(
-        out,
-        b"[0008]             Oem Table ID : \"TABLE001\"\n[0004]             Oem Revision : 00000001\n",
-    )?;
-    put(
-        out,
-        b"[0004]          Asl Compiler ID : \"INTL\"\n[0004]    Asl Compiler Revision : 20100528\n",
-    )
+    put(out, AFTER_REVISION)
 }
 
 // A text in which each `old` is replaced.
@@ -53,72 +51,86 @@ fn put_edited(out: &mut Vec<u8>, text: &[u8], old: &[u8], new: &[u8]) -> Result<
     Ok(())
 }
 
-fn lines_of(alloc: Global, text: &[u8]) -> Result<Lines, AllocError> {
-    let mut list = List::new(alloc);
-    let mut number = 1u32;
-    let mut line = Vec::new(alloc);
-    for byte in text {
-        if *byte == b'\n' {
-            list.push(Line {
-                file: 0,
-                number,
-                text: Text::from_bytes(alloc, &line)?,
-            })?;
-            line.clear();
-            number = number.saturating_add(1);
-        } else {
-            line.push(*byte)?;
-        }
-    }
-    Ok(Lines {
-        files: List::new(alloc),
-        list,
+fn add_line(alloc: Global, lines: &mut Lines, number: u32, text: &[u8]) -> Result<(), AllocError> {
+    lines.list.push(Line {
+        file: 0,
+        number,
+        text: Text::from_bytes(alloc, text)?,
     })
 }
 
-fn put_messages(alloc: Global, out: &mut Vec<u8>, messages: &Messages) -> Result<(), AllocError> {
-    for message in messages.as_slice() {
-        let text = format!(in alloc; "{}@{} ", message.number, message.place.line)?;
-        put(out, text.as_bytes())?;
-        if message.place.column != 1 || !message.name.as_bytes().is_empty() {
-            put(out, b"? ")?;
+// The lines that are ended.
+fn lines_of(alloc: Global, text: &[u8]) -> Result<Lines, AllocError> {
+    let mut lines = Lines {
+        files: List::new(alloc),
+        list: List::new(alloc),
+    };
+    let mut number = 0u32;
+    for line in text.split_inclusive(|byte| *byte == b'\n') {
+        number = number.saturating_add(1);
+        if let [line @ .., b'\n'] = line {
+            add_line(alloc, &mut lines, number, line)?;
         }
+    }
+    Ok(lines)
+}
+
+fn put_message(alloc: Global, out: &mut Vec<u8>, message: &Message) -> Result<(), AllocError> {
+    let text = format!(in alloc; "{}@{} ", message.number, message.place.line)?;
+    put(out, text.as_bytes())?;
+    if message.place.column != 1 || !message.name.as_bytes().is_empty() {
+        put(out, b"? ")?;
     }
     Ok(())
 }
 
-fn joined(alloc: Global, pieces: &Pieces) -> Result<Vec<u8>, AllocError> {
-    let mut bytes = Vec::new(alloc);
-    for piece in pieces.as_slice() {
-        put(&mut bytes, piece.bytes.as_bytes())?;
+fn put_messages(alloc: Global, out: &mut Vec<u8>, messages: &Messages) -> Result<(), AllocError> {
+    for message in messages.as_slice() {
+        put_message(alloc, out, message)?;
     }
-    Ok(bytes)
+    Ok(())
+}
+
+fn put_pieces(out: &mut Vec<u8>, pieces: &Pieces) -> Result<(), AllocError> {
+    for piece in pieces.as_slice() {
+        put(out, piece.bytes.as_bytes())?;
+    }
+    Ok(())
 }
 
 // The table, none where the text is refused, and the messages.
-fn outcome(alloc: Global, text: &[u8]) -> Result<(Vec<u8>, Vec<u8>), AllocError> {
-    let mut told = Vec::new(alloc);
-    let lines = lines_of(alloc, text)?;
-    match compile_data(alloc, &lines) {
-        Ok(
-            Compiled {
-                pieces,
-                signature: _,
-                notes,
-            },
-        ) => {
-            put_messages(alloc, &mut told, &notes)?;
-            Ok((joined(alloc, &pieces)?, told))
-        }
-        Err(Stage::Refused(messages)) => {
-            put_messages(alloc, &mut told, &messages)?;
-            Ok((Vec::new(alloc), told))
-        }
-        Err(Stage::Memory) => {
-            put(&mut told, b"memory")?;
-            Ok((Vec::new(alloc), told))
-        }
+struct Found {
+    table: Vec<u8>,
+    told: Vec<u8>,
+}
+
+impl Drop for Found {
+    fn drop(self) {
+        let Found { table: _, told: _ } = self;
     }
+}
+
+fn add_compiled(alloc: Global, found: &mut Found, compiled: &Compiled) -> Result<(), AllocError> {
+    put_messages(alloc, &mut found.told, &compiled.notes)?;
+    put_pieces(&mut found.table, &compiled.pieces)
+}
+
+fn add_outcome(alloc: Global, found: &mut Found, lines: &Lines) -> Result<(), AllocError> {
+    match compile_data(alloc, lines) {
+        Ok(compiled) => add_compiled(alloc, found, &compiled),
+        Err(Stage::Refused(messages)) => put_messages(alloc, &mut found.told, &messages),
+        Err(Stage::Memory) => put(&mut found.told, b"memory"),
+    }
+}
+
+fn outcome(alloc: Global, text: &[u8]) -> Result<Found, AllocError> {
+    let mut found = Found {
+        table: Vec::new(alloc),
+        told: Vec::new(alloc),
+    };
+    let lines = lines_of(alloc, text)?;
+    add_outcome(alloc, &mut found, &lines)?;
+    Ok(found)
 }
 
 fn sum(bytes: &[u8]) -> u8 {
@@ -143,89 +155,113 @@ fn put_expected(
     put(out, b"OEMX00TABLE001\x01\0\0\0INTL\x05\x01\x21\x20")
 }
 
-fn case_text(alloc: Global, case: &Case) -> Result<Vec<u8>, AllocError> {
-    let mut text = Vec::new(alloc);
-    put_header(&mut text, case.signature, case.revision)?;
+fn put_case(text: &mut Vec<u8>, case: &Case) -> Result<(), AllocError> {
+    put_header(text, case.signature, case.revision)?;
     for part in case.text.iter() {
-        put_edited(&mut text, parts::lines(*part), case.edit[0], case.edit[1])?;
+        put_edited(text, parts::lines(*part), case.edit[0], case.edit[1])?;
     }
-    Ok(text)
+    Ok(())
 }
 
-fn case_table(alloc: Global, case: &Case, found: &[u8]) -> Result<Vec<u8>, AllocError> {
-    let mut table = Vec::new(alloc);
-    if !case.passes {
-        return Ok(table);
-    }
-    let mut content = Vec::new(alloc);
+fn outcome_of(alloc: Global, case: &Case) -> Result<Found, AllocError> {
+    let mut text = Vec::new(alloc);
+    put_case(&mut text, case)?;
+    outcome(alloc, &text)
+}
+
+fn size_of(case: &Case) -> usize {
+    let mut size = 36usize;
     for part in case.text.iter() {
-        put(&mut content, parts::bytes(*part))?;
+        size = size.saturating_add(parts::bytes(*part).len());
+    }
+    size
+}
+
+// The table that a case has, if it has one.
+fn put_case_table(table: &mut Vec<u8>, case: &Case, found: &[u8]) -> Result<(), AllocError> {
+    if !case.passes {
+        return Ok(());
     }
     let revision = case.revision.get(1).copied().unwrap_or(b'0');
-    let size = content.len().saturating_add(36);
-    let signature = case.signature.get(1..5).unwrap_or(&[]);
     put_expected(
-        &mut table,
-        signature,
+        table,
+        case.signature.get(1..5).unwrap_or(&[]),
         revision.saturating_sub(b'0'),
-        size,
+        size_of(case),
         found,
     )?;
-    put(&mut table, &content)?;
-    Ok(table)
+    for part in case.text.iter() {
+        put(table, parts::bytes(*part))?;
+    }
+    Ok(())
+}
+
+// Whether that is what was found, with a right checksum.
+fn is_found(found: &Found, table: &[u8], told: &[u8]) -> bool {
+    found.told.as_slice() == told && found.table.as_slice() == table && sum(&found.table) == 0
 }
 
 fn is_right(alloc: Global, case: &Case) -> Result<bool, AllocError> {
-    let text = case_text(alloc, case)?;
-    let (table, told) = outcome(alloc, &text)?;
-    let expected = case_table(alloc, case, &table)?;
-    Ok(told.as_slice() == case.told && table.as_slice() == expected.as_slice() && sum(&table) == 0)
-}
-
-fn first_wrong(alloc: Global) -> Result<Option<usize>, AllocError> {
-    for (index, case) in CASES.iter().enumerate() {
-        if !is_right(alloc, case)? {
-            return Ok(Some(index));
-        }
-    }
-    Ok(None)
+    let mut table = Vec::new(alloc);
+    let found = outcome_of(alloc, case)?;
+    put_case_table(&mut table, case, &found.table)?;
+    Ok(is_found(&found, &table, case.told))
 }
 
 #[test]
 fn texts_come_to_their_tables(rt: HostRuntime) -> Result<(), AllocError> {
-    assert_eq!(rt; first_wrong(rt.alloc())?, None);
+    for case in &CASES {
+        assert!(rt; is_right(rt.alloc(), case)?);
+    }
     Ok(())
 }
 
-fn checksum_of(alloc: Global, case: &Case) -> Result<Option<u8>, AllocError> {
-    let text = case_text(alloc, case)?;
-    let (table, _) = outcome(alloc, &text)?;
-    Ok(table.get(9).copied())
+fn has_checksum(alloc: Global, case: &Case, checksum: u8) -> Result<bool, AllocError> {
+    let found = outcome_of(alloc, case)?;
+    Ok(found.table.get(9).copied() == Some(checksum))
 }
 
 #[test]
 fn the_hpet_table_has_its_checksum(rt: HostRuntime) -> Result<(), AllocError> {
-    assert_eq!(rt; checksum_of(rt.alloc(), &HPET)?, Some(0x4E));
+    assert!(rt; has_checksum(rt.alloc(), &THE_HPET, 0x4E)?);
     Ok(())
 }
 
-// The text of a FADT of a revision, with the lines of so many parts.
-fn fadt_text(alloc: Global, revision: &[u8], parts: usize) -> Result<Vec<u8>, AllocError> {
-    let mut text = Vec::new(alloc);
-    put_header(&mut text, b"\"FACP\"", revision)?;
-    for part in [fadt::FIRST, fadt::SECOND, fadt::THIRD, fadt::LAST]
-        .iter()
-        .take(parts)
-    {
-        put(&mut text, part)?;
+// The text of a FADT of a revision, with the lines of so many parts and some more.
+fn put_fadt(
+    text: &mut Vec<u8>,
+    revision: &[u8],
+    parts: usize,
+    more: &[u8],
+) -> Result<(), AllocError> {
+    put_header(text, b"\"FACP\"", revision)?;
+    for part in FADT_PARTS.iter().take(parts) {
+        put(text, part)?;
     }
-    Ok(text)
+    put(text, more)
+}
+
+static FADT_PARTS: [&[u8]; 4] = [fadt::FIRST, fadt::SECOND, fadt::THIRD, fadt::LAST];
+
+fn fadt_outcome(
+    alloc: Global,
+    revision: &[u8],
+    parts: usize,
+    more: &[u8],
+) -> Result<Found, AllocError> {
+    let mut text = Vec::new(alloc);
+    put_fadt(&mut text, revision, parts, more)?;
+    outcome(alloc, &text)
 }
 
 // Behind the header each byte is its offset, but that of the reserved field at 111.
-fn fadt_table(alloc: Global, revision: u8, size: u16, found: &[u8]) -> Result<Vec<u8>, AllocError> {
-    let mut table = Vec::new(alloc);
-    put_expected(&mut table, b"FACP", revision, size as usize, found)?;
+fn put_fadt_table(
+    table: &mut Vec<u8>,
+    revision: u8,
+    size: u16,
+    found: &[u8],
+) -> Result<(), AllocError> {
+    put_expected(table, b"FACP", revision, size as usize, found)?;
     for offset in 36..size {
         table.push(if offset == 111 {
             0
@@ -233,8 +269,17 @@ fn fadt_table(alloc: Global, revision: u8, size: u16, found: &[u8]) -> Result<Ve
             (offset % 256) as u8
         })?;
     }
-    Ok(table)
+    Ok(())
 }
+
+// A FADT's revision as it is written and as a number, how many parts its text has, and how long its table is.
+static FADTS: [(&[u8], u8, usize, u16); 5] = [
+    (b"01", 1, 1, 116),
+    (b"03", 3, 2, 244),
+    (b"04", 4, 2, 244),
+    (b"05", 5, 3, 268),
+    (b"06", 6, 4, 276),
+];
 
 fn is_right_fadt(
     alloc: Global,
@@ -243,32 +288,18 @@ fn is_right_fadt(
     parts: usize,
     size: u16,
 ) -> Result<bool, AllocError> {
-    let text = fadt_text(alloc, revision, parts)?;
-    let (table, told) = outcome(alloc, &text)?;
-    let expected = fadt_table(alloc, number, size, &table)?;
-    Ok(told.is_empty() && table.as_slice() == expected.as_slice() && sum(&table) == 0)
+    let mut table = Vec::new(alloc);
+    let found = fadt_outcome(alloc, revision, parts, b"")?;
+    put_fadt_table(&mut table, number, size, &found.table)?;
+    Ok(is_found(&found, &table, b""))
 }
 
 #[test]
 fn each_revision_of_the_fadt_has_its_length(rt: HostRuntime) -> Result<(), AllocError> {
-    assert!(rt; is_right_fadt(rt.alloc(), b"01", 1, 1, 116)?);
-    assert!(rt; is_right_fadt(rt.alloc(), b"03", 3, 2, 244)?);
-    assert!(rt; is_right_fadt(rt.alloc(), b"04", 4, 2, 244)?);
-    assert!(rt; is_right_fadt(rt.alloc(), b"05", 5, 3, 268)?);
-    assert!(rt; is_right_fadt(rt.alloc(), b"06", 6, 4, 276)?);
+    for (revision, number, parts, size) in &FADTS {
+        assert!(rt; is_right_fadt(rt.alloc(), revision, *number, *parts, *size)?);
+    }
     Ok(())
-}
-
-fn fadt_messages(
-    alloc: Global,
-    revision: &[u8],
-    parts: usize,
-    more: &[u8],
-) -> Result<Vec<u8>, AllocError> {
-    let mut text = fadt_text(alloc, revision, parts)?;
-    put(&mut text, more)?;
-    let (_, told) = outcome(alloc, &text)?;
-    Ok(told)
 }
 
 // The revision of a FADT, how many of its parts the text has, the lines behind them, and what is told.
@@ -286,11 +317,21 @@ static REFUSALS: [(&[u8], usize, &[u8], &[u8]); 6] = [
     (b"06", 4, b"[0001] Space ID : 01\n", b"6092@109 "),
 ];
 
+fn tells_of_fadt(
+    alloc: Global,
+    revision: &[u8],
+    parts: usize,
+    more: &[u8],
+    told: &[u8],
+) -> Result<bool, AllocError> {
+    let found = fadt_outcome(alloc, revision, parts, more)?;
+    Ok(found.told.as_slice() == told)
+}
+
 #[test]
 fn texts_of_the_fadt_are_refused(rt: HostRuntime) -> Result<(), AllocError> {
-    for (revision, parts, more, expected) in &REFUSALS {
-        let told = fadt_messages(rt.alloc(), revision, *parts, more)?;
-        assert_eq!(rt; told.as_slice(), *expected);
+    for (revision, parts, more, told) in &REFUSALS {
+        assert!(rt; tells_of_fadt(rt.alloc(), revision, *parts, more, told)?);
     }
     Ok(())
 }
@@ -302,15 +343,15 @@ static NO_FIELDS: [(&[u8], &[u8]); 3] = [
     (b"[a] Heading :\nRaw Table Data\n", b"6091@1 "),
 ];
 
-fn messages(alloc: Global, text: &[u8]) -> Result<Vec<u8>, AllocError> {
-    let (_, told) = outcome(alloc, text)?;
-    Ok(told)
+fn tells(alloc: Global, text: &[u8], told: &[u8]) -> Result<bool, AllocError> {
+    let found = outcome(alloc, text)?;
+    Ok(found.told.as_slice() == told)
 }
 
 #[test]
 fn no_field_at_all(rt: HostRuntime) -> Result<(), AllocError> {
-    for (text, expected) in &NO_FIELDS {
-        assert_eq!(rt; messages(rt.alloc(), text)?.as_slice(), *expected);
+    for (text, told) in &NO_FIELDS {
+        assert!(rt; tells(rt.alloc(), text, told)?);
     }
     Ok(())
 }
@@ -324,15 +365,22 @@ fn have_lines(pieces: &Pieces, lines: &Lines) -> bool {
     pieces.len() == lines.list.len()
 }
 
-fn has_its_lines(alloc: Global, case: &Case) -> Result<bool, AllocError> {
-    let text = case_text(alloc, case)?;
-    let lines = lines_of(alloc, &text)?;
+fn slit_lines(alloc: Global) -> Result<Lines, AllocError> {
+    let mut text = Vec::new(alloc);
+    put_case(&mut text, &THE_SLIT)?;
+    lines_of(alloc, &text)
+}
+
+fn is_of_lines(compiled: &Compiled, lines: &Lines) -> bool {
+    have_lines(&compiled.pieces, lines)
+        && compiled.signature.as_bytes() == b"SLIT".as_slice()
+        && compiled.notes.is_empty()
+}
+
+fn slit_has_its_lines(alloc: Global) -> Result<bool, AllocError> {
+    let lines = slit_lines(alloc)?;
     match compile_data(alloc, &lines) {
-        Ok(compiled) => Ok(
-            have_lines(&compiled.pieces, &lines)
-                && compiled.signature.as_bytes() == b"SLIT".as_slice()
-                && compiled.notes.is_empty(),
-        ),
+        Ok(compiled) => Ok(is_of_lines(&compiled, &lines)),
         Err(_) => Ok(false),
     }
 }
@@ -340,33 +388,42 @@ fn has_its_lines(alloc: Global, case: &Case) -> Result<bool, AllocError> {
 // Each field line is a piece, with its place and its text.
 #[test]
 fn pieces_have_their_lines(rt: HostRuntime) -> Result<(), AllocError> {
-    assert!(rt; has_its_lines(rt.alloc(), &SLIT)?);
+    assert!(rt; slit_has_its_lines(rt.alloc())?);
     Ok(())
 }
 
-// The source of the last piece where its line has the place of the first.
-fn last_source(alloc: Global, case: &Case) -> Result<Text, AllocError> {
-    let text = case_text(alloc, case)?;
-    let mut lines = lines_of(alloc, &text)?;
+// Lines of which the last has the place of the first.
+fn with_last_first(lines: Lines) -> Lines {
     let mut list = lines.list.into_vec();
     if let Some(line) = list.last_mut() {
         line.number = 1;
     }
-    lines.list = List::from_vec(list);
+    Lines {
+        files: lines.files,
+        list: List::from_vec(list),
+    }
+}
+
+fn has_last_source(compiled: &Compiled, source: &[u8]) -> bool {
+    match compiled.pieces.as_slice().last() {
+        Some(piece) => piece.source.as_bytes() == source,
+        None => false,
+    }
+}
+
+// Whether that is the source of the last piece where its line has the place of the first.
+fn is_last_source(alloc: Global, source: &[u8]) -> Result<bool, AllocError> {
+    let lines = with_last_first(slit_lines(alloc)?);
     match compile_data(alloc, &lines) {
-        Ok(compiled) => match compiled.pieces.as_slice().last() {
-            Some(piece) => Text::from_bytes(alloc, piece.source.as_bytes()),
-            None => Ok(Text::new(alloc)),
-        },
-        Err(_) => Ok(Text::new(alloc)),
+        Ok(compiled) => Ok(has_last_source(&compiled, source)),
+        Err(_) => Ok(false),
     }
 }
 
 // Of lines with one place the first gives the text.
 #[test]
 fn first_line_of_a_place_is_the_source(rt: HostRuntime) -> Result<(), AllocError> {
-    let source = last_source(rt.alloc(), &SLIT)?;
     let first = b"[0004]                Signature : \"SLIT\"    [Description]";
-    assert_eq!(rt; source.as_bytes(), first.as_slice());
+    assert!(rt; is_last_source(rt.alloc(), first)?);
     Ok(())
 }

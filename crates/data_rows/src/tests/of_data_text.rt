@@ -1,3 +1,4 @@
+use data_text::field_line::{FieldLine, FieldLines};
 use data_text::kind::is_data_table;
 use data_text::source::data_text;
 use data_text::values::{Number, bytes_in, number_in, text_in};
@@ -5,36 +6,47 @@ use iasl_messages::place::{Line, LineList};
 use iasl_ports::list::Text;
 use std::alloc::{AllocError, Global};
 
+fn line_of(alloc: Global, number: u32, text: &[u8]) -> Result<Line, AllocError> {
+    Ok(Line {
+        file: 0,
+        number,
+        text: Text::from_bytes(alloc, text)?,
+    })
+}
+
 fn lines_of(alloc: Global, text: &[u8]) -> Result<LineList, AllocError> {
     let mut lines = LineList::new(alloc);
     let mut number = 0u32;
     for line in text.split(|byte| *byte == b'\n') {
         number = number.saturating_add(1);
-        lines.push(Line {
-            file: 0,
-            number,
-            text: Text::from_bytes(alloc, line)?,
-        })?;
+        lines.push(line_of(alloc, number, line)?)?;
     }
     Ok(lines)
 }
 
-// The field lines of a text, each as its label, `=`, its value and `;`, a `[` before those with a part in brackets.
-fn told(alloc: Global, text: &[u8]) -> Result<Vec<u8>, AllocError> {
-    let lines = lines_of(alloc, text)?;
-    let mut told = Vec::new(alloc);
-    for line in data_text(alloc, lines.as_slice())?.lines.as_slice() {
-        if line.bracketed {
-            told.push(b'[')?;
-        }
-        told.extend_from_slice(line.label.as_slice())?;
-        if line.colon {
-            told.push(b'=')?;
-        }
-        told.extend_from_slice(line.value.as_slice())?;
-        told.push(b';')?;
+// A field line, as its label, `=`, its value and `;`, a `[` before one with a part in brackets.
+fn put_field_line(out: &mut Vec<u8>, line: &FieldLine) -> Result<(), AllocError> {
+    out.extend_from_slice(if line.bracketed { b"[" } else { b"" })?;
+    out.extend_from_slice(line.label.as_slice())?;
+    out.extend_from_slice(if line.colon { b"=" } else { b"" })?;
+    out.extend_from_slice(line.value.as_slice())?;
+    out.extend_from_slice(b";")
+}
+
+fn put_field_lines(out: &mut Vec<u8>, lines: &FieldLines) -> Result<(), AllocError> {
+    for line in lines.as_slice() {
+        put_field_line(out, line)?;
     }
-    Ok(told)
+    Ok(())
+}
+
+// Whether these are the field lines of a text.
+fn has_field_lines(alloc: Global, text: &[u8], expected: &[u8]) -> Result<bool, AllocError> {
+    let mut out = Vec::new(alloc);
+    let lines = lines_of(alloc, text)?;
+    let found = data_text(alloc, lines.as_slice())?;
+    put_field_lines(&mut out, &found.lines)?;
+    Ok(out.as_slice() == expected)
 }
 
 // A text, and its field lines.
@@ -53,16 +65,22 @@ static FIELD_LINES: [(&[u8], &[u8]); 9] = [
 #[test]
 fn texts_have_their_field_lines(rt: HostRuntime) -> Result<(), AllocError> {
     for (text, expected) in &FIELD_LINES {
-        assert_eq!(rt; told(rt.alloc(), text)?.as_slice(), *expected);
+        assert!(rt; has_field_lines(rt.alloc(), text, expected)?);
     }
     Ok(())
 }
 
+// Whether a text ends in this line of file 0, column 1.
+fn ends_in(alloc: Global, text: &[u8], line: u32) -> Result<bool, AllocError> {
+    let lines = lines_of(alloc, text)?;
+    let end = data_text(alloc, lines.as_slice())?.end;
+    Ok(end.file == 0 && end.line == line && end.column == 1)
+}
+
 #[test]
 fn the_end_is_the_last_line(rt: HostRuntime) -> Result<(), AllocError> {
-    let lines = lines_of(rt.alloc(), b"A : 1\n\n// last\nRaw Table Data\nB : 2")?;
-    let end = data_text(rt.alloc(), lines.as_slice())?.end;
-    assert!(rt; end.file == 0 && end.line == 3 && end.column == 1);
+    let text = b"A : 1\n\n// last\nRaw Table Data\nB : 2";
+    assert!(rt; ends_in(rt.alloc(), text, 3)?);
     Ok(())
 }
 
@@ -149,7 +167,7 @@ fn is_of_data_table(alloc: Global, text: &[u8]) -> Result<bool, AllocError> {
 #[test]
 fn the_first_line_tells_the_kind(rt: HostRuntime) -> Result<(), AllocError> {
     for (text, expected) in &KINDS {
-        assert_eq!(rt; is_of_data_table(rt.alloc(), text)?, *expected);
+        assert!(rt; is_of_data_table(rt.alloc(), text)? == *expected);
     }
     Ok(())
 }

@@ -1,30 +1,52 @@
 use asl_directives::branches::{BranchFault, Branches};
 use asl_directives::forms::{definition_of, include_line, include_of, message_of, name_alone};
 use asl_directives::kind::{DirectiveKind, is_conditional, kind_of};
-use std::alloc::Global;
+
+fn definitions_are_read() -> bool {
+    let (name, text) = definition_of(b" A  1 2\t").unwrap_or((b"", b""));
+    name == b"A".as_slice()
+        && text == b"1 2".as_slice()
+        && definition_of(b"A(x)").is_none()
+        && name_alone(b" _a9 ").unwrap_or(b"") == b"_a9".as_slice()
+        && name_alone(b"9a").is_none()
+}
+
+// Whether that is what is asked for, in quotes or not.
+fn asks_for(text: &[u8], quoted: bool, name: &str) -> bool {
+    match include_of(text) {
+        Some(asked) => asked.quoted == quoted && asked.name == name,
+        None => false,
+    }
+}
+
+fn includes_are_read() -> bool {
+    asks_for(b" \"a b\" ", true, "a b")
+        && asks_for(b"<a\">", false, "a\"")
+        && include_of(b"\"a\" b").is_none()
+        && include_of(b"\"\xff\"").is_none()
+        && include_line(b" INCLUDE (\"f\") ").unwrap_or(b"") == b"f".as_slice()
+        && include_line(b"Include (\"f\");").is_none()
+}
+
+fn kinds_are_read() -> bool {
+    match kind_of(b"elif") {
+        Some(kind) => {
+            kind == DirectiveKind::ElseIf && is_conditional(kind) && kind_of(b"If").is_none()
+        }
+        None => false,
+    }
+}
 
 #[test]
 fn forms_are_read(rt: HostRuntime) {
-    let (name, text) = definition_of(b" A  1 2\t").unwrap_or((b"", b""));
-    assert!(rt; name == b"A".as_slice() && text == b"1 2".as_slice());
-    assert!(rt; definition_of(b"A(x)").is_none());
-    assert!(rt; name_alone(b" _a9 ").unwrap_or(b"") == b"_a9".as_slice());
-    assert!(rt; name_alone(b"9a").is_none());
-    assert!(rt; include_of(b" \"a b\" ").is_some_and(|asked| asked.quoted && asked.name == "a b"));
-    assert!(rt; include_of(b"<a\">").is_some_and(|asked| !asked.quoted && asked.name == "a\""));
-    assert!(rt; include_of(b"\"a\" b").is_none());
-    assert!(rt; include_of(b"\"\xff\"").is_none());
+    assert!(rt; definitions_are_read());
+    assert!(rt; includes_are_read());
     assert!(rt; message_of(b"message(\"m\")").unwrap_or(b"") == b"m".as_slice());
-    assert!(rt; include_line(b" INCLUDE (\"f\") ").unwrap_or(b"") == b"f".as_slice());
-    assert!(rt; include_line(b"Include (\"f\");").is_none());
-    assert!(rt;
-        kind_of(b"elif").is_some_and(|kind| kind == DirectiveKind::ElseIf && is_conditional(kind))
-    );
-    assert!(rt; kind_of(b"If").is_none());
+    assert!(rt; kinds_are_read());
 }
 
-fn turned(alloc: Global) -> Result<bool, BranchFault> {
-    let mut branches = Branches::new(alloc);
+// Two conditionals, one in the other, of which the first is false and its `#elif` true.
+fn turn(branches: &mut Branches) -> Result<bool, BranchFault> {
     branches.open(1, 2, false)?;
     let first = !branches.is_read() && branches.asks().unwrap_or(false);
     branches.else_if(true)?;
@@ -40,6 +62,7 @@ fn turned(alloc: Global) -> Result<bool, BranchFault> {
 
 #[test]
 fn branches_turn(rt: HostRuntime) -> Result<(), BranchFault> {
-    assert!(rt; turned(rt.alloc())?);
+    let mut branches = Branches::new(rt.alloc());
+    assert!(rt; turn(&mut branches)?);
     Ok(())
 }

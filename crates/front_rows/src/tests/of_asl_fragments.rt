@@ -1,7 +1,6 @@
-use asl_fragments::fragment::{FragmentKind, first_fragment};
+use asl_fragments::fragment::{Fragment, FragmentKind, first_fragment};
 use asl_fragments::{ends_in_comment, without_comments};
 use std::alloc::{AllocError, Global};
-use std::test::Fail;
 
 // A line, whether it begins in a comment, and its fragments: a letter for the kind of each, and its length.
 static FRAGMENTS: [(&[u8], bool, &[u8]); 12] = [
@@ -19,9 +18,24 @@ static FRAGMENTS: [(&[u8], bool, &[u8]); 12] = [
     (b"", true, b""),
 ];
 
+fn letter_of(kind: FragmentKind) -> char {
+    match kind {
+        FragmentKind::Identifier => 'i',
+        FragmentKind::Number => 'n',
+        FragmentKind::Quoted => 'q',
+        FragmentKind::Comment => 'c',
+        FragmentKind::Other => 'o',
+    }
+}
+
+fn put_fragment(out: &mut String, fragment: Fragment) -> Result<(), AllocError> {
+    let letter = letter_of(fragment.kind);
+    let length = fragment.length;
+    write!(out, "{letter}{length} ")
+}
+
 // The fragments of a line, each by the letter of its kind and its length.
-fn shown(alloc: Global, text: &[u8], in_comment: bool) -> Result<Vec<u8>, AllocError> {
-    let mut shown = Vec::new(alloc);
+fn put_fragments(out: &mut String, text: &[u8], in_comment: bool) -> Result<(), AllocError> {
     let mut rest = text;
     let mut inside = in_comment;
     for _ in 0..text.len() {
@@ -29,25 +43,29 @@ fn shown(alloc: Global, text: &[u8], in_comment: bool) -> Result<Vec<u8>, AllocE
             break;
         }
         let fragment = first_fragment(rest, inside);
-        shown.push(match fragment.kind {
-            FragmentKind::Identifier => b'i',
-            FragmentKind::Number => b'n',
-            FragmentKind::Quoted => b'q',
-            FragmentKind::Comment => b'c',
-            FragmentKind::Other => b'o',
-        })?;
-        let length = format!(in alloc; "{} ", fragment.length)?;
-        shown.extend_from_slice(length.as_str().as_bytes())?;
+        put_fragment(out, fragment)?;
         rest = rest.split_at(fragment.length).1;
         inside = false;
     }
-    Ok(shown)
+    Ok(())
+}
+
+// Whether these are the fragments of a line.
+fn has_fragments(
+    alloc: Global,
+    text: &[u8],
+    in_comment: bool,
+    expected: &[u8],
+) -> Result<bool, AllocError> {
+    let mut out = String::new(alloc);
+    put_fragments(&mut out, text, in_comment)?;
+    Ok(out.as_str().as_bytes() == expected)
 }
 
 #[test]
-fn fragments_of_a_line(rt: HostRuntime) -> Result<(), Fail> {
+fn fragments_of_a_line(rt: HostRuntime) -> Result<(), AllocError> {
     for (text, in_comment, expected) in &FRAGMENTS {
-        assert_eq!(rt; shown(rt.alloc(), text, *in_comment)?.as_slice(), *expected);
+        assert!(rt; has_fragments(rt.alloc(), text, *in_comment, expected)?);
     }
     Ok(())
 }
@@ -67,17 +85,22 @@ static COMMENTS: [(&[u8], bool, &[u8], bool); 11] = [
     (b"// /*", false, b"     ", false),
 ];
 
-// Whether a line without its comments is this one.
-fn gives(alloc: Global, text: &[u8], in_comment: bool, line: &[u8]) -> Result<bool, AllocError> {
+// Whether a line without its comments is this one, and ends in a comment or not.
+fn gives(
+    alloc: Global,
+    text: &[u8],
+    in_comment: bool,
+    line: &[u8],
+    open: bool,
+) -> Result<bool, AllocError> {
     let found = without_comments(alloc, text, in_comment)?;
-    Ok(found.as_slice() == line)
+    Ok(found.as_slice() == line && ends_in_comment(text, in_comment) == open)
 }
 
 #[test]
-fn comments_of_a_line(rt: HostRuntime) -> Result<(), Fail> {
+fn comments_of_a_line(rt: HostRuntime) -> Result<(), AllocError> {
     for (text, in_comment, expected, open) in &COMMENTS {
-        let given = gives(rt.alloc(), text, *in_comment, expected)?;
-        assert!(rt; given && ends_in_comment(text, *in_comment) == *open);
+        assert!(rt; gives(rt.alloc(), text, *in_comment, expected, *open)?);
     }
     Ok(())
 }

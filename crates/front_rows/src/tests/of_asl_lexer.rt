@@ -1,76 +1,101 @@
-use asl_lexer::token::{Token, TokenKind};
+use asl_lexer::token::{Token, TokenKind, Tokens};
 use asl_lexer::tokens;
-use iasl_messages::message::{Message, Stage};
+use iasl_messages::message::{Message, Messages, Stage};
 use iasl_messages::place::{Line, Lines, Place};
 use iasl_ports::list::{List, Text};
 use std::alloc::{AllocError, Global};
 
-fn put(out: &mut Vec<u8>, text: &str) -> Result<(), AllocError> {
-    out.extend_from_slice(text.as_bytes())
-}
-
-fn put_place(alloc: Global, out: &mut Vec<u8>, place: Place) -> Result<(), AllocError> {
-    if place.file > 0 {
-        let file = format!(in alloc; "{}:", place.file)?;
-        put(out, file.as_str())?;
+fn letter_of(kind: TokenKind) -> char {
+    match kind {
+        TokenKind::Word => 'w',
+        TokenKind::Path => 'p',
+        TokenKind::Number => 'n',
+        TokenKind::Text => 't',
+        TokenKind::Symbol => 's',
     }
-    let place = format!(in alloc; "{}:{}", place.line, place.column)?;
-    put(out, place.as_str())
 }
 
-fn put_token(alloc: Global, out: &mut Vec<u8>, token: &Token) -> Result<(), AllocError> {
-    put(
-        out,
-        match token.kind {
-            TokenKind::Word => "w",
-            TokenKind::Path => "p",
-            TokenKind::Number => "n",
-            TokenKind::Text => "t",
-            TokenKind::Symbol => "s",
-        },
-    )?;
-    put_place(alloc, out, token.place)?;
-    if token.number > 0 {
-        let number = format!(in alloc; " {}", token.number)?;
-        put(out, number.as_str())?;
+fn put_place(out: &mut String, place: Place) -> Result<(), AllocError> {
+    let file = place.file;
+    let line = place.line;
+    let column = place.column;
+    if file > 0 {
+        return write!(out, "{file}:{line}:{column}");
     }
-    put(out, " ")?;
-    out.extend_from_slice(token.text.as_bytes())?;
-    put(out, ";")
+    write!(out, "{line}:{column}")
 }
 
-fn put_message(alloc: Global, out: &mut Vec<u8>, message: &Message) -> Result<(), AllocError> {
-    let number = format!(in alloc; "{} ", message.number)?;
-    put(out, number.as_str())?;
-    put_place(alloc, out, message.place)?;
-    out.extend_from_slice(message.name.as_bytes())
+fn put_number(out: &mut String, number: u64) -> Result<(), AllocError> {
+    if number > 0 {
+        return write!(out, " {number}");
+    }
+    Ok(())
 }
 
-// The tokens or messages of the lines.
-fn shown(alloc: Global, lines: &Lines) -> Result<Vec<u8>, AllocError> {
-    let mut out = Vec::new(alloc);
+fn put_token(alloc: Global, out: &mut String, token: &Token) -> Result<(), AllocError> {
+    out.push(letter_of(token.kind))?;
+    put_place(out, token.place)?;
+    put_number(out, token.number)?;
+    let text = String::from_utf8_lossy(alloc, token.text.as_bytes())?;
+    write!(out, " {text};")
+}
+
+fn put_tokens(alloc: Global, out: &mut String, tokens: &Tokens) -> Result<(), AllocError> {
+    for token in tokens.as_slice() {
+        put_token(alloc, out, token)?;
+    }
+    Ok(())
+}
+
+fn put_message(alloc: Global, out: &mut String, message: &Message) -> Result<(), AllocError> {
+    let number = message.number;
+    write!(out, "{number} ")?;
+    put_place(out, message.place)?;
+    let name = String::from_utf8_lossy(alloc, message.name.as_bytes())?;
+    out.push_str(&name)
+}
+
+fn put_messages(alloc: Global, out: &mut String, messages: &Messages) -> Result<(), AllocError> {
+    for message in messages.as_slice() {
+        put_message(alloc, out, message)?;
+    }
+    Ok(())
+}
+
+// The tokens of lines that are short enough.
+fn tokens_of(alloc: Global, lines: &Lines) -> Result<Tokens, Stage> {
     if !lines
         .list
         .as_slice()
         .iter()
         .all(|line| line.text.as_bytes().len() < 1000)
     {
-        return Ok(out);
+        return Ok(Tokens::new(alloc));
     }
-    match tokens(alloc, lines) {
-        Ok(tokens) => {
-            for token in tokens.as_slice() {
-                put_token(alloc, &mut out, token)?;
-            }
-        }
-        Err(Stage::Refused(messages)) => {
-            for message in messages.as_slice() {
-                put_message(alloc, &mut out, message)?;
-            }
-        }
-        Err(Stage::Memory) => put(&mut out, "memory")?,
+    tokens(alloc, lines)
+}
+
+// The tokens or messages of the lines.
+fn put_answer(alloc: Global, out: &mut String, lines: &Lines) -> Result<(), AllocError> {
+    match tokens_of(alloc, lines) {
+        Ok(tokens) => put_tokens(alloc, out, &tokens),
+        Err(Stage::Refused(messages)) => put_messages(alloc, out, &messages),
+        Err(Stage::Memory) => out.push_str("memory"),
     }
-    Ok(out)
+}
+
+// Whether the lines give these tokens or messages.
+fn give(alloc: Global, lines: &Lines, expected: &[u8]) -> Result<bool, AllocError> {
+    let mut out = String::new(alloc);
+    put_answer(alloc, &mut out, lines)?;
+    Ok(out.as_str().as_bytes() == expected)
+}
+
+fn no_lines(alloc: Global) -> Lines {
+    Lines {
+        files: List::new(alloc),
+        list: List::new(alloc),
+    }
 }
 
 fn add_line(
@@ -87,32 +112,25 @@ fn add_line(
     })
 }
 
-fn no_lines(alloc: Global) -> Lines {
-    Lines {
-        files: List::new(alloc),
-        list: List::new(alloc),
-    }
-}
-
 // The lines of one file, cut at `|`.
 fn lines_of(alloc: Global, source: &[u8]) -> Result<Lines, AllocError> {
     let mut lines = no_lines(alloc);
     let mut number = 1u32;
-    let mut text = Vec::new(alloc);
-    for byte in source {
-        if *byte == b'|' {
-            add_line(alloc, &mut lines, 0, number, text.as_slice())?;
-            text.clear();
-            number = number.saturating_add(1);
-        } else {
-            text.push(*byte)?;
-        }
+    for text in source.split(|byte| *byte == b'|') {
+        add_line(alloc, &mut lines, 0, number, text)?;
+        number = number.saturating_add(1);
     }
-    add_line(alloc, &mut lines, 0, number, text.as_slice())?;
     Ok(lines)
 }
 
-static GOOD: [(&[u8], &[u8]); 20] = [
+fn is_right(alloc: Global, source: &[u8], expected: &[u8]) -> Result<bool, AllocError> {
+    let lines = lines_of(alloc, source)?;
+    give(alloc, &lines, expected)
+}
+
+// A source, and its tokens or its first fault.
+static SOURCES: [(&[u8], &[u8]); 53] = [
+    // sources that give their tokens
     (b"", b""),
     (
         b"Name (X, 5)",
@@ -166,9 +184,7 @@ static GOOD: [(&[u8], &[u8]); 20] = [
     ),
     (b"/ /==a/b", b"s1:1 /;s1:3 /=;s1:5 =;w1:6 A;s1:7 /;w1:8 B;"),
     (b"((a))", b"s1:1 (;s1:2 (;w1:3 A;s1:4 );s1:5 );"),
-];
-
-static BAD: [(&[u8], &[u8]); 33] = [
+    // bad sources that give their first fault
     (b"a $", b"6010 1:3"),
     (b"\t@", b"6010 1:2"),
     (b"a.", b"6010 1:2"),
@@ -205,21 +221,9 @@ static BAD: [(&[u8], &[u8]); 33] = [
 ];
 
 #[test]
-fn sources_give_their_tokens(rt: HostRuntime) -> Result<(), AllocError> {
-    let alloc = rt.alloc();
-    for (source, expected) in &GOOD {
-        let found = shown(alloc, &lines_of(alloc, source)?)?;
-        assert!(rt; found.as_slice() == *expected, "{source:?}");
-    }
-    Ok(())
-}
-
-#[test]
-fn bad_sources_give_their_first_fault(rt: HostRuntime) -> Result<(), AllocError> {
-    let alloc = rt.alloc();
-    for (source, expected) in &BAD {
-        let found = shown(alloc, &lines_of(alloc, source)?)?;
-        assert!(rt; found.as_slice() == *expected, "{source:?}");
+fn sources_give_their_tokens_or_their_first_fault(rt: HostRuntime) -> Result<(), AllocError> {
+    for (source, expected) in &SOURCES {
+        assert!(rt; is_right(rt.alloc(), source, expected)?);
     }
     Ok(())
 }
@@ -235,52 +239,57 @@ static SPANS: [(&[u8], &[(u32, u32)]); 4] = [
     ),
 ];
 
-fn spans_of(alloc: Global, source: &[u8]) -> Result<Vec<(u32, u32)>, AllocError> {
-    let mut spans = Vec::new(alloc);
-    let mut lines = no_lines(alloc);
-    add_line(alloc, &mut lines, 0, 1, source)?;
-    if !lines
-        .list
-        .as_slice()
-        .iter()
-        .all(|line| line.text.as_bytes().len() < 1000)
-    {
-        return Ok(spans);
-    }
-    match tokens(alloc, &lines) {
-        Ok(tokens) => {
-            for token in tokens.as_slice() {
-                spans.push((token.place.column, token.end))?;
-            }
+fn have_spans(tokens: &Tokens, spans: &[(u32, u32)]) -> bool {
+    for (token, span) in tokens.as_slice().iter().zip(spans) {
+        if token.place.column != span.0 || token.end != span.1 {
+            return false;
         }
-        Err(_) => {}
     }
-    Ok(spans)
+    tokens.len() == spans.len()
+}
+
+fn has_spans(alloc: Global, source: &[u8], spans: &[(u32, u32)]) -> Result<bool, AllocError> {
+    let lines = lines_of(alloc, source)?;
+    match tokens_of(alloc, &lines) {
+        Ok(tokens) => Ok(have_spans(&tokens, spans)),
+        Err(_) => Ok(false),
+    }
 }
 
 #[test]
 fn tokens_keep_where_they_end(rt: HostRuntime) -> Result<(), AllocError> {
-    let alloc = rt.alloc();
     for (source, spans) in &SPANS {
-        assert!(rt; spans_of(alloc, source)?.as_slice() == *spans, "{source:?}");
+        assert!(rt; has_spans(rt.alloc(), source, spans)?);
     }
     Ok(())
 }
 
+// Lines of some files: the file of each, its number in it, and its text.
+static PLACED: [(u32, u32, &[u8]); 4] = [
+    (0, 1, b"a | b || |= c"),
+    (1, 7, b" d /*"),
+    (0, 3, b"*/ e"),
+    (2, 4, b" /* /*"),
+];
+
+fn placed(alloc: Global, count: usize) -> Result<Lines, AllocError> {
+    let mut lines = no_lines(alloc);
+    for (file, number, text) in PLACED.iter().take(count) {
+        add_line(alloc, &mut lines, *file, *number, text)?;
+    }
+    Ok(lines)
+}
+
+// Whether so many of the placed lines give these tokens or messages.
+fn are_right(alloc: Global, count: usize, expected: &[u8]) -> Result<bool, AllocError> {
+    let lines = placed(alloc, count)?;
+    give(alloc, &lines, expected)
+}
+
 #[test]
 fn tokens_stand_in_their_file_and_line(rt: HostRuntime) -> Result<(), AllocError> {
-    let alloc = rt.alloc();
-    let mut lines = no_lines(alloc);
-    add_line(alloc, &mut lines, 0, 1, b"a | b || |= c")?;
-    add_line(alloc, &mut lines, 1, 7, b" d /*")?;
-    add_line(alloc, &mut lines, 0, 3, b"*/ e")?;
-    let found = shown(alloc, &lines)?;
-    assert!(rt;
-        found.as_slice()
-            == b"w1:1 A;s1:3 |;w1:5 B;s1:7 ||;s1:10 |=;w1:13 C;w1:7:2 D;w3:4 E;".as_slice()
-    );
-    add_line(alloc, &mut lines, 2, 4, b" /* /*")?;
-    let found = shown(alloc, &lines)?;
-    assert!(rt; found.as_slice() == b"6012 2:4:2".as_slice());
+    let tokens = b"w1:1 A;s1:3 |;w1:5 B;s1:7 ||;s1:10 |=;w1:13 C;w1:7:2 D;w3:4 E;";
+    assert!(rt; are_right(rt.alloc(), 3, tokens)?);
+    assert!(rt; are_right(rt.alloc(), 4, b"6012 2:4:2")?);
     Ok(())
 }

@@ -1,6 +1,5 @@
 use asl_macros::{Macros, ReplaceStop, Within, replace, stays};
 use std::alloc::{AllocError, Global};
-use std::test::Fail;
 
 // A table of definitions that stand between semicolons: `NAME=TEXT`, or `NAME` alone for one that ends.
 fn table(alloc: Global, definitions: &str) -> Result<Macros, AllocError> {
@@ -54,11 +53,34 @@ static LINES: [(&str, &str, &str); 16] = [
     ("A=/*;B=2", "A B", "/* 2"),
 ];
 
+// Whether that comes of a text.
+fn comes_of(
+    alloc: Global,
+    definitions: &str,
+    within: Within,
+    text: &str,
+    in_comment: bool,
+    limit: usize,
+    expected: &str,
+) -> Result<bool, AllocError> {
+    let text = shown(alloc, definitions, within, text, in_comment, limit)?;
+    Ok(text.as_slice() == expected.as_bytes())
+}
+
 #[test]
-fn names_of_a_line(rt: HostRuntime) -> Result<(), Fail> {
+fn names_of_a_line(rt: HostRuntime) -> Result<(), AllocError> {
     for (definitions, text, expected) in &LINES {
-        let text = shown(rt.alloc(), definitions, Within::InLine, text, false, 100)?;
-        assert_eq!(rt; text.as_slice(), expected.as_bytes());
+        assert!(rt;
+            comes_of(
+                rt.alloc(),
+                definitions,
+                Within::InLine,
+                text,
+                false,
+                100,
+                expected
+            )?
+        );
     }
     Ok(())
 }
@@ -80,7 +102,7 @@ static TEXTS: [(&str, &str, bool); 6] = [
 ];
 
 #[test]
-fn texts_that_stay(rt: HostRuntime) -> Result<(), Fail> {
+fn texts_that_stay(rt: HostRuntime) -> Result<(), AllocError> {
     for (definitions, text, expected) in &TEXTS {
         assert!(rt; stays_with(rt.alloc(), definitions, text)? == *expected);
     }
@@ -103,17 +125,19 @@ static CONDITIONS: [(&str, &str, &str); 11] = [
 ];
 
 #[test]
-fn names_of_a_condition(rt: HostRuntime) -> Result<(), Fail> {
+fn names_of_a_condition(rt: HostRuntime) -> Result<(), AllocError> {
     for (definitions, text, expected) in &CONDITIONS {
-        let text = shown(
-            rt.alloc(),
-            definitions,
-            Within::InCondition,
-            text,
-            false,
-            100,
-        )?;
-        assert_eq!(rt; text.as_slice(), expected.as_bytes());
+        assert!(rt;
+            comes_of(
+                rt.alloc(),
+                definitions,
+                Within::InCondition,
+                text,
+                false,
+                100,
+                expected
+            )?
+        );
     }
     Ok(())
 }
@@ -141,47 +165,52 @@ static LIMITS: [(&str, &str, bool, usize, &str); 6] = [
 ];
 
 #[test]
-fn limits_of_replacement(rt: HostRuntime) -> Result<(), Fail> {
+fn limits_of_replacement(rt: HostRuntime) -> Result<(), AllocError> {
     for (definitions, text, in_comment, limit, expected) in &LIMITS {
-        let text = shown(
-            rt.alloc(),
-            definitions,
-            Within::InLine,
-            text,
-            *in_comment,
-            *limit,
-        )?;
-        assert_eq!(rt; text.as_slice(), expected.as_bytes());
+        assert!(rt;
+            comes_of(
+                rt.alloc(),
+                definitions,
+                Within::InLine,
+                text,
+                *in_comment,
+                *limit,
+                expected
+            )?
+        );
     }
     Ok(())
 }
 
-// Names N1 to N40, each with the next one twice as its text, and so 2 to the 32nd names in place of the first.
-fn doubling(alloc: Global) -> Result<Macros, AllocError> {
-    let mut macros = Macros::new(alloc);
-    for number in 1..40u32 {
-        let name = format!(in alloc; "N{}", number)?;
-        let next = number + 1;
-        let text = format!(in alloc; "N{} N{}", next, next)?;
-        macros.define(alloc, name.as_str().as_bytes(), text.as_str().as_bytes())?;
-    }
-    Ok(macros)
+// Defines a name, N and its number, with the next one as its text, or the next one twice.
+fn define_next(
+    alloc: Global,
+    macros: &mut Macros,
+    number: u32,
+    twice: bool,
+) -> Result<(), AllocError> {
+    let next = number.saturating_add(1);
+    let name = format!(in alloc; "N{}", number)?;
+    let text = if twice {
+        format!(in alloc; "N{} N{}", next, next)?
+    } else {
+        format!(in alloc; "N{}", next)?
+    };
+    macros.define(alloc, name.as_str().as_bytes(), text.as_str().as_bytes())
 }
 
-// A chain of the names N1 to N40, each with the next one as its text.
-fn chain(alloc: Global) -> Result<Macros, AllocError> {
+// A chain of the names N1 to N40, each with the next one as its text. With the next one twice there are 2 to the 32nd names
+// in place of the first.
+fn chain(alloc: Global, twice: bool) -> Result<Macros, AllocError> {
     let mut macros = Macros::new(alloc);
     for number in 1..40u32 {
-        let name = format!(in alloc; "N{}", number)?;
-        let next = number + 1;
-        let text = format!(in alloc; "N{}", next)?;
-        macros.define(alloc, name.as_str().as_bytes(), text.as_str().as_bytes())?;
+        define_next(alloc, &mut macros, number, twice)?;
     }
     Ok(macros)
 }
 
 fn is_too_long(alloc: Global, text: &[u8], limit: usize) -> Result<bool, AllocError> {
-    let macros = doubling(alloc)?;
+    let macros = chain(alloc, true)?;
     match replace(alloc, &macros, Within::InLine, text, false, limit) {
         Err(ReplaceStop::TooLong) => Ok(true),
         _ => Ok(false),
@@ -190,7 +219,7 @@ fn is_too_long(alloc: Global, text: &[u8], limit: usize) -> Result<bool, AllocEr
 
 // Whether the names of a line come to these in the chain.
 fn comes_to(alloc: Global, text: &[u8], wanted: &[u8]) -> Result<bool, AllocError> {
-    let macros = chain(alloc)?;
+    let macros = chain(alloc, false)?;
     match replace(alloc, &macros, Within::InLine, text, false, 100) {
         Ok(text) => Ok(text.as_slice() == wanted),
         Err(_) => Ok(false),
@@ -198,7 +227,7 @@ fn comes_to(alloc: Global, text: &[u8], wanted: &[u8]) -> Result<bool, AllocErro
 }
 
 #[test]
-fn nesting_of_names(rt: HostRuntime) -> Result<(), Fail> {
+fn nesting_of_names(rt: HostRuntime) -> Result<(), AllocError> {
     assert!(rt; is_too_long(rt.alloc(), b"N1", 100_000)?);
     assert!(rt; is_too_long(rt.alloc(), b"N8", 0)?);
     // The name that is met at a nesting of 33 stays.

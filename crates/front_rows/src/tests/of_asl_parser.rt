@@ -1,38 +1,55 @@
 use asl_lexer::token::{Token, TokenKind, Tokens};
-use asl_parser::{Raw, Syntax, parse};
+use asl_parser::{Infix, Raw, Raws, Syntax, parse};
 use iasl_messages::place::Place;
 use iasl_ports::list::Text;
 use std::alloc::{AllocError, Global};
-use std::test::Fail;
+
+/// What a word between blanks is.
+fn kind_of(word: &[u8]) -> Option<TokenKind> {
+    match word.first() {
+        None => None,
+        Some(b'0'..=b'9') => Some(TokenKind::Number),
+        Some(b'A'..=b'Z') => Some(TokenKind::Word),
+        Some(b'\\') => Some(TokenKind::Path),
+        Some(b'"') => Some(TokenKind::Text),
+        Some(_) => Some(TokenKind::Symbol),
+    }
+}
+
+/// The number of one digit.
+fn number_of(word: &[u8]) -> u64 {
+    match word {
+        [digit @ b'0'..=b'9'] => (*digit - b'0') as u64,
+        _ => 0,
+    }
+}
+
+fn token_of(
+    alloc: Global,
+    kind: TokenKind,
+    column: usize,
+    word: &[u8],
+) -> Result<Token, AllocError> {
+    Ok(Token {
+        kind,
+        place: Place {
+            file: 0,
+            line: 1,
+            column: u32::try_from(column).unwrap_or(0),
+        },
+        end: 0,
+        number: number_of(word),
+        text: Text::from_bytes(alloc, word)?,
+    })
+}
 
 /// The tokens of a text that has a blank between each two.
-fn tokens(alloc: Global, text: &str) -> Result<Tokens, AllocError> {
+fn tokens_of(alloc: Global, text: &str) -> Result<Tokens, AllocError> {
     let mut tokens = Tokens::new(alloc);
     for (column, word) in text.split(' ').enumerate() {
-        let bytes = word.as_bytes();
-        let kind = match bytes.first() {
-            None => continue,
-            Some(b'0'..=b'9') => TokenKind::Number,
-            Some(b'A'..=b'Z') => TokenKind::Word,
-            Some(b'\\') => TokenKind::Path,
-            Some(b'"') => TokenKind::Text,
-            Some(_) => TokenKind::Symbol,
-        };
-        let number = match bytes {
-            [digit @ b'0'..=b'9'] => (*digit - b'0') as u64,
-            _ => 0,
-        };
-        tokens.push(Token {
-            kind,
-            place: Place {
-                file: 0,
-                line: 1,
-                column: u32::try_from(column).unwrap_or(0),
-            },
-            end: 0,
-            number,
-            text: Text::from_bytes(alloc, bytes)?,
-        })?;
+        if let Some(kind) = kind_of(word.as_bytes()) {
+            tokens.push(token_of(alloc, kind, column, word.as_bytes())?)?;
+        }
     }
     Ok(tokens)
 }
@@ -44,82 +61,105 @@ fn put_text(out: &mut String, text: &Text) -> Result<(), AllocError> {
     Ok(())
 }
 
+/// Writes the operator of a tree before its operands, with its column.
+fn put_operator(out: &mut String, op: Infix, place: Place) -> Result<(), AllocError> {
+    let column = place.column;
+    write!(out, "<{op:?}@{column} ")
+}
+
+/// Writes trees between two texts, with a blank behind each.
 #[cycle(put)]
 fn put_all(
-    alloc: Global,
     out: &mut String,
+    opening: &str,
     raws: &[Raw],
     closing: &str,
     room: u8,
 ) -> Result<(), AllocError> {
+    out.push_str(opening)?;
     if room > 0 {
         for raw in raws {
-            put(alloc, out, raw, room - 1)?;
+            put(out, raw, room - 1)?;
+            out.push(' ')?;
         }
     }
-    out.push_str(closing)?;
+    out.push_str(closing)
+}
+
+#[cycle(put)]
+fn put_item(
+    out: &mut String,
+    word: &Text,
+    args: &Option<Raws>,
+    body: &Option<Raws>,
+    room: u8,
+) -> Result<(), AllocError> {
+    put_text(out, word)?;
+    if let Some(args) = args {
+        put_all(out, "( ", args.as_slice(), ")", room)?;
+    }
+    if let Some(body) = body {
+        put_all(out, "{ ", body.as_slice(), "}", room)?;
+    }
     Ok(())
 }
 
-/// Writes a tree: an operator before its operands in angle brackets, with its column.
+/// Writes an operator and its operands in angle brackets.
 #[cycle(put)]
-fn put(alloc: Global, out: &mut String, raw: &Raw, room: u8) -> Result<(), AllocError> {
+fn put_apply(
+    out: &mut String,
+    op: Infix,
+    place: Place,
+    args: &Raws,
+    room: u8,
+) -> Result<(), AllocError> {
+    put_operator(out, op, place)?;
+    put_all(out, "", args.as_slice(), ">", room)
+}
+
+/// Writes a tree.
+#[cycle(put)]
+fn put(out: &mut String, raw: &Raw, room: u8) -> Result<(), AllocError> {
     match raw {
-        Raw::Number { value, .. } => out.push_str(format!(in alloc; "{value}")?.as_str())?,
-        Raw::Text { text, .. } => put_text(out, text)?,
+        Raw::Number { value, .. } => write!(out, "{value}"),
+        Raw::Text { text, .. } => put_text(out, text),
         Raw::Item {
             word,
             args,
             body,
             ..
-        } => {
-            put_text(out, word)?;
-            if let Some(args) = args {
-                out.push_str("( ")?;
-                put_all(alloc, out, args.as_slice(), ")", room)?;
-            }
-            if let Some(body) = body {
-                out.push_str("{ ")?;
-                put_all(alloc, out, body.as_slice(), "}", room)?;
-            }
-        }
-        Raw::Apply { place, op, args } => {
-            out.push_str(format!(in alloc; "<{op:?}@{} ", place.column)?.as_str())?;
-            put_all(alloc, out, args.as_slice(), ">", room)?;
-        }
-        Raw::List { items, .. } => {
-            out.push_str("[ ")?;
-            put_all(alloc, out, items.as_slice(), "]", room)?;
-        }
-        Raw::Comma => out.push(',')?,
-        Raw::Semicolon => out.push(';')?,
-        Raw::Empty => out.push('_')?,
+        } => put_item(out, word, args, body, room),
+        Raw::Apply { place, op, args } => put_apply(out, *op, *place, args, room),
+        Raw::List { items, .. } => put_all(out, "[ ", items.as_slice(), "]", room),
+        Raw::Comma => out.push(','),
+        Raw::Semicolon => out.push(';'),
+        Raw::Empty => out.push('_'),
     }
-    out.push(' ')?;
-    Ok(())
 }
 
-/// The tree of a text, or how the call refuses it.
-fn answer(alloc: Global, text: &str) -> Result<String, AllocError> {
-    let mut out = String::new(alloc);
-    let tokens = tokens(alloc, text)?;
+/// Writes the tree of tokens, or how the call refuses them.
+fn put_answer(alloc: Global, out: &mut String, tokens: &Tokens) -> Result<(), AllocError> {
     if tokens.len() > 1000 {
-        out.push_str("too long")?;
-        return Ok(out);
+        return out.push_str("too long");
     }
-    match parse(alloc, &tokens) {
-        Ok(unit) => put_all(alloc, &mut out, unit.items.as_slice(), "", 20)?,
-        Err(Syntax::Stop { token }) => out.push_str(format!(in alloc; "stop {token}")?.as_str())?,
-        Err(Syntax::TooDeep { token }) => out.push_str(format!(in alloc;
-            "deep {token}"
-        )?.as_str())?,
-        Err(Syntax::Memory) => out.push_str("memory")?,
+    match parse(alloc, tokens) {
+        Ok(unit) => put_all(out, "", unit.items.as_slice(), "", 20),
+        Err(Syntax::Stop { token }) => write!(out, "stop {token}"),
+        Err(Syntax::TooDeep { token }) => write!(out, "deep {token}"),
+        Err(Syntax::Memory) => out.push_str("memory"),
     }
-    Ok(out)
 }
 
-// A source, and its tree.
-static FORMS: [(&str, &str); 11] = [
+/// Whether that is the answer to a text.
+fn gives(alloc: Global, text: &str, want: &str) -> Result<bool, AllocError> {
+    let mut out = String::new(alloc);
+    let tokens = tokens_of(alloc, text)?;
+    put_answer(alloc, &mut out, &tokens)?;
+    Ok(out.as_str() == want)
+}
+
+// A source, and its tree, or the token that no source has there.
+static FORMS: [(&str, &str); 24] = [
     ("", ""),
     ("A B C", "A B C "),
     ("A ( ) B ( , ) C ( { } )", "A( ) B( _ _ ) C( [ ] ) "),
@@ -149,18 +189,7 @@ static FORMS: [(&str, &str); 11] = [
         "A { B [ C ] [ \\D ] ! E ( \"x ) { } }",
         "A{ <Index@6 <Index@3 B C > \\D > <LogicalNot@9 E( \"x ){ } > } ",
     ),
-];
-
-#[test]
-fn reads_each_form(rt: HostRuntime) -> Result<(), Fail> {
-    for (text, want) in &FORMS {
-        assert_eq!(rt; answer(rt.alloc(), text)?.as_str(), *want);
-    }
-    Ok(())
-}
-
-// A source, and the token that no source has there.
-static STOPS: [(&str, &str); 13] = [
+    // stops where no source goes on
     ("1", "stop 0"),
     ("A - B", "stop 1"),
     ("A ( B", "stop 3"),
@@ -177,27 +206,11 @@ static STOPS: [(&str, &str); 13] = [
 ];
 
 #[test]
-fn stops_where_no_source_goes_on(rt: HostRuntime) -> Result<(), Fail> {
-    for (text, want) in &STOPS {
-        assert_eq!(rt; answer(rt.alloc(), text)?.as_str(), *want);
+fn reads_each_form_or_stops(rt: HostRuntime) -> Result<(), AllocError> {
+    for (text, want) in &FORMS {
+        assert!(rt; gives(rt.alloc(), text, want)?);
     }
     Ok(())
-}
-
-/// How the call answers to a text with a part in it that stands many times.
-fn answer_repeated(
-    alloc: Global,
-    before: &str,
-    part: &str,
-    count: u8,
-    after: &str,
-) -> Result<String, AllocError> {
-    let mut text = String::from_str(alloc, before)?;
-    for _ in 0..count {
-        text.push_str(part)?;
-    }
-    text.push_str(after)?;
-    answer(alloc, text.as_str())
 }
 
 // What stands before a part, the part, how many times it stands, what stands behind it, and how the source is refused.
@@ -217,11 +230,27 @@ static NESTINGS: [(&str, &str, u8, &str, &str); 11] = [
     ("A { B ( , )", " - C", 127, " }", "deep 4"),
 ];
 
+/// Whether that is the answer to a text with a part in it that stands many times.
+fn gives_repeated(
+    alloc: Global,
+    before: &str,
+    part: &str,
+    count: u8,
+    after: &str,
+    want: &str,
+) -> Result<bool, AllocError> {
+    let mut text = String::from_str(alloc, before)?;
+    for _ in 0..count {
+        text.push_str(part)?;
+    }
+    text.push_str(after)?;
+    gives(alloc, text.as_str(), want)
+}
+
 #[test]
-fn nests_128_deep_and_no_deeper(rt: HostRuntime) -> Result<(), Fail> {
+fn nests_128_deep_and_no_deeper(rt: HostRuntime) -> Result<(), AllocError> {
     for (before, part, count, after, want) in &NESTINGS {
-        let found = answer_repeated(rt.alloc(), before, part, *count, after)?;
-        assert_eq!(rt; found.as_str(), *want, "{before}");
+        assert!(rt; gives_repeated(rt.alloc(), before, part, *count, after, want)?);
     }
     Ok(())
 }

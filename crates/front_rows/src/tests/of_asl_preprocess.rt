@@ -1,21 +1,10 @@
 use asl_preprocess::{Define, Defines, PreStop, Preprocessed, preprocess};
 use iasl_messages::message::Message;
+use iasl_messages::place::Line;
 use iasl_ports::files::MOST_BYTES;
 use iasl_ports::list::{Text, Texts};
 use iasl_ports::memory::MemoryFiles;
 use std::alloc::{AllocError, Global};
-
-// A run: the files, of which the first is the main file; the directories; the definitions; and what is shown of the answer:
-// `FILE:LINE:TEXT` of each line and then `NUMBER FILE:LINE:COLUMN NAME` of each note; or that of the first stop, behind
-// `!`, and the names of the files.
-#[derive(Drop)]
-struct Row {
-    files: &'static [(&'static str, &'static str)],
-    dirs: &'static [&'static str],
-    defines: &'static [(&'static str, &'static str)],
-    enabled: bool,
-    shown: &'static str,
-}
 
 fn texts_of(alloc: Global, items: &[&str]) -> Result<Texts, AllocError> {
     let mut texts = Texts::new(alloc);
@@ -25,99 +14,147 @@ fn texts_of(alloc: Global, items: &[&str]) -> Result<Texts, AllocError> {
     Ok(texts)
 }
 
+fn define_of(alloc: Global, name: &str, text: &str) -> Result<Define, AllocError> {
+    Ok(Define {
+        name: Text::from_bytes(alloc, name.as_bytes())?,
+        text: Text::from_bytes(alloc, text.as_bytes())?,
+    })
+}
+
 fn defines_of(alloc: Global, items: &[(&str, &str)]) -> Result<Defines, AllocError> {
     let mut defines = Defines::new(alloc);
     for (name, text) in items {
-        defines.push(Define {
-            name: Text::from_bytes(alloc, name.as_bytes())?,
-            text: Text::from_bytes(alloc, text.as_bytes())?,
-        })?;
+        defines.push(define_of(alloc, name, text)?)?;
     }
     Ok(defines)
 }
 
-fn put_text(alloc: Global, out: &mut String, text: &Text) -> Result<(), AllocError> {
-    out.push_str(&String::from_utf8_lossy(alloc, text.as_bytes())?)
-}
-
-fn put_message(alloc: Global, out: &mut String, message: &Message) -> Result<(), AllocError> {
-    let number = message.number;
-    let file = message.place.file;
-    let line = message.place.line;
-    let column = message.place.column;
-    write!(out, "{number} {file}:{line}:{column} ")?;
-    put_text(alloc, out, &message.name)?;
-    out.push_str("\n")
-}
-
-fn given(alloc: Global, it: &Preprocessed) -> Result<String, AllocError> {
-    let mut out = String::new(alloc);
-    for line in it.lines.list.as_slice() {
-        let file = line.file;
-        let number = line.number;
-        write!(out, "{file}:{number}:")?;
-        put_text(alloc, &mut out, &line.text)?;
-        out.push_str("\n")?;
-    }
-    for note in it.notes.as_slice() {
-        put_message(alloc, &mut out, note)?;
-    }
-    Ok(out)
-}
-
-fn refused(alloc: Global, message: &Message, files: &Texts) -> Result<String, AllocError> {
-    let mut out = String::from_str(alloc, "!")?;
-    put_message(alloc, &mut out, message)?;
-    for name in files.as_slice() {
-        put_text(alloc, &mut out, name)?;
-        out.push_str(";")?;
-    }
-    Ok(out)
-}
-
-fn shown(alloc: Global, answer: &Result<Preprocessed, PreStop>) -> Result<String, AllocError> {
-    match answer {
-        Ok(it) => given(alloc, it),
-        Err(PreStop::Refused { message, files }) => refused(alloc, message, files),
-        Err(PreStop::Absent) => String::from_str(alloc, "absent"),
-        Err(PreStop::ReadFault) => String::from_str(alloc, "fault"),
-        Err(PreStop::Memory) => Err(AllocError),
-    }
-}
-
-fn ports(alloc: Global, given: &[(&str, &str)]) -> Result<MemoryFiles, AllocError> {
+// Files, of which this fetch fails. The first fetch is 1.
+fn files_of(
+    alloc: Global,
+    given: &[(&str, &str)],
+    failing: u64,
+) -> Result<MemoryFiles, AllocError> {
     let mut files = MemoryFiles::new(alloc);
     for (name, text) in given {
         files.add(name, text.as_bytes())?;
     }
+    files.fail_at(failing)?;
     Ok(files)
 }
 
-fn run(alloc: Global, row: &Row) -> Result<String, AllocError> {
-    let mut files = ports(alloc, row.files)?;
-    let dirs = texts_of(alloc, row.dirs)?;
-    let defines = defines_of(alloc, row.defines)?;
-    shown(
-        alloc,
-        &preprocess(alloc, &mut files, "t.asl", &dirs, &defines, row.enabled),
-    )
+// `FILE:LINE:TEXT`
+fn put_line(alloc: Global, out: &mut String, line: &Line) -> Result<(), AllocError> {
+    let text = String::from_utf8_lossy(alloc, line.text.as_bytes())?;
+    let file = line.file;
+    let number = line.number;
+    write!(out, "{file}:{number}:{text}\n")
 }
 
-// One main file alone, with the preprocessor enabled.
-fn run_alone(alloc: Global, text: &str) -> Result<String, AllocError> {
-    let mut files = ports(alloc, &[("t.asl", text)])?;
-    let answer = preprocess(
-        alloc,
-        &mut files,
-        "t.asl",
-        &Texts::new(alloc),
-        &Defines::new(alloc),
-        true,
-    );
-    shown(alloc, &answer)
+// `NUMBER FILE:LINE:COLUMN NAME`
+fn put_message(alloc: Global, out: &mut String, message: &Message) -> Result<(), AllocError> {
+    let name = String::from_utf8_lossy(alloc, message.name.as_bytes())?;
+    let number = message.number;
+    let file = message.place.file;
+    let line = message.place.line;
+    let column = message.place.column;
+    write!(out, "{number} {file}:{line}:{column} {name}\n")
 }
 
-static FORMS: [(&str, &str); 30] = [
+fn put_file_name(alloc: Global, out: &mut String, name: &Text) -> Result<(), AllocError> {
+    let name = String::from_utf8_lossy(alloc, name.as_bytes())?;
+    write!(out, "{name};")
+}
+
+// Whether the first line is too long to be shown.
+fn is_large(it: &Preprocessed) -> bool {
+    match it.lines.list.as_slice() {
+        [line, ..] => line.text.as_bytes().len() > 1000,
+        [] => false,
+    }
+}
+
+// Each line and then each note. Of large texts only how many lines there are.
+fn put_given(alloc: Global, out: &mut String, it: &Preprocessed) -> Result<(), AllocError> {
+    if is_large(it) {
+        let lines = it.lines.list.len();
+        return write!(out, "{lines} lines");
+    }
+    for line in it.lines.list.as_slice() {
+        put_line(alloc, out, line)?;
+    }
+    for note in it.notes.as_slice() {
+        put_message(alloc, out, note)?;
+    }
+    Ok(())
+}
+
+// The message behind `!`, and the names of the files.
+fn put_refused(
+    alloc: Global,
+    out: &mut String,
+    message: &Message,
+    files: &Texts,
+) -> Result<(), AllocError> {
+    out.push_str("!")?;
+    put_message(alloc, out, message)?;
+    for name in files.as_slice() {
+        put_file_name(alloc, out, name)?;
+    }
+    Ok(())
+}
+
+fn put_answer(
+    alloc: Global,
+    out: &mut String,
+    answer: &Result<Preprocessed, PreStop>,
+) -> Result<(), AllocError> {
+    match answer {
+        Ok(it) => put_given(alloc, out, it),
+        Err(PreStop::Refused { message, files }) => put_refused(alloc, out, message, files),
+        Err(PreStop::Absent) => out.push_str("absent"),
+        Err(PreStop::ReadFault) => out.push_str("fault"),
+        Err(PreStop::Memory) => Err(AllocError),
+    }
+}
+
+// What a run over these files gives, whose main file is `t.asl`.
+fn put_run(
+    alloc: Global,
+    out: &mut String,
+    files: &mut MemoryFiles,
+    dirs: &[&str],
+    defines: &[(&str, &str)],
+    enabled: bool,
+) -> Result<(), AllocError> {
+    let dirs = texts_of(alloc, dirs)?;
+    let defines = defines_of(alloc, defines)?;
+    let answer = preprocess(alloc, files, "t.asl", &dirs, &defines, enabled);
+    put_answer(alloc, out, &answer)
+}
+
+// Whether this is shown of that run.
+fn gives(
+    alloc: Global,
+    files: &mut MemoryFiles,
+    dirs: &[&str],
+    defines: &[(&str, &str)],
+    enabled: bool,
+    shown: &str,
+) -> Result<bool, AllocError> {
+    let mut out = String::new(alloc);
+    put_run(alloc, &mut out, files, dirs, defines, enabled)?;
+    Ok(out.as_str() == shown)
+}
+
+fn is_right_alone(alloc: Global, text: &str, shown: &str) -> Result<bool, AllocError> {
+    let mut files = files_of(alloc, &[("t.asl", text)], 0)?;
+    gives(alloc, &mut files, &[], &[], true, shown)
+}
+
+// One main file alone, with the preprocessor enabled, and what is shown of the answer.
+static ALONE: [(&str, &str); 49] = [
+    // directives and their forms
     ("", ""),
     ("\n", "0:1:\n"),
     ("a\r\nb\n", "0:1:a\n0:2:b\n"),
@@ -163,17 +200,7 @@ static FORMS: [(&str, &str); 30] = [
         "#if 0\n#error no\n#foo\n#warning no\n#include \"x\"\n#define A /*\nA\n#endif\nA",
         "0:9:A\n",
     ),
-];
-
-#[test]
-fn directives_and_their_forms(rt: HostRuntime) -> Result<(), AllocError> {
-    for (text, wanted) in &FORMS {
-        assert_eq!(rt; run_alone(rt.alloc(), text)?.as_str(), *wanted, "{text:?}");
-    }
-    Ok(())
-}
-
-static CONDITIONALS: [(&str, &str); 19] = [
+    // conditionals
     ("#if 1\na\n#elif 1 / 0\nb\n#else\nc\n#endif\n", "0:2:a\n"),
     (
         "#if 0\na\n#elif 1\nb\n#elif 1 / 0\nc\n#else\nd\n#endif\n",
@@ -208,14 +235,48 @@ static CONDITIONALS: [(&str, &str); 19] = [
 ];
 
 #[test]
-fn conditionals(rt: HostRuntime) -> Result<(), AllocError> {
-    for (text, wanted) in &CONDITIONALS {
-        assert_eq!(rt; run_alone(rt.alloc(), text)?.as_str(), *wanted, "{text:?}");
+fn directives_and_conditionals(rt: HostRuntime) -> Result<(), AllocError> {
+    for (text, shown) in &ALONE {
+        assert!(rt; is_right_alone(rt.alloc(), text, shown)?);
     }
     Ok(())
 }
 
-static INCLUDES: [Row; 16] = [
+// A run: the files, of which the first is the main file; the directories; the definitions; the fetch that fails, counted
+// from 1, or 0; and what is shown of the answer: `FILE:LINE:TEXT` of each line and then `NUMBER FILE:LINE:COLUMN NAME` of
+// each note; or that of the first stop, behind `!`, and the names of the files.
+#[derive(Clone, Copy)]
+struct Row {
+    files: &'static [(&'static str, &'static str)],
+    dirs: &'static [&'static str],
+    defines: &'static [(&'static str, &'static str)],
+    enabled: bool,
+    failing: u64,
+    shown: &'static str,
+}
+
+const NO_FILES: Row = Row {
+    files: &[],
+    dirs: &[],
+    defines: &[],
+    enabled: true,
+    failing: 0,
+    shown: "",
+};
+
+const ITSELF: Row = Row {
+    files: &[("t.asl", "#include \"t.asl\"\n")],
+    ..NO_FILES
+};
+
+const SEARCHED: Row = Row {
+    files: &[("t.asl", "#include <a>\n"), ("a", "x")],
+    dirs: &["no", ""],
+    shown: "fault",
+    ..NO_FILES
+};
+
+static INCLUDES: [Row; 21] = [
     Row {
         files: &[
             ("t.asl", "a\n#include \"b/c.h\"\nx\n"),
@@ -223,10 +284,8 @@ static INCLUDES: [Row; 16] = [
             ("b/d.h", "d x\n"),
             ("d.h", "no\n"),
         ],
-        dirs: &[],
-        defines: &[],
-        enabled: true,
         shown: "0:1:a\n2:1:d y\n0:3:y\n",
+        ..NO_FILES
     },
     Row {
         files: &[
@@ -236,9 +295,8 @@ static INCLUDES: [Row; 16] = [
             ("j/f", "second\n"),
         ],
         dirs: &["i", "j/"],
-        defines: &[],
-        enabled: true,
         shown: "1:1:here\n2:1:first\n1:1:here\n",
+        ..NO_FILES
     },
     Row {
         files: &[
@@ -248,16 +306,14 @@ static INCLUDES: [Row; 16] = [
             ("/h", "h\n"),
         ],
         dirs: &["", "i", "j/"],
-        defines: &[],
-        enabled: true,
         shown: "1:1:second\n2:1:g\n3:1:h\n",
+        ..NO_FILES
     },
     Row {
         files: &[("t.asl", "#include <f>\n"), ("f", "f\n")],
         dirs: &["i"],
-        defines: &[],
-        enabled: true,
         shown: "!6001 0:1:1 f\nt.asl;",
+        ..NO_FILES
     },
     Row {
         files: &[
@@ -265,44 +321,34 @@ static INCLUDES: [Row; 16] = [
             ("a", "#include \"b\"\n"),
             ("b", "#include \"no\"\n"),
         ],
-        dirs: &[],
-        defines: &[],
-        enabled: true,
         shown: "!6001 2:1:1 no\nt.asl;a;b;",
+        ..NO_FILES
     },
     Row {
         files: &[("t.asl", "#include \"t.asl\"\n")],
-        dirs: &[],
-        defines: &[],
-        enabled: true,
         shown: "!6002 0:1:1 t.asl\nt.asl;",
+        ..NO_FILES
     },
     Row {
         files: &[
             ("t.asl", "#if 1\n#include \"a\"\n#endif\n"),
             ("a", "#endif\n"),
         ],
-        dirs: &[],
-        defines: &[],
-        enabled: true,
         shown: "!6004 1:1:1 \nt.asl;a;",
+        ..NO_FILES
     },
     Row {
         files: &[("t.asl", "#include \"a\"\n#endif\n"), ("a", "x\n#if 1\n")],
-        dirs: &[],
-        defines: &[],
-        enabled: true,
         shown: "!6004 1:2:1 \nt.asl;a;",
+        ..NO_FILES
     },
     Row {
         files: &[
             ("t.asl", "#include \"a\"\n#define b 1\n*/ b\n"),
             ("a", "b /*\n#foo"),
         ],
-        dirs: &[],
-        defines: &[],
-        enabled: true,
         shown: "1:1:b /*\n1:2:#foo\n0:3:*/ 1\n",
+        ..NO_FILES
     },
     Row {
         files: &[
@@ -312,10 +358,8 @@ static INCLUDES: [Row; 16] = [
             ),
             ("a", "in\n"),
         ],
-        dirs: &[],
-        defines: &[],
-        enabled: true,
         shown: "1:1:in\n0:3:Include (\"a\") b\n0:4:Include (\"a\") /* x\n0:5:*/ Include (\"a\")\n",
+        ..NO_FILES
     },
     Row {
         files: &[
@@ -323,180 +367,258 @@ static INCLUDES: [Row; 16] = [
             ("b", "#foo\nInclude (\"c\")\n"),
             ("c", "a"),
         ],
-        dirs: &[],
         defines: &[("a", "2")],
         enabled: false,
         shown: "0:1:#if 0\n0:2:#define a 1\n1:1:#foo\n2:1:a\n0:4:a\n",
+        ..NO_FILES
     },
     Row {
         files: &[("t.asl", "a\n /**/ Include (\"\")\n")],
-        dirs: &[],
-        defines: &[],
-        enabled: true,
         shown: "!6003 0:2:7 \nt.asl;",
+        ..NO_FILES
     },
     Row {
         files: &[("t.asl", "#include \"\"\n")],
-        dirs: &[],
-        defines: &[],
-        enabled: true,
         shown: "!6003 0:1:1 \nt.asl;",
+        ..NO_FILES
     },
     Row {
         files: &[(
             "t.asl",
             "#if 0\n#include \"no\"\nInclude (\"no\")\n#endif\nx",
         )],
-        dirs: &[],
-        defines: &[],
-        enabled: true,
         shown: "0:5:x\n",
+        ..NO_FILES
     },
     Row {
         files: &[("t.asl", "A B\n#undef A\nA\n#define A 3\nA\n")],
-        dirs: &[],
         defines: &[("A", "0"), ("A", "7"), ("B", "")],
-        enabled: true,
         shown: "0:1:7 \n0:3:A\n0:5:3\n",
+        ..NO_FILES
     },
     Row {
         files: &[("u.asl", "x")],
-        dirs: &[],
-        defines: &[],
-        enabled: true,
         shown: "absent",
+        ..NO_FILES
+    },
+    // The 33rd level is not fetched.
+    Row {
+        failing: 33,
+        shown: "fault",
+        ..ITSELF
+    },
+    Row {
+        failing: 34,
+        shown: "!6002 0:1:1 t.asl\nt.asl;",
+        ..ITSELF
+    },
+    // A failed fetch is no absent file.
+    Row {
+        failing: 1,
+        ..SEARCHED
+    },
+    Row {
+        failing: 2,
+        ..SEARCHED
+    },
+    Row {
+        failing: 3,
+        ..SEARCHED
     },
 ];
 
-#[test]
-fn includes(rt: HostRuntime) -> Result<(), AllocError> {
-    for row in &INCLUDES {
-        assert_eq!(rt; run(rt.alloc(), row)?.as_str(), row.shown);
-    }
-    Ok(())
-}
-
-// What is shown of a run in which this fetch fails.
-fn run_failing(
-    alloc: Global,
-    given: &[(&str, &str)],
-    dirs: &[&str],
-    call: u64,
-) -> Result<String, AllocError> {
-    let mut files = ports(alloc, given)?;
-    files.fail_at(call)?;
-    let dirs = texts_of(alloc, dirs)?;
-    let defines = Defines::new(alloc);
-    shown(
+fn is_right(alloc: Global, row: &Row) -> Result<bool, AllocError> {
+    let mut files = files_of(alloc, row.files, row.failing)?;
+    gives(
         alloc,
-        &preprocess(alloc, &mut files, "t.asl", &dirs, &defines, true),
+        &mut files,
+        row.dirs,
+        row.defines,
+        row.enabled,
+        row.shown,
     )
 }
 
 #[test]
-fn the_33rd_level_is_not_fetched(rt: HostRuntime) -> Result<(), AllocError> {
-    let files = [("t.asl", "#include \"t.asl\"\n")];
-    for (call, wanted) in [(33, "fault"), (34, "!6002 0:1:1 t.asl\nt.asl;")] {
-        assert!(rt; run_failing(rt.alloc(), &files, &[], call)?.as_str() == wanted);
+fn includes_and_fetches(rt: HostRuntime) -> Result<(), AllocError> {
+    for row in &INCLUDES {
+        assert!(rt; is_right(rt.alloc(), row)?);
     }
     Ok(())
 }
 
-#[test]
-fn a_failed_fetch_is_no_absent_file(rt: HostRuntime) -> Result<(), AllocError> {
-    let files = [("t.asl", "#include <a>\n"), ("a", "x")];
-    for call in 1..4 {
-        assert!(rt; run_failing(rt.alloc(), &files, &["no", ""], call)?.as_str() == "fault");
+// A large text: what stands first, so many lines of so many `x`, and so many times what stands last.
+#[derive(Clone, Copy)]
+struct Large {
+    first: &'static str,
+    lines: usize,
+    size: usize,
+    last: &'static str,
+    times: usize,
+}
+
+const EMPTY: Large = Large {
+    first: "",
+    lines: 0,
+    size: 0,
+    last: "",
+    times: 0,
+};
+
+const ONE_LINE: Large = Large { lines: 1, ..EMPTY };
+
+const LINES: Large = Large {
+    lines: 16383,
+    size: 1023,
+    last: "#include \"a\"\n",
+    times: 1,
+    ..EMPTY
+};
+
+const REPLACED: Large = Large {
+    first: "#define A ",
+    lines: 1,
+    size: 1024,
+    last: "A\n",
+    times: 0,
+};
+
+// A large main file, a file `a` that it may include, and what is shown.
+static LARGE_FILES: [(Large, Large, &str); 3] = [
+    (
+        Large {
+            size: MOST_BYTES - 1,
+            ..ONE_LINE
+        },
+        EMPTY,
+        "1 lines",
+    ),
+    (
+        Large {
+            size: MOST_BYTES,
+            ..ONE_LINE
+        },
+        EMPTY,
+        "!6007 0:1:1 \nt.asl;",
+    ),
+    (
+        Large {
+            first: "x\n #include \"a\"\n",
+            ..EMPTY
+        },
+        Large {
+            size: MOST_BYTES,
+            ..ONE_LINE
+        },
+        "!6007 0:2:1 \nt.asl;",
+    ),
+];
+
+static LINES_TOGETHER: [(Large, Large, &str); 2] = [
+    (
+        LINES,
+        Large {
+            size: 1024,
+            ..ONE_LINE
+        },
+        "16384 lines",
+    ),
+    (
+        LINES,
+        Large {
+            size: 1025,
+            ..ONE_LINE
+        },
+        "!6007 1:1:1 \nt.asl;a;",
+    ),
+];
+
+static REPLACEMENTS: [(Large, Large, &str); 2] = [
+    (
+        Large {
+            times: 16368,
+            ..REPLACED
+        },
+        EMPTY,
+        "16368 lines",
+    ),
+    (
+        Large {
+            times: 16369,
+            ..REPLACED
+        },
+        EMPTY,
+        "!6007 0:16370:1 \nt.asl;",
+    ),
+];
+
+static XS: [u8; 1024] = [b'x'; 1024];
+
+fn put_large_line(bytes: &mut Vec<u8>, size: usize) -> Result<(), AllocError> {
+    for _ in 0..size / 1024 {
+        bytes.extend_from_slice(&XS)?;
+    }
+    bytes.extend_from_slice(XS.split_at(size % 1024).0)?;
+    bytes.extend_from_slice(b"\n")
+}
+
+fn put_times(bytes: &mut Vec<u8>, text: &str, times: usize) -> Result<(), AllocError> {
+    for _ in 0..times {
+        bytes.extend_from_slice(text.as_bytes())?;
     }
     Ok(())
 }
 
-// So many lines of so many bytes, and what stands behind them.
-fn large(alloc: Global, lines: usize, size: usize, behind: &str) -> Result<Vec<u8>, AllocError> {
+fn add_large(
+    alloc: Global,
+    files: &mut MemoryFiles,
+    name: &str,
+    large: &Large,
+) -> Result<(), AllocError> {
     let mut bytes = Vec::new(alloc);
-    for _ in 0..lines {
-        for _ in 0..size {
-            bytes.push(b'x')?;
-        }
-        bytes.push(b'\n')?;
+    put_times(&mut bytes, large.first, 1)?;
+    for _ in 0..large.lines {
+        put_large_line(&mut bytes, large.size)?;
     }
-    bytes.extend_from_slice(behind.as_bytes())?;
-    Ok(bytes)
+    put_times(&mut bytes, large.last, large.times)?;
+    files.add(name, &bytes)
 }
 
-// How many lines a main file gives that may include `a`, or its first stop.
-fn count(alloc: Global, main: &[u8], other: &[u8]) -> Result<String, AllocError> {
+fn is_right_large(
+    alloc: Global,
+    main: &Large,
+    other: &Large,
+    shown: &str,
+) -> Result<bool, AllocError> {
     let mut files = MemoryFiles::new(alloc);
-    files.add("t.asl", main)?;
-    files.add("a", other)?;
-    let answer = preprocess(
-        alloc,
-        &mut files,
-        "t.asl",
-        &Texts::new(alloc),
-        &Defines::new(alloc),
-        true,
-    );
-    match answer {
-        Ok(it) => {
-            let lines = it.lines.list.len();
-            format!(in alloc; "{lines} lines")
+    add_large(alloc, &mut files, "t.asl", main)?;
+    add_large(alloc, &mut files, "a", other)?;
+    gives(alloc, &mut files, &[], &[], true, shown)
+}
+
+fn are_right_large(alloc: Global, rows: &[(Large, Large, &str)]) -> Result<bool, AllocError> {
+    for (main, other, shown) in rows {
+        if !is_right_large(alloc, main, other, shown)? {
+            return Ok(false);
         }
-        Err(stop) => shown(alloc, &Err(stop)),
     }
-}
-
-// A text without its first byte.
-fn shorter(text: &[u8]) -> &[u8] {
-    match text {
-        [_, rest @ ..] => rest,
-        [] => text,
-    }
-}
-
-// Whether that is this.
-fn gives(alloc: Global, main: &[u8], other: &[u8], wanted: &str) -> Result<bool, AllocError> {
-    Ok(count(alloc, main, other)?.as_str() == wanted)
+    Ok(true)
 }
 
 #[test]
-fn main_files_that_are_too_large(rt: HostRuntime) -> Result<(), AllocError> {
-    let alloc = rt.alloc();
-    let text = large(alloc, 1, MOST_BYTES, "")?;
-    assert!(rt; gives(alloc, shorter(&text), b"", "1 lines")?);
-    assert!(rt; gives(alloc, &text, b"", "!6007 0:1:1 \nt.asl;")?);
-    assert!(rt;
-        gives(
-            alloc,
-            b"x\n #include \"a\"\n",
-            &text,
-            "!6007 0:2:1 \nt.asl;"
-        )?
-    );
+fn files_that_are_too_large(rt: HostRuntime) -> Result<(), AllocError> {
+    assert!(rt; are_right_large(rt.alloc(), &LARGE_FILES)?);
     Ok(())
 }
 
 #[test]
 fn lines_that_are_too_large_together(rt: HostRuntime) -> Result<(), AllocError> {
-    let alloc = rt.alloc();
-    let text = large(alloc, 16383, 1023, "#include \"a\"\n")?;
-    let more = large(alloc, 1, 1025, "")?;
-    assert!(rt; gives(alloc, &text, shorter(&more), "16384 lines")?);
-    assert!(rt; gives(alloc, &text, &more, "!6007 1:1:1 \nt.asl;a;")?);
+    assert!(rt; are_right_large(rt.alloc(), &LINES_TOGETHER)?);
     Ok(())
 }
 
 #[test]
 fn replacement_has_room(rt: HostRuntime) -> Result<(), AllocError> {
-    let alloc = rt.alloc();
-    let mut text = Vec::new(alloc);
-    text.extend_from_slice(b"#define A ")?;
-    text.extend_from_slice(&large(alloc, 1, 1024, "")?)?;
-    for _ in 0..16368 {
-        text.extend_from_slice(b"A\n")?;
-    }
-    assert!(rt; gives(alloc, &text, b"", "16368 lines")?);
-    text.extend_from_slice(b"A\n")?;
-    assert!(rt; gives(alloc, &text, b"", "!6007 0:16370:1 \nt.asl;")?);
+    assert!(rt; are_right_large(rt.alloc(), &REPLACEMENTS)?);
     Ok(())
 }

@@ -1,5 +1,5 @@
 // Data tables: their bytes and messages through the whole call.
-use super::{ended_as, run};
+use super::{data_rows, ended_as, run};
 use std::alloc::{AllocError, Global};
 
 // The text of an HPET up to its minimum clock ticks.
@@ -71,20 +71,19 @@ const MCFG_TABLE: &[u8] =
     b"MCFG<\x00\x00\x00\x01\xB6OEMX00TABLE001\x01\x00\x00\x00INTL\x05\x01!\x20\x00\x00\x00\x00\x00\x00\x00\x00\x00\x00\x00\xE0\x00\x00\x00\x00\x00\x00\x00\xFF\x00\x00\x00\x00";
 
 // Words, a text in parts, and what comes of it: the status, the table, and what is told.
-#[derive(Drop)]
-struct DataRow {
-    words: &'static [&'static str],
-    parts: [&'static [u8]; 3],
-    status: u8,
-    names: &'static [&'static [u8]],
-    bodies: &'static [&'static [u8]],
-    told: &'static [u8],
+pub(super) struct DataRow {
+    pub(super) words: &'static [&'static str],
+    pub(super) parts: &'static [&'static [u8]],
+    pub(super) status: u8,
+    pub(super) names: &'static [&'static [u8]],
+    pub(super) bodies: &'static [&'static [u8]],
+    pub(super) told: &'static [u8],
 }
 
-const ROWS: &[DataRow] = &[
+static ROWS: [DataRow; 6] = [
     DataRow {
         words: &["t.asl"],
-        parts: [HPET, TICKS, PROTECT],
+        parts: &[HPET, TICKS, PROTECT],
         status: 0,
         names: &[b"t.aml"],
         bodies: &[HPET_TABLE],
@@ -92,7 +91,7 @@ const ROWS: &[DataRow] = &[
     },
     DataRow {
         words: &["t.asl"],
-        parts: [HPET, TICKS, OTHER_PROTECT],
+        parts: &[HPET, TICKS, OTHER_PROTECT],
         status: 1,
         names: &[],
         bodies: &[],
@@ -100,7 +99,7 @@ const ROWS: &[DataRow] = &[
     },
     DataRow {
         words: &["t.asl"],
-        parts: [HPET, OTHER_TICKS, PROTECT],
+        parts: &[HPET, OTHER_TICKS, PROTECT],
         status: 0,
         names: &[b"t.aml"],
         bodies: &[HPET_TABLE],
@@ -108,7 +107,7 @@ const ROWS: &[DataRow] = &[
     },
     DataRow {
         words: &["-we", "t.asl"],
-        parts: [HPET, OTHER_TICKS, PROTECT],
+        parts: &[HPET, OTHER_TICKS, PROTECT],
         status: 1,
         names: &[],
         bodies: &[],
@@ -116,7 +115,7 @@ const ROWS: &[DataRow] = &[
     },
     DataRow {
         words: &["t.asl"],
-        parts: [MCFG, LAST_BUS, b""],
+        parts: &[MCFG, LAST_BUS],
         status: 0,
         names: &[b"t.aml"],
         bodies: &[MCFG_TABLE],
@@ -124,7 +123,7 @@ const ROWS: &[DataRow] = &[
     },
     DataRow {
         words: &["t.asl"],
-        parts: [MCFG, WIDE_BUS, b""],
+        parts: &[MCFG, WIDE_BUS],
         status: 1,
         names: &[],
         bodies: &[],
@@ -132,20 +131,40 @@ const ROWS: &[DataRow] = &[
     },
 ];
 
-// Whether a run over a text in parts comes to what it is to come to.
-fn is_right(alloc: Global, row: &DataRow) -> Result<bool, AllocError> {
+// The parts of a text, one behind the other.
+fn text_of(alloc: Global, parts: &[&[u8]]) -> Result<Vec<u8>, AllocError> {
     let mut text = Vec::new(alloc);
-    for part in &row.parts {
+    for part in parts {
         text.extend_from_slice(part)?;
     }
+    Ok(text)
+}
+
+// Whether a run over a text comes to what it is to come to.
+fn is_right(alloc: Global, row: &DataRow) -> Result<bool, AllocError> {
+    let text = text_of(alloc, row.parts)?;
     let ran = run(alloc, row.words, &text)?;
     Ok(ended_as(&ran, row.status, row.names, row.bodies, row.told))
 }
 
+// Whether runs over texts do.
+fn are_right(alloc: Global, rows: &[DataRow]) -> Result<bool, AllocError> {
+    for row in rows {
+        if !is_right(alloc, row)? {
+            return Ok(false);
+        }
+    }
+    Ok(true)
+}
+
 #[test]
 fn data_tables(rt: HostRuntime) -> Result<(), AllocError> {
-    for row in ROWS {
-        assert!(rt; is_right(rt.alloc(), row)?);
-    }
+    assert!(rt; are_right(rt.alloc(), &ROWS)?);
+    Ok(())
+}
+
+#[test]
+fn tables_of_more_than_one_length(rt: HostRuntime) -> Result<(), AllocError> {
+    assert!(rt; are_right(rt.alloc(), &data_rows::ROWS)?);
     Ok(())
 }

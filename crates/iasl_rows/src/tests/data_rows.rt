@@ -1,6 +1,5 @@
 // Data tables with structures and rows, and the revisions of the FADT, through the whole call.
-use super::{are, run};
-use std::alloc::{AllocError, Global};
+use super::data::DataRow;
 
 // The header of a table behind its signature and before its revision, and behind that.
 const LENGTH: &[u8] = b"Table Length : 00000000
@@ -88,104 +87,60 @@ Flags (decoded below) : 0
 const FADT_TABLE: &[u8] =
     b"FACPt\x00\x00\x00\x01`OEMX00TABLE001\x01\x00\x00\x00INTL\x05\x01!\x20\x00\x00\x00\x00\x00\x00\x00\x00\x00\x00\x00\x00\x00\x00\x00\x00\x00\x00\x00\x00\x00\x00\x00\x00\x00\x00\x00\x00\x00\x00\x00\x00\x00\x00\x00\x00\x00\x00\x00\x00\x00\x00\x00\x00\x00\x00\x00\x00\x00\x00\x00\x00\x00\x00\x00\x00\x00\x00\x00\x00\x00\x00\x00\x00\x00\x00\x00\x00\x00\x00\x00\x00\x00\x00\x00\x00\x00\x00\x00\x00";
 
-// A signature and a revision, lines behind the header, and what comes of them: the table, and what is told.
-#[derive(Drop)]
-struct Row {
-    signature: &'static [u8],
-    revision: &'static [u8],
-    lines: &'static [u8],
-    more: &'static [u8],
-    status: u8,
-    bodies: &'static [&'static [u8]],
-    told: &'static [u8],
-}
-
-const ROWS: &[Row] = &[
-    Row {
-        signature: b"Signature : \"SRAT\"\n",
-        revision: b"03",
-        lines: SRAT,
-        more: b"",
+pub(super) static ROWS: [DataRow; 6] = [
+    DataRow {
+        words: &["t.asl"],
+        parts: &[b"Signature : \"SRAT\"\n", LENGTH, b"03", HEADER, SRAT],
         status: 0,
+        names: &[b"t.aml"],
         bodies: &[SRAT_TABLE],
         told: b"t.aml: SRAT, 64 bytes\n0 errors, 0 warnings, 0 remarks\n",
     },
-    Row {
-        signature: b"Signature : \"SLIT\"\n",
-        revision: b"01",
-        lines: SLIT,
-        more: b"",
+    DataRow {
+        words: &["t.asl"],
+        parts: &[b"Signature : \"SLIT\"\n", LENGTH, b"01", HEADER, SLIT],
         status: 0,
+        names: &[b"t.aml"],
         bodies: &[SLIT_TABLE],
         told: b"t.aml: SLIT, 48 bytes\n0 errors, 0 warnings, 0 remarks\n",
     },
-    Row {
-        signature: b"Signature : \"SLIT\"\n",
-        revision: b"01",
-        lines: SHORT_SLIT,
-        more: b"",
+    DataRow {
+        words: &["t.asl"],
+        parts: &[b"Signature : \"SLIT\"\n", LENGTH, b"01", HEADER, SHORT_SLIT],
         status: 1,
+        names: &[],
         bodies: &[],
         told: b"t.asl:12:1: error 6097: bad locality matrix\n1 errors, 0 warnings, 0 remarks\n",
     },
-    Row {
-        signature: b"Signature : \"FACP\"\n",
-        revision: b"01",
-        lines: FADT,
-        more: b"",
+    DataRow {
+        words: &["t.asl"],
+        parts: &[b"Signature : \"FACP\"\n", LENGTH, b"01", HEADER, FADT],
         status: 0,
+        names: &[b"t.aml"],
         bodies: &[FADT_TABLE],
         told: b"t.aml: FACP, 116 bytes\n0 errors, 0 warnings, 0 remarks\n",
     },
-    Row {
-        signature: b"Signature : \"FACP\"\n",
-        revision: b"01",
-        lines: FADT,
-        more: b"[0001] Space ID : 01\n",
+    DataRow {
+        words: &["t.asl"],
+        parts: &[
+            b"Signature : \"FACP\"\n",
+            LENGTH,
+            b"01",
+            HEADER,
+            FADT,
+            b"[0001] Space ID : 01\n",
+        ],
         status: 1,
+        names: &[],
         bodies: &[],
         told: b"t.asl:48:1: error 6092: too many lines\n1 errors, 0 warnings, 0 remarks\n",
     },
-    Row {
-        signature: b"Signature : \"FACP\"\n",
-        revision: b"02",
-        lines: FADT,
-        more: b"",
+    DataRow {
+        words: &["t.asl"],
+        parts: &[b"Signature : \"FACP\"\n", LENGTH, b"02", HEADER, FADT],
         status: 1,
+        names: &[],
         bodies: &[],
         told: b"t.asl:3:1: error 6093: bad value\n1 errors, 0 warnings, 0 remarks\n",
     },
 ];
-
-fn text_of(alloc: Global, row: &Row) -> Result<Vec<u8>, AllocError> {
-    let mut text = Vec::new(alloc);
-    for part in [
-        row.signature,
-        LENGTH,
-        row.revision,
-        HEADER,
-        row.lines,
-        row.more,
-    ] {
-        text.extend_from_slice(part)?;
-    }
-    Ok(text)
-}
-
-// Whether a run over a text comes to what it is to come to.
-fn is_right(alloc: Global, row: &Row) -> Result<bool, AllocError> {
-    let ran = run(alloc, &["t.asl"], &text_of(alloc, row)?)?;
-    Ok(
-        ran.status == row.status
-            && are(ran.outs.bodies(), row.bodies)
-            && ran.console.as_bytes() == row.told,
-    )
-}
-
-#[test]
-fn tables_of_more_than_one_length(rt: HostRuntime) -> Result<(), AllocError> {
-    for row in ROWS {
-        assert!(rt; is_right(rt.alloc(), row)?);
-    }
-    Ok(())
-}

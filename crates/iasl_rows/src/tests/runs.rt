@@ -1,5 +1,6 @@
 // Runs of the compiler: words and sources, files, and ports that fail.
 mod devices;
+mod failing;
 mod lending;
 mod limits;
 mod listing;
@@ -150,7 +151,6 @@ const WRONG_ARGUMENTS: &[u8] = b"DefinitionBlock (\"\", \"SSDT\", 2, \"OEMX00\",
 ";
 
 // A run: words and files, what is put, and what is told.
-#[derive(Drop)]
 struct Case {
     words: &'static [&'static str],
     files: &'static [(&'static str, &'static [u8])],
@@ -160,32 +160,7 @@ struct Case {
     told: &'static [u8],
 }
 
-// Which fetch, which put and which write fail.
-#[derive(Drop)]
-struct Failing {
-    fetch: u64,
-    put: u64,
-    write: u64,
-}
-
-const NONE_FAILS: Failing = Failing {
-    fetch: 9,
-    put: 9,
-    write: 9,
-};
-
-fn run(alloc: Global, words: &[&str], text: &[u8], failing: &Failing) -> Result<Ran, AllocError> {
-    let mut files = MemoryFiles::new(alloc);
-    files.add("t.asl", text)?;
-    files.fail_at(failing.fetch)?;
-    let mut outs = MemoryOutputs::new(alloc);
-    outs.fail_at(failing.put)?;
-    let mut console = MemorySink::new(alloc, 1000)?;
-    console.fail_at(failing.write)?;
-    run_over(alloc, words, files, outs, console)
-}
-
-const SOURCES: &[Case] = &[
+static SOURCES_1: [Case; 5] = [
     Case {
         words: &["t.asl"],
         files: &[("t.asl", ONE_NAME)],
@@ -226,6 +201,9 @@ const SOURCES: &[Case] = &[
         bodies: &[ADDS_TABLE],
         told: b"t.aml: SSDT, 48 bytes\n0 errors, 0 warnings, 0 remarks\n",
     },
+];
+
+static SOURCES_2: [Case; 5] = [
     Case {
         words: &["t.asl"],
         files: &[("t.asl", CALLS)],
@@ -266,6 +244,9 @@ const SOURCES: &[Case] = &[
         bodies: &[],
         told: b"t.asl:3:28: error 6055: argument is above the count\nt.asl:4:18: error 6051: wrong number of call arguments: N___\nt.asl:4:23: error 6052: no loop to leave\n3 errors, 0 warnings, 0 remarks\n",
     },
+];
+
+static SOURCES_3: [Case; 5] = [
     Case {
         words: &["t.asl"],
         files: &[("t.asl", OWN_NAME)],
@@ -306,6 +287,9 @@ const SOURCES: &[Case] = &[
         bodies: &[],
         told: b"t.asl:3:18: error 6015: syntax\n1 errors, 0 warnings, 0 remarks\n",
     },
+];
+
+static SOURCES_4: [Case; 5] = [
     Case {
         words: &["t.asl"],
         files: &[("t.asl", NO_TEXT)],
@@ -346,6 +330,9 @@ const SOURCES: &[Case] = &[
         bodies: &[],
         told: USAGE,
     },
+];
+
+static SOURCES_5: [Case; 5] = [
     Case {
         words: &["t.asl", "t.asl"],
         files: &[("t.asl", ONE_NAME)],
@@ -386,6 +373,9 @@ const SOURCES: &[Case] = &[
         bodies: &[],
         told: b"iasl: file fault\n",
     },
+];
+
+static SOURCES_6: [Case; 2] = [
     Case {
         words: &[".asl"],
         files: &[("t.asl", ONE_NAME)],
@@ -403,60 +393,6 @@ const SOURCES: &[Case] = &[
         told: b"iasl: file fault\n",
     },
 ];
-
-#[test]
-fn words_and_sources(rt: HostRuntime) -> Result<(), AllocError> {
-    for case in SOURCES {
-        assert!(rt; is_right(rt.alloc(), case)?);
-    }
-    Ok(())
-}
-
-// Which port fails, and how many files are put.
-const FAILING: &[(Failing, usize)] = &[
-    (
-        Failing {
-            fetch: 1,
-            put: 9,
-            write: 9,
-        },
-        0,
-    ),
-    (
-        Failing {
-            fetch: 9,
-            put: 1,
-            write: 9,
-        },
-        1,
-    ),
-    (
-        Failing {
-            fetch: 9,
-            put: 9,
-            write: 1,
-        },
-        1,
-    ),
-];
-
-// Whether a run in which a port fails ends with a fault, with so many files put.
-fn faults(alloc: Global, failing: &Failing, files: usize) -> Result<bool, AllocError> {
-    let ran = run(alloc, &["t.asl"], ONE_NAME, failing)?;
-    Ok(
-        ran.status == 3
-            && ran.outs.names().len() == files
-            && ran.console.as_bytes() == b"iasl: file fault\n".as_slice(),
-    )
-}
-
-#[test]
-fn failing_ports(rt: HostRuntime) -> Result<(), AllocError> {
-    for (failing, files) in FAILING {
-        assert!(rt; faults(rt.alloc(), failing, *files)?);
-    }
-    Ok(())
-}
 
 const NAMED: &[u8] = b"DefinitionBlock (\"\", \"SSDT\", 2, \"OEMX00\", \"TABLE001\", 1)
 {
@@ -500,7 +436,16 @@ const INCLUDES_TWICE: &[u8] =
 #include \"f.h\"
 ";
 
-const CASES: &[Case] = &[
+const CUT: &[u8] = b"DefinitionBlock (\"\", \"SSDT\", 1, \"OEMX00\", \"TABLE001\", 1)
+{
+    Name (X, 0x1FFFFFFFF)
+}
+";
+
+const CUT_TABLE: &[u8] =
+    b"SSDT\x2A\x00\x00\x00\x01\x0AOEMX00TABLE001\x01\x00\x00\x00INTL\x05\x01\x21\x20\x08X___\xFF";
+
+static CASES_1: [Case; 4] = [
     Case {
         words: &["t.asl"],
         files: &[("t.asl", INCLUDES_TWICE), ("f.h", b"A\n")],
@@ -535,6 +480,9 @@ const CASES: &[Case] = &[
         bodies: &[SEVEN_TABLE],
         told: b"out/u.aml: SSDT, 43 bytes\n0 errors, 0 warnings, 0 remarks\n",
     },
+];
+
+static CASES_2: [Case; 4] = [
     // The preprocessed text alone.
     Case {
         words: &["-P", "t.asl"],
@@ -570,6 +518,9 @@ const CASES: &[Case] = &[
         bodies: &[],
         told: b"t.asl:1:1: error 6002: includes are nested too deep: t.asl\n1 errors, 0 warnings, 0 remarks\n",
     },
+];
+
+static CASES_3: [Case; 4] = [
     Case {
         words: &["t.asl"],
         files: &[],
@@ -610,6 +561,9 @@ const CASES: &[Case] = &[
         bodies: &[],
         told: b"t.asl:3:5: error 6001: include file is absent: d/terms.asl\n1 errors, 0 warnings, 0 remarks\n",
     },
+];
+
+static CASES_4: [Case; 4] = [
     // Notes, with a table and with an error.
     Case {
         words: &["t.asl"],
@@ -627,6 +581,15 @@ const CASES: &[Case] = &[
         bodies: &[],
         told: b"t.asl:1:1: error 6010: bad character\nt.asl:2:1: warning 3004: warning directive: careful\n1 errors, 1 warnings, 0 remarks\n",
     },
+    // A table of revision 1 with a constant that is cut.
+    Case {
+        words: &["t.asl"],
+        files: &[("t.asl", CUT)],
+        status: 0,
+        names: &[b"t.aml"],
+        bodies: &[CUT_TABLE],
+        told: b"t.asl:3:14: warning 3002: constant is cut to 32 bits\nt.aml: SSDT, 42 bytes\n0 errors, 1 warnings, 0 remarks\n",
+    },
     // The words.
     Case {
         words: &["-P", "-Pn", "t.asl"],
@@ -638,14 +601,19 @@ const CASES: &[Case] = &[
     },
 ];
 
-fn run_case(alloc: Global, case: &Case) -> Result<Ran, AllocError> {
+// The ports of a run over these files.
+fn files_of(alloc: Global, given: &[(&str, &[u8])]) -> Result<MemoryFiles, AllocError> {
     let mut files = MemoryFiles::new(alloc);
-    for (name, text) in case.files {
+    for (name, text) in given {
         files.add(name, text)?;
     }
-    let outs = MemoryOutputs::new(alloc);
+    Ok(files)
+}
+
+fn run_case(alloc: Global, case: &Case) -> Result<Ran, AllocError> {
+    let files = files_of(alloc, case.files)?;
     let console = MemorySink::new(alloc, 1000)?;
-    run_over(alloc, case.words, files, outs, console)
+    run_over(alloc, case.words, files, MemoryOutputs::new(alloc), console)
 }
 
 // Whether a run comes to what it is to come to.
@@ -654,10 +622,72 @@ fn is_right(alloc: Global, case: &Case) -> Result<bool, AllocError> {
     Ok(ended_as(&ran, case.status, case.names, case.bodies, case.told))
 }
 
-#[test]
-fn words_and_files(rt: HostRuntime) -> Result<(), AllocError> {
-    for case in CASES {
-        assert!(rt; is_right(rt.alloc(), case)?);
+// Whether runs do.
+fn are_right(alloc: Global, cases: &[Case]) -> Result<bool, AllocError> {
+    for case in cases {
+        if !is_right(alloc, case)? {
+            return Ok(false);
+        }
     }
+    Ok(true)
+}
+
+#[test]
+fn words_and_sources_1(rt: HostRuntime) -> Result<(), AllocError> {
+    assert!(rt; are_right(rt.alloc(), &SOURCES_1)?);
+    Ok(())
+}
+
+#[test]
+fn words_and_sources_2(rt: HostRuntime) -> Result<(), AllocError> {
+    assert!(rt; are_right(rt.alloc(), &SOURCES_2)?);
+    Ok(())
+}
+
+#[test]
+fn words_and_sources_3(rt: HostRuntime) -> Result<(), AllocError> {
+    assert!(rt; are_right(rt.alloc(), &SOURCES_3)?);
+    Ok(())
+}
+
+#[test]
+fn words_and_sources_4(rt: HostRuntime) -> Result<(), AllocError> {
+    assert!(rt; are_right(rt.alloc(), &SOURCES_4)?);
+    Ok(())
+}
+
+#[test]
+fn words_and_sources_5(rt: HostRuntime) -> Result<(), AllocError> {
+    assert!(rt; are_right(rt.alloc(), &SOURCES_5)?);
+    Ok(())
+}
+
+#[test]
+fn words_and_sources_6(rt: HostRuntime) -> Result<(), AllocError> {
+    assert!(rt; are_right(rt.alloc(), &SOURCES_6)?);
+    Ok(())
+}
+
+#[test]
+fn words_and_files_1(rt: HostRuntime) -> Result<(), AllocError> {
+    assert!(rt; are_right(rt.alloc(), &CASES_1)?);
+    Ok(())
+}
+
+#[test]
+fn words_and_files_2(rt: HostRuntime) -> Result<(), AllocError> {
+    assert!(rt; are_right(rt.alloc(), &CASES_2)?);
+    Ok(())
+}
+
+#[test]
+fn words_and_files_3(rt: HostRuntime) -> Result<(), AllocError> {
+    assert!(rt; are_right(rt.alloc(), &CASES_3)?);
+    Ok(())
+}
+
+#[test]
+fn words_and_files_4(rt: HostRuntime) -> Result<(), AllocError> {
+    assert!(rt; are_right(rt.alloc(), &CASES_4)?);
     Ok(())
 }

@@ -7,7 +7,7 @@ pub returns-in-Err-TooLong : goal.returns-in-Err-TooLong
 returns-in-Err-TooLong c = λ terms is.
     let block = c.args.block in
     let long : IsTooLong block c.args.style.short c.in-Err-TooLong.message = subst (RefusedFor block c.args.style.short) c.in-Err-TooLong.field-0-is c.in-Err-TooLong.ensures.refused in
-    refused_written c.args.style c.args.lines.now.list terms block c.in-Err-TooLong.message c.in_ok-one_message-in-Err-TooLong.field-0 is (rw c.in-Err-TooLong.field-0-is at c.in_ok-one_message-in-Err-TooLong.ensures) long
+    refused_written c.args.style c.args.lines.now.list terms block c.in-Err-TooLong.message c.in_ok-one_message-in-Err-TooLong.field-0 is c.in_ok-one_message-in-Err-TooLong.ensures long
 
 pub returns-in-Ok : goal.returns-in-Ok
 returns-in-Ok c = λ terms is.

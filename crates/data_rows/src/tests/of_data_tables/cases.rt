@@ -15,7 +15,7 @@ pub struct Case {
     pub told: &'static [u8],
 }
 
-pub const HPET: Case = Case {
+const HPET: Case = Case {
     signature: b"\"HPET\"",
     revision: b"01",
     text: [Part::Hpet, Part::Nothing],
@@ -37,7 +37,7 @@ const SRAT: Case = Case {
     ..HPET
 };
 
-pub const SLIT: Case = Case {
+const SLIT: Case = Case {
     signature: b"\"SLIT\"",
     text: [Part::Slit, Part::Nothing],
     ..HPET
@@ -49,6 +49,10 @@ const APIC: Case = Case {
     text: [Part::Apic, Part::Nothing],
     ..HPET
 };
+
+pub static THE_HPET: Case = HPET;
+
+pub static THE_SLIT: Case = SLIT;
 
 pub static CASES: [Case; 57] = [
     // the HPET table

@@ -1,6 +1,6 @@
 // Devices that are generated, through the whole call.
-use super::super::{are, ended_as};
-use super::{Case, Failing, NONE_FAILS, ONE_NAME, USAGE, is_right, run};
+use super::super::{are, run};
+use super::{Case, ONE_NAME, USAGE, are_right};
 use std::alloc::{AllocError, Global};
 
 const ONE_DEVICE_TABLE: &[u8] =
@@ -15,7 +15,7 @@ const TWO_DEVICES_TABLE: &[u8] =
 const LAST_DEVICE: &[u8] =
     b"[\x82\x1BDFFF\x08_UID\x0B\xFF\x0F\x14\x0DVALU\x01\xA4rh\x0B\xFF\x0F\x00";
 
-const CASES: &[Case] = &[
+static CASES: [Case; 2] = [
     Case {
         words: &["--generate", "1"],
         files: &[],
@@ -35,57 +35,53 @@ const CASES: &[Case] = &[
     },
 ];
 
+// Words that are refused.
+macro_rules! refused {
+    ($words:expr) => {
+        Case {
+            words: $words,
+            files: &[("t.asl", ONE_NAME)],
+            status: 2,
+            names: &[],
+            bodies: &[],
+            told: USAGE,
+        }
+    };
+}
+
 // Words that are no generation: N out of range or form, more words, or fewer.
-const REFUSED: &[&[&str]] = &[
-    &["--generate", "0"],
-    &["--generate", "4097"],
-    &["--generate", "02"],
-    &["--generate", "+2"],
-    &["--generate", "2 "],
-    &["--generate", "4294967298"],
-    &["--generate"],
-    &["--generate", "2", "-tc"],
-    &["-tc", "--generate", "2"],
-    &["--generate", "2", "t.asl"],
-    &["--generate2"],
+static REFUSED_1: [Case; 6] = [
+    refused!(&["--generate", "0"]),
+    refused!(&["--generate", "4097"]),
+    refused!(&["--generate", "02"]),
+    refused!(&["--generate", "+2"]),
+    refused!(&["--generate", "2 "]),
+    refused!(&["--generate", "4294967298"]),
+];
+
+static REFUSED_2: [Case; 5] = [
+    refused!(&["--generate"]),
+    refused!(&["--generate", "2", "-tc"]),
+    refused!(&["-tc", "--generate", "2"]),
+    refused!(&["--generate", "2", "t.asl"]),
+    refused!(&["--generate2"]),
 ];
 
 #[test]
 fn generated_devices(rt: HostRuntime) -> Result<(), AllocError> {
-    for case in CASES {
-        assert!(rt; is_right(rt.alloc(), case)?);
-    }
+    assert!(rt; are_right(rt.alloc(), &CASES)?);
     Ok(())
 }
 
-// Whether words are refused.
-fn is_refused(alloc: Global, words: &[&str]) -> Result<bool, AllocError> {
-    let ran = run(alloc, words, ONE_NAME, &NONE_FAILS)?;
-    Ok(ended_as(&ran, 2, &[], &[], USAGE))
-}
-
 #[test]
-fn refused_generations(rt: HostRuntime) -> Result<(), AllocError> {
-    for words in REFUSED {
-        assert!(rt; is_refused(rt.alloc(), words)?);
-    }
+fn refused_generations_1(rt: HostRuntime) -> Result<(), AllocError> {
+    assert!(rt; are_right(rt.alloc(), &REFUSED_1)?);
     Ok(())
 }
 
-// Whether a generation of which the put fails ends with a fault. No fetch can fail, since none is made.
-fn faults(alloc: Global) -> Result<bool, AllocError> {
-    let failing = Failing {
-        fetch: 1,
-        put: 1,
-        write: 9,
-    };
-    let ran = run(alloc, &["--generate", "2"], ONE_NAME, &failing)?;
-    Ok(ran.status == 3 && ran.console.as_bytes() == b"iasl: file fault\n".as_slice())
-}
-
 #[test]
-fn failing_generation(rt: HostRuntime) -> Result<(), AllocError> {
-    assert!(rt; faults(rt.alloc())?);
+fn refused_generations_2(rt: HostRuntime) -> Result<(), AllocError> {
+    assert!(rt; are_right(rt.alloc(), &REFUSED_2)?);
     Ok(())
 }
 
@@ -94,7 +90,7 @@ const MOST_DEVICES: &[u8] =
 
 // Whether the largest generation ends with its last device.
 fn has_last_device(alloc: Global) -> Result<bool, AllocError> {
-    let ran = run(alloc, &["--generate", "4096"], ONE_NAME, &NONE_FAILS)?;
+    let ran = run(alloc, &["--generate", "4096"], ONE_NAME)?;
     let is_table = ran.outs.bodies().get(0).is_some_and(|body| {
         body.as_bytes().len() == 118304 && body.as_bytes().ends_with(LAST_DEVICE)
     });

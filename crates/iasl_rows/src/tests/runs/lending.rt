@@ -139,7 +139,7 @@ struct Lending {
 
 const ALL: &[Kind] = &[Kind::RawAml, Kind::CHex, Kind::Listing];
 
-const LENDINGS: &[Lending] = &[
+static LENDINGS: [Lending; 7] = [
     Lending {
         words: &["t.asl"],
         file: ("t.asl", ONE_NAME),
@@ -234,7 +234,7 @@ fn is_right(alloc: Global, lending: &Lending) -> Result<bool, AllocError> {
 
 #[test]
 fn boxes_that_are_left(rt: HostRuntime) -> Result<(), AllocError> {
-    for lending in LENDINGS {
+    for lending in &LENDINGS {
         assert!(rt; is_right(rt.alloc(), lending)?);
     }
     Ok(())
@@ -309,11 +309,17 @@ const NO_THIRD_PIECE: Refusal = Refusal {
     left: Kind::Listing,
 };
 
+// Whether the runs over boxes that refuse a piece are such.
+fn are_refusals(alloc: Global) -> Result<bool, AllocError> {
+    Ok(
+        is_refusal(alloc, &FIRST_PIECE, refusing_boxes(alloc)?)?
+            && is_refusal(alloc, &THIRD_PIECE, boxes_of_two_pieces(alloc)?)?
+            && is_refusal(alloc, &NO_THIRD_PIECE, boxes_of_two_pieces(alloc)?)?,
+    )
+}
+
 #[test]
 fn boxes_that_refuse(rt: HostRuntime) -> Result<(), AllocError> {
-    let alloc = rt.alloc();
-    assert!(rt; is_refusal(alloc, &FIRST_PIECE, refusing_boxes(alloc)?)?);
-    assert!(rt; is_refusal(alloc, &THIRD_PIECE, boxes_of_two_pieces(alloc)?)?);
-    assert!(rt; is_refusal(alloc, &NO_THIRD_PIECE, boxes_of_two_pieces(alloc)?)?);
+    assert!(rt; are_refusals(rt.alloc())?);
     Ok(())
 }

@@ -1,7 +1,7 @@
 // The options of the console, of warnings and of outputs, through the whole call.
 use super::{
     Case, NAMES, NOTED, NOTED_AND_STRAY, NOTHING_TABLE, ONE_NAME, ONE_NAME_TABLE, OWN_NAME,
-    is_right,
+    are_right,
 };
 use std::alloc::AllocError;
 
@@ -27,7 +27,7 @@ const HEX_NAME: &[u8] = b"DefinitionBlock (\"own.hex\", \"SSDT\", 2, \"OEMX00\",
 }
 ";
 
-const CASES: &[Case] = &[
+static CASES_1: [Case; 5] = [
     // The brief form.
     Case {
         words: &["-vi", "t.asl"],
@@ -70,6 +70,9 @@ const CASES: &[Case] = &[
         bodies: &[],
         told: b"t.asl(1) : remark 2001 : message\nt.asl(2) : warning 3004 : warning directive\n0 errors, 1 warnings, 1 remarks\n",
     },
+];
+
+static CASES_2: [Case; 5] = [
     // A remark refuses nothing.
     Case {
         words: &["-we", "t.asl"],
@@ -113,6 +116,9 @@ const CASES: &[Case] = &[
         bodies: &[],
         told: b"t.asl:1:1: warning 3004: warning directive: careful\n0 errors, 1 warnings, 0 remarks\n",
     },
+];
+
+static CASES_3: [Case; 5] = [
     // The array of C.
     Case {
         words: &["-tc", "t.asl"],
@@ -158,9 +164,25 @@ const CASES: &[Case] = &[
 ];
 
 #[test]
-fn brief_messages_refused_warnings_and_further_outputs(rt: HostRuntime) -> Result<(), AllocError> {
-    for case in CASES {
-        assert!(rt; is_right(rt.alloc(), case)?);
-    }
+fn brief_messages_refused_warnings_and_further_outputs_1(
+    rt: HostRuntime,
+) -> Result<(), AllocError> {
+    assert!(rt; are_right(rt.alloc(), &CASES_1)?);
+    Ok(())
+}
+
+#[test]
+fn brief_messages_refused_warnings_and_further_outputs_2(
+    rt: HostRuntime,
+) -> Result<(), AllocError> {
+    assert!(rt; are_right(rt.alloc(), &CASES_2)?);
+    Ok(())
+}
+
+#[test]
+fn brief_messages_refused_warnings_and_further_outputs_3(
+    rt: HostRuntime,
+) -> Result<(), AllocError> {
+    assert!(rt; are_right(rt.alloc(), &CASES_3)?);
     Ok(())
 }

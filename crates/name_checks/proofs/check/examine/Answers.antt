@@ -4,6 +4,9 @@ use Rattle.acpi_state.specs.Objects.{lookup}
 use Rattle.asl_meaning.specs.Declarations.{is_named, nothing_declared}
 use Rattle.acpi_names.specs.Mentions.{after_all}
 use Rattle.acpi_names.specs.Shown.{all_shown}
+use Rattle.acpi_names.specs.Paths.{number_in}
+use Rattle.acpi_names.specs.Tables.{entry_at}
+use Rattle.acpi_names.specs.declared.index.Index.{Index}
 use Rattle.acpi_names.proofs.Mentions.{after_block}
 use Rattle.name_checks.specs.Faults.{fault_as}
 use Rattle.name_kinds.specs.Facts.{Knows}
@@ -31,7 +34,11 @@ faults-requires c =
 
 pub returns-clause-calls : goal.returns-clause-calls
 returns-clause-calls c path =
-    c.in_ok-facts.ensures.told.notes.first path
+    let facts = c.in_ok-facts.facts in
+    let made = c.into_names-index in
+    ap (λ (i : Index). entry_at made.result.1.items (number_in i.paths path)) made.ensures.index
+    ∙ ap (λ calls. entry_at calls.items (number_in facts.index.paths path)) made.ensures.calls
+    ∙ c.in_ok-facts.ensures.told.notes.first path
     ∙ ap (λ ms. lookup (seen ms).calls path) (ap (all_shown c.in_ok-found.found.index.paths) c.deref.ensures.value ∙ c.in_ok-found.ensures.told)
 
 pub returns-clause-told : goal.returns-clause-told

@@ -5,7 +5,7 @@ use Rattle.asl_parser.specs.Opens.{done_of, around, has_trees, weight, frames_of
 use Rattle.asl_parser.proofs.Stacks.{kind_is, weighs_as, stack_left, frames_left, done_left}
 use Rattle.asl_parser.proofs.stack.Stack.end.Goals as goal
 
-has : (c : goal.Joined-self-group) → has_trees c.self.inside.innermost.kind ≡ true
+has : (c : goal.After-drop-self-inside) → has_trees c.self.inside.innermost.kind ≡ true
 has c = ap has_trees (kind_is c.self.inside.nodes.items c.self.inside.hand c.self.inside.innermost (reverse c.self.inside.outer.items) c.args.self.now c.self.view_is) ∙ c.requires.trees
 
 pub invariant_of-self : goal.invariant_of-self

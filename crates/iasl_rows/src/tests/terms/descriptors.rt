@@ -1,27 +1,11 @@
 // The names of resource descriptors: the constants that their fields are, and what is told of them.
-use super::{comes_to, run, tells};
-use std::alloc::{AllocError, Global};
+use super::{Row, Wants, are_right};
+use std::alloc::AllocError;
 
 // A template with a descriptor, on a line of its own.
-const BEFORE: &str = "Name (B, ResourceTemplate () { FixedIO (1, 2, D) })";
+const BEFORE: &str = "Name (B, ResourceTemplate () { FixedIO (1, 2, D) })\n";
 
-// Terms, and their bytes.
-#[derive(Drop)]
-struct Made {
-    terms: &'static str,
-    bytes: &'static [u8],
-}
-
-macro_rules! made {
-    ($terms:expr, $bytes:expr) => {
-        Made {
-            terms: $terms,
-            bytes: $bytes,
-        }
-    };
-}
-
-const MADE: &[Made] = &[
+static MADE: [Row; 6] = [
     // A template, whose descriptor has a name or none.
     made!(
         "Name (V, ResourceTemplate () { IRQ (Edge, ActiveHigh, Exclusive) {3} })",
@@ -53,273 +37,305 @@ const MADE: &[Made] = &[
     ),
 ];
 
-#[test]
-fn fields_come_to_their_places(rt: HostRuntime) -> Result<(), AllocError> {
-    for row in MADE {
-        assert!(rt; comes_to(rt.alloc(), row.terms, row.bytes)?);
-    }
-    Ok(())
-}
-
 // Terms behind that template, and the messages on them.
-#[derive(Drop)]
-struct Told {
-    terms: &'static str,
-    told: &'static [u8],
-}
-
-macro_rules! row {
-    ($terms:expr, $told:expr) => {
-        Told {
-            terms: $terms,
-            told: $told,
-        }
-    };
-}
-
-const TOLD: &[Told] = &[
+static TOLD_1: [Row; 13] = [
+    // A list of interrupts, without that template.
+    told!(
+        "Name (V, ResourceTemplate () { IRQ (Edge, ActiveHigh, Exclusive) {16} })",
+        b"t.asl:3:71: error 6024: value is out of range\n1 errors, 0 warnings, 0 remarks\n"
+    ),
     // A name is one segment without a prefix.
-    row!(
+    told!(
+        BEFORE,
         "Name (C, ResourceTemplate () { FixedIO (1, 2, \\E) })",
         b"t.asl:4:47: error 6022: wrong form of argument\n1 errors, 0 warnings, 0 remarks\n"
     ),
-    row!(
+    told!(
+        BEFORE,
         "Name (C, ResourceTemplate () { FixedIO (1, 2, ^E) })",
         b"t.asl:4:47: error 6022: wrong form of argument\n1 errors, 0 warnings, 0 remarks\n"
     ),
-    row!(
+    told!(
+        BEFORE,
         "Name (C, ResourceTemplate () { FixedIO (1, 2, E.F) })",
         b"t.asl:4:47: error 6022: wrong form of argument\n1 errors, 0 warnings, 0 remarks\n"
     ),
-    row!(
+    told!(
+        BEFORE,
         "Name (C, ResourceTemplate () { FixedIO (1, 2, 1) })",
         b"t.asl:4:47: error 6022: wrong form of argument\n1 errors, 0 warnings, 0 remarks\n"
     ),
     // It is declared where its template stands: twice at the later one, in the order of the names.
-    row!(
+    told!(
+        BEFORE,
         "Name (C, ResourceTemplate () { FixedIO (1, 2, D) })",
         b"t.asl:4:47: error 6040: name is declared twice: \\D___\n1 errors, 0 warnings, 0 remarks\n"
     ),
-    row!(
+    told!(
+        BEFORE,
         "Name (C, ResourceTemplate () { FixedIO (1, 2, E) FixedIO (1, 2, E) })",
         b"t.asl:4:65: error 6040: name is declared twice: \\E___\n1 errors, 0 warnings, 0 remarks\n"
     ),
-    row!(
+    told!(
+        BEFORE,
         "Name (D, 1)",
         b"t.asl:4:7: error 6040: name is declared twice: \\D___\n1 errors, 0 warnings, 0 remarks\n"
     ),
-    row!(
+    told!(
+        BEFORE,
         "Name (E, 1) Name (C, ResourceTemplate () { FixedIO (1, 2, E) })",
         b"t.asl:4:59: error 6040: name is declared twice: \\E___\n1 errors, 0 warnings, 0 remarks\n"
     ),
-    row!(
+    told!(
+        BEFORE,
         "Name (E, ResourceTemplate () { FixedIO (1, 2, E) })",
         b"t.asl:4:47: error 6040: name is declared twice: \\E___\n1 errors, 0 warnings, 0 remarks\n"
     ),
-    row!(
+    told!(
+        BEFORE,
         "CreateByteField (ResourceTemplate () { FixedIO (1, 2, E) }, 0, E)",
         b"t.asl:4:64: error 6040: name is declared twice: \\E___\n1 errors, 0 warnings, 0 remarks\n"
     ),
-    row!(
+    told!(
+        BEFORE,
         "Device (V) { Name (C, ResourceTemplate () { FixedIO (1, 2, E) }) Name (E, 1) }",
         b"t.asl:4:72: error 6040: name is declared twice: \\V___.E___\n1 errors, 0 warnings, 0 remarks\n"
     ),
-    row!(
+    told!(
+        BEFORE,
         "Name (C, ResourceTemplate () { FixedIO (1, 2, _OS) })",
         b"t.asl:4:47: error 6040: name is declared twice: \\_OS_\n1 errors, 0 warnings, 0 remarks\n"
     ),
-    row!(
+];
+
+static TOLD_2: [Row; 13] = [
+    told!(
+        BEFORE,
         "External (D)",
         b"t.asl:4:11: error 6044: external is declared here: \\D___\n1 errors, 0 warnings, 0 remarks\n"
     ),
     // A field that the descriptor has not, one of another scope, and one of a field.
-    row!(
+    told!(
+        BEFORE,
         "Name (N, D._MIN)",
         b"t.asl:4:10: error 6041: name is not found: D___._MIN\n1 errors, 0 warnings, 0 remarks\n"
     ),
-    row!(
+    told!(
+        BEFORE,
         "Name (N, D._LEN._LEN)",
         b"t.asl:4:10: error 6041: name is not found: D___._LEN._LEN\n1 errors, 0 warnings, 0 remarks\n"
     ),
-    row!(
+    told!(
+        BEFORE,
         "Name (N, _LEN)",
         b"t.asl:4:10: error 6041: name is not found: _LEN\n1 errors, 0 warnings, 0 remarks\n"
     ),
-    row!(
+    told!(
+        BEFORE,
         "Method (M) { Return (D._LEN) }",
         b"t.asl:4:22: error 6041: name is not found: D___._LEN\n1 errors, 0 warnings, 0 remarks\n"
     ),
-    row!(
+    told!(
+        BEFORE,
         "Method (M) { Name (C, ResourceTemplate () { FixedIO (1, 2, E) }) } Name (N, E._LEN)",
         b"t.asl:4:77: error 6041: name is not found: E___._LEN\n1 errors, 0 warnings, 0 remarks\n"
     ),
     // A path with more steps up than scopes, as it is written: at a field that is read, as a place, as an object and as a method.
-    row!(
+    told!(
+        BEFORE,
         "Name (N, ^D._BAS)",
         b"t.asl:4:10: error 6043: path leaves the root: ^D___._BAS\n1 errors, 0 warnings, 0 remarks\n"
     ),
-    row!(
+    told!(
+        BEFORE,
         "Name (P, Package () { ^^D._LEN, ^D })",
         b"t.asl:4:23: error 6043: path leaves the root: ^^D___._LEN\nt.asl:4:33: error 6043: path leaves the root: ^D___\n2 errors, 0 warnings, 0 remarks\n"
     ),
-    row!(
+    told!(
+        BEFORE,
         "Method (M) { Store (^D._LEN, ^^D._LEN) }",
         b"t.asl:4:30: error 6043: path leaves the root: ^^D___._LEN\n1 errors, 0 warnings, 0 remarks\n"
     ),
-    row!(
+    told!(
+        BEFORE,
         "Method (M) { Acquire (^^D._LEN, 1) }",
         b"t.asl:4:23: error 6043: path leaves the root: ^^D___._LEN\n1 errors, 0 warnings, 0 remarks\n"
     ),
-    row!(
+    told!(
+        BEFORE,
         "Method (M) { ^^D._LEN (1) }",
         b"t.asl:4:14: error 6043: path leaves the root: ^^D___._LEN\n1 errors, 0 warnings, 0 remarks\n"
     ),
-    row!(
+    told!(
+        BEFORE,
         "Alias (^D._LEN, N)",
         b"t.asl:4:8: error 6043: path leaves the root: ^D___._LEN\n1 errors, 0 warnings, 0 remarks\n"
     ),
-    row!(
+    told!(
+        BEFORE,
         "Name (N, ^D._BAS) Name (D, 1)",
         b"t.asl:4:10: error 6043: path leaves the root: ^D___._BAS\nt.asl:4:25: error 6040: name is declared twice: \\D___\n2 errors, 0 warnings, 0 remarks\n"
     ),
+];
+
+static TOLD_3: [Row; 13] = [
     // Nothing is declared below a descriptor, and it is no scope.
-    row!(
+    told!(
+        BEFORE,
         "Name (D.X, 1)",
         b"t.asl:4:7: error 6041: name is not found: D___.X___\n1 errors, 0 warnings, 0 remarks\n"
     ),
-    row!(
+    told!(
+        BEFORE,
         "Scope (D) { Name (X, 1) }",
         b"t.asl:4:1: error 6042: scope is not a container: D___\nt.asl:4:19: error 6041: name is not found: X___\n2 errors, 0 warnings, 0 remarks\n"
     ),
-    row!(
+    told!(
+        BEFORE,
         "Scope (^D._LEN) { }",
         b"t.asl:4:1: error 6042: scope is not a container: ^D___\nt.asl:4:8: error 6043: path leaves the root: ^D___._LEN\n2 errors, 0 warnings, 0 remarks\n"
     ),
     // A descriptor has no value: it is no expression, no term and no member of a Package.
-    row!(
+    told!(
+        BEFORE,
         "Name (N, D)",
         b"t.asl:4:10: error 6050: wrong type\n1 errors, 0 warnings, 0 remarks\n"
     ),
-    row!(
+    told!(
+        BEFORE,
         "Method (M) { Return (D) }",
         b"t.asl:4:22: error 6050: wrong type\n1 errors, 0 warnings, 0 remarks\n"
     ),
-    row!(
+    told!(
+        BEFORE,
         "Method (M) { Local0 = D + 1 }",
         b"t.asl:4:23: error 6050: wrong type\n1 errors, 0 warnings, 0 remarks\n"
     ),
-    row!(
+    told!(
+        BEFORE,
         "Method (M) { D }",
         b"t.asl:4:14: error 6050: wrong type\n1 errors, 0 warnings, 0 remarks\n"
     ),
-    row!(
+    told!(
+        BEFORE,
         "Method (M) { Switch (D) { Case (1) { } } }",
         b"t.asl:4:22: error 6050: wrong type\n1 errors, 0 warnings, 0 remarks\n"
     ),
-    row!(
+    told!(
+        BEFORE,
         "Name (N, Package () { 1, D })",
         b"t.asl:4:26: error 6050: wrong type\n1 errors, 0 warnings, 0 remarks\n"
     ),
     // Neither it nor its field is a place.
-    row!(
+    told!(
+        BEFORE,
         "Method (M) { Store (1, D) }",
         b"t.asl:4:24: error 6050: wrong type\n1 errors, 0 warnings, 0 remarks\n"
     ),
-    row!(
+    told!(
+        BEFORE,
         "Method (M) { \\D._LEN = 1 }",
         b"t.asl:4:14: error 6050: wrong type\n1 errors, 0 warnings, 0 remarks\n"
     ),
-    row!(
+    told!(
+        BEFORE,
         "Method (M) { SizeOf (D) SizeOf (\\D._LEN) }",
         b"t.asl:4:22: error 6050: wrong type\nt.asl:4:33: error 6050: wrong type\n2 errors, 0 warnings, 0 remarks\n"
     ),
-    row!(
+    told!(
+        BEFORE,
         "Method (M) { CondRefOf (\\D._LEN) }",
         b"t.asl:4:25: error 6050: wrong type\n1 errors, 0 warnings, 0 remarks\n"
     ),
-    row!(
+];
+
+static TOLD_4: [Row; 11] = [
+    told!(
+        BEFORE,
         "Method (M) { CopyObject (1, D) }",
         b"t.asl:4:29: error 6050: wrong type\n1 errors, 0 warnings, 0 remarks\n"
     ),
     // Neither is an object of another kind, nor a method.
-    row!(
+    told!(
+        BEFORE,
         "Alias (D, N)",
         b"t.asl:4:8: error 6054: wrong kind of object: D___\n1 errors, 0 warnings, 0 remarks\n"
     ),
-    row!(
+    told!(
+        BEFORE,
         "Alias (D._LEN, N)",
         b"t.asl:4:8: error 6054: wrong kind of object: D___._LEN\n1 errors, 0 warnings, 0 remarks\n"
     ),
-    row!(
+    told!(
+        BEFORE,
         "Method (M) { Acquire (D, 1) Acquire (\\D._LEN, 1) }",
         b"t.asl:4:23: error 6054: wrong kind of object: D___\nt.asl:4:38: error 6054: wrong kind of object: \\D___._LEN\n2 errors, 0 warnings, 0 remarks\n"
     ),
-    row!(
+    told!(
+        BEFORE,
         "Field (D, ByteAcc, NoLock, Preserve) { F, 8 }",
         b"t.asl:4:8: error 6054: wrong kind of object: D___\n1 errors, 0 warnings, 0 remarks\n"
     ),
-    row!(
+    told!(
+        BEFORE,
         "Method (M) { D (1) }",
         b"t.asl:4:14: error 6051: wrong number of call arguments: D___\n1 errors, 0 warnings, 0 remarks\n"
     ),
-    row!(
+    told!(
+        BEFORE,
         "Method (M) { \\D._LEN (1) }",
         b"t.asl:4:14: error 6051: wrong number of call arguments: \\D___._LEN\n1 errors, 0 warnings, 0 remarks\n"
     ),
     // A field that does not begin with a byte is none in bytes.
-    row!(
+    told!(
+        BEFORE,
         "Name (C, ResourceTemplate () { IRQ (Edge, ActiveHigh, Exclusive, E) {3} }) Name (N, E._SHR)",
         b"t.asl:4:85: error 6056: field is not whole bytes\n1 errors, 0 warnings, 0 remarks\n"
     ),
-    row!(
+    told!(
+        BEFORE,
         "Name (C, ResourceTemplate () { IRQ (Edge, ActiveHigh, Exclusive, E) {3} }) CreateByteField (C, E._LL, N)",
         b"t.asl:4:96: error 6056: field is not whole bytes\n1 errors, 0 warnings, 0 remarks\n"
     ),
     // Errors of names hide those of kinds; what is told of statements stands beside these.
-    row!(
+    told!(
+        BEFORE,
         "Name (N, D) Name (D, 1)",
         b"t.asl:4:19: error 6040: name is declared twice: \\D___\n1 errors, 0 warnings, 0 remarks\n"
     ),
-    row!(
+    told!(
+        BEFORE,
         "Method (M) { Add (Package () { 1 }, 1) Return (D) }",
         b"t.asl:4:19: error 6050: wrong type\nt.asl:4:48: error 6050: wrong type\n2 errors, 0 warnings, 0 remarks\n"
     ),
 ];
 
-// A source of one block with that template and these terms.
-fn source(alloc: Global, terms: &str) -> Result<Vec<u8>, AllocError> {
-    let mut text = Vec::new(alloc);
-    text.extend_from_slice(
-        b"DefinitionBlock (\"\", \"SSDT\", 2, \"OEMX00\", \"TABLE001\", 1)\n{\n",
-    )?;
-    text.extend_from_slice(BEFORE.as_bytes())?;
-    text.extend_from_slice(b"\n")?;
-    text.extend_from_slice(terms.as_bytes())?;
-    text.extend_from_slice(b"\n}\n")?;
-    Ok(text)
-}
-
-// Whether this is told of these terms.
-fn is_told(alloc: Global, row: &Told) -> Result<bool, AllocError> {
-    let ran = run(alloc, &["t.asl"], &source(alloc, row.terms)?)?;
-    Ok(ran.status == 1 && ran.console.as_bytes() == row.told)
-}
-
 #[test]
-fn errors_of_descriptors(rt: HostRuntime) -> Result<(), AllocError> {
-    for row in TOLD {
-        assert!(rt; is_told(rt.alloc(), row)?);
-    }
+fn fields_come_to_their_places(rt: HostRuntime) -> Result<(), AllocError> {
+    assert!(rt; are_right(rt.alloc(), &MADE)?);
     Ok(())
 }
 
-const OUT_OF_RANGE: &str =
-    "Name (V, ResourceTemplate () { IRQ (Edge, ActiveHigh, Exclusive) {16} })";
+#[test]
+fn errors_of_descriptors_1(rt: HostRuntime) -> Result<(), AllocError> {
+    assert!(rt; are_right(rt.alloc(), &TOLD_1)?);
+    Ok(())
+}
 
 #[test]
-fn a_list_out_of_range(rt: HostRuntime) -> Result<(), AllocError> {
-    let told =
-        b"t.asl:3:71: error 6024: value is out of range\n1 errors, 0 warnings, 0 remarks\n".as_slice();
-    assert!(rt; tells(rt.alloc(), OUT_OF_RANGE, told)?);
+fn errors_of_descriptors_2(rt: HostRuntime) -> Result<(), AllocError> {
+    assert!(rt; are_right(rt.alloc(), &TOLD_2)?);
+    Ok(())
+}
+
+#[test]
+fn errors_of_descriptors_3(rt: HostRuntime) -> Result<(), AllocError> {
+    assert!(rt; are_right(rt.alloc(), &TOLD_3)?);
+    Ok(())
+}
+
+#[test]
+fn errors_of_descriptors_4(rt: HostRuntime) -> Result<(), AllocError> {
+    assert!(rt; are_right(rt.alloc(), &TOLD_4)?);
     Ok(())
 }
