@@ -12,6 +12,7 @@ pub mod Starts
 pub mod Mains
 mod Worked
 pub mod Plain
+pub mod Asked
 pub mod Everywhere
 pub mod Unmarked
 pub mod OwnName

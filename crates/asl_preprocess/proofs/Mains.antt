@@ -1,7 +1,9 @@
 -- What the main file comes to.
 use Rattle.std.proofs.Common.{◌≡◌, Some, Result, Ok, Err, IfOk, ℕ, ◌+◌, ◌<◌, ◌≤◌, not, cond, List, [], ◌∷◌, length, ap, sym, subst, ◌∙◌, arith}
 use Rattle.std.specs.List.{All}
-use Rattle.iasl_ports.specs.Fetched.{most_bytes}
+use Rattle.iasl_ports.specs.Fetched.{most_bytes, RefusedAt, RefusedCounts}
+use Rattle.iasl_ports.specs.declared.files.FetchFault.{FetchFault}
+use Rattle.iasl_ports.specs.declared.files.FetchFault.TheVariants as fetch
 use Rattle.iasl_messages.specs.declared.place.Line.{Line}
 use Rattle.iasl_messages.specs.declared.message.Message.{Message}
 use Rattle.asl_preprocess.specs.declared.define.Define.{Define}
@@ -16,8 +18,8 @@ use Rattle.asl_preprocess.specs.declared.stop.ReadingStop.TheVariants.{At, ReadF
 use Rattle.asl_preprocess.specs.State.{State, Outcome, number_of}
 use Rattle.asl_preprocess.specs.Reached.{StopsAt, Counts}
 use Rattle.asl_preprocess.specs.Sound.{IsSound, IsGoodLine, IsGoodNote}
-use Rattle.asl_preprocess.specs.Preprocess.{Setting, Preprocessed, Given, Stopped, given, of_main, of_file, first_state, most_levels, too_large_main}
-use Rattle.asl_preprocess.specs.Stops.{IsStop, HasPlace, Causes, MainCauses, Keeps, EndsWith}
+use Rattle.asl_preprocess.specs.Preprocess.{Setting, Preprocessed, Given, Stopped, given, of_main, of_found, of_file, first_state, most_levels, too_large_main}
+use Rattle.asl_preprocess.specs.Stops.{IsStop, HasPlace, Causes, MainCauses, Keeps, EndsWith, LacksMain}
 use Rattle.asl_preprocess.proofs.Names.{same_itself}
 use Rattle.asl_preprocess.proofs.Fetching.{within_is, above_is}
 
@@ -107,3 +109,29 @@ main_causes (by.Refused told names) before mid now absents absents' e h = h ∙ 
 main_causes by.Absent before mid now absents absents' e h = absurd h
 main_causes by.ReadFault before mid now absents absents' e h = omega (arith, h, e)
 main_causes by.Memory before mid now absents absents' e h = tt
+
+-- the same where the main file was not fetched
+pub lacks_stop : (stop : PreStop) (fault : FetchFault) (setting : Setting) (name : List ℕ) (defines : List Define) (found : Option (List ℕ)) → LacksMain stop fault name → RefusedAt fault found → IsStop stop (of_found setting name defines found)
+lacks_stop stop fetch.Absent setting name defines found h r = subst (λ s. IsStop s (of_found setting name defines found)) (sym h) (ap (of_found setting name defines) r)
+lacks_stop stop fetch.TooLarge setting name defines found h r =
+    keeps_stop stop too_large_main (name ∷ []) (of_found setting name defines found) h (ap (of_found setting name defines) r.1 ∙ main_above setting name defines r.0 r.2)
+lacks_stop stop fetch.Failed setting name defines found h r = subst (λ s. IsStop s (of_found setting name defines found)) (sym h) tt
+lacks_stop stop fetch.Memory setting name defines found h r = subst (λ s. IsStop s (of_found setting name defines found)) (sym h) tt
+
+pub lacks_place : (stop : PreStop) (fault : FetchFault) (name : List ℕ) → LacksMain stop fault name → HasPlace stop
+lacks_place stop fetch.Absent name h = subst HasPlace (sym h) tt
+lacks_place stop fetch.TooLarge name h = keeps_place stop too_large_main (name ∷ []) h (omega arith)
+lacks_place stop fetch.Failed name h = subst HasPlace (sym h) tt
+lacks_place stop fetch.Memory name h = subst HasPlace (sym h) tt
+
+keeps_causes : (stop : PreStop) (message : Message) (files : List (List ℕ)) (before now absents absents' : ℕ) → Keeps stop message files → now ≡ before → Causes stop before now absents absents'
+keeps_causes (by.Refused told names) message files before now absents absents' h e = e
+keeps_causes by.Absent message files before now absents absents' h e = absurd h
+keeps_causes by.ReadFault message files before now absents absents' h e = absurd h
+keeps_causes by.Memory message files before now absents absents' h e = tt
+
+pub lacks_causes : (stop : PreStop) (fault : FetchFault) (name : List ℕ) (before now absents absents' larges larges' : ℕ) → LacksMain stop fault name → RefusedCounts fault before now absents absents' larges larges' → Causes stop before now absents absents'
+lacks_causes stop fetch.Absent name before now absents absents' larges larges' h r = subst (λ s. Causes s before now absents absents') (sym h) r
+lacks_causes stop fetch.TooLarge name before now absents absents' larges larges' h r = keeps_causes stop too_large_main (name ∷ []) before now absents absents' h r.0
+lacks_causes stop fetch.Failed name before now absents absents' larges larges' h r = subst (λ s. Causes s before now absents absents') (sym h) r
+lacks_causes stop fetch.Memory name before now absents absents' larges larges' h r = subst (λ s. Causes s before now absents absents') (sym h) tt

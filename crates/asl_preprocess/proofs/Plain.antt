@@ -1,5 +1,5 @@
 -- Lines that ask for no file, since their first word begins otherwise.
-use Rattle.std.proofs.Common.{◌≡◌, ℕ, suc, ◌+◌, ◌≤◌, length, slice_index, Bool, true, false, cond, List, [], ◌∷◌, ◌++◌, None, take, drop, refl, sym, ap, subst, ◌∙◌, arith}
+use Rattle.std.proofs.Common.{◌≡◌, ℕ, suc, ◌+◌, Bool, true, false, cond, List, [], ◌∷◌, ◌++◌, None, take, drop, refl, sym, ap, subst, ◌∙◌, arith}
 use Rattle.std.specs.Prelude.{◌==◌, ◌||◌, ◌&&◌, not, codes, if◌then◌else◌}
 use Rattle.std.specs.List.{prefix_len, flat_map}
 use Rattle.std.specs.Char.{to_ascii_lowercase, is_ascii_digit}
@@ -21,15 +21,6 @@ past_blank : (b : ℕ) (bs : List ℕ) → is_blank b ≡ true → past_blanks (
 past_blank b bs is =
     ap (λ t. drop (cond (not (not t)) (1 + prefix_len (λ c. not (is_no_blank c)) bs) 0) (b ∷ bs)) is
     ∙ ap (λ n. drop n (b ∷ bs)) (let e : 1 + prefix_len (λ c. not (is_no_blank c)) bs ≡ suc (blanks_before bs) = omega arith in e)
-
--- four spaces at the front
-pub past_four : (text : List ℕ) → 4 ≤ length text → slice_index text 0 ≡ 32 → slice_index text 1 ≡ 32 → slice_index text 2 ≡ 32 → slice_index text 3 ≡ 32 → past_blanks (drop 4 text) ≡ past_blanks text
-past_four [] h e f g k = absurd (omega arith)
-past_four (a ∷ []) h e f g k = absurd (omega arith)
-past_four (a ∷ b ∷ []) h e f g k = absurd (omega arith)
-past_four (a ∷ b ∷ c ∷ []) h e f g k = absurd (omega arith)
-past_four (a ∷ b ∷ c ∷ d ∷ ds) h e f g k =
-    sym (past_blank a (b ∷ c ∷ d ∷ ds) (ap is_blank e) ∙ past_blank b (c ∷ d ∷ ds) (ap is_blank f) ∙ past_blank c (d ∷ ds) (ap is_blank g) ∙ past_blank d ds (ap is_blank k))
 
 past_other : (b : ℕ) (bs : List ℕ) → is_blank b ≡ false → past_blanks (b ∷ bs) ≡ b ∷ bs
 past_other b bs is = ap (λ t. drop (cond (not (not t)) (1 + prefix_len (λ c. not (is_no_blank c)) bs) 0) (b ∷ bs)) is

@@ -2,8 +2,10 @@
 use Rattle.std.proofs.Common.{◌≡◌, ℕ, suc, ◌-◌, ◌<◌, ◌≤◌, Bool, true, false, cond, List, [], ◌∷◌, ◌++◌, length, Option, Some, Result, Ok, Err, refl, ap, sym, subst, ◌∙◌, arith}
 use Rattle.std.specs.Result.{IsOkAnd}
 use Rattle.std.specs.List.{list_any}
+use Rattle.std.specs.Option.{ForSome}
 use Rattle.std.proofs.lemmas.List.{length-append}
 use Rattle.iasl_ports.specs.Gained.{Named}
+use Rattle.iasl_ports.specs.Counts.{Rose}
 use Rattle.iasl_ports.specs.Fetched.{same_name}
 use Rattle.iasl_messages.specs.declared.place.Place.{Place}
 use Rattle.asl_directives.specs.declared.branches.Branch.{Branch}
@@ -14,13 +16,13 @@ use Rattle.asl_preprocess.specs.declared.stop.ReadingStop.{ReadingStop}
 use Rattle.asl_preprocess.specs.declared.stop.ReadingStop.TheVariants.{At, ReadFault, Memory}
 use Rattle.asl_preprocess.specs.Rows.{Row}
 use Rattle.asl_preprocess.specs.Search.{SearchResult, Missing, Large, Whole, search, names_for}
-use Rattle.asl_preprocess.specs.State.{State, Pass, Outcome, then, with_file, with_files}
+use Rattle.asl_preprocess.specs.State.{State, Pass, Outcome, then, with_file, with_files, at, message_at}
 use Rattle.asl_preprocess.specs.Lines.{RowEffect, Goes, Asks}
 use Rattle.asl_preprocess.specs.Preprocess.{Setting, setting_of, reading_at, of_row, of_file, in_pass, included, read_found, done}
-use Rattle.asl_preprocess.specs.Told.{Shows, StopsWith, ShowsGoing, ShowsAsking, asked_for}
-use Rattle.asl_preprocess.specs.Searching.{SeekStops, RefusesFound}
+use Rattle.asl_preprocess.specs.Told.{Shows, StopsWith, ShowsGoing, ShowsAsking, asked_for, Refuses}
+use Rattle.asl_preprocess.specs.Searching.{SearchStops, SeekStops, RefusesFound}
 use Rattle.asl_preprocess.specs.Sound.{IsSound}
-use Rattle.asl_preprocess.specs.Reached.{Stands, StandsIn, StopsAt, Reaches}
+use Rattle.asl_preprocess.specs.Reached.{Stands, StandsIn, StopsAt, Reaches, Counts}
 use Rattle.asl_preprocess.proofs.Fine.{Fine, fine_row}
 use Rattle.asl_preprocess.proofs.Passing.{one_of}
 
@@ -156,3 +158,34 @@ module _ (contents : Option (List Named)) (directories : List (List ℕ)) (enabl
     pub seek_reads : (name bytes : List ℕ) (told : List Named) → search told (names_for directories own (asked_for wanted)) ≡ Whole name bytes
         → included (reading_at (setting told) levels) (setting told) own (asked_for wanted) wanted.place state ≡ of_file (setting told) (levels - 1) (with_files state (with_file name state.files)) name bytes
     seek_reads name bytes told h = looks told ∙ ap (read_found (of_file (setting told) (levels - 1)) (asked_for wanted) wanted.place state) h
+
+-- a search that ends early, and one that finds no file, or too large a one
+pub search_seeks : (stop : ReadingStop) (rose : Type 0) (wanted : Wanted) (old new : List (List ℕ)) (contents : Option (List Named)) (found : List Named → SearchResult) → SearchStops stop rose → SeekStops stop wanted old new contents found
+search_seeks (At message) rose wanted old new contents found h = absurd h
+search_seeks ReadFault rose wanted old new contents found h = tt
+search_seeks Memory rose wanted old new contents found h = tt
+
+pub search_counts : (stop : ReadingStop) (before now : ℕ) → SearchStops stop (Rose before now) → Counts stop before now
+search_counts (At message) before now h = absurd h
+search_counts ReadFault before now h = h
+search_counts Memory before now h = tt
+
+pub refuses_missing : (stop : ReadingStop) (wanted : Wanted) (name : List ℕ) (files : List (List ℕ)) (contents : Option (List Named)) (found : List Named → SearchResult)
+    → name ≡ wanted.name → Refuses stop (message_at 6001 wanted.place name) → ForSome contents (λ told. found told ≡ Missing) → SeekStops stop wanted files files contents found
+refuses_missing (At message) wanted name files contents found n h f =
+    let e : message ≡ message_at 6001 wanted.place wanted.name = h ∙ ap (message_at 6001 wanted.place) n in
+    (ap (λ m. m.place.file) e, refl, λ told k. subst (RefusesFound message wanted) (sym (f told k)) e)
+refuses_missing ReadFault wanted name files contents found n h f = absurd h
+refuses_missing Memory wanted name files contents found n h f = tt
+
+pub refuses_large : (stop : ReadingStop) (wanted : Wanted) (files : List (List ℕ)) (contents : Option (List Named)) (found : List Named → SearchResult)
+    → Refuses stop (message_at 6007 (at wanted.place.file wanted.place.line 1) []) → ForSome contents (λ told. found told ≡ Large) → SeekStops stop wanted files files contents found
+refuses_large (At message) wanted files contents found h f = (ap (λ m. m.place.file) h, refl, λ told k. subst (RefusesFound message wanted) (sym (f told k)) h)
+refuses_large ReadFault wanted files contents found h f = absurd h
+refuses_large Memory wanted files contents found h f = tt
+
+-- a row that stops fetches nothing
+pub row_counts : {X : Type 0} (stop : ReadingStop) (files : List (List ℕ)) (o : Outcome X) (count : ℕ) → StopsWith stop files o → Counts stop count count
+row_counts (At message) files o count h = refl
+row_counts ReadFault files o count h = absurd h
+row_counts Memory files o count h = tt

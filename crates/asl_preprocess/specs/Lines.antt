@@ -1,7 +1,6 @@
 -- What becomes of a line that is no directive.
 use Rattle.std.specs.Prelude.{ℕ, ◌+◌, ◌==◌, ◌||◌, Bool, false, true, cond, nat_le, List, [], ◌∷◌, ◌++◌, Some, None, Ok}
 use Rattle.std.specs.declared.option.Option.{Option}
-use Rattle.std.specs.Option.{option_map}
 use Rattle.std.specs.Char.{to_ascii_lowercase}
 use Rattle.iasl_ports.specs.Fetched.{most_bytes}
 use Rattle.iasl_messages.specs.declared.place.Place.{Place}
@@ -55,10 +54,6 @@ may_include text = may_begin_include (past_blanks text)
 -- the place of the word `Include`
 abbrev pub word_place : ℕ → ℕ → List ℕ → Place
 word_place file n text = at file n (blanks_before (without_comments false text) + 1)
-
--- what a text asks for whose comments are blanks, with the column of its word
-abbrev pub with_column : List ℕ → Option (ℕ × List ℕ)
-with_column text = option_map (λ name. (blanks_before text + 1, name)) (include_line text)
 
 abbrev pub asks_for : Place → Pass → Option (List ℕ) → Outcome RowEffect
 asks_for place pass None = stopped pass.state 6003 place []

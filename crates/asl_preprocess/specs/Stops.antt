@@ -1,12 +1,14 @@
 -- What a call that gives nothing tells.
-use Rattle.std.specs.Prelude.{◌≡◌, ℕ, ◌<◌, List, length, ⊤}
+use Rattle.std.specs.Prelude.{◌≡◌, ℕ, ◌<◌, List, [], ◌∷◌, length, ⊤}
 use Rattle.iasl_ports.specs.Counts.{Rose}
+use Rattle.iasl_ports.specs.declared.files.FetchFault.{FetchFault}
+use Rattle.iasl_ports.specs.declared.files.FetchFault.TheVariants as fetch
 use Rattle.iasl_messages.specs.declared.message.Message.{Message}
 use Rattle.asl_preprocess.specs.declared.main_file.PreStop.{PreStop}
 use Rattle.asl_preprocess.specs.declared.main_file.PreStop.TheVariants as by
 use Rattle.asl_preprocess.specs.declared.stop.ReadingStop.{ReadingStop}
 use Rattle.asl_preprocess.specs.declared.stop.ReadingStop.TheVariants.{At, ReadFault, Memory}
-use Rattle.asl_preprocess.specs.Preprocess.{Preprocessed, Stopped, Absent}
+use Rattle.asl_preprocess.specs.Preprocess.{Preprocessed, Stopped, Absent, too_large_main}
 
 -- exactly what the main file comes to; nothing is said where a file could not be read or memory is wanting
 abbrev pub IsStop : PreStop → Preprocessed → Type 0
@@ -48,3 +50,10 @@ abbrev pub EndsWith : PreStop → ReadingStop → List (List ℕ) → Type 0
 EndsWith stop (At message) files = Keeps stop message files
 EndsWith stop ReadFault files = stop ≡ by.ReadFault
 EndsWith stop Memory files = stop ≡ by.Memory
+
+-- what a main file of this name comes to that was not fetched
+abbrev pub LacksMain : PreStop → FetchFault → List ℕ → Type 0
+LacksMain stop fetch.Absent name = stop ≡ by.Absent
+LacksMain stop fetch.TooLarge name = Keeps stop too_large_main (name ∷ [])
+LacksMain stop fetch.Failed name = stop ≡ by.ReadFault
+LacksMain stop fetch.Memory name = stop ≡ by.Memory

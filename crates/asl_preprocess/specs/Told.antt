@@ -7,7 +7,7 @@ use Rattle.iasl_messages.specs.declared.place.Place.{Place}
 use Rattle.iasl_messages.specs.declared.message.Message.{Message}
 use Rattle.asl_macros.specs.Table.{Tells}
 use Rattle.asl_directives.specs.declared.branches.Branch.{Branch}
-use Rattle.asl_directives.specs.Forms.{IncludedFile}
+use Rattle.asl_directives.specs.Forms.{IncludedFile, file_name_of}
 use Rattle.asl_preprocess.specs.declared.work.Work.{Work}
 use Rattle.asl_preprocess.specs.declared.stop.ReadingStop.{ReadingStop}
 use Rattle.asl_preprocess.specs.declared.stop.ReadingStop.TheVariants.{At, ReadFault, Memory}
@@ -73,6 +73,18 @@ Includes (Err stop) place asked = Lacks stop (message_at 6003 place []) asked
 abbrev pub IncludesName : Result Wanted ReadingStop → Place → Option (List ℕ) → Type 0
 IncludesName (Ok wanted) place name = (name ≡ Some wanted.name) × (wanted.quoted ≡ true) × (wanted.place ≡ place)
 IncludesName (Err stop) place name = Lacks stop (message_at 6003 place []) name
+
+-- a line's stop: it asks for a file in a wrong form; or want of memory
+abbrev pub LacksFile : ReadingStop → Place → Option (List ℕ) → Type 0
+LacksFile (At message) place asked = (name : List ℕ) × (asked ≡ Some name) × (file_name_of name ≡ None) × (message ≡ message_at 6003 place [])
+LacksFile ReadFault place asked = ⊥
+LacksFile Memory place asked = ⊤
+
+-- the file that a line asks for in quotes, if it asks for one
+abbrev pub AsksByLine : Result (Option Wanted) ReadingStop → Place → Option (List ℕ) → Type 0
+AsksByLine (Ok None) place asked = asked ≡ None
+AsksByLine (Ok (Some wanted)) place asked = (name : List ℕ) × (asked ≡ Some name) × (file_name_of name ≡ Some wanted.name) × (wanted.quoted ≡ true) × (wanted.place ≡ place)
+AsksByLine (Err stop) place asked = LacksFile stop place asked
 
 -- a file is asked for
 abbrev pub ShowsAsking : Wanted → Work → List Branch → RowEffect → Type 0

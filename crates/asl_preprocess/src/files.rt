@@ -1,5 +1,5 @@
 //! The names of the files that were fetched.
-ghost use Rattle.std.specs.Prelude.{◌≡◌, ◌∷◌, ◌<◌, [], length, IfOk, OnOk};
+ghost use Rattle.std.specs.Prelude.{◌≡◌, ◌∷◌, ◌++◌, ◌<◌, [], length, IfOk, OnOk};
 ghost use Rattle.asl_preprocess.specs.State.{number_of, with_file};
 
 use iasl_ports::list::{Text, Texts};
@@ -14,6 +14,13 @@ fn copy_of(alloc: Global, bytes: &[u8]) -> Result<Vec<u8>, AllocError>
     ensures { IfOk result (λ copy. copy.items ≡ bytes.now) }
 {
     bytes.to_vec(alloc)
+}
+
+/// Puts a text of these bytes behind others.
+pub(crate) fn put_text(alloc: Global, texts: &mut Texts, bytes: &[u8]) -> Result<(), AllocError>
+    ensures { OnOk result (texts.new ≡ texts.old ++ bytes.now ∷ []) }
+{
+    texts.push(Text::from_bytes(alloc, bytes)?)
 }
 
 /// The names, each once, in the order of first fetch.
@@ -66,7 +73,7 @@ impl FileNames {
     {
         let mut texts = Texts::new(alloc);
         for name in self.names.as_slice() {
-            texts.push(Text::from_bytes(alloc, name.as_slice())?)?;
+            put_text(alloc, &mut texts, name.as_slice())?;
         }
         Ok(texts)
     }

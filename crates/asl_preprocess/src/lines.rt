@@ -1,11 +1,11 @@
 //! What becomes of a line that is no directive.
-ghost use Rattle.std.specs.Prelude.{◌≡◌, ◌∷◌, [], ℕ, List, IfOk, None, false, true};
-ghost use Rattle.std.specs.Option.{option_map};
-ghost use Rattle.asl_preprocess.specs.State.{State};
+ghost use Rattle.std.specs.Prelude.{◌≡◌, ◌+◌, None, false, true};
+ghost use Rattle.asl_preprocess.specs.State.{State, at};
 ghost use Rattle.asl_preprocess.specs.Lines as spec;
 ghost use Rattle.asl_fragments.specs.Fragments.{without_comments as without_comments_of};
 ghost use Rattle.asl_directives.specs.Forms.{file_name_of, include_line as include_line_of};
-ghost use Rattle.asl_preprocess.specs.Told.{Shows, Does, IncludesName};
+ghost use Rattle.asl_directives.specs.Words.{blanks_before as blanks_before_of};
+ghost use Rattle.asl_preprocess.specs.Told.{Shows, Does, IncludesName, AsksByLine};
 
 use crate::directives::{Wanted, column_behind};
 use crate::line_text::LineText;
@@ -64,18 +64,40 @@ fn may_ask(in_comment: bool, text: &LineText<'_>) -> bool
     !in_comment && !ends_in_comment(text.whole, in_comment)
 }
 
-// What a line that stands outside block comments asks for, comments aside, and the column of its word.
-fn asked(alloc: Global, text: &[u8]) -> Result<Option<(u32, Text)>, AllocError>
-    ensures { IfOk result (λ asked. option_map (λ a. (a.0, a.1)) asked ≡ spec.with_column (without_comments_of false text.now)) }
+// What a line asks for whose comments are blanks.
+fn asked_in(
+    alloc: Global,
+    line: &OrdinaryLine<'_>,
+    blanked: &[u8],
+) -> Result<Option<Wanted>, ReadingStop>
+    ensures { AsksByLine result (at line.now.file line.now.number (blanks_before_of blanked.now + 1)) (include_line_of blanked.now) }
 {
-    let blanked = without_comments(alloc, text, false)?;
-    match include_line(&blanked) {
-        Some(name) => {
-            let column = column_behind(blanks_before(&blanked))?;
-            Ok(Some((column, Text::from_bytes(alloc, name)?)))
-        }
-        None => Ok(None),
+    let Some(name) = include_line(blanked) else {
+        return Ok(None);
+    };
+    let Ok(column) = column_behind(blanks_before(blanked)) else {
+        return Err(ReadingStop::Memory);
+    };
+    let place = Place {
+        file: line.file,
+        line: line.number,
+        column,
+    };
+    match wanted(alloc, place, name) {
+        Ok(wanted) => Ok(Some(wanted)),
+        Err(stop) => Err(stop),
     }
+}
+
+// What a line asks for, comments aside.
+fn asked(alloc: Global, line: &OrdinaryLine<'_>) -> Result<Option<Wanted>, ReadingStop>
+    ensures { AsksByLine result (spec.word_place line.now.file line.now.number line.now.text.whole.now) (spec.asked_by_line line.now.in_comment line.now.text.whole.now) }
+{
+    if !may_ask(line.in_comment, &line.text) {
+        return Ok(None);
+    }
+    let blanked = without_comments(alloc, line.text.whole, false)?;
+    asked_in(alloc, line, &blanked)
 }
 
 /// What becomes of such a line.
@@ -91,16 +113,12 @@ pub(crate) fn line(
     if !branches.is_read() {
         return Ok(None);
     }
-    if may_ask(line.in_comment, &line.text) {
-        if let Some((column, name)) = asked(alloc, line.text.whole)? {
-            let place = Place {
-                file: line.file,
-                line: line.number,
-                column,
-            };
-            return Ok(Some(wanted(alloc, place, name.as_bytes())?));
-        }
+    match asked(alloc, line) {
+        Ok(None) => match work.keep(alloc, enabled, line) {
+            Ok(()) => Ok(None),
+            Err(stop) => Err(stop),
+        },
+        Ok(Some(wanted)) => Ok(Some(wanted)),
+        Err(stop) => Err(stop),
     }
-    work.keep(alloc, enabled, line)?;
-    Ok(None)
 }

@@ -7,9 +7,10 @@ ghost use Rattle.asl_preprocess.specs.State.{blank};
 ghost use Rattle.asl_preprocess.specs.Sound.{IsGoodLine, IsGoodNote};
 ghost use Rattle.asl_preprocess.specs.Told.{Shows};
 ghost use Rattle.asl_preprocess.specs.declared.main_file.PreStop.TheVariants.{Memory};
-ghost use Rattle.asl_preprocess.specs.Stops.{IsStop, HasPlace, Causes, MainCauses, Keeps, EndsWith};
+ghost use Rattle.asl_preprocess.specs.Stops.{IsStop, HasPlace, Causes, MainCauses, Keeps, EndsWith, LacksMain};
 
 use crate::define::Defines;
+use crate::files::put_text;
 use crate::reading::{OpenFile, Setting, read_file};
 use crate::stop::ReadingStop;
 use crate::work::{OWN_NAME, Work};
@@ -92,22 +93,15 @@ fn last_work(alloc: Global, work: &mut Work) -> Result<Preprocessed, PreStop>
     })
 }
 
-// A first stop, with the names of the files that were fetched.
-fn refused(alloc: Global, message: Message, work: &Work) -> PreStop
-    ensures { Keeps result message work.now.files }
-{
-    match work.files.texts(alloc) {
-        Ok(files) => PreStop::Refused { message, files },
-        Err(AllocError) => PreStop::Memory,
-    }
-}
-
 // Why nothing is left, where the reading ended early.
 fn stopped(alloc: Global, stop: ReadingStop, work: &Work) -> PreStop
     ensures { EndsWith result stop work.now.files }
 {
     match stop {
-        ReadingStop::At(message) => refused(alloc, message, work),
+        ReadingStop::At(message) => match work.files.texts(alloc) {
+            Ok(files) => PreStop::Refused { message, files },
+            Err(AllocError) => PreStop::Memory,
+        },
         ReadingStop::ReadFault => PreStop::ReadFault,
         ReadingStop::Memory => PreStop::Memory,
     }
@@ -151,20 +145,13 @@ fn read_main<F: Files>(
     }
 }
 
-fn one_name(alloc: Global, name: &str) -> Result<Texts, AllocError>
-    ensures { IfOk result (λ names. names ≡ name.now ∷ []) }
-{
-    let mut names = Texts::new(alloc);
-    names.push(Text::from_bytes(alloc, name.as_bytes())?)?;
-    Ok(names)
-}
-
 // A main file of more than 16 MiB.
 fn too_large(alloc: Global, name: &str) -> PreStop
     ensures { Keeps result spec.too_large_main (name.now ∷ []) }
 {
-    match one_name(alloc, name) {
-        Ok(files) => PreStop::Refused {
+    let mut files = Texts::new(alloc);
+    match put_text(alloc, &mut files, name.as_bytes()) {
+        Ok(()) => PreStop::Refused {
             message: Message {
                 number: TEXT_IS_TOO_LARGE,
                 place: Place {
@@ -177,6 +164,18 @@ fn too_large(alloc: Global, name: &str) -> PreStop
             files,
         },
         Err(AllocError) => PreStop::Memory,
+    }
+}
+
+// Why nothing is left, where the main file was not fetched.
+fn unread(alloc: Global, name: &str, fault: FetchFault) -> PreStop
+    ensures { LacksMain result fault name.now }
+{
+    match fault {
+        FetchFault::TooLarge => too_large(alloc, name),
+        FetchFault::Absent => PreStop::Absent,
+        FetchFault::Failed => PreStop::ReadFault,
+        FetchFault::Memory => PreStop::Memory,
     }
 }
 
@@ -211,9 +210,6 @@ pub fn preprocess<F: Files>(
 {
     match files.fetch(alloc, name) {
         Ok(bytes) => read_main(alloc, files, name, &bytes, dirs, defines, enabled),
-        Err(FetchFault::TooLarge) => Err(too_large(alloc, name)),
-        Err(FetchFault::Absent) => Err(PreStop::Absent),
-        Err(FetchFault::Failed) => Err(PreStop::ReadFault),
-        Err(FetchFault::Memory) => Err(PreStop::Memory),
+        Err(fault) => Err(unread(alloc, name, fault)),
     }
 }

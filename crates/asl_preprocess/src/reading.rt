@@ -99,14 +99,14 @@ fn seek<F: Files>(
     ensures later { F.faults files.old ≤ F.faults files.new }
 {
     match search_for(alloc, files, directories, own, wanted) {
-        Ok(SearchResult::Whole { name, bytes }) => {
-            let number = work.add_file(alloc, name.as_bytes())?;
-            Ok(Fetched {
+        Ok(SearchResult::Whole { name, bytes }) => match work.add_file(alloc, name.as_bytes()) {
+            Ok(number) => Ok(Fetched {
                 number,
                 name,
                 bytes,
-            })
-        }
+            }),
+            Err(AllocError) => Err(ReadingStop::Memory),
+        },
         Ok(SearchResult::Missing) => Err(refusal(
             alloc,
             INCLUDE_IS_ABSENT,

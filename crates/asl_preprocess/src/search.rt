@@ -7,6 +7,7 @@ ghost use Rattle.asl_preprocess.specs.Told.{asked_for};
 ghost use Rattle.asl_preprocess.specs.Searching.{found_by, found_or_rest, FoundHasRoom, HasRoom, SearchStops};
 
 use crate::directives::Wanted;
+use crate::files::put_text;
 use crate::stop::ReadingStop;
 use iasl_ports::files::{FetchFault, Files};
 use iasl_ports::list::{Text, Texts};
@@ -111,26 +112,12 @@ fn put_names(
 {
     let name = wanted.name.as_bytes();
     if begins_with_slash(name) {
-        return names.push(Text::from_bytes(alloc, name)?);
+        return put_text(alloc, names, name);
     }
     if wanted.quoted {
         names.push(beside(alloc, name, own)?)?;
     }
     add_names(alloc, names, directories, name)
-}
-
-// The names to be tried for a file that is asked for in the file of the name `own`.
-fn names_for(
-    alloc: Global,
-    directories: &Texts,
-    own: &[u8],
-    wanted: &Wanted,
-) -> Result<Texts, AllocError>
-    ensures { IfOk result (λ names. names ≡ spec.names_for directories.now own.now (asked_for wanted.now)) }
-{
-    let mut names = Texts::new(alloc);
-    put_names(alloc, &mut names, directories, own, wanted)?;
-    Ok(names)
 }
 
 // The file of a name; none where there is none, or where the name is not UTF-8.
@@ -150,10 +137,10 @@ fn fetch<F: Files>(
         return Ok(None);
     };
     match files.fetch(alloc, text) {
-        Ok(bytes) => Ok(Some(SearchResult::Whole {
-            name: Text::from_bytes(alloc, name.as_bytes())?,
-            bytes,
-        })),
+        Ok(bytes) => match Text::from_bytes(alloc, name.as_bytes()) {
+            Ok(name) => Ok(Some(SearchResult::Whole { name, bytes })),
+            Err(AllocError) => Err(ReadingStop::Memory),
+        },
         Err(FetchFault::TooLarge) => Ok(Some(SearchResult::Large)),
         Err(FetchFault::Absent) => Ok(None),
         Err(FetchFault::Failed) => Err(ReadingStop::ReadFault),
@@ -199,6 +186,7 @@ pub(crate) fn search_for<F: Files>(
     ensures contents { F.contents files.new ≡ F.contents files.old }
     ensures later { F.faults files.old ≤ F.faults files.new }
 {
-    let names = names_for(alloc, directories, own, wanted)?;
+    let mut names = Texts::new(alloc);
+    put_names(alloc, &mut names, directories, own, wanted)?;
     search(alloc, files, names.as_slice())
 }

@@ -1,11 +1,13 @@
 -- What is found of a block's terms is what the block comes to.
-use Rattle.std.proofs.Common.{◌≡◌, length, List, [], ◌∷◌, Result, refl, sym, ap, ◌∙◌, subst}
-use Rattle.std.specs.Prelude.{IfOk}
+use Rattle.std.proofs.Common.{◌≡◌, length, List, [], ◌∷◌, Result, refl, sym, ap, ◌∙◌, subst, arith}
+use Rattle.std.specs.Prelude.{IfOk, map}
 use Rattle.std.specs.declared.alloc.AllocError.{AllocError}
 use Rattle.iasl_messages.specs.declared.message.Message.{Message}
 use Rattle.iasl_messages.specs.declared.message.Stage.{Stage}
 use Rattle.iasl_messages.specs.declared.message.Stage.TheVariants.{Refused as Refused'}
 use Rattle.asl_tree.specs.Tree.{Trees}
+use Rattle.acpi_names.specs.Errors.{name_errors, type_errors}
+use Rattle.name_checks.specs.Messages.{message_of, first_errors, told_errors}
 use Rattle.name_checks.specs.declared.check.Names.{Names}
 use Rattle.name_checks.specs.Refusals.{Refuses}
 use Rattle.asl_tables.specs.declared.compile.Compiled.{Compiled}
@@ -15,6 +17,11 @@ use Rattle.asl_tables.specs.declared.compile.Findings.TheVariants.{Right, Wrong}
 use Rattle.asl_tables.specs.Compiled.{first_told, unless_wrong, with_others}
 use Rattle.asl_tables.specs.Findings.{AreNamesOf, FindsFew, Finds}
 use Rattle.asl_tables.proofs.Programs.{refused_is, right_comes, none_behind, some_behind}
+
+-- names of which nothing is told
+pub none_told : (told : List Message) (terms : Trees) → length told ≡ 0 → (name_errors terms ≡ []) × (type_errors terms ≡ []) → first_told told (told_errors terms) ≡ []
+none_told [] terms h right = ap (λ names. map message_of (first_errors names (type_errors terms))) right.0 ∙ ap (λ types. map message_of (first_errors [] types)) right.1
+none_told (m ∷ ms) terms h right = absurd (omega (arith, h))
 
 -- errors that come first
 pub some_first : (all wrong few : List Message) → all ≡ wrong → (wrong ≡ [] → ⊥) → (all ≡ first_told wrong few) × (all ≡ [] → ⊥)

@@ -439,7 +439,6 @@ fn refuse_at(
     )?))
 }
 
-#[tactic(auto, using(crate::proofs::Outcomes::read_is, crate::proofs::Outcomes::stop_is, crate::proofs::Outcomes::deep_is))]
 fn compile_tokens(
     alloc: Global,
     style: Style,

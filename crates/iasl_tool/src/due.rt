@@ -1,10 +1,11 @@
 //! What a call is to end with.
-ghost use Rattle.std.specs.Prelude.{◌≡◌, ◌≤◌, ◌++◌, ◌&&◌, [], ◌∷◌, ℕ, List, length, map, All, IfOk, OnOk, IsErrOf, ◌⊎◌, Some, None, string_bytes, false};
+ghost use Rattle.std.specs.Prelude.{◌≡◌, ◌≤◌, ◌<◌, ◌++◌, ◌&&◌, [], ◌∷◌, ℕ, List, length, map, All, IfOk, OnOk, IsErrOf, ◌⊎◌, Some, None, string_bytes, false};
 ghost use Rattle.iasl_ports.specs.Delivery.{name_and_bytes, answer_of, IsSettled};
 ghost use Rattle.iasl_runs.specs.Ends.{files_seen};
 ghost use Rattle.iasl_options.specs.Task.{settings_by};
 ghost use Rattle.asl_preprocess.specs.Sound.{IsGoodLine, IsGoodNote};
 ghost use Rattle.iasl_options.specs.Shown.{AreTexts, asked_of};
+ghost use Rattle.iasl_options.specs.Asking.{Asked};
 ghost use Rattle.asl_tables.specs.Compiled.{AreWithin};
 ghost use Rattle.iasl_tool.specs.Sources.{of_source};
 ghost use Rattle.iasl_backends.specs.Table.{table_bytes};
@@ -22,7 +23,7 @@ use asl_preprocess::{PreStop, Preprocessed, preprocess};
 use asl_tables::compile::{Compiled, Style};
 use asl_tables::messages::{both, one_message};
 use iasl_messages::console::{preprocessed_line, render, summary, table_line};
-use iasl_messages::message::Messages;
+use iasl_messages::message::{Message, Messages};
 use iasl_messages::order::sort;
 use iasl_messages::place::{Line, Lines, Piece, Pieces};
 use iasl_messages::severity::{Severity, severity_of};
@@ -81,6 +82,20 @@ fn refuse(
     })
 }
 
+// The decision of a source that is refused, with these errors and notes.
+fn decide_refusal(
+    alloc: Global,
+    brief: bool,
+    files: &Texts,
+    messages: Messages,
+) -> Result<Decision, AllocError>
+    requires { AreWithin (length files.now) messages }
+    ensures due { IfOk result (λ decision. end_of decision ≡ refusal brief files.now messages) }
+    ensures decided { (asked : Asked) → IfOk result (IsDecidedBy asked) }
+{
+    Ok(Decision::Ends(refuse(alloc, brief, files, messages)?))
+}
+
 fn one_file(
     alloc: Global,
     name: String,
@@ -131,6 +146,14 @@ fn refuse_name(alloc: Global, name: &str) -> Result<Due<'static>, AllocError>
         text: Text::from_vec(alloc, text)?,
         files: Vec::new(alloc),
     })
+}
+
+// The decision where a fetched file has the name of an output.
+fn decide_in_use(alloc: Global, name: &str) -> Result<Decision, AllocError>
+    ensures due { IfOk result (λ decision. end_of decision ≡ in_use name.now) }
+    ensures decided { (asked : Asked) → IfOk result (IsDecidedBy asked) }
+{
+    Ok(Decision::Ends(refuse_name(alloc, name)?))
 }
 
 // Whether the message of this number is a warning.
@@ -232,56 +255,74 @@ fn size_of(pieces: &[Piece]) -> Result<u64, AllocError>
     Ok(size)
 }
 
-// The line of a table in pieces, and a further line behind it.
+// What is known of a table beside its pieces: its signature, the name that its block states for its file, and a further line of the console.
+#[derive(Clone, Copy)]
+struct Heading<'a> {
+    signature: &'a Text,
+    own: &'a Text,
+    more: &'a Text,
+}
+
+// The line of a table in pieces whose file has this name, and the further line behind it.
 fn table_lines(
     alloc: Global,
     name: &[u8],
-    signature: &[u8],
+    heading: &Heading<'_>,
     pieces: &[Piece],
-    more: &Text,
 ) -> Result<Text, AllocError>
-    ensures { IfOk result (λ text. text ≡ table_line name.now signature.now (length (table_bytes pieces.now)) ++ more.now) }
+    ensures { IfOk result (λ text. text ≡ table_line name.now heading.now.signature.now (length (table_bytes pieces.now)) ++ heading.now.more.now) }
 {
     let size = size_of(pieces)?;
+    let line = table_line(alloc, name, heading.signature.as_bytes(), size)?;
     let mut lines = Vec::new(alloc);
-    push_text(&mut lines, &table_line(alloc, name, signature, size)?)?;
-    push_text(&mut lines, more)?;
+    push_text(&mut lines, &line)?;
+    push_text(&mut lines, heading.more)?;
     Text::from_vec(alloc, lines)
 }
 
-// What is due of a table in pieces, with a further line of the console behind that of the table.
+// What the console is told of a table in pieces.
+fn table_text(
+    alloc: Global,
+    brief: bool,
+    files: &Texts,
+    notes: Messages,
+    name: &[u8],
+    heading: &Heading<'_>,
+    pieces: &[Piece],
+) -> Result<Text, AllocError>
+    requires { AreWithin (length files.now) notes }
+    ensures { IfOk result (λ text. text ≡ console_text brief files.now notes (table_line name.now heading.now.signature.now (length (table_bytes pieces.now)) ++ heading.now.more.now)) }
+{
+    let line = table_lines(alloc, name, heading, pieces)?;
+    console_text(alloc, brief, files, notes, &line)
+}
+
+// What is due of a table in pieces.
 fn make_table(
     alloc: Global,
     options: &Options,
     files: &Texts,
     notes: Messages,
-    signature: &Text,
-    own: &Text,
+    heading: &Heading<'_>,
     pieces: Pieces,
-    more: &Text,
 ) -> Result<Decision, AllocError>
     requires texts { AreTexts options.now }
-    requires own { IsAscii own.now }
+    requires own { IsAscii heading.now.own.now }
     requires compiles { options.now.only ≡ false }
     requires notes { AreWithin (length files.now) notes }
-    ensures due { IfOk result (λ decision. end_of decision ≡ made_or_refused (asked_of options.now) files.now notes (table_line (table_name (asked_of options.now) options.now.file own.now) signature.now (length (table_bytes pieces)) ++ more.now) (table_files (asked_of options.now) options.now.file own.now pieces)) }
+    ensures due { IfOk result (λ decision. end_of decision ≡ made_or_refused (asked_of options.now) files.now notes (table_line (table_name (asked_of options.now) options.now.file heading.now.own.now) heading.now.signature.now (length (table_bytes pieces)) ++ heading.now.more.now) (table_files (asked_of options.now) options.now.file heading.now.own.now pieces)) }
     ensures decided { IfOk result (IsDecidedBy (asked_of options.now)) }
 {
+    let brief = options.switches.brief;
     if is_refused(options, &notes) {
-        return Ok(Decision::Ends(refuse(alloc, options.switches.brief, files, notes)?));
+        return decide_refusal(alloc, brief, files, notes);
     }
-    let names = names_of_table(alloc, options, own)?;
+    let names = names_of_table(alloc, options, heading.own)?;
     if let Some(name) = name_in_use(files.as_slice(), &names) {
-        return Ok(Decision::Ends(refuse_name(alloc, name)?));
+        return decide_in_use(alloc, name);
     }
-    let line = table_lines(
-        alloc,
-        names.table.as_bytes(),
-        signature.as_bytes(),
-        pieces.as_slice(),
-        more,
-    )?;
-    let text = console_text(alloc, options.switches.brief, files, notes, &line)?;
+    let name = names.table.as_bytes();
+    let text = table_text(alloc, brief, files, notes, name, heading, pieces.as_slice())?;
     Ok(Decision::Makes(Making {
         text,
         names,
@@ -301,7 +342,6 @@ fn style_of(options: &Options) -> Style
 }
 
 // What is due of lines that are compiled, with a further line of the console behind that of the table.
-#[tactic(auto, using(crate::proofs::Sorting::both_within))]
 pub(crate) fn make_compiled(
     alloc: Global,
     options: &Options,
@@ -323,22 +363,27 @@ pub(crate) fn make_compiled(
             own,
             pieces,
             notes: told,
-        } => make_table(
-            alloc,
-            options,
-            &lines.files,
-            both(notes, told)?,
-            &signature,
-            &own,
-            pieces,
-            more,
-        ),
-        Compiled::Refused(messages) => Ok(Decision::Ends(refuse(
+        } => {
+            let heading = Heading {
+                signature: &signature,
+                own: &own,
+                more,
+            };
+            make_table(
+                alloc,
+                options,
+                &lines.files,
+                both(notes, told)?,
+                &heading,
+                pieces,
+            )
+        }
+        Compiled::Refused(messages) => decide_refusal(
             alloc,
             options.switches.brief,
             &lines.files,
             both(notes, messages)?,
-        )?)),
+        ),
     }
 }
 
@@ -361,6 +406,21 @@ fn answer_to_lines(
     } else {
         make_compiled(alloc, options, &lines, notes, &Text::new(alloc))
     }
+}
+
+// What is due of a source whose preprocessing stops with this message.
+fn answer_to_stop(
+    alloc: Global,
+    brief: bool,
+    files: &Texts,
+    message: Message,
+) -> Result<Decision, AllocError>
+    requires { message.place.file < length files.now }
+    ensures due { IfOk result (λ decision. end_of decision ≡ refusal brief files.now (message ∷ [])) }
+    ensures decided { (asked : Asked) → IfOk result (IsDecidedBy asked) }
+{
+    let messages = one_message(alloc, message)?;
+    decide_refusal(alloc, brief, files, messages)
 }
 
 // What is due where the words are not good.
@@ -389,12 +449,12 @@ fn answer<F: Files>(alloc: Global, options: &Options, files: &mut F) -> Result<D
         options.enabled,
     ) {
         Ok(given) => Ok(answer_to_lines(alloc, options, given)?),
-        Err(PreStop::Refused { message, files }) => Ok(Decision::Ends(refuse(
+        Err(PreStop::Refused { message, files }) => Ok(answer_to_stop(
             alloc,
             options.switches.brief,
             &files,
-            one_message(alloc, message)?,
-        )?)),
+            message,
+        )?),
         Err(PreStop::Absent | PreStop::ReadFault) => Err(Stop::Fault),
         Err(PreStop::Memory) => Err(Stop::Memory),
     }

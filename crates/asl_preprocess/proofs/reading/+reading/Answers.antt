@@ -7,7 +7,7 @@ use Rattle.asl_preprocess.specs.Told.{Shows, asked_for, setting_by}
 use Rattle.asl_preprocess.specs.Sound.{IsSound}
 use Rattle.asl_preprocess.specs.Reached.{Stands}
 use Rattle.asl_preprocess.proofs.Passing.{passed_none, passed_more, passed_stops, passed_end, end_counts, one_of}
-use Rattle.asl_preprocess.proofs.Rowing.{reaches_by, stops_by, more_files, sound_more, row_goes, row_stops, row_asks, seek_stops, seek_reads}
+use Rattle.asl_preprocess.proofs.Rowing.{reaches_by, stops_by, more_files, sound_more, row_goes, row_stops, row_asks, row_counts, seek_stops, seek_reads}
 use Rattle.asl_preprocess.proofs.reading.+reading.Goals as goal
 
 pub include-returns-in-Err-clause-reached : goal.include-returns-in-Err-clause-reached
@@ -118,3 +118,18 @@ include-returns-in-Ok-clause-fault g t c state shows sound known =
 pub read_file-returns-clause-fault : goal.read_file-returns-clause-fault
 read_file-returns-clause-fault g t c state shows sound known =
     end_counts c.end.result c.args.file.now.number _ state (g.F.Files.faults c.args.files.now) (g.F.Files.faults c.loop-branches.files) c.loop-branches.invariant.faults (c.end.ensures state)
+
+pub include-returns-in-Err-clause-fault : goal.include-returns-in-Err-clause-fault
+include-returns-in-Err-clause-fault g t c state shows sound known = c.in-Err.ensures.fault
+
+pub pass_row-returns-in-Err-clause-fault : goal.pass_row-returns-in-Err-clause-fault
+pass_row-returns-in-Err-clause-fault g t c state shows sound known = row_counts c.in-Err.stop _ _ _ (c.in-Err.ensures state shows)
+
+pub pass_row-returns-in-Ok-None-clause-fault : goal.pass_row-returns-in-Ok-None-clause-fault
+pass_row-returns-in-Ok-None-clause-fault g t c state shows sound known = tt
+
+pub read_file-returns-in-Err-clause-fault : goal.read_file-returns-in-Err-clause-fault
+read_file-returns-in-Err-clause-fault g t c state shows sound known =
+    let p = c.loop-branches.invariant.passed state shows sound known in
+    let known' : c.args.file.now.number < length p.now.state.files = omega (arith, p.stands_in.stands.grows) in
+    rw (sym c.loop-branches.invariant.faults) (c.in-Err.ensures.fault p.now.state p.stands_in.stands.shows p.stands_in.stands.sound known')

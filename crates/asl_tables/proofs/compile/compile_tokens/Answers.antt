@@ -1,9 +1,11 @@
-use Rattle.std.proofs.Common.{◌≡◌, subst}
+use Rattle.std.proofs.Common.{◌≡◌, [], ◌∷◌, subst}
 use Rattle.std.specs.Prelude.{IfOk}
 use Rattle.asl_tables.specs.Compiled.{of_items}
 use Rattle.program_shapes.proofs.Kept.{is_kept}
-use Rattle.asl_tables.proofs.Homes.{items_home, same_home}
-use Rattle.asl_tables.proofs.Outcomes.{read_is, stop_is, deep_is}
+use Rattle.asl_tables.specs.declared.compile.Compiled.TheVariants.{Refused}
+use Rattle.asl_tables.specs.Syntax.{at_token}
+use Rattle.asl_tables.proofs.Homes.{items_home, same_home, at_token_home}
+use Rattle.asl_tables.proofs.Outcomes.{read_is, stop_is, deep_is, refused_own}
 use Rattle.asl_tables.proofs.compile.compile_tokens.Goals as goal
 
 pub compile_unit-requires : goal.compile_unit-requires
@@ -27,3 +29,20 @@ pub returns-in-Err-TooDeep-clause-value : goal.returns-in-Err-TooDeep-clause-val
 returns-in-Err-TooDeep-clause-value c =
     let sinks = rw c.in-Err-TooDeep.field-0-is at c.in-Err-TooDeep.ensures.exact in
     subst (λ it. IfOk c.refuse_at-in-Err-TooDeep.result (λ compiled. compiled ≡ it)) (deep_is c.args.style c.args.lines.now.list c.args.tokens.now c.in-Err-TooDeep.token sinks) (rw c.in-Err-TooDeep.token-is at c.refuse_at-in-Err-TooDeep.ensures)
+
+pub returns-in-Err-Stop-clause-own : goal.returns-in-Err-Stop-clause-own
+returns-in-Err-Stop-clause-own c = refused_own c.refuse_at.result (at_token 6015 c.args.tokens.now c.in-Err-Stop.token) (rw c.in-Err-Stop.token-is at c.refuse_at.ensures)
+
+pub returns-in-Err-Stop-clause-within : goal.returns-in-Err-Stop-clause-within
+returns-in-Err-Stop-clause-within c = λ files main h.
+    let message = at_token 6015 c.args.tokens.now c.in-Err-Stop.token in
+    same_home files c.refuse_at.result (Refused (message ∷ [])) (rw c.in-Err-Stop.token-is at c.refuse_at.ensures) (at_token_home files 6015 c.args.tokens.now c.in-Err-Stop.token h main)
+
+pub returns-in-Err-TooDeep-clause-own : goal.returns-in-Err-TooDeep-clause-own
+returns-in-Err-TooDeep-clause-own c =
+    refused_own c.refuse_at-in-Err-TooDeep.result (at_token 6016 c.args.tokens.now c.in-Err-TooDeep.token) (rw c.in-Err-TooDeep.token-is at c.refuse_at-in-Err-TooDeep.ensures)
+
+pub returns-in-Err-TooDeep-clause-within : goal.returns-in-Err-TooDeep-clause-within
+returns-in-Err-TooDeep-clause-within c = λ files main h.
+    let message = at_token 6016 c.args.tokens.now c.in-Err-TooDeep.token in
+    same_home files c.refuse_at-in-Err-TooDeep.result (Refused (message ∷ [])) (rw c.in-Err-TooDeep.token-is at c.refuse_at-in-Err-TooDeep.ensures) (at_token_home files 6016 c.args.tokens.now c.in-Err-TooDeep.token h main)

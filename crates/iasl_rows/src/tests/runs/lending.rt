@@ -250,7 +250,6 @@ const TWO_NAMES: &[u8] = b"DefinitionBlock (\"\", \"SSDT\", 2, \"OEMX00\", \"TAB
 
 // A run over boxes of which one may refuse a piece: its option, its source, its status, how many files it puts, what it tells, and the kind of the box
 // that is left beside that of the table.
-#[derive(Drop)]
 struct Refusal {
     word: &'static str,
     source: &'static [u8],
@@ -282,7 +281,7 @@ fn is_refusal(
     )
 }
 
-const FIRST_PIECE: Refusal = Refusal {
+static FIRST_PIECE: Refusal = Refusal {
     word: "-tc",
     source: ONE_NAME,
     status: 4,
@@ -291,7 +290,7 @@ const FIRST_PIECE: Refusal = Refusal {
     left: Kind::CHex,
 };
 
-const THIRD_PIECE: Refusal = Refusal {
+static THIRD_PIECE: Refusal = Refusal {
     word: "-l",
     source: TWO_NAMES,
     status: 4,
@@ -300,7 +299,7 @@ const THIRD_PIECE: Refusal = Refusal {
     left: Kind::Listing,
 };
 
-const NO_THIRD_PIECE: Refusal = Refusal {
+static NO_THIRD_PIECE: Refusal = Refusal {
     word: "-l",
     source: ONE_NAME,
     status: 0,
@@ -309,12 +308,24 @@ const NO_THIRD_PIECE: Refusal = Refusal {
     left: Kind::Listing,
 };
 
+fn first_piece_is_refused(alloc: Global) -> Result<bool, AllocError> {
+    is_refusal(alloc, &FIRST_PIECE, refusing_boxes(alloc)?)
+}
+
+fn third_piece_is_refused(alloc: Global) -> Result<bool, AllocError> {
+    is_refusal(alloc, &THIRD_PIECE, boxes_of_two_pieces(alloc)?)
+}
+
+fn two_pieces_are_taken(alloc: Global) -> Result<bool, AllocError> {
+    is_refusal(alloc, &NO_THIRD_PIECE, boxes_of_two_pieces(alloc)?)
+}
+
 // Whether the runs over boxes that refuse a piece are such.
 fn are_refusals(alloc: Global) -> Result<bool, AllocError> {
     Ok(
-        is_refusal(alloc, &FIRST_PIECE, refusing_boxes(alloc)?)?
-            && is_refusal(alloc, &THIRD_PIECE, boxes_of_two_pieces(alloc)?)?
-            && is_refusal(alloc, &NO_THIRD_PIECE, boxes_of_two_pieces(alloc)?)?,
+        first_piece_is_refused(alloc)?
+            && third_piece_is_refused(alloc)?
+            && two_pieces_are_taken(alloc)?,
     )
 }
 

@@ -35,19 +35,31 @@ const BEHIND_BRACKETS: &[u8] = b")
 }
 ";
 
-// A method that returns 1 inside so many brackets.
-fn nested(alloc: Global, brackets: usize) -> Result<Vec<u8>, AllocError> {
-    let mut text = BEFORE_BRACKETS.to_vec(alloc)?;
-    text.extend_from_slice(&vec![in alloc; b'('; brackets]?)?;
+fn put_times(text: &mut Vec<u8>, byte: u8, times: usize) -> Result<(), AllocError> {
+    for _ in 0..times {
+        text.push(byte)?;
+    }
+    Ok(())
+}
+
+// Puts a method that returns 1 inside so many brackets.
+fn put_nested(text: &mut Vec<u8>, brackets: usize) -> Result<(), AllocError> {
+    text.extend_from_slice(BEFORE_BRACKETS)?;
+    put_times(text, b'(', brackets)?;
     text.push(b'1')?;
-    text.extend_from_slice(&vec![in alloc; b')'; brackets]?)?;
-    text.extend_from_slice(BEHIND_BRACKETS)?;
+    put_times(text, b')', brackets)?;
+    text.extend_from_slice(BEHIND_BRACKETS)
+}
+
+fn nested(alloc: Global, brackets: usize) -> Result<Vec<u8>, AllocError> {
+    let mut text = Vec::new(alloc);
+    put_nested(&mut text, brackets)?;
     Ok(text)
 }
 
 // Brackets, the status, and what is told. The block, the method and the Return are open too, so 125 brackets are the most. They leave no node in
 // the tree.
-const NESTINGS: &[(usize, u8, &[u8])] = &[
+static NESTINGS: [(usize, u8, &[u8]); 3] = [
     (
         125,
         0,
@@ -71,10 +83,18 @@ fn nests_as(alloc: Global, brackets: usize, status: u8, told: &[u8]) -> Result<b
     tells(alloc, &text, status, told)
 }
 
+// Whether each method nests as it is to.
+fn all_nest_as(alloc: Global, nestings: &[(usize, u8, &[u8])]) -> Result<bool, AllocError> {
+    for (brackets, status, told) in nestings {
+        if !nests_as(alloc, *brackets, *status, told)? {
+            return Ok(false);
+        }
+    }
+    Ok(true)
+}
+
 #[test]
 fn nesting(rt: HostRuntime) -> Result<(), AllocError> {
-    for (brackets, status, told) in NESTINGS {
-        assert!(rt; nests_as(rt.alloc(), *brackets, *status, told)?);
-    }
+    assert!(rt; all_nest_as(rt.alloc(), &NESTINGS)?);
     Ok(())
 }

@@ -1,4 +1,5 @@
 use Rattle.std.proofs.Common.{ℕ, length, sym, subst}
+use Rattle.iasl_options.specs.Shown.{asked_of}
 use Rattle.asl_tables.specs.Compiled.{AreWithin, TellsWithin}
 use Rattle.iasl_tool.proofs.Sorting.{both_within}
 use Rattle.iasl_tool.proofs.due.make_compiled.Goals as goal
@@ -8,3 +9,12 @@ make_table-requires-clause-notes c =
     let files : ℕ = length c.args.lines.now.files in
     let told : AreWithin files c.in-Table.told = subst (TellsWithin files) c.in-Table.is c.in_ok-signature.ensures.within in
     subst (AreWithin files) (sym c.in_ok-both-in-Table.ensures) (both_within files c.args.notes c.in-Table.told c.requires.notes told)
+
+pub decide_refusal-requires : goal.decide_refusal-requires
+decide_refusal-requires c =
+    let files : ℕ = length c.args.lines.now.files in
+    let told : AreWithin files c.in-Refused.messages = subst (TellsWithin files) c.in-Refused.is c.in_ok-signature.ensures.within in
+    subst (AreWithin files) (sym c.in_ok-both-in-Refused.ensures) (both_within files c.args.notes c.in-Refused.messages c.requires.notes told)
+
+pub returns-in_ok-both-in-Refused-clause-decided : goal.returns-in_ok-both-in-Refused-clause-decided
+returns-in_ok-both-in-Refused-clause-decided c = c.decide_refusal.ensures.decided (asked_of c.args.options.now)

@@ -1,0 +1,21 @@
+use Rattle.std.proofs.Common.{refl, ap, ◌∙◌}
+use Rattle.acpi_values.specs.Revisions.{width_of}
+use Rattle.asl_tree.specs.View.{trees_of}
+use Rattle.asl_fold.specs.Folds.{folded_where}
+use Rattle.asl_lower.specs.Nodes.{named_all}
+use Rattle.hidden_locals.specs.Switches.{without_switches}
+use Rattle.asl_shape.specs.Plans.{plans_of}
+use Rattle.source_pieces.specs.Places.{core_places}
+use Rattle.asl_tables.proofs.compile.lowered.Goals as goal
+
+pub returns-clause-terms : goal.returns-clause-terms
+returns-clause-terms c =
+    c.in_ok-core.ensures.terms
+    ∙ ap (λ w. folded_where c.args.style.fold w (named_all (without_switches (trees_of c.replace-terms.result.items)))) c.of_revision.ensures
+    ∙ ap (λ ts. folded_where c.args.style.fold (width_of c.args.block.revision) (named_all (without_switches (trees_of ts.items)))) c.replace-terms.ensures.value
+
+pub returns-clause-places : goal.returns-clause-places
+returns-clause-places c = c.in_ok-core.ensures.places ∙ ap (λ ts. core_places (plans_of ts.items)) c.replace-terms.ensures.value
+
+pub returns-clause-fields : goal.returns-clause-fields
+returns-clause-fields c = refl
