@@ -1,14 +1,15 @@
 -- One term more.
-use Rattle.std.proofs.Common.{◌≡◌, ℕ, zero, suc, ◌+◌, ◌<◌, ◌≤◌, Bool, true, false, List, [], ◌∷◌, length, get_or, take, Option, Some, refl, sym, ap, ◌∙◌, arith}
+use Rattle.std.proofs.Common.{◌≡◌, ℕ, zero, suc, ◌+◌, ◌<◌, ◌≤◌, Bool, true, false, List, [], ◌∷◌, length, get_or, take, Option, None, Some, refl, sym, ap, ◌∙◌, arith}
 use Rattle.std.specs.Prelude.{◌||◌, is_some, if◌then◌else◌}
 use Rattle.std.proofs.lemmas.List.{take_all}
 use Rattle.acpi_values.specs.Paths.{AbsolutePath, is_same_path}
 use Rattle.acpi_state.proofs.Lookups.{is_same_path-true}
 use Rattle.acpi_state.specs.Objects.{lookup}
+use Rattle.acpi_state.specs.Outcomes.{choose}
 use Rattle.asl_tree.specs.declared.term.Node.{Node}
 use Rattle.asl_tree.specs.Tree.{At}
 use Rattle.asl_tree.specs.View.{tree_of, trees_of}
-use Rattle.asl_meaning.specs.Declarations.{Declared, Declarations, ExternalType, is_named, in_root, with_declared, with_external, declare, declare_all}
+use Rattle.asl_meaning.specs.Declarations.{Declared, Declarations, ExternalType, is_named, in_root, with_declared, with_first, with_external, declare, declare_all}
 use Rattle.acpi_names.specs.Paths.{is_named_in}
 use Rattle.acpi_names.specs.Parts.{Marks, Leads}
 
@@ -54,10 +55,20 @@ leads_declared paths more named flags new what marks d agrees path =
     marks path ∙ ap (λ b. is_same_path path new || b) (agrees path) ∙ ap (λ b. b || is_named d path) (turned path new)
     ∙ sym (first_some (is_same_path new path) what (lookup d.declared path) (is_some (lookup d.external path) || in_root path))
 
-middle : {A : Type 0} (c : Bool) (a : A) (o : Option A) (before after : Bool) → (before || (is_some (if c then Some a else o) || after)) ≡ (c || (before || (is_some o || after)))
-middle true a o true after = refl
-middle true a o false after = refl
-middle false a o before after = refl
+-- a path has an External where it had one before, or where this is one of it
+pub first_external : (new path : AbsolutePath) (type : ExternalType) (entries : List (AbsolutePath × ExternalType)) → is_some (lookup (with_first new type entries) path) ≡ (is_same_path new path || is_some (lookup entries path))
+first_external new path type entries = by_first (lookup entries new) refl (is_same_path new path) refl
+  where
+    by_first : (o : Option ExternalType) → lookup entries new ≡ o → (c : Bool) → is_same_path new path ≡ c → is_some (lookup (choose o ((new, type) ∷ entries) (λ first. entries)) path) ≡ (c || is_some (lookup entries path))
+    by_first None e true same = ap (λ b. is_some (if b then Some type else lookup entries path)) same
+    by_first None e false same = ap (λ b. is_some (if b then Some type else lookup entries path)) same
+    by_first (Some first) e true same = ap (λ p. is_some (lookup entries p)) (sym (is_same_path-true new path same)) ∙ ap is_some e
+    by_first (Some first) e false same = refl
+
+middle : (c o before after : Bool) → (before || ((c || o) || after)) ≡ (c || (before || (o || after)))
+middle true o true after = refl
+middle true o false after = refl
+middle false o before after = refl
 
 -- so is one of another table; one of the root was named before
 pub leads_external : (paths more : List AbsolutePath) (named flags : List Bool) (new : AbsolutePath) (type : ExternalType) → Marks paths named more flags new → Leads paths named more flags (with_external (in_root new) new type)
@@ -78,7 +89,8 @@ leads_external paths more named flags new type marks d agrees path = by_root (in
     by_root true r = marks path ∙ ap (λ b. is_same_path path new || b) (agrees path) ∙ rooted (is_same_path path new) refl r
     by_root false r =
         marks path ∙ ap (λ b. is_same_path path new || b) (agrees path) ∙ ap (λ b. b || is_named d path) (turned path new)
-        ∙ sym (middle (is_same_path new path) type (lookup d.external path) (is_some (lookup d.declared path)) (in_root path))
+        ∙ sym (middle (is_same_path new path) (is_some (lookup d.external path)) (is_some (lookup d.declared path)) (in_root path))
+        ∙ sym (ap (λ b. is_some (lookup d.declared path) || (b || in_root path)) (first_external new path type d.external))
 
 pub leads_none : (paths : List AbsolutePath) (named : List Bool) (nodes : List Node) (scope : AbsolutePath) → Leads paths named paths named (declare_all (trees_of (take 0 nodes)) scope)
 leads_none paths named [] scope d agrees path = agrees path ∙ sym (ap (λ d. is_named d path) (declare_none scope d))

@@ -67,7 +67,7 @@ abbrev pub has_parent : Declarations → AbsolutePath → Bool
 has_parent d [] = true
 has_parent d (seg ∷ outer) = is_named d outer
 
--- what the last External before this one says of the path
+-- what the first External of the path, if one stands before, says of it
 abbrev pub same_count : Option ℕ → Option ℕ → Bool
 same_count None None = true
 same_count (Some n) (Some m) = nat_eq n m

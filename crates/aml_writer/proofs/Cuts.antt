@@ -1,9 +1,7 @@
 -- The pieces of terms that can be written are cut from their encoding.
 use Rattle.std.proofs.Common.{◌≡◌, ℕ, ◌+◌, ◌%◌, Bool, true, false, List, [], ◌∷◌, ◌++◌, length, Option, None, Some, refl, sym, ap, ◌∙◌, arith, append_assoc, length-append}
 use Rattle.std.specs.Prelude.{nat_le, if◌then◌else◌}
-use Rattle.std.specs.List.{concat}
 use Rattle.std.proofs.lemmas.List.{append-nil}
-use Rattle.std.proofs.lemmas.List.Folds.{concat-append}
 use Rattle.acpi_values.specs.declared.operator.IntOp.{IntOp}
 use Rattle.acpi_values.specs.declared.operator.Plain.{Plain}
 use Rattle.acpi_values.specs.declared.width.Width.{Width}
@@ -23,7 +21,8 @@ use Rattle.aml_code.specs.Encoding.{package_length_bytes, packed, name_bytes}
 use Rattle.aml_code.specs.Header.{HeaderFields, table_bytes}
 use Rattle.aml_meaning.specs.Codes.{Code, MethodCode, ScopeCode, IfCode, ElseCode, WhileCode, code_bytes}
 use Rattle.aml_meaning.specs.Encoded.{container_code, container_bytes, encoded, encoded_all}
-use Rattle.aml_writer.specs.Cuts.{opening, cut, cut_all, header_of, table_parts}
+use Rattle.aml_writer.specs.Pieces.{Part}
+use Rattle.aml_writer.specs.Cuts.{opening, plain_part, cut, cut_all, header_of, table_parts}
 
 -- whether a term holds a list of terms
 abbrev pub holds : Tree → Bool
@@ -37,6 +36,15 @@ holds _ = false
 
 -- ---- the parts are the whole
 
+-- the bytes of parts, one after another
+abbrev pub joined_parts : List Part → List ℕ
+joined_parts [] = []
+joined_parts (part ∷ parts) = part.bytes ++ joined_parts parts
+
+parts-append : (xs ys : List Part) → joined_parts (xs ++ ys) ≡ joined_parts xs ++ joined_parts ys
+parts-append [] ys = refl
+parts-append (x ∷ xs) ys = ap (λ bs. x.bytes ++ bs) (parts-append xs ys) ∙ sym (append_assoc x.bytes (joined_parts xs) (joined_parts ys))
+
 module _ (width : Width) (short : Bool) where
   opened_is : (code : Code) (front content : List ℕ) (body : Trees) → content ≡ encoded_all width short body → opening width short code front body ++ content ≡ code_bytes code ++ packed (front ++ encoded_all width short body)
   opened_is code front content body e =
@@ -47,20 +55,20 @@ module _ (width : Width) (short : Bool) where
       ∙ ap (λ bs. code_bytes code ++ bs) (append_assoc head front bytes ∙ ap (λ n. package_length_bytes n ++ (front ++ bytes)) (sym (length-append front bytes)))
 
   mutual
-    pub cut_is : (t : Tree) → concat (cut width short t) ≡ encoded width short t
-    cut_is (Method at name flags body) = opened_is MethodCode (name_bytes name ++ (flags % 256) ∷ []) (concat (cut_all width short body)) body (cuts_are body) ∙ ap (λ bs. code_bytes MethodCode ++ packed bs) (append_assoc (name_bytes name) ((flags % 256) ∷ []) (encoded_all width short body))
-    cut_is (Container' kind at name body) = opened_is (container_code kind) (name_bytes name ++ container_bytes kind) (concat (cut_all width short body)) body (cuts_are body) ∙ ap (λ bs. code_bytes (container_code kind) ++ packed bs) (append_assoc (name_bytes name) (container_bytes kind) (encoded_all width short body))
-    cut_is (Scope here at name body) = opened_is ScopeCode (name_bytes name) (concat (cut_all width short body)) body (cuts_are body)
-    cut_is (If test body) = opened_is IfCode (encoded width short test) (concat (cut_all width short body)) body (cuts_are body)
-    cut_is (Else body) = opened_is ElseCode [] (concat (cut_all width short body)) body (cuts_are body)
-    cut_is (While test body) = opened_is WhileCode (encoded width short test) (concat (cut_all width short body)) body (cuts_are body)
+    pub cut_is : (t : Tree) → joined_parts (cut width short t) ≡ encoded width short t
+    cut_is (Method at name flags body) = opened_is MethodCode (name_bytes name ++ (flags % 256) ∷ []) (joined_parts (cut_all width short body)) body (cuts_are body) ∙ ap (λ bs. code_bytes MethodCode ++ packed bs) (append_assoc (name_bytes name) ((flags % 256) ∷ []) (encoded_all width short body))
+    cut_is (Container' kind at name body) = opened_is (container_code kind) (name_bytes name ++ container_bytes kind) (joined_parts (cut_all width short body)) body (cuts_are body) ∙ ap (λ bs. code_bytes (container_code kind) ++ packed bs) (append_assoc (name_bytes name) (container_bytes kind) (encoded_all width short body))
+    cut_is (Scope here at name body) = opened_is ScopeCode (name_bytes name) (joined_parts (cut_all width short body)) body (cuts_are body)
+    cut_is (If test body) = opened_is IfCode (encoded width short test) (joined_parts (cut_all width short body)) body (cuts_are body)
+    cut_is (Else body) = opened_is ElseCode [] (joined_parts (cut_all width short body)) body (cuts_are body)
+    cut_is (While test body) = opened_is WhileCode (encoded width short test) (joined_parts (cut_all width short body)) body (cuts_are body)
     cut_is term = append-nil (encoded width short term)
 
-    pub cuts_are : (ts : Trees) → concat (cut_all width short ts) ≡ encoded_all width short ts
+    pub cuts_are : (ts : Trees) → joined_parts (cut_all width short ts) ≡ encoded_all width short ts
     cuts_are no_trees = refl
-    cuts_are (tree t ts) = concat-append (cut width short t) (cut_all width short ts) ∙ ap (λ bs. bs ++ concat (cut_all width short ts)) (cut_is t) ∙ ap (λ bs. encoded width short t ++ bs) (cuts_are ts)
+    cuts_are (tree t ts) = parts-append (cut width short t) (cut_all width short ts) ∙ ap (λ bs. bs ++ joined_parts (cut_all width short ts)) (cut_is t) ∙ ap (λ bs. encoded width short t ++ bs) (cuts_are ts)
 
-  pub alone : (t : Tree) → holds t ≡ false → cut width short t ≡ encoded width short t ∷ []
+  pub alone : (t : Tree) → holds t ≡ false → cut width short t ≡ plain_part (encoded width short t) ∷ []
   alone (Method at name flags body) e = absurd (grind arith)
   alone (Container' kind at name body) e = absurd (grind arith)
   alone (Scope here at name body) e = absurd (grind arith)
@@ -70,7 +78,7 @@ module _ (width : Width) (short : Bool) where
   alone t e = refl
 
 -- the parts of a table, one after another, are the table
-pub parts_are : (fields : HeaderFields) (short : Bool) (core : Trees) → concat (table_parts fields short core) ≡ table_bytes fields (encoded_all (width_of fields.revision) short core)
+pub parts_are : (fields : HeaderFields) (short : Bool) (core : Trees) → joined_parts (table_parts fields short core) ≡ table_bytes fields (encoded_all (width_of fields.revision) short core)
 parts_are fields short core =
     let content = encoded_all (width_of fields.revision) short core in
     ap (λ bs. header_of fields content ++ bs) (cuts_are (width_of fields.revision) short core)

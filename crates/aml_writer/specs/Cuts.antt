@@ -1,7 +1,6 @@
--- The bytes of the pieces of a table by the tree of its terms: the header, and for each term of the term lists, in preorder, its encoding up to
--- that of the first term inside it.
-use Rattle.std.specs.Prelude.{◌≡◌, ℕ, ◌+◌, ◌%◌, Bool, List, [], ◌∷◌, ◌++◌, length, map}
-use Rattle.std.specs.List.{zip}
+-- The parts of a table by the tree of its terms: the header, and for each term of the term lists, in preorder, its encoding up to that of the
+-- first term inside it; and its pieces, in which an Else is one with the If that begins it where both stand at one place.
+use Rattle.std.specs.Prelude.{◌≡◌, ℕ, ◌+◌, ◌%◌, Bool, true, false, List, [], ◌∷◌, ◌++◌, length}
 use Rattle.iasl_messages.specs.declared.place.Place.{Place}
 use Rattle.iasl_messages.specs.declared.place.Line.{Line}
 use Rattle.iasl_messages.specs.declared.place.Piece.{Piece}
@@ -17,24 +16,33 @@ use Rattle.aml_code.specs.Header.{HeaderFields, header_length, header_with, chec
 use Rattle.aml_meaning.specs.Codes.{Code, MethodCode, ScopeCode, IfCode, ElseCode, WhileCode, code_bytes}
 use Rattle.aml_meaning.specs.Encoded.{container_code, container_bytes, encoded, encoded_all}
 use Rattle.aml_sessions.specs.Ready.{AreReady}
-use Rattle.aml_writer.specs.Pieces.{piece_at}
+use Rattle.aml_writer.specs.Pieces.{Part, put_before}
 
 -- a package up to the terms in it: its opcode, its length and what stands before them
 abbrev pub opening : Width → Bool → Code → List ℕ → Trees → List ℕ
 opening width short code front body = code_bytes code ++ (package_length_bytes (length front + length (encoded_all width short body)) ++ front)
 
-abbrev mutual
-  -- the bytes of a term's pieces
-  pub cut : Width → Bool → Tree → List (List ℕ)
-  cut width short (Method at name flags body) = opening width short MethodCode (name_bytes name ++ (flags % 256) ∷ []) body ∷ cut_all width short body
-  cut width short (Container' kind at name body) = opening width short (container_code kind) (name_bytes name ++ container_bytes kind) body ∷ cut_all width short body
-  cut width short (Scope here at name body) = opening width short ScopeCode (name_bytes name) body ∷ cut_all width short body
-  cut width short (If test body) = opening width short IfCode (encoded width short test) body ∷ cut_all width short body
-  cut width short (Else body) = opening width short ElseCode [] body ∷ cut_all width short body
-  cut width short (While test body) = opening width short WhileCode (encoded width short test) body ∷ cut_all width short body
-  cut width short term = encoded width short term ∷ []
+-- whether terms begin with an If
+abbrev pub if_begins : Trees → Bool
+if_begins (tree (If test body) rest) = true
+if_begins terms = false
 
-  pub cut_all : Width → Bool → Trees → List (List ℕ)
+-- bytes that are no Else that begins with an If
+abbrev pub plain_part : List ℕ → Part
+plain_part bytes = record { bytes = bytes; opens = false }
+
+abbrev mutual
+  -- the parts of a term
+  pub cut : Width → Bool → Tree → List Part
+  cut width short (Method at name flags body) = plain_part (opening width short MethodCode (name_bytes name ++ (flags % 256) ∷ []) body) ∷ cut_all width short body
+  cut width short (Container' kind at name body) = plain_part (opening width short (container_code kind) (name_bytes name ++ container_bytes kind) body) ∷ cut_all width short body
+  cut width short (Scope here at name body) = plain_part (opening width short ScopeCode (name_bytes name) body) ∷ cut_all width short body
+  cut width short (If test body) = plain_part (opening width short IfCode (encoded width short test) body) ∷ cut_all width short body
+  cut width short (Else body) = record { bytes = opening width short ElseCode [] body; opens = if_begins body } ∷ cut_all width short body
+  cut width short (While test body) = plain_part (opening width short WhileCode (encoded width short test) body) ∷ cut_all width short body
+  cut width short term = plain_part (encoded width short term) ∷ []
+
+  pub cut_all : Width → Bool → Trees → List Part
   cut_all width short no_trees = []
   cut_all width short (tree term terms) = cut width short term ++ cut_all width short terms
 
@@ -44,15 +52,16 @@ header_of fields content =
     let size = header_length + length content in header_with fields size (checksum_of (header_with fields size 0 ++ content))
 
 -- the header, and then the terms of a core
-abbrev pub table_parts : HeaderFields → Bool → Trees → List (List ℕ)
-table_parts fields short core = let width = width_of fields.revision in header_of fields (encoded_all width short core) ∷ cut_all width short core
+abbrev pub table_parts : HeaderFields → Bool → Trees → List Part
+table_parts fields short core = let width = width_of fields.revision in plain_part (header_of fields (encoded_all width short core)) ∷ cut_all width short core
 
--- some bytes at each of some places, with the text of its line
-abbrev pub pieces_with : List Line → List Place → List (List ℕ) → List Piece
-pieces_with lines places parts = map (λ p. piece_at lines p.0 p.1) (zip places parts)
+-- the pieces of parts that stand at these places
+abbrev pub pieces_with : List Line → List Place → List Part → List Piece
+pieces_with lines (place ∷ places) (part ∷ parts) = put_before lines place part (pieces_with lines places parts)
+pieces_with lines _ _ = []
 
--- pieces that have these places and these bytes, one for one
-pub record ArePieces (lines : List Line) (places : List Place) (parts : List (List ℕ)) (pieces : List Piece) : Type 0 where
+-- as many places as parts, and the pieces of these
+pub record ArePieces (lines : List Line) (places : List Place) (parts : List Part) (pieces : List Piece) : Type 0 where
   pub as_many : length places ≡ length parts
   pub are : pieces ≡ pieces_with lines places parts
 

@@ -95,6 +95,7 @@ module _ (width : Width) (Listed : List (FieldItem UnitName) → Type 0) (Symbol
 
   member_formed : (t : Tree) → IsCaseMember t → IsCaseMember (F t)
   member_formed (Integer n) h = h
+  member_formed (Constant literal) h = h
   member_formed (String text) h = h
   member_formed (Buffer size bytes) h = number_formed size h
   member_formed _ h = absurd h
@@ -111,6 +112,7 @@ module _ (width : Width) (Listed : List (FieldItem UnitName) → Type 0) (Symbol
   case_formed (Package n members) h = some_formed members h
   case_formed (VarPackage size members) h = sized_as IsCaseValue (F size) (Fs members) (λ n e lt. some_formed members h.1) (number_formed size h.0, some_formed members h.1)
   case_formed (Integer n) h = h
+  case_formed (Constant literal) h = h
   case_formed (String text) h = h
   case_formed (Buffer size bytes) h = number_formed size h
   case_formed _ h = absurd h

@@ -6,7 +6,6 @@ ghost use Rattle.acpi_values.specs.Integers.{applied};
 ghost use Rattle.acpi_values.specs.declared.operator.Plain.TheVariants as P;
 ghost use Rattle.acpi_state.specs.Outcomes.{choose};
 ghost use Rattle.asl_tree.specs.Constants.{is_unary as unary_of};
-ghost use Rattle.asl_tree.specs.Literals.{literal_number};
 ghost use Rattle.asl_tree.specs.View.{trees_of};
 ghost use Rattle.asl_fold.specs.declared.fate.Fate.TheVariants as F;
 ghost use Rattle.asl_fold.specs.Folds.{without_fault, result_on, fate_with};
@@ -16,7 +15,8 @@ use crate::seen::{Seen, seen_as};
 use acpi_values::integer::{apply, wrap};
 use acpi_values::operator::{IntOp, Plain};
 use acpi_values::width::Width;
-use asl_tree::term::{Literal, Node};
+use asl_tree::constant::literal_value;
+use asl_tree::term::Node;
 
 /// What becomes of an operator: it stays, it is a number, or the number is stored into its target.
 #[derive(Clone, Copy, PartialEq, Eq, Debug)]
@@ -49,17 +49,6 @@ fn target_count(op: IntOp) -> usize
         IntOp::LEqual | IntOp::LGreater | IntOp::LLess => 0,
         IntOp::LNotEqual | IntOp::LLessEqual | IntOp::LGreaterEqual => 0,
         _ => 1,
-    }
-}
-
-fn literal_value(literal: Literal, width: Width) -> u64
-    ensures value { result ≡ literal_number width literal }
-    ensures fits { result ≤ ones_of width }
-{
-    match literal {
-        Literal::Zero => 0,
-        Literal::One => 1,
-        Literal::Ones => width.ones(),
     }
 }
 

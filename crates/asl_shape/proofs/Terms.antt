@@ -1,5 +1,5 @@
 -- Terms that are made.
-use Rattle.std.proofs.Common.{◌≡◌, ℕ, suc, List, [], ◌∷◌, ◌++◌, length, append-nil, Vec, Global, refl, ap, ◌∙◌, true, false, Some, None, if◌then◌else◌}
+use Rattle.std.proofs.Common.{◌≡◌, ℕ, suc, List, [], ◌∷◌, ◌++◌, length, append-nil, Vec, Global, refl, sym, ap, ◌∙◌, arith, ◌==◌, true, false, Some, None, if◌then◌else◌}
 use Rattle.iasl_messages.specs.declared.message.Message.{Message}
 use Rattle.asl_tree.specs.declared.path.Path.{Path}
 use Rattle.acpi_values.specs.Paths.{NameSeg}
@@ -7,10 +7,12 @@ use Rattle.asl_tree.specs.declared.term.Op.{Op}
 use Rattle.asl_tree.specs.declared.term.Word.{Word}
 use Rattle.asl_tree.specs.declared.term.Node.{Node}
 use Rattle.asl_tree.specs.declared.term.NamedDescriptor.{NamedDescriptor}
+use Rattle.asl_tree.specs.declared.term.Term.{Term}
 use Rattle.asl_tree.specs.declared.term.Term as D
 use Rattle.asl_shape.specs.Plans.{plan_of, an_integer, a_text, a_fill, a_word, a_local, an_arg, debug, omitted, a_name, a_unit, a_skip, an_offset, plans_of, how_many}
-use Rattle.asl_shape.proofs.Plans.{plan_form, plan_call}
-use Rattle.asl_shape.specs.Shapes.{is_package, member_count}
+use Rattle.std.proofs.lemmas.Bool.Decides.{nat_tests}
+use Rattle.asl_shape.proofs.Plans.{plan_form, plan_call, no_plans_are, more_plans_are}
+use Rattle.asl_shape.specs.Shapes.{is_package, member_count, are_none, is_case_form, is_case_member}
 
 pub omitted_term : plan_of D.Omitted ≡ omitted
 unfolding plan_of
@@ -84,3 +86,11 @@ pub count_call : (path : Path) (args : Vec Node Global) → member_count (plan_o
 count_call path args = ap member_count (plan_call path args)
 
 pub ruleset count_rules = (term_rules, count_package, count_other, count_call)
+
+pub none_are : (nodes : List Node) → (length nodes == 0) ≡ are_none (plans_of nodes)
+none_are [] = sym (ap are_none no_plans_are)
+none_are (node ∷ nodes) = let e : (length (node ∷ nodes) == 0) ≡ false = grind (arith, nat_tests) in e ∙ sym (ap are_none (more_plans_are node nodes))
+
+pub case_form : (t : Term) (op : Op) (args body : Vec Node Global) (xs ys : List Node) → t ≡ D.Form op args body → xs ≡ args.items → ys ≡ body.items → is_case_form op (plans_of xs) (plans_of ys) ≡ is_case_member (plan_of t)
+case_form t op args body xs ys e a b =
+    ap (λ ns. is_case_form op (plans_of ns) (plans_of ys)) a ∙ ap (λ ns. is_case_form op (plans_of args.items) (plans_of ns)) b ∙ sym (ap (λ t. is_case_member (plan_of t)) e ∙ ap is_case_member (plan_form op args body))

@@ -145,13 +145,26 @@ abbrev pub is_package : Op → Bool
 is_package (Op.Special Special.Package) = true
 is_package _ = false
 
--- what a member of a Case's Package is beside constants
+-- one of the words Zero, One and Ones
+abbrev pub is_word : Op → Bool
+is_word (Op.Literal literal) = true
+is_word _ = false
+
+abbrev pub are_none : Plans → Bool
+are_none no_plans = true
+are_none (plan place p ps) = false
+
+-- a Buffer, or a word, whose opcode is always written
+abbrev pub is_case_form : Op → Plans → Plans → Bool
+is_case_form op args body = is_buffer op || (is_word op && are_none args && are_none body)
+
+-- what a member of a Case's Package is beside constants that are evaluated
 abbrev pub is_case_member : Plan → Bool
 is_case_member (a_text bytes) = true
-is_case_member (a_form o args body) = is_buffer o
+is_case_member (a_form o args body) = is_case_form o args body
 is_case_member _ = false
 
--- a member of a Case's Package: a string, a Buffer or a constant
+-- a member of a Case's Package: a string, a Buffer, a word or a constant
 abbrev pub case_member : Width → Place → Plan → Shaped Plan
 case_member width place p = if is_case_member p then fine p else valued 0 18446744073709551615 place (constant_of width p)
 

@@ -1,14 +1,14 @@
 //! The errors that are found on the way.
 ghost use Rattle.std.specs.Prelude.{◌≡◌, ◌++◌, OnOk, IfOk};
 ghost use Rattle.asl_shape.specs.Shapes as spec;
-ghost use Rattle.asl_shape.specs.Plans.{plan_of, constant_of};
+ghost use Rattle.asl_shape.specs.Plans.{plan_of, plans_of, constant_of};
 ghost use Rattle.asl_shape.specs.Plans.{is_omitted as is_left_out};
 ghost use Rattle.asl_tree.specs.Names.{is_searched};
 
 use acpi_values::width::Width;
 use asl_tree::constant::{NoConstant, constant};
 use asl_tree::path::Path;
-use asl_tree::term::{Op, Special, Term};
+use asl_tree::term::{Node, Op, Special, Term};
 use asl_words::operator::Slot;
 use iasl_messages::message::Message;
 use iasl_messages::number::{VALUE_OUT_OF_RANGE, WRONG_ARGUMENT_FORM};
@@ -107,13 +107,33 @@ fn is_package(op: Op) -> bool
     matches!(op, Op::Special(Special::Package))
 }
 
-#[tactic(auto, unfolding(crate::specs::Plans::plan_of))]
+// Whether a form is one of the words Zero, One and Ones.
+fn is_word(op: Op) -> bool
+    ensures { result ≡ spec.is_word op }
+{
+    matches!(op, Op::Literal(_))
+}
+
+#[tactic(auto, using(crate::proofs::Terms::none_are))]
+fn are_none(nodes: &[Node]) -> bool
+    ensures { result ≡ spec.are_none (plans_of nodes.now) }
+{
+    nodes.is_empty()
+}
+
+fn is_case_form(op: Op, args: &[Node], body: &[Node]) -> bool
+    ensures { result ≡ spec.is_case_form op (plans_of args.now) (plans_of body.now) }
+{
+    is_buffer(op) || (is_word(op) && are_none(args) && are_none(body))
+}
+
+#[tactic(auto, using(crate::proofs::Terms::case_form), unfolding(crate::specs::Plans::plan_of))]
 fn is_case_member(term: &Term) -> bool
     ensures { result ≡ spec.is_case_member (plan_of term.now) }
 {
     match term {
         Term::Text(_) => true,
-        Term::Form { op, .. } => is_buffer(*op),
+        Term::Form { op, args, body } => is_case_form(*op, args, body),
         _ => false,
     }
 }

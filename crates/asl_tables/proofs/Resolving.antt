@@ -12,7 +12,7 @@ use Rattle.asl_shape.specs.Plans.{Plans}
 use Rattle.name_checks.specs.Messages.{message_of, first_errors, told_errors}
 use Rattle.descriptor_names.specs.Declaring.{names_descriptors}
 use Rattle.descriptor_names.specs.Resolved.{resolved_terms, use_errors}
-use Rattle.descriptor_names.specs.Told.{besides, with_uses, leaves_root, steps_told, checked_trees, names_below, kinds_told}
+use Rattle.descriptor_names.specs.Told.{besides, with_uses, is_of_names, name_uses_told, checked_trees, names_below, kinds_told}
 use Rattle.descriptor_shapes.proofs.Unnamed.{unnamed_checked, unnamed_resolved, unnamed_uses, unnamed_below}
 use Rattle.asl_tables.specs.Compiled.{first_told, told_of_names}
 
@@ -40,42 +40,42 @@ some_first : (uses : List Message) (m : Message) (ms others : List Message) → 
 some_first [] m ms others = refl
 some_first (u ∷ us) m ms others = behind_first (besides (u ∷ us) (m ∷ ms)) u us others
 
-none_more : (b : Bool) (u : Message) (us : List Message) → (b || list_any leaves_root us) ≡ false → (list_any leaves_root us ≡ false → filter leaves_root us ≡ []) → (if b then u ∷ filter leaves_root us else filter leaves_root us) ≡ []
+none_more : (b : Bool) (u : Message) (us : List Message) → (b || list_any is_of_names us) ≡ false → (list_any is_of_names us ≡ false → filter is_of_names us ≡ []) → (if b then u ∷ filter is_of_names us else filter is_of_names us) ≡ []
 none_more true u us e rest = absurd cc
 none_more false u us e rest = rest e
 
-no_steps : (uses : List Message) → list_any leaves_root uses ≡ false → filter leaves_root uses ≡ []
+no_steps : (uses : List Message) → list_any is_of_names uses ≡ false → filter is_of_names uses ≡ []
 no_steps [] e = refl
-no_steps (u ∷ us) e = none_more (leaves_root u) u us e (no_steps us)
+no_steps (u ∷ us) e = none_more (is_of_names u) u us e (no_steps us)
 
-some_more : (b : Bool) (u : Message) (us : List Message) → (b || list_any leaves_root us) ≡ true → (if b then u ∷ filter leaves_root us else filter leaves_root us) ≡ [] → (list_any leaves_root us ≡ true → filter leaves_root us ≡ [] → ⊥) → ⊥
+some_more : (b : Bool) (u : Message) (us : List Message) → (b || list_any is_of_names us) ≡ true → (if b then u ∷ filter is_of_names us else filter is_of_names us) ≡ [] → (list_any is_of_names us ≡ true → filter is_of_names us ≡ [] → ⊥) → ⊥
 some_more true u us e none rest = absurd cc
 some_more false u us e none rest = rest e none
 
-some_steps : (uses : List Message) → list_any leaves_root uses ≡ true → filter leaves_root uses ≡ [] → ⊥
+some_steps : (uses : List Message) → list_any is_of_names uses ≡ true → filter is_of_names uses ≡ [] → ⊥
 some_steps [] e none = absurd cc
-some_steps (u ∷ us) e none = some_more (leaves_root u) u us e none (some_steps us)
+some_steps (u ∷ us) e none = some_more (is_of_names u) u us e none (some_steps us)
 
 -- what is told of two classes where some uses leave the root, and where none does
-pub steps_first : (uses names kinds : List Message) → list_any leaves_root uses ≡ true → with_uses (filter leaves_root uses) names ≡ first_told (with_uses (filter leaves_root uses) names) (with_uses uses kinds)
-steps_first uses names kinds e = sym (uses_first (filter leaves_root uses) names (with_uses uses kinds) (some_steps uses e))
+pub steps_first : (uses names kinds : List Message) → list_any is_of_names uses ≡ true → with_uses (filter is_of_names uses) names ≡ first_told (with_uses (filter is_of_names uses) names) (with_uses uses kinds)
+steps_first uses names kinds e = sym (uses_first (filter is_of_names uses) names (with_uses uses kinds) (some_steps uses e))
 
-pub without_steps : (uses names kinds : List Message) → list_any leaves_root uses ≡ false → first_told names (with_uses uses kinds) ≡ first_told (with_uses (filter leaves_root uses) names) (with_uses uses kinds)
+pub without_steps : (uses names kinds : List Message) → list_any is_of_names uses ≡ false → first_told names (with_uses uses kinds) ≡ first_told (with_uses (filter is_of_names uses) names) (with_uses uses kinds)
 without_steps uses names kinds e =
     sym (ap (λ us. first_told (with_uses us names) (with_uses uses kinds)) (no_steps uses e) ∙ ap (λ ms. first_told ms (with_uses uses kinds)) (with_none names))
 
 -- the class of kinds is asked for where there is no error of names
 pub kinds_asked : (errors types : List NameError) (kinds below uses : List Message) → (errors ≡ [] → kinds ≡ map message_of types)
-    → first_told (with_uses (filter leaves_root uses) (map message_of errors ++ below)) (with_uses uses kinds) ≡ first_told (with_uses (filter leaves_root uses) (map message_of errors ++ below)) (with_uses uses (map message_of types))
-kinds_asked [] types kinds below uses h = ap (λ ks. first_told (with_uses (filter leaves_root uses) below) (with_uses uses ks)) (h refl)
+    → first_told (with_uses (filter is_of_names uses) (map message_of errors ++ below)) (with_uses uses kinds) ≡ first_told (with_uses (filter is_of_names uses) (map message_of errors ++ below)) (with_uses uses (map message_of types))
+kinds_asked [] types kinds below uses h = ap (λ ks. first_told (with_uses (filter is_of_names uses) below) (with_uses uses ks)) (h refl)
 kinds_asked (e ∷ es) types kinds below uses h =
-    some_first (filter leaves_root uses) (message_of e) (map message_of es ++ below) (with_uses uses kinds) ∙ sym (some_first (filter leaves_root uses) (message_of e) (map message_of es ++ below) (with_uses uses (map message_of types)))
+    some_first (filter is_of_names uses) (message_of e) (map message_of es ++ below) (with_uses uses kinds) ∙ sym (some_first (filter is_of_names uses) (message_of e) (map message_of es ++ below) (with_uses uses (map message_of types)))
 
 -- ---- the block
 
 -- what is told of names, by the errors of both classes
 abbrev told_by : List NameError → List NameError → List NameError → List Message → List Message
-told_by names below kinds uses = first_told (with_uses (filter leaves_root uses) (map message_of (names ++ below))) (with_uses uses (map message_of kinds))
+told_by names below kinds uses = first_told (with_uses (filter is_of_names uses) (map message_of (names ++ below))) (with_uses uses (map message_of kinds))
 
 told_alone : (names kinds : List NameError) → map message_of (first_errors names kinds) ≡ first_told (told_by names [] kinds []) (map message_of (first_errors names kinds))
 told_alone (n ∷ ns) kinds = sym (with_none (map message_of ((n ∷ ns) ++ [])) ∙ ap (map message_of) (right_nil (n ∷ ns)))
@@ -96,10 +96,10 @@ unnamed_told ps e =
 
 -- what is told of checked terms, with what is told of names below descriptors and of uses of descriptors
 pub checked_told : (ps : Plans) (terms : Trees) (told below uses : List Message) → terms ≡ checked_trees ps → below ≡ map message_of (names_below ps) → uses ≡ use_errors ps
-    → told ≡ first_told (with_uses (filter leaves_root uses) (map message_of (name_errors terms) ++ below)) (with_uses uses (map message_of (type_errors terms))) → told ≡ told_of_names ps
+    → told ≡ first_told (with_uses (filter is_of_names uses) (map message_of (name_errors terms) ++ below)) (with_uses uses (map message_of (type_errors terms))) → told ≡ told_of_names ps
 checked_told ps terms told below uses et eb eu is =
     is
-    ∙ ap (λ ts. first_told (with_uses (filter leaves_root uses) (map message_of (name_errors ts) ++ below)) (with_uses uses (map message_of (type_errors ts)))) et
-    ∙ ap (λ bs. first_told (with_uses (filter leaves_root uses) (map message_of (name_errors (checked_trees ps)) ++ bs)) (with_uses uses (map message_of (type_errors (checked_trees ps))))) eb
-    ∙ ap (λ us. first_told (with_uses (filter leaves_root us) (map message_of (name_errors (checked_trees ps)) ++ map message_of (names_below ps))) (with_uses us (map message_of (type_errors (checked_trees ps))))) eu
-    ∙ ap (λ ms. first_told (with_uses (steps_told ps) ms) (kinds_told ps)) (sym (map-append message_of (name_errors (checked_trees ps)) (names_below ps)))
+    ∙ ap (λ ts. first_told (with_uses (filter is_of_names uses) (map message_of (name_errors ts) ++ below)) (with_uses uses (map message_of (type_errors ts)))) et
+    ∙ ap (λ bs. first_told (with_uses (filter is_of_names uses) (map message_of (name_errors (checked_trees ps)) ++ bs)) (with_uses uses (map message_of (type_errors (checked_trees ps))))) eb
+    ∙ ap (λ us. first_told (with_uses (filter is_of_names us) (map message_of (name_errors (checked_trees ps)) ++ map message_of (names_below ps))) (with_uses us (map message_of (type_errors (checked_trees ps))))) eu
+    ∙ ap (λ ms. first_told (with_uses (name_uses_told ps) ms) (kinds_told ps)) (sym (map-append message_of (name_errors (checked_trees ps)) (names_below ps)))

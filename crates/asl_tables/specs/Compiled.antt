@@ -17,6 +17,8 @@ use Rattle.aml_writer.specs.Cuts.{table_parts, pieces_with}
 use Rattle.named_sessions.specs.Core.{core_of}
 use Rattle.asl_lower.specs.Nodes.{named_all}
 use Rattle.asl_fold.specs.Folds.{folded_where}
+use Rattle.wrapped_externals.specs.Wraps.{wrapped_where}
+use Rattle.wrapped_externals.specs.Starts.{placed_where}
 use Rattle.hidden_locals.specs.Switches.{without_switches}
 use Rattle.name_checks.specs.Messages.{told_errors}
 use Rattle.descriptor_names.specs.Told.{names_told, kinds_told}
@@ -83,11 +85,12 @@ abbrev pub with_others : List Message → List Message → List Message
 with_others [] others = others
 with_others (m ∷ ms) others = if is_of_kinds m.number then (m ∷ ms) ++ others else m ∷ ms
 
--- the table of a block of this form in which nothing is wrong, whose core's terms stand at these places
+-- the table of a block of this form in which nothing is wrong, whose terms stand at these places once they are lowered
 abbrev pub of_right : Style → List Line → Place → List Place → List ℕ → HeaderFields → Trees → Compiled
 of_right style lines place inner own fields terms =
     let lowered = lowered_as style fields terms in
-    of_table place fields.signature own (table_with style fields lowered) (its_pieces style lines (place ∷ inner) fields lowered)
+    let core = wrapped_where style.wrap lowered in
+    of_table place fields.signature own (table_with style fields core) (its_pieces style lines (place ∷ placed_where style.wrap lowered inner) fields core)
 
 -- a block of this form that is refused with what is wrong with its names, its statements or the lists of its fields, and where nothing is, with
 -- its Switches for which too few Locals are free
@@ -116,11 +119,11 @@ with_notes notes (Refused messages) = Refused (with_notes_behind notes messages)
 
 -- the table of a source in which nothing is wrong
 abbrev pub written_in : Style → List Raw → List ℕ
-written_in style items = table_in style.fold style.short style.shorten items
+written_in style items = table_in style.wrap style.fold style.short style.shorten items
 
 -- its pieces, with the texts of these lines
 abbrev pub cut_in : Style → List Line → List Raw → List Piece
-cut_in style lines items = pieces_in lines style.fold style.short style.shorten items
+cut_in style lines items = pieces_in lines style.wrap style.fold style.short style.shorten items
 
 -- the literals of a source that are cut to 32 bits
 abbrev pub literals_in : List Raw → List Message

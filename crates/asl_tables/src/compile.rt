@@ -27,6 +27,8 @@ ghost use Rattle.named_sessions.specs.Shaped.{AreFormed, AreNamed, AreShaped};
 ghost use Rattle.asl_lower.specs.Nodes.{named_all};
 ghost use Rattle.program_shapes.specs.Kept.{IsKeptSource};
 ghost use Rattle.asl_fold.specs.Folds.{folded_where};
+ghost use Rattle.wrapped_externals.specs.Wraps.{wrapped_where};
+ghost use Rattle.wrapped_externals.specs.Starts.{placed_where};
 ghost use Rattle.program_shapes.proofs.Kept.{HaveShortTexts};
 ghost use Rattle.iasl_messages.specs.declared.message.Stage.TheVariants as stages;
 ghost use Rattle.aml_writer.specs.Pieces.{joined_pieces};
@@ -73,6 +75,7 @@ use switch_checks::repeat::repeated_values;
 use switch_loops::loops::loops;
 use type_checks::check::wrong_types;
 use type_checks::size::long_lists;
+use wrapped_externals::wrap::wrap_where;
 
 /// The most tokens that are numbered.
 const MOST_TOKENS: usize = 4_294_967_295;
@@ -80,6 +83,8 @@ const MOST_TOKENS: usize = 4_294_967_295;
 /// How a table is written.
 #[derive(Clone, Copy)]
 pub struct Style {
+    /// Whether Externals stand in Ifs that nothing enters.
+    pub wrap: bool,
     /// Whether constants are folded.
     pub fold: bool,
     /// Whether 0, 1 and Ones are written by their opcodes where they are literals too.
@@ -192,18 +197,34 @@ fn lowered_terms(
     fold_where(alloc, fold, width, named)
 }
 
-// The block with its terms lowered.
+// The same, with Externals in Ifs where that is asked for.
+fn core_terms(
+    alloc: Global,
+    style: Style,
+    width: Width,
+    terms: Vec<Node>,
+) -> Result<Vec<Node>, AllocError>
+    requires { AreFormed AreNamed (Unit {0}) (Unit {0}) (trees_of terms.items) }
+    ensures terms { IfOk result (λ core. trees_of core.items ≡ wrapped_where style.wrap (folded_where style.fold width (named_all (without_switches (trees_of terms.items))))) }
+    ensures places { AreShaped (folded_where style.fold width (named_all (without_switches (trees_of terms.items)))) → IfOk result (λ core. places_of core.items ≡ placed_where style.wrap (folded_where style.fold width (named_all (without_switches (trees_of terms.items)))) (core_places (plans_of terms.items))) }
+{
+    let lowered = lowered_terms(alloc, style.fold, width, terms)?;
+    let core = wrap_where(alloc, style.wrap, lowered)?;
+    Ok(core)
+}
+
+// The block with the terms of its core, whose names are not spelled yet.
 fn lowered(alloc: Global, style: Style, block: Block) -> Result<Block, AllocError>
     requires { AreFormed AreNamed (Unit {0}) (Unit {0}) (trees_of block.terms.items) }
-    ensures terms { IfOk result (λ core. trees_of core.terms.items ≡ folded_where style.fold (width_of block.revision) (named_all (without_switches (trees_of block.terms.items)))) }
-    ensures places { IfOk result (λ core. places_of core.terms.items ≡ core_places (plans_of block.terms.items)) }
+    ensures terms { IfOk result (λ core. trees_of core.terms.items ≡ wrapped_where style.wrap (folded_where style.fold (width_of block.revision) (named_all (without_switches (trees_of block.terms.items))))) }
+    ensures places { AreShaped (folded_where style.fold (width_of block.revision) (named_all (without_switches (trees_of block.terms.items)))) → IfOk result (λ core. places_of core.terms.items ≡ placed_where style.wrap (folded_where style.fold (width_of block.revision) (named_all (without_switches (trees_of block.terms.items)))) (core_places (plans_of block.terms.items))) }
     ensures place { IfOk result (λ core. core.place ≡ block.place) }
     ensures file { IfOk result (λ core. core.file ≡ block.file) }
     ensures fields { IfOk result (λ core. fields_of core ≡ fields_of block) }
 {
     let mut core = block;
     let terms = replace(&mut core.terms, Vec::new(alloc));
-    core.terms = lowered_terms(alloc, style.fold, Width::of_revision(core.revision), terms)?;
+    core.terms = core_terms(alloc, style, Width::of_revision(core.revision), terms)?;
     Ok(core)
 }
 

@@ -24,7 +24,7 @@ use descriptor_names::check::{Checked, check as check_descriptors};
 use descriptor_names::declare::names_descriptors;
 use descriptor_names::strip::stripped;
 use iasl_messages::message::{Message, Messages};
-use iasl_messages::number::PATH_LEAVES_ROOT;
+use iasl_messages::number::{PATH_LEAVES_ROOT, SCOPE_IS_NO_CONTAINER};
 use iasl_messages::place::Place;
 use indexmap::IndexSet;
 use name_checks::check::check;
@@ -139,28 +139,28 @@ fn with_uses(alloc: Global, uses: Messages, messages: Messages) -> Result<Messag
     both(left, uses)
 }
 
-// Whether a message tells of a path that leaves the root.
-fn leaves_root(message: &Message) -> bool
-    ensures { result ≡ spec.leaves_root message.now }
+// Whether a message tells of a use by a path that leaves the root, or that a Scope would open.
+fn is_of_names(message: &Message) -> bool
+    ensures { result ≡ spec.is_of_names message.now }
 {
-    message.number == PATH_LEAVES_ROOT
+    message.number == PATH_LEAVES_ROOT || message.number == SCOPE_IS_NO_CONTAINER
 }
 
-fn has_steps(uses: &[Message]) -> bool
-    ensures { result ≡ list_any spec.leaves_root uses.now }
+fn has_name_uses(uses: &[Message]) -> bool
+    ensures { result ≡ list_any spec.is_of_names uses.now }
 {
-    uses.iter().any(|message| leaves_root(message))
+    uses.iter().any(|message| is_of_names(message))
 }
 
-// The messages on paths that leave the root.
-fn steps_of(uses: Messages) -> Messages
-    ensures { result ≡ filter spec.leaves_root uses }
+// The messages of uses that are of the class of names.
+fn name_uses_of(uses: Messages) -> Messages
+    ensures { result ≡ filter spec.is_of_names uses }
 {
     let mut left = uses.into_vec();
     left.retain(
         |message: &Message| -> bool
-            ensures { result ≡ spec.leaves_root message.now }
-        { leaves_root(message) },
+            ensures { result ≡ spec.is_of_names message.now }
+        { is_of_names(message) },
     );
     Messages::from_vec(left)
 }
@@ -175,19 +175,19 @@ fn first_told(first: Messages, others: Messages) -> Messages
     }
 }
 
-// What is told of both classes with the uses of descriptors: of the class of names with those by paths that leave the root, or where
-// that is nothing, of the class of kinds with all.
+// What is told of both classes with the uses of descriptors: of the class of names with those that are of it, or where that is nothing,
+// of the class of kinds with all.
 fn told_with(
     alloc: Global,
     uses: Messages,
     names: Messages,
     kinds: Messages,
 ) -> Result<Messages, AllocError>
-    ensures { IfOk result (λ told. told ≡ first_of (spec.with_uses (filter spec.leaves_root uses) names) (spec.with_uses uses kinds)) }
+    ensures { IfOk result (λ told. told ≡ first_of (spec.with_uses (filter spec.is_of_names uses) names) (spec.with_uses uses kinds)) }
 {
-    if has_steps(uses.as_slice()) {
-        let steps = steps_of(uses);
-        return with_uses(alloc, steps, names);
+    if has_name_uses(uses.as_slice()) {
+        let name_uses = name_uses_of(uses);
+        return with_uses(alloc, name_uses, names);
     }
     let kinds = with_uses(alloc, uses, kinds)?;
     Ok(first_told(names, kinds))
@@ -202,7 +202,7 @@ fn told_of(
     uses: Messages,
 ) -> Result<Messages, AllocError>
     requires { are_terms (trees_of terms.now) ≡ true }
-    ensures { IfOk result (λ told. told ≡ first_of (spec.with_uses (filter spec.leaves_root uses) (map message_of (name_errors (trees_of terms.now)) ++ below)) (spec.with_uses uses (map message_of (type_errors (trees_of terms.now))))) }
+    ensures { IfOk result (λ told. told ≡ first_of (spec.with_uses (filter spec.is_of_names uses) (map message_of (name_errors (trees_of terms.now)) ++ below)) (spec.with_uses uses (map message_of (type_errors (trees_of terms.now))))) }
 {
     let classes = classes_of(alloc, terms)?;
     let names = both(classes.names, below)?;

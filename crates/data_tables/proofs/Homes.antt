@@ -291,13 +291,13 @@ tells_within files lines text result e answers main h = by result (subst (λ (t 
     by (Err stage.Memory) a = tt
 
 -- a line is a place of its text
-line_places : (lines : List Line) → All (λ (line : Line). IsPlaceIn lines (place_of line)) lines
+pub line_places : (lines : List Line) → All (λ (line : Line). IsPlaceIn lines (place_of line)) lines
 line_places [] = λ i d lt. absurd (omega arith)
 line_places (line ∷ lines) =
     All-cons (λ (l : Line). IsPlaceIn (line ∷ lines) (place_of l)) line lines (inl refl)
     (All-weaker (λ (l : Line). IsPlaceIn lines (place_of l)) (λ (l : Line). IsPlaceIn (line ∷ lines) (place_of l)) (λ l h. inr h) lines (line_places lines))
 
-first_is_place : (lines : List Line) → IsPlaceIn lines first_place
+pub first_is_place : (lines : List Line) → IsPlaceIn lines first_place
 first_is_place [] = refl
 first_is_place (line ∷ lines) = inr (first_is_place lines)
 

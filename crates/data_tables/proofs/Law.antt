@@ -50,13 +50,13 @@ checksum_zero front tail =
 -- ---- the bytes of the pieces
 
 -- the first four pieces apart: the second has the length, and the fourth the checksum
-abbrev length_bytes : Piece → Piece → Piece → Piece → List Piece → List ℕ
+abbrev pub length_bytes : Piece → Piece → Piece → Piece → List Piece → List ℕ
 length_bytes p0 p1 p2 p3 ps = little_bytes 4 (length (joined (p0 ∷ p1 ∷ p2 ∷ p3 ∷ ps)))
 
-abbrev checksum_bytes : Piece → Piece → Piece → Piece → List Piece → List ℕ
+abbrev pub checksum_bytes : Piece → Piece → Piece → Piece → List Piece → List ℕ
 checksum_bytes p0 p1 p2 p3 ps = little_bytes 1 (checksum_of (p0.bytes ++ (length_bytes p0 p1 p2 p3 ps ++ (p2.bytes ++ (p3.bytes ++ joined ps)))))
 
-checksum_width : (p0 p1 p2 p3 : Piece) (ps : List Piece) → length (checksum_bytes p0 p1 p2 p3 ps) ≡ 1
+pub checksum_width : (p0 p1 p2 p3 : Piece) (ps : List Piece) → length (checksum_bytes p0 p1 p2 p3 ps) ≡ 1
 checksum_width p0 p1 p2 p3 ps = little_length 1 (checksum_of (p0.bytes ++ (length_bytes p0 p1 p2 p3 ps ++ (p2.bytes ++ (p3.bytes ++ joined ps)))))
 
 sealed_bytes : (p0 p1 p2 p3 : Piece) (ps : List Piece) → joined (sealed (p0 ∷ p1 ∷ p2 ∷ p3 ∷ ps)) ≡ p0.bytes ++ (length_bytes p0 p1 p2 p3 ps ++ (p2.bytes ++ (checksum_bytes p0 p1 p2 p3 ps ++ joined ps)))
@@ -70,7 +70,7 @@ regrouped : (u v w x : List ℕ) → u ++ (v ++ (w ++ x)) ≡ (u ++ v ++ w) ++ x
 regrouped u v w x = sym (append_assoc (u ++ v) w x ∙ append_assoc u v (w ++ x))
 
 -- sealing keeps the number of the bytes, and makes their sum 0
-sealed_length : (p0 p1 p2 p3 : Piece) (ps : List Piece) → length p1.bytes ≡ 4 → length p3.bytes ≡ 1 → length (joined (sealed (p0 ∷ p1 ∷ p2 ∷ p3 ∷ ps))) ≡ length (joined (p0 ∷ p1 ∷ p2 ∷ p3 ∷ ps))
+pub sealed_length : (p0 p1 p2 p3 : Piece) (ps : List Piece) → length p1.bytes ≡ 4 → length p3.bytes ≡ 1 → length (joined (sealed (p0 ∷ p1 ∷ p2 ∷ p3 ∷ ps))) ≡ length (joined (p0 ∷ p1 ∷ p2 ∷ p3 ∷ ps))
 sealed_length p0 p1 p2 p3 ps e f =
     let l : List ℕ = length_bytes p0 p1 p2 p3 ps in
     let c : List ℕ = checksum_bytes p0 p1 p2 p3 ps in
@@ -81,7 +81,7 @@ sealed_length p0 p1 p2 p3 ps e f =
     new ∙ ap (λ (m : ℕ). length p0.bytes + (m + (length p2.bytes + (length c + length (joined ps))))) (a ∙ sym e)
     ∙ ap (λ (m : ℕ). length p0.bytes + (length p1.bytes + (length p2.bytes + (m + length (joined ps))))) (b ∙ sym f) ∙ sym old
 
-sealed_sum : (p0 p1 p2 p3 : Piece) (ps : List Piece) → p3.bytes ≡ little_bytes 1 0 → sum (joined (sealed (p0 ∷ p1 ∷ p2 ∷ p3 ∷ ps))) % 256 ≡ 0
+pub sealed_sum : (p0 p1 p2 p3 : Piece) (ps : List Piece) → p3.bytes ≡ little_bytes 1 0 → sum (joined (sealed (p0 ∷ p1 ∷ p2 ∷ p3 ∷ ps))) % 256 ≡ 0
 sealed_sum p0 p1 p2 p3 ps e =
     let l : List ℕ = length_bytes p0 p1 p2 p3 ps in
     let front : List ℕ = p0.bytes ++ l ++ p2.bytes in
@@ -122,12 +122,12 @@ signed table text s value e l g =
     ap (field_bytes (h 0)) v.2 ∙ ap (filled 4) (sym same) ∙ filled_four s l
 
 -- the revision that was read
-record IsRevision (all : List ℕ) (table : Table) (value : Value) : Type 0 where
-  known : revision_fault table 1 (number_of_value value) ≡ None
-  spelled : IsSpelled all (h 2) value (field_bytes (h 2) value)
-  number : number_of (field_bytes (h 2) value) ≡ number_of_value value
+pub record IsRevision (all : List ℕ) (table : Table) (value : Value) : Type 0 where
+  pub known : revision_fault table 1 (number_of_value value) ≡ None
+  pub spelled : IsSpelled all (h 2) value (field_bytes (h 2) value)
+  pub number : number_of (field_bytes (h 2) value) ≡ number_of_value value
 
-revised : (all : List ℕ) (table : Table) (text : List ℕ) (value : Value) → value_of table (h 2) text ≡ Ok value → IsRevision all table value
+pub revised : (all : List ℕ) (table : Table) (text : List ℕ) (value : Value) → value_of table (h 2) text ≡ Ok value → IsRevision all table value
 revised all table text value g =
     let n = given_number table (h 2) (number_in text) value g in
     let small : n.0 < 2 ^ (8 * 1) = small_revision table n.0 n.2 in
@@ -301,7 +301,7 @@ joined_with_texts : (lines : List Line) (pieces : List Piece) → joined (with_t
 joined_with_texts lines [] = refl
 joined_with_texts lines (piece ∷ pieces) = ap (λ (bytes : List ℕ). piece.bytes ++ bytes) (joined_with_texts lines pieces)
 
-bytes_stay : (lines : List Line) (answer : Answer) (out : Compiled) → answer_with_texts lines answer ≡ Ok out → (table : Compiled) × (answer ≡ Ok table) × (joined out.pieces ≡ joined table.pieces)
+pub bytes_stay : (lines : List Line) (answer : Answer) (out : Compiled) → answer_with_texts lines answer ≡ Ok out → (table : Compiled) × (answer ≡ Ok table) × (joined out.pieces ≡ joined table.pieces)
 bytes_stay lines (Ok table) out e =
     let made : Compiled = record table { pieces = with_texts lines table.pieces } in
     let both : ◌≡◌ {A = Answer} (Ok made) (Ok out) = e in

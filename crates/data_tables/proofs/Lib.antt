@@ -14,3 +14,5 @@ pub mod Unique
 pub mod Worked
 pub mod Homes
 pub mod Sizes
+pub mod Headers
+pub mod OneTable

@@ -14,7 +14,7 @@ use Rattle.data_tables.specs.Entries.{fields_of_text, written_values, unsealed_b
 use Rattle.data_tables.proofs.Plain.{type_one}
 use Rattle.data_tables.proofs.Law.{reads_as_written}
 
-stand_within : (bytes : List ℕ) (offset : ℕ) (rows : List Row) → Stand bytes offset rows → offset + size_of rows ≤ length bytes
+pub stand_within : (bytes : List ℕ) (offset : ℕ) (rows : List Row) → Stand bytes offset rows → offset + size_of rows ≤ length bytes
 stand_within bytes offset [] h = omega arith
 stand_within bytes offset (row ∷ rows) h = let k = stand_within bytes (offset + row.width) rows h.1 in omega arith
 

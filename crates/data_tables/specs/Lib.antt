@@ -10,3 +10,4 @@ pub mod Outcomes
 pub mod Promise
 pub mod Entries
 pub mod Reading
+pub mod Headers

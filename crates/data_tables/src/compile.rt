@@ -125,8 +125,8 @@ fn pieces_with_texts(alloc: Global, lines: &[Line], pieces: Pieces) -> Result<Pi
     Ok(out)
 }
 
-// The table whose pieces have the texts of their lines.
-fn with_texts(alloc: Global, lines: &[Line], table: Compiled) -> Result<Compiled, AllocError>
+/// The table whose pieces have the texts of their lines.
+pub fn with_texts(alloc: Global, lines: &[Line], table: Compiled) -> Result<Compiled, AllocError>
     ensures { IfOk result (λ out. out ≡ record table { pieces = with_texts lines.now table.pieces }) }
 {
     let mut made = table;

@@ -10,3 +10,17 @@ pub struct Compiled {
     pub signature: Text,
     pub notes: Messages,
 }
+
+/// The header of a table: a piece for each of its fields, with no text yet, and the notes about its lines.
+#[derive(Drop)]
+pub struct HeaderPieces {
+    pub pieces: Pieces,
+    pub notes: Messages,
+}
+
+/// The header of a table, and the notes about its lines.
+#[derive(Drop)]
+pub struct Header {
+    pub bytes: Text,
+    pub notes: Messages,
+}

@@ -54,8 +54,9 @@ fn form_of(kind: Kind) -> Form
     }
 }
 
+/// Whether a number has room in so many bytes.
 #[tactic(auto, using(crate::proofs::Rooms::all_room, crate::proofs::Rooms::one_bit))]
-fn has_room(width: u64, number: u64) -> bool
+pub fn has_room(width: u64, number: u64) -> bool
     ensures { result ≡ spec.has_room width number }
 {
     width >= 8 || number < 1 << (8 * width as u32)
@@ -249,7 +250,7 @@ pub(crate) fn value_of(
 
 /// The lowest bytes of a number, the lowest first.
 #[tactic(auto, using(crate::proofs::Numbers::filled_bytes))]
-pub(crate) fn little_bytes(alloc: Global, width: u64, number: u64) -> Result<Vec<u8>, AllocError>
+pub fn little_bytes(alloc: Global, width: u64, number: u64) -> Result<Vec<u8>, AllocError>
     ensures { IfOk result (λ bytes. bytes.items ≡ little_bytes width number) }
 {
     let mut bytes = [0u8; 8];

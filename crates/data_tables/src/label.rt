@@ -1,4 +1,4 @@
-// Labels.
+//! Labels.
 ghost use Rattle.std.specs.Prelude.{◌≡◌, decimal, [], ◌∷◌, ◌++◌, List, ℕ, MatchOption, None};
 ghost use Rattle.std.specs.Option.{option_copied};
 ghost use Rattle.std.specs.Str.{bytes_eq};
@@ -50,7 +50,7 @@ fn is_nothing(text: &[u8]) -> bool
 }
 
 /// Whether a key is that of this label.
-pub(crate) fn is_label(key: &[u8], label: &[u8]) -> bool
+pub fn is_label(key: &[u8], label: &[u8]) -> bool
     ensures { result ≡ bytes_eq key.now (label_key label.now) }
 {
     match behind_label(key, label) {

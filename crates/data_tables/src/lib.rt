@@ -4,9 +4,10 @@
 pub mod compile;
 pub mod compiled;
 mod decoding;
-mod field;
-mod label;
+pub mod field;
+pub mod front;
+pub mod label;
 mod part;
-mod seal;
-mod walk;
+pub mod seal;
+pub mod walk;
 mod walker;

@@ -78,7 +78,7 @@ fn put_checksum(alloc: Global, pieces: &mut Vec<Piece>) -> Result<(), AllocError
 }
 
 /// The pieces of a table with its length and its checksum.
-pub(crate) fn seal(alloc: Global, pieces: Pieces) -> Result<Pieces, AllocError>
+pub fn seal(alloc: Global, pieces: Pieces) -> Result<Pieces, AllocError>
     ensures sealed { IfOk result (λ out. out ≡ sealed pieces) }
     ensures within { OnOk result (length (joined pieces) < 2 ^ 32) }
 {

@@ -6,6 +6,7 @@ ghost use Rattle.data_tables.specs.Fields.{field_bytes, value_bytes, value_of};
 ghost use Rattle.data_tables.specs.Parts.{next_field};
 ghost use Rattle.data_tables.specs.Walk.{step_of, message_at};
 ghost use Rattle.data_tables.specs.Views.{IsStep, IsTaken, part_of};
+ghost use Rattle.data_tables.specs.Headers.{IsGiven};
 ghost use Rattle.data_tables.specs.Walk as spec;
 
 use crate::decoding::{Decoded, Told, decoded_of, is_decoded_below, told_by_field};
@@ -13,6 +14,7 @@ use crate::field::{Value, little_bytes, value_of};
 use crate::part::{Next, Part, behind, next_field};
 use data_layout::row::{Kind, Row};
 use data_layout::rows::{COMPILER_ID, COMPILER_REVISION};
+use data_layout::table::Table;
 use data_text::field_line::FieldLine;
 use iasl_messages::message::Message;
 use iasl_messages::number::BAD_VALUE;
@@ -68,8 +70,8 @@ fn computed_bytes(alloc: Global, row: &Row) -> Result<Option<Vec<u8>>, AllocErro
     Ok(Some(bytes?))
 }
 
-// The bytes of a field that is a number.
-fn number_bytes(alloc: Global, row: &Row, number: u64) -> Result<Vec<u8>, AllocError>
+/// The bytes of a field that is a number.
+pub fn number_bytes(alloc: Global, row: &Row, number: u64) -> Result<Vec<u8>, AllocError>
     ensures { IfOk result (λ bytes. bytes.items ≡ field_bytes row.now (Number number)) }
 {
     match computed_bytes(alloc, row)? {
@@ -78,13 +80,36 @@ fn number_bytes(alloc: Global, row: &Row, number: u64) -> Result<Vec<u8>, AllocE
     }
 }
 
-// The bytes of a field that is a text or bytes.
-fn other_bytes(alloc: Global, row: &Row, bytes: Vec<u8>) -> Result<Vec<u8>, AllocError>
+/// The bytes of a field that is a text or bytes.
+pub fn other_bytes(alloc: Global, row: &Row, bytes: Vec<u8>) -> Result<Vec<u8>, AllocError>
     ensures { IfOk result (λ out. out.items ≡ field_bytes row.now (Bytes bytes.items)) }
 {
     match computed_bytes(alloc, row)? {
         Some(computed) => Ok(computed),
         None => Ok(bytes),
+    }
+}
+
+/// The bytes of a field, or the number of a message.
+#[derive(Drop)]
+pub(crate) enum FieldBytes {
+    Bytes(Vec<u8>),
+    Fault(u16),
+}
+
+/// The bytes of the field that a line gives.
+pub(crate) fn given_bytes(
+    alloc: Global,
+    table: Table,
+    row: &Row,
+    line: &FieldLine,
+) -> Result<FieldBytes, AllocError>
+    ensures { IfOk result (λ given. IsGiven given row.now (value_of table row.now line.now.value)) }
+{
+    match value_of(alloc, table, row, line.value.as_slice())? {
+        Value::Fault(fault) => Ok(FieldBytes::Fault(fault)),
+        Value::Number(number) => Ok(FieldBytes::Bytes(number_bytes(alloc, row, number)?)),
+        Value::Bytes(found) => Ok(FieldBytes::Bytes(other_bytes(alloc, row, found)?)),
     }
 }
 

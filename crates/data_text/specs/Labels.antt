@@ -3,12 +3,20 @@ use Rattle.std.specs.Prelude.{ℕ, ◌==◌, ◌&&◌, ◌||◌, Bool, true, fal
 use Rattle.std.specs.declared.option.Option.{Option}
 use Rattle.std.specs.Option.{option_map}
 use Rattle.std.specs.Char.{to_ascii_lowercase}
-use Rattle.hex_text.specs.Blanks.{is_blank, has_blanks_alone}
+use Rattle.hex_text.specs.Blanks.{is_blank, has_blanks_alone, drop_blanks}
 
 -- a label as it is compared: in lower case, without its blanks
 abbrev pub label_key : List ℕ → List ℕ
 label_key [] = []
 label_key (c ∷ rest) = cond (is_blank c) (label_key rest) (to_ascii_lowercase c ∷ label_key rest)
+
+-- whether blanks stand at the ends of a label alone
+abbrev pub has_no_inner : List ℕ → Bool
+has_no_inner [] = true
+has_no_inner (c ∷ rest) = cond (is_blank c) (has_blanks_alone rest) (has_no_inner rest)
+
+abbrev pub is_one_word : List ℕ → Bool
+is_one_word label = has_no_inner (drop_blanks label)
 
 -- what stands before the backslash (92) that is the last byte but for blanks
 abbrev pub before_backslash : List ℕ → Option (List ℕ)

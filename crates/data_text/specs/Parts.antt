@@ -5,7 +5,7 @@ use Rattle.iasl_messages.specs.declared.place.Place.{Place}
 use Rattle.iasl_messages.specs.declared.place.Line.{Line}
 use Rattle.data_text.specs.declared.field_line.FieldLine.{FieldLine}
 use Rattle.hex_text.specs.Blanks.{has_blanks_alone, drop_blanks}
-use Rattle.data_text.specs.Labels.{label_key, ending}
+use Rattle.data_text.specs.Labels.{label_key, is_one_word, ending}
 
 -- a text up to the first `[` (91) outside quotes (34), at which a remark begins
 abbrev pub before_remark : Bool → List ℕ → List ℕ
@@ -40,9 +40,9 @@ Begun = FieldLine × Bool
 
 abbrev pub begun_with : Line → Bool → Option (List ℕ × List ℕ) → Begun
 begun_with line bracketed None =
-    (record { place = place_of line; bracketed = bracketed; colon = false; label = []; value = [] }, false)
+    (record { place = place_of line; bracketed = bracketed; colon = false; label = []; one_word = true; value = [] }, false)
 begun_with line bracketed (Some found) =
-    (record { place = place_of line; bracketed = bracketed; colon = true; label = label_key found.0; value = (ending found.1).0 }, (ending found.1).1)
+    (record { place = place_of line; bracketed = bracketed; colon = true; label = label_key found.0; one_word = is_one_word found.0; value = (ending found.1).0 }, (ending found.1).1)
 
 abbrev pub begun_behind : Line → List ℕ × Bool → Begun
 begun_behind line text = begun_with line text.1 (halves (before_remark false text.0))

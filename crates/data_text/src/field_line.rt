@@ -13,6 +13,8 @@ pub struct FieldLine {
     pub colon: bool,
     /// The label in lower case, without blanks.
     pub label: List<u8>,
+    /// Whether no blanks stand inside the label.
+    pub one_word: bool,
     /// The value, blanks at its ends among it.
     pub value: List<u8>,
 }

@@ -1,9 +1,9 @@
 // Labels without their blanks, and values that go on.
 ghost use Rattle.std.specs.Prelude.{◌≡◌, ◌++◌, ◌∷◌, [], MatchOption, true, false, IfOk, length, ◌≤◌};
 ghost use Rattle.hex_text.specs.Blanks.{has_blanks_alone};
-ghost use Rattle.data_text.specs.Labels.{label_key, ending};
+ghost use Rattle.data_text.specs.Labels.{label_key, has_no_inner, is_one_word, ending};
 
-use hex_text::blanks::is_blank;
+use hex_text::blanks::{has_blanks_alone, is_blank, skip_blanks};
 use std::alloc::{AllocError, Global};
 
 /// The letters of a label in lower case, without its blanks. Labels are the same where these are.
@@ -17,6 +17,26 @@ pub fn label_key(alloc: Global, label: &[u8]) -> Result<Vec<u8>, AllocError>
         }
     }
     Ok(key)
+}
+
+fn has_no_inner(text: &[u8]) -> bool
+    ensures { result ≡ has_no_inner text.now }
+{
+    let mut rest = text;
+    while let [first, more @ ..] = rest {
+        if is_blank(*first) {
+            return has_blanks_alone(more);
+        }
+        rest = more;
+    }
+    true
+}
+
+/// Whether blanks stand at the ends of a label alone.
+pub fn is_one_word(label: &[u8]) -> bool
+    ensures { result ≡ is_one_word label.now }
+{
+    has_no_inner(skip_blanks(label))
 }
 
 /// What stands before a backslash that has nothing but blanks behind it, and true; the whole text and false

@@ -5,7 +5,7 @@ ghost use Rattle.data_text.specs.Parts.{before_remark, after_bracket, begun, ext
 ghost use Rattle.data_text.specs.Parts as spec;
 
 use crate::field_line::{FieldLine, FieldLines};
-use crate::labels::{before_backslash, label_key};
+use crate::labels::{before_backslash, is_one_word, label_key};
 use hex_text::blanks::{has_blanks_alone, skip_blanks};
 use iasl_messages::place::{Line, Place};
 use iasl_ports::list::List;
@@ -85,6 +85,7 @@ pub fn begun(alloc: Global, line: &Line, bare: &[u8]) -> Result<(FieldLine, bool
             bracketed,
             colon: false,
             label: List::new(alloc),
+            one_word: true,
             value: List::new(alloc),
         };
         return Ok((line, false));
@@ -95,6 +96,7 @@ pub fn begun(alloc: Global, line: &Line, bare: &[u8]) -> Result<(FieldLine, bool
         bracketed,
         colon: true,
         label: List::from_vec(label_key(alloc, label)?),
+        one_word: is_one_word(label),
         value: List::from_vec(front.to_vec(alloc)?),
     };
     Ok((line, goes_on))
@@ -113,6 +115,7 @@ pub fn extended(pending: FieldLine, bare: &[u8]) -> Result<(FieldLine, bool), Al
         bracketed: pending.bracketed,
         colon: pending.colon,
         label: pending.label,
+        one_word: pending.one_word,
         value: List::from_vec(value),
     };
     Ok((line, goes_on))

@@ -1,8 +1,10 @@
 -- Uses that are resolved, node after node.
 use Rattle.std.proofs.Common.{◌≡◌, ℕ, suc, Bool, true, false, List, [], ◌∷◌, ◌++◌, length, append-nil, append_assoc, length-append, Option, Vec, Global, refl, sym, ap, ◌∙◌, arith}
-use Rattle.std.specs.Prelude.{reverse, ◌||◌}
+use Rattle.std.specs.Prelude.{reverse, ◌||◌, None, Some, if◌then◌else◌}
 use Rattle.std.proofs.lemmas.List.{reverse-reverse}
 use Rattle.acpi_values.specs.Paths.{AbsolutePath}
+use Rattle.acpi_state.specs.Outcomes.{choose}
+use Rattle.acpi_names.specs.Parts.{name_at}
 use Rattle.iasl_messages.specs.declared.place.Place.{Place}
 use Rattle.iasl_messages.specs.declared.message.Message.{Message}
 use Rattle.asl_tree.specs.declared.path.Path.{Path}
@@ -12,6 +14,7 @@ use Rattle.asl_tree.specs.declared.term.Node.{Node}
 use Rattle.asl_tree.specs.declared.term.Term.{Term}
 use Rattle.asl_tree.specs.declared.term.Term as D
 use Rattle.asl_tree.specs.declared.term.Term.TheVariants as V
+use Rattle.asl_tree.specs.View.{trees_of}
 use Rattle.asl_shape.specs.Plans.{Plan, a_name, a_call, a_form, Plans, no_plans, plan, plan_of, plans_of, join}
 use Rattle.asl_shape.proofs.Plans.{plan_form, plan_call}
 use Rattle.asl_shape.proofs.Shapes.{join_assoc}
@@ -19,7 +22,8 @@ use Rattle.asl_shape.proofs.Settled.{join_nothing, join_first, push_is}
 use Rattle.asl_shape.proofs.Terms.{name_term}
 use Rattle.descriptor_names.specs.Declaring.{alone}
 use Rattle.descriptor_names.specs.Senses.{Sense, sense_of, Position}
-use Rattle.descriptor_names.specs.Resolved.{Among, Arguments, Contents, OfCall, position_in, is_in_bits, inner, resolved, resolved_from, told, told_from, resolved_use, told_use, resolved_call, told_call, leaving}
+use Rattle.descriptor_names.specs.Resolved.{Among, Arguments, Contents, OfCall, position_in, is_in_bits, inner, resolved, resolved_from, told, told_form, told_from, opened, is_scope, first_name, resolved_use, told_use, resolved_call, told_call, leaving}
+use Rattle.descriptor_names.proofs.Terms.{first_is}
 use Rattle.descriptor_names.proofs.Walks.{popped, none_left}
 
 -- ---- a term that is no name, no call and no form
@@ -49,6 +53,25 @@ other_flat t not_name not_call not_form = by_layer (D.out-Term t) (sym (D.roll-o
     by_layer (D.Term-F.Unit p n) e = ap (λ t. is_flat (plan_of t)) (e ∙ V.rolls-Unit p n)
     by_layer (D.Term-F.Skip n) e = ap (λ t. is_flat (plan_of t)) (e ∙ V.rolls-Skip n)
     by_layer (D.Term-F.Offset n) e = ap (λ t. is_flat (plan_of t)) (e ∙ V.rolls-Offset n)
+
+-- ---- a form beside its arguments and its body
+
+module _ (has : AbsolutePath → Bool) (look : AbsolutePath → Option NamedDescriptor) (scope : AbsolutePath) where
+  abbrev opened_in : Place → Option Path → List Message
+  opened_in place o = choose o [] (λ name. opened name place (sense_of has look name scope))
+
+  abbrev if_scope : Bool → List Message → List Message
+  if_scope c ms = if c then ms else []
+
+  pub scope_told : (op : Op) (place : Place) (args : List Node) (name : Path) (s : Sense) → is_scope op ≡ true → Some name ≡ name_at 0 (trees_of args) → s ≡ sense_of has look name scope → opened name place s ≡ told_form has look op place (plans_of args) scope
+  scope_told op place args name s e first is =
+      ap (opened name place) is ∙ ap (opened_in place) (first ∙ first_is args) ∙ sym (ap (λ c. if_scope c (opened_in place (first_name (plans_of args)))) e)
+
+  pub scope_silent : (op : Op) (place : Place) (args : List Node) → is_scope op ≡ true → None ≡ name_at 0 (trees_of args) → [] ≡ told_form has look op place (plans_of args) scope
+  scope_silent op place args e first = ap (opened_in place) (first ∙ first_is args) ∙ sym (ap (λ c. if_scope c (opened_in place (first_name (plans_of args)))) e)
+
+  pub other_silent : (op : Op) (place : Place) (args : List Node) → is_scope op ≡ false → [] ≡ told_form has look op place (plans_of args) scope
+  other_silent op place args e = sym (ap (λ c. if_scope c (opened_in place (first_name (plans_of args)))) e)
 
 module _ (has : AbsolutePath → Bool) (look : AbsolutePath → Option NamedDescriptor) (bits : Bool) (position : Position) (scope : AbsolutePath) where
   flat_resolved : (p : Plan) → is_flat p ≡ true → p ≡ resolved has look bits position p scope
@@ -102,13 +125,17 @@ module _ (has : AbsolutePath → Bool) (look : AbsolutePath → Option NamedDesc
       ∙ ap (a_form op (resolved_from has look (Arguments op) 0 bits (plans_of args.items) scope)) (g ∙ ap (resolved_from has look (Contents op) 0 bits (plans_of body.items)) (i ∙ ap (λ ps. inner has op ps scope) f))
       ∙ sym (ap (λ t. resolved has look bits position (plan_of t) scope) e ∙ ap (λ p. resolved has look bits position p scope) (plan_form op args body))
 
-  pub form_told : (place : Place) (old between new : List Message) (t : Term) (op : Op) (args body more : Vec Node Global) (inside : AbsolutePath) → t ≡ D.Form op args body → plans_of more.items ≡ resolved_from has look (Arguments op) 0 bits (plans_of args.items) scope → inside ≡ inner has op (plans_of more.items) scope
-      → between ≡ old ++ told_from has look (Arguments op) 0 bits (plans_of args.items) scope → new ≡ between ++ told_from has look (Contents op) 0 bits (plans_of body.items) inside → new ≡ old ++ told has look bits position place (plan_of t) scope
-  form_told place old between new t op args body more inside e f i g h =
+  pub form_told : (place : Place) (old begun between new : List Message) (t : Term) (op : Op) (args body more : Vec Node Global) (inside : AbsolutePath) → t ≡ D.Form op args body → plans_of more.items ≡ resolved_from has look (Arguments op) 0 bits (plans_of args.items) scope → inside ≡ inner has op (plans_of more.items) scope
+      → begun ≡ old ++ told_form has look op place (plans_of args.items) scope → between ≡ begun ++ told_from has look (Arguments op) 0 bits (plans_of args.items) scope → new ≡ between ++ told_from has look (Contents op) 0 bits (plans_of body.items) inside → new ≡ old ++ told has look bits position place (plan_of t) scope
+  form_told place old begun between new t op args body more inside e f i b g h =
       let inside_is = i ∙ ap (λ ps. inner has op ps scope) f in
-      h ∙ ap (λ ms. ms ++ told_from has look (Contents op) 0 bits (plans_of body.items) inside) g
-      ∙ append_assoc old (told_from has look (Arguments op) 0 bits (plans_of args.items) scope) (told_from has look (Contents op) 0 bits (plans_of body.items) inside)
-      ∙ ap (λ at. old ++ (told_from has look (Arguments op) 0 bits (plans_of args.items) scope ++ told_from has look (Contents op) 0 bits (plans_of body.items) at)) inside_is
+      let own = told_form has look op place (plans_of args.items) scope in
+      let given = told_from has look (Arguments op) 0 bits (plans_of args.items) scope in
+      let within = told_from has look (Contents op) 0 bits (plans_of body.items) inside in
+      h ∙ ap (λ ms. ms ++ within) (g ∙ ap (λ ms. ms ++ given) b)
+      ∙ append_assoc (old ++ own) given within
+      ∙ append_assoc old own (given ++ within)
+      ∙ ap (λ at. old ++ (own ++ (given ++ told_from has look (Contents op) 0 bits (plans_of body.items) at))) inside_is
       ∙ sym (ap (λ t. old ++ told has look bits position place (plan_of t) scope) e ∙ ap (λ p. old ++ told has look bits position place p scope) (plan_form op args body))
 
 -- ---- the nodes of a list

@@ -64,6 +64,11 @@ abbrev pub leaving : Path → Place → AbsolutePath → Sense → List Message
 leaving name place scope (AField bit) = if nat_lt (length scope) name.up then message 6043 place (name_text name) else []
 leaving name place scope s = []
 
+-- a Scope of a field, which is no container: its name is the path as it is written
+abbrev pub opened : Path → Place → Sense → List Message
+opened name place (AField bit) = message 6042 place (name_text name)
+opened name place s = []
+
 -- ---- scopes
 
 -- the name that is the first argument
@@ -150,13 +155,18 @@ module _ (has : AbsolutePath → Bool) (look : AbsolutePath → Option NamedDesc
     resolved_from among n bits (plan place p ps) scope =
         plan place (resolved (bits || is_in_bits among n) (position_in among n) p scope) (resolved_from among (suc n) bits ps scope)
 
+  -- what is told of a form with these arguments beside what is told of them
+  abbrev pub told_form : Op → Place → Plans → AbsolutePath → List Message
+  told_form op place args scope = if is_scope op then choose (first_name args) [] (λ name. opened name place (sense_of has look name scope)) else []
+
   abbrev mutual
     pub told : Bool → Position → Place → Plan → AbsolutePath → List Message
     told bits p place (a_name name) scope = let sense = sense_of has look name scope in leaving name place scope sense ++ told_use bits p name place sense
     told bits p place (a_call name args) scope =
         let sense = sense_of has look name scope in leaving name place scope sense ++ (told_call name place sense ++ told_from OfCall 0 bits args scope)
     told bits p place (a_form op args body) scope =
-        told_from (Arguments op) 0 bits args scope ++ told_from (Contents op) 0 bits body (inner has op (resolved_from (Arguments op) 0 bits args scope) scope)
+        told_form op place args scope
+        ++ (told_from (Arguments op) 0 bits args scope ++ told_from (Contents op) 0 bits body (inner has op (resolved_from (Arguments op) 0 bits args scope) scope))
     told bits p place q scope = []
 
     pub told_from : Among → ℕ → Bool → Plans → AbsolutePath → List Message

@@ -1,5 +1,5 @@
 -- What is told of the names of a block where descriptors have names.
-use Rattle.std.specs.Prelude.{Bool, false, not, ◌&&◌, nat_eq, List, [], ◌∷◌, ◌++◌, map, filter, Option, is_some}
+use Rattle.std.specs.Prelude.{Bool, false, not, ◌&&◌, ◌||◌, nat_eq, List, [], ◌∷◌, ◌++◌, map, filter, Option, is_some}
 use Rattle.std.specs.List.{list_any}
 use Rattle.iasl_messages.specs.declared.place.Place.{Place}
 use Rattle.iasl_messages.specs.declared.message.Message.{Message}
@@ -59,16 +59,16 @@ besides others ms = filter (λ m. not (list_any (stands_at m.place) others)) ms
 abbrev pub with_uses : List Message → List Message → List Message
 with_uses uses ms = besides uses ms ++ uses
 
--- the uses by paths that leave the root, which are of the class of names
-abbrev pub leaves_root : Message → Bool
-leaves_root m = nat_eq m.number 6043
+-- the uses by paths that leave the root, and those that a Scope would open, which are of the class of names
+abbrev pub is_of_names : Message → Bool
+is_of_names m = nat_eq m.number 6043 || nat_eq m.number 6042
 
-abbrev pub steps_told : Plans → List Message
-steps_told ps = filter leaves_root (use_errors ps)
+abbrev pub name_uses_told : Plans → List Message
+name_uses_told ps = filter is_of_names (use_errors ps)
 
 -- of names: declared twice or nowhere, of a Scope, of an External and of steps up, as for any other name
 abbrev pub names_told : Plans → List Message
-names_told ps = with_uses (steps_told ps) (map message_of (name_errors (checked_trees ps) ++ names_below ps))
+names_told ps = with_uses (name_uses_told ps) (map message_of (name_errors (checked_trees ps) ++ names_below ps))
 
 -- of kinds and counts, where the class of names has none
 abbrev pub kinds_told : Plans → List Message

@@ -12,15 +12,16 @@ ghost use Rattle.descriptor_names.specs.Shown.{position_as, among_as, sense_as};
 
 use crate::position::{Among, Position, is_in_bits, position_in};
 use crate::sense::{Sense, outer_segments, sense_of};
-use crate::table::inner;
+use crate::table::{inner, is_scope};
 use acpi_names::index::Index;
+use acpi_names::part::name;
 use acpi_names::paths::Paths;
 use asl_tree::path::{Path, Segs};
-use asl_tree::term::{NamedDescriptor, Node, Term, Word};
+use asl_tree::term::{NamedDescriptor, Node, Op, Term, Word};
 use iasl_messages::message::Message;
 use iasl_messages::number::{
-    FIELD_NOT_WHOLE_BYTES, PATH_LEAVES_ROOT, WRONG_CALL_ARGUMENT_COUNT, WRONG_OBJECT_KIND,
-    WRONG_TYPE,
+    FIELD_NOT_WHOLE_BYTES, PATH_LEAVES_ROOT, SCOPE_IS_NO_CONTAINER, WRONG_CALL_ARGUMENT_COUNT,
+    WRONG_OBJECT_KIND, WRONG_TYPE,
 };
 use iasl_messages::place::Place;
 use iasl_ports::list::Text;
@@ -169,6 +170,27 @@ fn tell_use(
     }
 }
 
+// Tells of a Scope of a field.
+fn tell_opened(
+    alloc: Global,
+    faults: &mut Vec<Message>,
+    name: &Path,
+    place: Place,
+    sense: Sense,
+) -> Result<(), AllocError>
+    ensures { OnOk result (faults.new.items ≡ faults.old.items ++ spec.opened name.now place (sense_as sense)) }
+{
+    match sense {
+        Sense::Field(_) => tell(
+            faults,
+            SCOPE_IS_NO_CONTAINER,
+            place,
+            text_of_name(alloc, name)?,
+        ),
+        Sense::Nothing | Sense::Descriptor => Ok(()),
+    }
+}
+
 // What is told of a call.
 fn tell_call(
     alloc: Global,
@@ -203,6 +225,33 @@ struct Standing {
     scope: usize,
     bits: bool,
     position: Position,
+}
+
+// What is told of a form with these arguments beside what is told of them.
+fn tell_form(
+    alloc: Global,
+    names: &Names<'_>,
+    faults: &mut Vec<Message>,
+    op: Op,
+    args: &[Node],
+    place: Place,
+    scope: usize,
+) -> Result<(), AllocError>
+    requires scope_in { scope < length names.now.index.now.paths }
+    requires all { length names.now.index.now.named.items ≡ length names.now.index.now.paths }
+    ensures { OnOk result ((d : Declarations) (look : AbsolutePath → Option ANamed) → Agrees names.now.index.now.paths names.now.index.now.named.items d → Tabled names.now.index.now.paths names.now.table.now look
+        → faults.new.items ≡ faults.old.items ++ spec.told_form (is_named d) look op place (plans_of args.now) (get_or names.now.index.now.paths scope [])) }
+{
+    if !is_scope(op) {
+        return Ok(());
+    }
+    match name(args, 0) {
+        Some(name) => {
+            let sense = sense_of(names.index, names.table, name, scope)?;
+            tell_opened(alloc, faults, name, place, sense)
+        }
+        None => Ok(()),
+    }
 }
 
 #[cycle(resolve)]
@@ -242,6 +291,7 @@ fn resolve_term(
             Ok(Term::Call { path, args })
         }
         Term::Form { op, args, body } => {
+            tell_form(alloc, names, faults, op, &args, place, scope)?;
             let args = resolve_list(
                 alloc,
                 names,

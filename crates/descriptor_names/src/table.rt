@@ -49,7 +49,8 @@ fn scope_of(index: &Index, name: &Path, scope: usize) -> Result<usize, AllocErro
     }
 }
 
-fn is_scope(op: Op) -> bool
+// Whether a form is a Scope.
+pub(crate) fn is_scope(op: Op) -> bool
     ensures { result ≡ spec.is_scope op }
 {
     matches!(op, Op::Declaration(Declaration::Scope))

@@ -42,6 +42,7 @@ number_shaped _ h = absurd h
 
 member_shaped : {p : Position} {t u : Tree} → Like p t u → IsCaseMember t → IsCaseMember u
 member_shaped (LikeInteger n) h = h
+member_shaped (LikeConstant literal) h = h
 member_shaped (LikeString text) h = h
 member_shaped (LikeBuffer bytes more size) h = number_shaped size h
 member_shaped (LikeBytes n m bytes more) h = h
@@ -57,6 +58,7 @@ some_shaped (MoreAll like rest) h = members_shaped (MoreAll like rest) h
 
 case_shaped : {p : Position} {t u : Tree} → Like p t u → IsCaseValue t → IsCaseValue u
 case_shaped (LikeInteger n) h = h
+case_shaped (LikeConstant literal) h = h
 case_shaped (LikeString text) h = h
 case_shaped (LikeBuffer bytes more size) h = number_shaped size h
 case_shaped (LikeBytes n m bytes more) h = h

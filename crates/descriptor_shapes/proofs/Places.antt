@@ -1,6 +1,6 @@
 -- The terms of a block with those that declare its descriptors stand where its own terms and its descriptors stand, and so does what is told
 -- of them.
-use Rattle.std.proofs.Common.{ℕ, suc, ◌<◌, Bool, true, false, List, [], ◌∷◌, ◌++◌, length, get_or, Option, arith}
+use Rattle.std.proofs.Common.{ℕ, suc, ◌<◌, Bool, true, false, List, [], ◌∷◌, ◌++◌, length, get_or, Option, Some, None, arith}
 use Rattle.std.specs.Prelude.{◌||◌, ◌%◌, not, nat_eq, nat_lt, if◌then◌else◌, map}
 use Rattle.std.specs.List.{All, list_any}
 use Rattle.std.proofs.lemmas.List.Elements.{All-cons, All-append, All-map, All-filter}
@@ -8,7 +8,9 @@ use Rattle.iasl_messages.specs.declared.place.Place.{Place}
 use Rattle.iasl_messages.specs.declared.message.Message.{Message}
 use Rattle.acpi_values.specs.Paths.{AbsolutePath}
 use Rattle.asl_tree.specs.Names.{place_of}
+use Rattle.acpi_state.specs.Outcomes.{choose}
 use Rattle.asl_tree.specs.declared.path.Path.{Path}
+use Rattle.asl_tree.specs.declared.term.Op.{Op}
 use Rattle.asl_tree.specs.declared.term.NamedDescriptor.{NamedDescriptor}
 use Rattle.asl_meaning.specs.Declarations.{nothing_declared}
 use Rattle.acpi_names.specs.Errors.{NameError, Twice, DeclaredHere, Missing, NoContainer, LeavesRoot, Differs, TooLong, WrongCount, WrongKind, UnbuiltSpace, unless, name_errors, type_errors}
@@ -21,8 +23,8 @@ use Rattle.asl_shape.specs.Places.{AreTold}
 use Rattle.asl_shape.specs.Plans.{Plan, a_fill, a_name, a_call, a_form, Plans, no_plans, plan, join}
 use Rattle.descriptor_names.specs.Declaring.{has_terms, names_inside, names_among, declarations, alone, beside, is_first, opened, declaring, declared_by, unless_declared, closed, stripped}
 use Rattle.descriptor_names.specs.Senses.{Sense, Nothing, ADescriptor, AField, Position, Value, Spot, AnyPath, APath, Written, sense_of}
-use Rattle.descriptor_names.specs.Resolved.{resolved_use, message, broken, told_use, told_call, leaving, inner, Among, Arguments, Contents, OfCall, position_in, is_in_bits, resolved, resolved_from, told, told_from, names_of, table_of, checked_terms, use_errors, resolved_terms}
-use Rattle.descriptor_names.specs.Told.{is_below, mention_below, all_below, checked_trees, names_below, names_told, stands_at, besides, with_uses, leaves_root, steps_told, kinds_told}
+use Rattle.descriptor_names.specs.Resolved.{resolved_use, message, broken, told_use, told_call, leaving, inner, Among, Arguments, Contents, OfCall, position_in, is_in_bits, resolved, resolved_from, told, opened as opened_by_scope, told_form, is_scope, first_name, told_from, names_of, table_of, checked_terms, use_errors, resolved_terms}
+use Rattle.descriptor_names.specs.Told.{is_below, mention_below, all_below, checked_trees, names_below, names_told, stands_at, besides, with_uses, is_of_names, name_uses_told, kinds_told}
 use Rattle.descriptor_shapes.specs.Places.{NamesWithin, PlanWithin, PlansWithin}
 use Rattle.descriptor_shapes.proofs.TreePlaces.{numbered_within}
 use Rattle.descriptor_shapes.proofs.MentionPlaces.{IsMentionedIn, AreMentionedIn, block_in}
@@ -170,6 +172,19 @@ module _ (files : ℕ) where
       terms_within among n bits no_plans scope h = tt
       terms_within among n bits (plan place p ps) scope h = (h.0, term_within (bits || is_in_bits among n) (position_in among n) p scope h.1, terms_within among (suc n) bits ps scope h.2)
 
+    opened_told : (name : Path) (place : Place) (s : Sense) → IsIn files place → AreTold files (opened_by_scope name place s)
+    opened_told name place (AField bit) h = (h, tt)
+    opened_told name place Nothing h = tt
+    opened_told name place ADescriptor h = tt
+
+    form_within : (op : Op) (place : Place) (args : Plans) (scope : AbsolutePath) → IsIn files place → AreTold files (told_form has look op place args scope)
+    form_within op place args scope h = by_scope (is_scope op) (first_name args)
+      where
+        by_scope : (c : Bool) (o : Option Path) → AreTold files (if c then choose o [] (λ name. opened_by_scope name place (sense_of has look name scope)) else [])
+        by_scope false o = tt
+        by_scope true None = tt
+        by_scope true (Some name) = opened_told name place (sense_of has look name scope) h
+
     mutual
       told_within : (bits : Bool) (p : Position) (place : Place) (q : Plan) (scope : AbsolutePath) → IsIn files place → PlanWithin files q → AreTold files (told has look bits p place q scope)
       told_within bits p place (a_name name) scope h k =
@@ -180,7 +195,8 @@ module _ (files : ℕ) where
           (both_told (told_call name place sense) (told_from has look OfCall 0 bits args scope) (call_told name place sense h) (all_told OfCall 0 bits args scope k))
       told_within bits p place (a_form op args body) scope h k =
           let given = resolved_from has look (Arguments op) 0 bits args scope in
-          both_told (told_from has look (Arguments op) 0 bits args scope) (told_from has look (Contents op) 0 bits body (inner has op given scope)) (all_told (Arguments op) 0 bits args scope k.0) (all_told (Contents op) 0 bits body (inner has op given scope) k.1)
+          both_told (told_form has look op place args scope) (told_from has look (Arguments op) 0 bits args scope ++ told_from has look (Contents op) 0 bits body (inner has op given scope)) (form_within op place args scope h)
+          (both_told (told_from has look (Arguments op) 0 bits args scope) (told_from has look (Contents op) 0 bits body (inner has op given scope)) (all_told (Arguments op) 0 bits args scope k.0) (all_told (Contents op) 0 bits body (inner has op given scope) k.1))
       told_within bits p place _ scope h k = tt
 
       all_told : (among : Among) (n : ℕ) (bits : Bool) (ps : Plans) (scope : AbsolutePath) → PlansWithin files ps → AreTold files (told_from has look among n bits ps scope)
@@ -257,7 +273,7 @@ with_uses_within files uses ms h k =
 pub names_told_within : (files : ℕ) (ps : Plans) → PlansWithin files ps → All (λ (m : Message). m.place.file < files) (names_told ps)
 names_told_within files ps h =
     let trees = checked_trees_within files ps h in
-    with_uses_within files (steps_told ps) (map message_of (name_errors (checked_trees ps) ++ names_below ps)) (All-filter leaves_root (λ (m : Message). m.place.file < files) (use_errors ps) (uses_within files ps h))
+    with_uses_within files (name_uses_told ps) (map message_of (name_errors (checked_trees ps) ++ names_below ps)) (All-filter is_of_names (λ (m : Message). m.place.file < files) (use_errors ps) (uses_within files ps h))
     (messages_in files (name_errors (checked_trees ps) ++ names_below ps)
     (All-append (λ e. (at_of e).place.file < files) (name_errors (checked_trees ps)) (names_below ps) (errors_within files (checked_trees ps) trees).0
     (all_errors files (names_below ps) (below_in files (table_of (checked_terms ps)) (block_mentions (checked_trees ps) [] nothing_declared) (block_in files (checked_trees ps) [] nothing_declared trees)))))

@@ -7,6 +7,7 @@ use Rattle.acpi_state.specs.Objects.{lookup}
 use Rattle.acpi_state.specs.Outcomes.{choose}
 use Rattle.asl_tree.specs.Names.{is_searched, place_of, denoted}
 use Rattle.asl_tree.specs.declared.path.Path.{Path}
+use Rattle.asl_tree.specs.declared.term.Op.{Op}
 use Rattle.asl_tree.specs.declared.term.NamedDescriptor.{NamedDescriptor}
 use Rattle.asl_meaning.specs.Declarations.{nothing_declared}
 use Rattle.acpi_names.specs.Errors.{Missing, unless}
@@ -15,7 +16,7 @@ use Rattle.asl_shape.specs.Plans.{Plan, a_fill, a_name, a_call, a_form, Plans, n
 use Rattle.asl_shape.specs.Descriptors.{named_of}
 use Rattle.descriptor_names.specs.Declaring.{has_terms, names_inside, names_among, declarations, alone, beside, is_first, opened, declaring, is_naming, declared_by, unless_declared, closed, stripped, names_descriptor, names_descriptors}
 use Rattle.descriptor_names.specs.Senses.{Nothing, descriptor_sense, field_in, field_sense, last_segment, outer_path, sense_of, Position, Value, Spot, AnyPath, APath, Written}
-use Rattle.descriptor_names.specs.Resolved.{resolved_use, resolved_call, told_use, told_call, leaving, placed, inner, described_by, described, Among, Arguments, Contents, OfCall, position_in, is_in_bits, resolved, resolved_from, told, told_from, names_of, table_of, checked_terms, use_errors, resolved_terms}
+use Rattle.descriptor_names.specs.Resolved.{resolved_use, resolved_call, told_use, told_call, leaving, placed, inner, described_by, described, Among, Arguments, Contents, OfCall, position_in, is_in_bits, resolved, resolved_from, told, opened as opened_by_scope, told_form, is_scope, first_name, told_from, names_of, table_of, checked_terms, use_errors, resolved_terms}
 use Rattle.descriptor_names.specs.Told.{is_below, mention_below, all_below, below_errors, checked_trees, names_below}
 
 -- neither of two
@@ -169,6 +170,14 @@ module _ (has : AbsolutePath → Bool) where
     all_same among n bits (plan place p ps) scope =
         ap (λ q. plan place q (resolved_from has no_descriptor among (suc n) bits ps scope)) (resolved_same (bits || is_in_bits among n) (position_in among n) p scope) ∙ ap (plan place p) (all_same among (suc n) bits ps scope)
 
+  form_silent : (op : Op) (place : Place) (args : Plans) (scope : AbsolutePath) → told_form has no_descriptor op place args scope ≡ []
+  form_silent op place args scope = by_scope (is_scope op) (first_name args)
+    where
+      by_scope : (c : Bool) (o : Option Path) → (if c then choose o [] (λ name. opened_by_scope name place (sense_of has no_descriptor name scope)) else []) ≡ []
+      by_scope false o = refl
+      by_scope true None = refl
+      by_scope true (Some name) = ap (opened_by_scope name place) (sense_none name scope)
+
   mutual
     told_none : (bits : Bool) (p : Position) (place : Place) (q : Plan) (scope : AbsolutePath) → told has no_descriptor bits p place q scope ≡ []
     told_none bits p place (a_name name) scope = ap (λ s. leaving name place scope s ++ told_use bits p name place s) (sense_none name scope) ∙ use_silent bits p name place
@@ -176,7 +185,8 @@ module _ (has : AbsolutePath → Bool) where
         ap (λ s. leaving name place scope s ++ (told_call name place s ++ told_from has no_descriptor OfCall 0 bits args scope)) (sense_none name scope) ∙ all_silent OfCall 0 bits args scope
     told_none bits p place (a_form op args body) scope =
         let given = resolved_from has no_descriptor (Arguments op) 0 bits args scope in
-        ap (λ ms. ms ++ told_from has no_descriptor (Contents op) 0 bits body (inner has op given scope)) (all_silent (Arguments op) 0 bits args scope) ∙ all_silent (Contents op) 0 bits body (inner has op given scope)
+        ap (λ ms. ms ++ (told_from has no_descriptor (Arguments op) 0 bits args scope ++ told_from has no_descriptor (Contents op) 0 bits body (inner has op given scope))) (form_silent op place args scope)
+        ∙ ap (λ ms. ms ++ told_from has no_descriptor (Contents op) 0 bits body (inner has op given scope)) (all_silent (Arguments op) 0 bits args scope) ∙ all_silent (Contents op) 0 bits body (inner has op given scope)
     told_none bits p place _ scope = refl
 
     all_silent : (among : Among) (n : ℕ) (bits : Bool) (ps : Plans) (scope : AbsolutePath) → told_from has no_descriptor among n bits ps scope ≡ []

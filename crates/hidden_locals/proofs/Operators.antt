@@ -32,6 +32,9 @@ module _ (w : World) where
   wrong : Results (fail WrongType)
   wrong = blind_fail w (ClearAll w) WrongType
 
+  missing : Results (fail NotFound)
+  missing = blind_fail w (ClearAll w) NotFound
+
   one : (v : Value) → Clear w v → Results (A.give_one v)
   one v h = blind_give w (ClearAll w) (v ∷ []) (h, tt)
 
@@ -138,8 +141,14 @@ module _ (w : World) where
   blind_part i n (Buffer bytes) = datum (Buffer (take n (drop i bytes)))
   blind_part i n (Integer m) = wrong
 
+  blind_parted : (d : Datum) → Sees w (A.parted d)
+  blind_parted (Integer n) = blind_fail w (Fine w) WrongType
+  blind_parted (String text) = blind_give w (Fine w) (String text) tt
+  blind_parted (Buffer bytes) = blind_give w (Fine w) (Buffer bytes) tt
+
   blind_mid : (width : Width) (os : List Operand) → ClearOperands w os → Results (A.mid width os)
-  blind_mid width (OfValue v ∷ OfValue u ∷ OfValue x ∷ []) h = with_data width v _ h.0 (λ d. with_number width u _ h.1.0 (λ i. with_number width x _ h.1.1.0 (λ n. blind_part i n d)))
+  blind_mid width (OfValue v ∷ OfValue u ∷ OfValue x ∷ []) h =
+      with_data width v _ h.0 (λ d. blind_then w (ClearAll w) (A.parted d) _ (blind_parted d) (λ d p. with_number width u _ h.1.0 (λ i. with_number width x _ h.1.1.0 (λ n. blind_part i n d))))
   blind_mid width os h = wrong
 
   element_clear : (place : Option Place) (v : Value) (i : ℕ) → ClearOption w place → Clear w v → ClearPlace w (A.element_place place v i)
@@ -148,7 +157,7 @@ module _ (w : World) where
 
   blind_index_of : (width : Width) (place : Option Place) (v u : Value) → ClearOption w place → Clear w v → Clear w u → Results (A.index_of width place v u)
   blind_index_of width place v u h p q =
-      with_number width u _ q (λ i. with_result (A.size_in v) _ (λ size. blind_if w (ClearAll w) (nat_lt i size) (A.give_one (Reference (A.element_place place v i))) (fail OutOfRange) (one (Reference (A.element_place place v i)) (element_clear place v i h p)) (blind_fail w (ClearAll w) OutOfRange)))
+      with_result (A.size_in v) _ (λ size. with_number width u _ q (λ i. blind_if w (ClearAll w) (nat_lt i size) (A.give_one (Reference (A.element_place place v i))) (fail OutOfRange) (one (Reference (A.element_place place v i)) (element_clear place v i h p)) (blind_fail w (ClearAll w) OutOfRange)))
 
   blind_standing : (o : Option (AbsolutePath × Object)) → Blind w (ClearOption w) (A.standing o)
   blind_standing (Some (path, DataObject)) = blind_give w (ClearOption w) (Some (Named path)) tt
@@ -263,18 +272,22 @@ module _ (w : World) where
   blind_matched width test ht i zero (element (Reference place) rest) = blind_matched width test ht (suc i) zero rest
   blind_matched width test ht i zero (uninitialized rest) = blind_matched width test ht (suc i) zero rest
 
-  blind_match_in : (width : Width) (first : ℕ) (a : Datum) (second : ℕ) (b : Datum) (start : ℕ) (v : Value) → Results (A.match_in width first a second b start v)
-  blind_match_in width first a second b start (Package es) =
+  blind_match_in : (width : Width) (first : ℕ) (a : Datum) (second : ℕ) (b : Datum) (start : ℕ) (es : Elements) → Results (A.match_in width first a second b start es)
+  blind_match_in width first a second b start es =
       blind_then w (ClearAll w) (A.matched width (λ d. and_then (A.passes_test width first a d) (λ ok. A.both_tests ok (A.passes_test width second b d))) 0 start es) A.give_number
       (blind_matched width _ (λ d. blind_then w (Fine w) (A.passes_test width first a d) (λ ok. A.both_tests ok (A.passes_test width second b d)) (blind_passes width first a d) (λ ok p. blind_both ok (A.passes_test width second b d) (blind_passes width second b d))) 0 start es) (λ n p. number n)
-  blind_match_in width first a second b start (Data d) = wrong
-  blind_match_in width first a second b start (Reference place) = wrong
+
+  blind_elements : (v : Value) → Sees w (A.elements_in v)
+  blind_elements (Package es) = blind_give w (Fine w) es tt
+  blind_elements (Data d) = blind_fail w (Fine w) WrongType
+  blind_elements (Reference place) = blind_fail w (Fine w) WrongType
 
   blind_match : (width : Width) (os : List Operand) → ClearOperands w os → Results (A.match width os)
   blind_match width (OfValue v ∷ OfNumber first ∷ OfValue u ∷ OfNumber second ∷ OfValue x ∷ OfValue y ∷ []) h =
       blind_if w (ClearAll w) (nat_lt 5 first || nat_lt 5 second) (fail WrongType) _ wrong
       (blind_then w (ClearAll w) (direct width v) _ (blind_direct w width v h.0)
-      (λ v p. with_data width u _ h.1.1.0 (λ a. with_data width x _ h.1.1.1.1.0 (λ b. with_number width y _ h.1.1.1.1.1.0 (λ start. blind_match_in width first a second b start v)))))
+      (λ v p. blind_then w (ClearAll w) (A.elements_in v) _ (blind_elements v)
+      (λ es q. with_data width u _ h.1.1.0 (λ a. with_data width x _ h.1.1.1.1.0 (λ b. with_number width y _ h.1.1.1.1.1.0 (λ start. blind_match_in width first a second b start es))))))
   blind_match width os h = wrong
 
   answer_truth : (width : Width) (event : Event) → Results (and_then (ask_number event) (A.give_truth width))
@@ -316,7 +329,7 @@ module _ (w : World) where
   blind_nothing width os h = wrong
 
   blind_notify_found : (n : ℕ) (o : Option (AbsolutePath × Object)) → Results (A.notify_found n o)
-  blind_notify_found n None = wrong
+  blind_notify_found n None = missing
   blind_notify_found n (Some found) = blind_if w (ClearAll w) (A.takes_notices found.1) _ _ (told (Notify found.0 n)) wrong
 
   blind_notify_held : (n : ℕ) (o : Option Value) → Results (A.notify_held n o)
@@ -326,7 +339,7 @@ module _ (w : World) where
   blind_notify_object : (width : Width) (n : ℕ) (o : Option (AbsolutePath × Object)) → Results (A.notify_object width n o)
   blind_notify_object width n (Some (path, DataObject)) = blind_then w (ClearAll w) (held width (Named path)) (A.notify_held n) (blind_held w width (Named path) tt) (λ o p. blind_notify_held n o)
   blind_notify_object width n (Some (path, object)) = blind_notify_found n (Some (path, object))
-  blind_notify_object width n None = wrong
+  blind_notify_object width n None = missing
 
   blind_notify_place : (width : Width) (n : ℕ) (place : Place) → ClearPlace w place → Results (A.notify_place width n place)
   blind_notify_place width n (Named path) h = blind_at w (ClearAll w) path (A.notify_object width n) (λ o c. blind_notify_object width n o)

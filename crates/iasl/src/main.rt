@@ -1,10 +1,11 @@
-//! iasl: an ASL source to its table.
+//! iasl: an ASL source or the text of a data table to its table.
 #![tactic(auto)]
 
 use iasl_backends::c_hex::CHex;
 use iasl_backends::lent::one_of_each;
 use iasl_backends::listing::Listing;
 use iasl_backends::raw_aml::RawAml;
+use iasl_backends::template::TemplateText;
 use iasl_ports::delivery::tell;
 use iasl_ports::host::{HostFiles, HostOutputs, HostSink};
 use iasl_ports::sink::{Sink, write_all};
@@ -28,6 +29,9 @@ const HELP: &[u8] = b"usage: iasl [options] FILE
   -oi             do not write literals by the opcodes of 0, 1 and Ones
   -on             do not shorten names
   -oa             -of, -oi and -on together
+  --wrap-externals  write Externals in If (Zero), as ACPICA's interpreter wants them
+  -G              the source is a generic data table
+  -T SIGNATURE    alone: write a template of a data table, as APIC, FACP, HPET, MCFG, SLIT or SRAT
   --generate N    alone: compile a source of N devices, from 1 to 4096
   --help          this text
   --version       the version of this program
@@ -76,6 +80,7 @@ fn compile<C: Sink>(rt: HostRuntime, words: &[String], console: &mut C) -> Resul
         Box::new(alloc, RawAml::new(alloc))?,
         Box::new(alloc, CHex::new(alloc))?,
         Box::new(alloc, Listing::new(alloc))?,
+        Box::new(alloc, TemplateText::new(alloc))?,
     )?;
     Ok(iasl(alloc, words, &mut files, &mut outs, console, &mut backends))
 }

@@ -9,7 +9,7 @@ use Rattle.iasl_backends.specs.Asked.{is_asked, same_kind, has_kind, IsOneOfEach
 use Rattle.iasl_backends.specs.Each.{Each}
 use Rattle.iasl_backends.specs.declared.asked.Asked.{Asked}
 use Rattle.iasl_backends.specs.declared.backend.Kind.{Kind}
-use Rattle.iasl_backends.specs.declared.backend.Kind.TheVariants.{RawAml, CHex, Listing}
+use Rattle.iasl_backends.specs.declared.backend.Kind.TheVariants.{RawAml, CHex, Listing, Template}
 
 -- some member passes a test that one member passes
 one_passes : {X : Type 0} (p : X → Bool) (xs : List X) → length (filter p xs) ≡ 1 → list_any p xs ≡ true
@@ -35,12 +35,19 @@ is_the : (kind other : Kind) (asked : Asked) → same_kind kind other ≡ true �
 is_the RawAml RawAml asked e = refl
 is_the CHex CHex asked e = refl
 is_the Listing Listing asked e = refl
+is_the Template Template asked e = refl
 is_the RawAml CHex asked e = absurd cc
 is_the RawAml Listing asked e = absurd cc
+is_the RawAml Template asked e = absurd cc
 is_the CHex RawAml asked e = absurd cc
 is_the CHex Listing asked e = absurd cc
+is_the CHex Template asked e = absurd cc
 is_the Listing RawAml asked e = absurd cc
 is_the Listing CHex asked e = absurd cc
+is_the Listing Template asked e = absurd cc
+is_the Template RawAml asked e = absurd cc
+is_the Template CHex asked e = absurd cc
+is_the Template Listing asked e = absurd cc
 
 -- a kind that is asked for is still there once the others are gone
 pub kept_kind : {X : Type 0} (kind_of : X → Kind) (asked : Asked) (old now : List X) → Each (λ b b2. kind_of b2 ≡ kind_of b) (filter (λ b. is_asked asked (kind_of b)) old) now
@@ -54,12 +61,19 @@ differs : (kind other : Kind) → (other ≡ kind → ⊥) → same_kind kind ot
 differs RawAml RawAml h = absurd (h refl)
 differs CHex CHex h = absurd (h refl)
 differs Listing Listing h = absurd (h refl)
+differs Template Template h = absurd (h refl)
 differs RawAml CHex h = refl
 differs RawAml Listing h = refl
+differs RawAml Template h = refl
 differs CHex RawAml h = refl
 differs CHex Listing h = refl
+differs CHex Template h = refl
 differs Listing RawAml h = refl
 differs Listing CHex h = refl
+differs Listing Template h = refl
+differs Template RawAml h = refl
+differs Template CHex h = refl
+differs Template Listing h = refl
 
 -- a kind of which there is a member is not missing
 pub not_missing : {X : Type 0} (kind_of : X → Kind) (kind : Kind) (xs : List X) → All (λ b. kind_of b ≡ kind → ⊥) xs → has_kind kind_of kind xs ≡ true → ⊥
@@ -67,24 +81,32 @@ not_missing kind_of kind xs none some =
     let no : has_kind kind_of kind xs ≡ false = list_any_none (λ b. same_kind kind (kind_of b)) xs (All-weaker (λ b. kind_of b ≡ kind → ⊥) (λ b. same_kind kind (kind_of b) ≡ false) (λ b h. differs kind (kind_of b) h) xs none) in
     absurd cc
 
--- these three are one of each kind
-pub three : {X : Type 0} (kind_of : X → Kind) (a b c : X) → kind_of a ≡ RawAml → kind_of b ≡ CHex → kind_of c ≡ Listing → IsOneOfEach kind_of (a ∷ b ∷ c ∷ [])
-three {X = X} kind_of a b c ea eb ec kind =
-    ap (λ k. length (cond (same_kind kind k) (a ∷ filter (λ x. same_kind kind (kind_of x)) (b ∷ c ∷ [])) (filter (λ x. same_kind kind (kind_of x)) (b ∷ c ∷ [])))) ea
-    ∙ by_second kind
+-- how many pass a test, one member apart
+more : Bool → ℕ → ℕ
+more b n = cond b (suc n) n
+
+counted : {X : Type 0} (p : X → Bool) (x : X) (xs : List X) → length (filter p (x ∷ xs)) ≡ more (p x) (length (filter p xs))
+unfolding more
+counted p x xs = by (p x)
   where
-    last : (kind : Kind) (rest : List X) → filter (λ x. same_kind kind (kind_of x)) (c ∷ []) ≡ cond (same_kind kind Listing) (c ∷ []) []
-    last kind rest = ap (λ k. cond (same_kind kind k) (c ∷ []) []) ec
+    by : (b : Bool) → length (cond b (x ∷ filter p xs) (filter p xs)) ≡ cond b (suc (length (filter p xs))) (length (filter p xs))
+    by true = refl
+    by false = refl
 
-    second : (kind : Kind) → filter (λ x. same_kind kind (kind_of x)) (b ∷ c ∷ []) ≡ cond (same_kind kind CHex) (b ∷ cond (same_kind kind Listing) (c ∷ []) []) (cond (same_kind kind Listing) (c ∷ []) [])
-    second kind =
-        ap (λ k. cond (same_kind kind k) (b ∷ filter (λ x. same_kind kind (kind_of x)) (c ∷ [])) (filter (λ x. same_kind kind (kind_of x)) (c ∷ []))) eb
-        ∙ ap (λ xs. cond (same_kind kind CHex) (b ∷ xs) xs) (last kind [])
+count : (kind : Kind) → more (same_kind kind RawAml) (more (same_kind kind CHex) (more (same_kind kind Listing) (more (same_kind kind Template) 0))) ≡ 1
+unfolding more
+count RawAml = refl
+count CHex = refl
+count Listing = refl
+count Template = refl
 
-    count : (kind : Kind) → length (cond (same_kind kind RawAml) (a ∷ cond (same_kind kind CHex) (b ∷ cond (same_kind kind Listing) (c ∷ []) []) (cond (same_kind kind Listing) (c ∷ []) [])) (cond (same_kind kind CHex) (b ∷ cond (same_kind kind Listing) (c ∷ []) []) (cond (same_kind kind Listing) (c ∷ []) []))) ≡ 1
-    count RawAml = refl
-    count CHex = refl
-    count Listing = refl
-
-    by_second : (kind : Kind) → length (cond (same_kind kind RawAml) (a ∷ filter (λ x. same_kind kind (kind_of x)) (b ∷ c ∷ [])) (filter (λ x. same_kind kind (kind_of x)) (b ∷ c ∷ []))) ≡ 1
-    by_second kind = ap (λ xs. length (cond (same_kind kind RawAml) (a ∷ xs) xs)) (second kind) ∙ count kind
+-- these four are one of each kind
+pub four : {X : Type 0} (kind_of : X → Kind) (a b c d : X) → kind_of a ≡ RawAml → kind_of b ≡ CHex → kind_of c ≡ Listing → kind_of d ≡ Template → IsOneOfEach kind_of (a ∷ b ∷ c ∷ d ∷ [])
+four {X = X} kind_of a b c d ea eb ec ed kind =
+    let p : X → Bool = λ x. same_kind kind (kind_of x) in
+    counted p a (b ∷ c ∷ d ∷ []) ∙ ap (more (p a)) (counted p b (c ∷ d ∷ []) ∙ ap (more (p b)) (counted p c (d ∷ []) ∙ ap (more (p c)) (counted p d [])))
+    ∙ ap (λ (k : Kind). more (same_kind kind k) (more (p b) (more (p c) (more (p d) 0)))) ea
+    ∙ ap (λ (k : Kind). more (same_kind kind RawAml) (more (same_kind kind k) (more (p c) (more (p d) 0)))) eb
+    ∙ ap (λ (k : Kind). more (same_kind kind RawAml) (more (same_kind kind CHex) (more (same_kind kind k) (more (p d) 0)))) ec
+    ∙ ap (λ (k : Kind). more (same_kind kind RawAml) (more (same_kind kind CHex) (more (same_kind kind Listing) (more (same_kind kind k) 0)))) ed
+    ∙ count kind

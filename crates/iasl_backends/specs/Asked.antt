@@ -1,21 +1,23 @@
 -- Which outputs are asked for.
-use Rattle.std.specs.Prelude.{◌≡◌, Bool, true, false, List, length}
+use Rattle.std.specs.Prelude.{◌≡◌, Bool, true, false, not, List, length}
 use Rattle.std.specs.List.{filter, list_any}
 use Rattle.iasl_backends.specs.declared.asked.Asked.{Asked}
 use Rattle.iasl_backends.specs.declared.backend.Kind.{Kind}
-use Rattle.iasl_backends.specs.declared.backend.Kind.TheVariants.{RawAml, CHex, Listing}
+use Rattle.iasl_backends.specs.declared.backend.Kind.TheVariants.{RawAml, CHex, Listing, Template}
 
--- the table always, and the others by their words
+-- the table where no template is asked for, and the others by their words
 abbrev pub is_asked : Asked → Kind → Bool
-is_asked asked RawAml = true
+is_asked asked RawAml = not asked.template
 is_asked asked CHex = asked.c_text
 is_asked asked Listing = asked.listing
+is_asked asked Template = asked.template
 
 -- whether two kinds are the same
 abbrev pub same_kind : Kind → Kind → Bool
 same_kind RawAml RawAml = true
 same_kind CHex CHex = true
 same_kind Listing Listing = true
+same_kind Template Template = true
 same_kind _ _ = false
 
 -- whether a list has a member of this kind

@@ -4,9 +4,10 @@ ghost use Rattle.iasl_backends.specs.Asked.{is_asked};
 
 use crate::backend::Kind;
 
-/// The outputs that are asked for beside the table, which always is.
+/// The outputs that are asked for: a template alone, or the table, and others beside it.
 #[derive(Clone, Copy, Debug, PartialEq, Eq, Drop)]
 pub struct Asked {
+    pub template: bool,
     pub c_text: bool,
     pub listing: bool,
 }
@@ -17,9 +18,10 @@ impl Asked {
         ensures { result ≡ is_asked self.now kind }
     {
         match kind {
-            Kind::RawAml => true,
+            Kind::RawAml => !self.template,
             Kind::CHex => self.c_text,
             Kind::Listing => self.listing,
+            Kind::Template => self.template,
         }
     }
 }

@@ -15,6 +15,8 @@ pub enum Kind {
     CHex,
     /// The lines of the source, each with the bytes that come from it.
     Listing,
+    /// The lines of a template.
+    Template,
 }
 
 /// An output of a compilation. It takes the pieces of a table in order, and then makes its text. After an error only

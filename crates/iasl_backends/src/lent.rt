@@ -25,23 +25,26 @@ fn is_asked_box(asked: Asked, backend: &Box<dyn Backend>) -> bool
     asked.has(backend.kind())
 }
 
-/// Three outputs, one of each kind, as a list.
-#[tactic(auto, using(crate::proofs::KindLaws::three))]
+/// Four outputs, one of each kind, as a list.
+#[tactic(auto, using(crate::proofs::KindLaws::four))]
 pub fn one_of_each(
     alloc: Global,
     table: Box<dyn Backend>,
     c_text: Box<dyn Backend>,
     listing: Box<dyn Backend>,
+    template: Box<dyn Backend>,
 ) -> Result<Vec<Box<dyn Backend>>, AllocError>
     requires table { kind_of table ≡ kinds.RawAml }
     requires c_text { kind_of c_text ≡ kinds.CHex }
     requires listing { kind_of listing ≡ kinds.Listing }
+    requires template { kind_of template ≡ kinds.Template }
     ensures { IfOk result (λ backends. IsOneOfEach (λ b. kind_of b) backends.items) }
 {
     let mut backends: Vec<Box<dyn Backend>> = Vec::new(alloc);
     backends.push(table)?;
     backends.push(c_text)?;
     backends.push(listing)?;
+    backends.push(template)?;
     Ok(backends)
 }
 

@@ -1,4 +1,4 @@
-//! The outputs of a compilation: the table, its bytes as an array of C, and its listing.
+//! The outputs of a call: the table, its bytes as an array of C, its listing, and the lines of a template.
 #![tactic(auto)]
 
 pub mod asked;
@@ -7,4 +7,5 @@ pub mod c_hex;
 pub mod lent;
 pub mod listing;
 pub mod raw_aml;
-mod text;
+pub mod template;
+pub mod text;

@@ -1,4 +1,4 @@
-// What the texts of outputs are made of.
+//! What the texts of outputs are made of.
 ghost use Rattle.std.specs.Prelude.{◌≡◌, ◌++◌, ◌<◌, slice_index, OnOk, IfOk};
 ghost use Rattle.iasl_backends.specs.Table.{pair, table_bytes, upper_digits};
 
@@ -29,7 +29,8 @@ pub(crate) fn table_of(alloc: Global, pieces: &[Piece]) -> Result<Vec<u8>, Alloc
     Ok(bytes)
 }
 
-pub(crate) fn put(out: &mut Vec<u8>, bytes: &[u8]) -> Result<(), AllocError>
+/// Adds bytes.
+pub fn put(out: &mut Vec<u8>, bytes: &[u8]) -> Result<(), AllocError>
     ensures { OnOk result (out.new.items ≡ out.old.items ++ bytes.now) }
 {
     out.extend_from_slice(bytes)
@@ -43,8 +44,8 @@ fn digit(number: u8) -> u8
     b"0123456789ABCDEF"[number as usize]
 }
 
-// A byte as two hexadecimal digits.
-pub(crate) fn put_pair(out: &mut Vec<u8>, byte: u8) -> Result<(), AllocError>
+/// A byte as two hexadecimal digits.
+pub fn put_pair(out: &mut Vec<u8>, byte: u8) -> Result<(), AllocError>
     ensures { OnOk result (out.new.items ≡ out.old.items ++ pair byte) }
 {
     put(out, &[digit(byte / 16), digit(byte % 16)])

@@ -66,3 +66,7 @@ preprocessed_line name = name ++ codes ": preprocessed\n"
 -- `generated: 2 devices`
 abbrev pub devices_line : ℕ → List ℕ
 devices_line count = codes "generated: " ++ decimal count ++ codes " devices\n"
+
+-- `hpet.asl: template HPET`
+abbrev pub template_line : List ℕ → List ℕ → List ℕ
+template_line name signature = name ++ codes ": template " ++ signature ++ codes "\n"

@@ -65,4 +65,7 @@ text_of number =
     if number == 6100 then codes "bad header line" else (
     if number == 6101 then codes "bad pair" else (
     if number == 6102 then codes "offset is out of order" else (
-    if number == 6103 then codes "length disagrees with the header" else [])))))))))))))))))))))))))))))))))))))))))))))))))))))))))))))
+    if number == 6103 then codes "length disagrees with the header" else (
+    if number == 6110 then codes "unknown data type" else (
+    if number == 6111 then codes "label is declared twice" else (
+    if number == 6112 then codes "label is not found" else []))))))))))))))))))))))))))))))))))))))))))))))))))))))))))))))))

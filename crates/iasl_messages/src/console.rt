@@ -176,3 +176,15 @@ pub fn devices_line(alloc: Global, count: u64) -> Result<Text, AllocError>
     put(&mut out, b" devices\n")?;
     Text::from_vec(alloc, out)
 }
+
+/// The line of a template that was written: `hpet.asl: template HPET`.
+pub fn template_line(alloc: Global, name: &[u8], signature: &[u8]) -> Result<Text, AllocError>
+    ensures { IfOk result (λ text. text ≡ spec.template_line name.now signature.now) }
+{
+    let mut out = Vec::new(alloc);
+    put(&mut out, name)?;
+    put(&mut out, b": template ")?;
+    put(&mut out, signature)?;
+    put(&mut out, b"\n")?;
+    Text::from_vec(alloc, out)
+}

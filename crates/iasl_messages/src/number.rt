@@ -186,3 +186,12 @@ pub const OFFSET_OUT_OF_ORDER: u16 = 6102;
 
 /// Length disagrees with the header.
 pub const LENGTH_DISAGREES: u16 = 6103;
+
+/// Unknown data type.
+pub const UNKNOWN_DATA_TYPE: u16 = 6110;
+
+/// Label is declared twice.
+pub const LABEL_DECLARED_TWICE: u16 = 6111;
+
+/// Label is not found.
+pub const LABEL_NOT_FOUND: u16 = 6112;

@@ -72,6 +72,9 @@ pub fn text_of(number: u16) -> &'static str
         number::BAD_PAIR => "bad pair",
         number::OFFSET_OUT_OF_ORDER => "offset is out of order",
         number::LENGTH_DISAGREES => "length disagrees with the header",
+        number::UNKNOWN_DATA_TYPE => "unknown data type",
+        number::LABEL_DECLARED_TWICE => "label is declared twice",
+        number::LABEL_NOT_FOUND => "label is not found",
         _ => "",
     }
 }

@@ -6,7 +6,7 @@ use Rattle.asl_preprocess.specs.declared.define.Define.{Define}
 use Rattle.iasl_options.specs.Words.{Setting, PreprocessOnly, NoPreprocessor, Turned, Prefix, Directory, Definition, File}
 use Rattle.iasl_options.specs.declared.switches.Switch.{Switch}
 use Rattle.iasl_options.specs.declared.switches.Switches.{Switches}
-use Rattle.iasl_options.specs.Switches.{is_brief, is_strict, is_c_text, is_listing, keeps_constants, keeps_integers, keeps_names, with_switch, no_switch}
+use Rattle.iasl_options.specs.Switches.{is_brief, is_strict, is_c_text, is_listing, is_generic, keeps_constants, keeps_integers, keeps_names, wraps_externals, with_switch, no_switch}
 use Rattle.iasl_options.specs.Asking.{Asked, nothing, define_of, with_setting}
 use Rattle.iasl_options.specs.CommandLine.{file_of, prefix_of, directory_of, definition_of, is_preprocess_only, is_no_preprocessor, turns, switches_in, IsGood, first, gathered}
 
@@ -29,9 +29,11 @@ switches_with switches settings = record {
   strict = switches.strict || list_any (turns is_strict) settings;
   c_text = switches.c_text || list_any (turns is_c_text) settings;
   listing = switches.listing || list_any (turns is_listing) settings;
+  generic = switches.generic || list_any (turns is_generic) settings;
   fold = switches.fold && not (list_any (turns keeps_constants) settings);
   short = switches.short && not (list_any (turns keeps_integers) settings);
   shorten = switches.shorten && not (list_any (turns keeps_names) settings);
+  wrap = switches.wrap || list_any (turns wraps_externals) settings;
 }
 
 -- with all that further settings ask for
@@ -94,7 +96,7 @@ and_yes true = refl
 and_yes false = refl
 
 switches_nil : (switches : Switches) → switches_with switches [] ≡ switches
-switches_nil switches = λ i. record { brief = or_no switches.brief i; strict = or_no switches.strict i; c_text = or_no switches.c_text i; listing = or_no switches.listing i; fold = and_yes switches.fold i; short = and_yes switches.short i; shorten = and_yes switches.shorten i }
+switches_nil switches = λ i. record { brief = or_no switches.brief i; strict = or_no switches.strict i; c_text = or_no switches.c_text i; listing = or_no switches.listing i; generic = or_no switches.generic i; fold = and_yes switches.fold i; short = and_yes switches.short i; shorten = and_yes switches.shorten i; wrap = or_no switches.wrap i }
 
 or_more : (a b c : Bool) → ((a || b) || c) ≡ (a || (b || c))
 or_more true b c = refl
@@ -111,9 +113,11 @@ switches_more switches switch rest = λ i. record {
   strict = or_more switches.strict (is_strict switch) (list_any (turns is_strict) rest) i;
   c_text = or_more switches.c_text (is_c_text switch) (list_any (turns is_c_text) rest) i;
   listing = or_more switches.listing (is_listing switch) (list_any (turns is_listing) rest) i;
+  generic = or_more switches.generic (is_generic switch) (list_any (turns is_generic) rest) i;
   fold = and_more switches.fold (keeps_constants switch) (list_any (turns keeps_constants) rest) i;
   short = and_more switches.short (keeps_integers switch) (list_any (turns keeps_integers) rest) i;
   shorten = and_more switches.shorten (keeps_names switch) (list_any (turns keeps_names) rest) i;
+  wrap = or_more switches.wrap (wraps_externals switch) (list_any (turns wraps_externals) rest) i;
 }
 
 extended_nil : (file prefix : Option (List ℕ)) (directories : List (List ℕ)) (definitions : List Define) (only enabled : Bool) (switches : Switches) → extended file prefix directories definitions only enabled switches [] ≡ made file prefix directories definitions only enabled switches

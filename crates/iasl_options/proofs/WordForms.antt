@@ -55,10 +55,12 @@ switch_is word =
     or_is word switch.Strict _ (
     or_is word switch.CText _ (
     or_is word switch.Listing _ (
+    or_is word switch.Generic _ (
     or_is word switch.LongIntegers _ (
     or_is word switch.WrittenNames _ (
     or_is word switch.Unfolded _ (
-    or_is word switch.Unoptimised _ tt)))))))
+    or_is word switch.Unoptimised _ (
+    or_is word switch.WrappedExternals _ tt)))))))))
 
 turned_form : (word : List ℕ) (found : Option Switch) (rest : Word) → IsSwitch word found → Form word rest → Form word (or_turned found rest)
 turned_form word None rest is h = h
@@ -87,10 +89,12 @@ word_switch switch.Brief = refl
 word_switch switch.Strict = refl
 word_switch switch.CText = refl
 word_switch switch.Listing = refl
+word_switch switch.Generic = refl
 word_switch switch.LongIntegers = refl
 word_switch switch.WrittenNames = refl
 word_switch switch.Unfolded = refl
 word_switch switch.Unoptimised = refl
+word_switch switch.WrappedExternals = refl
 
 pub word_opens : (key : Key) → word_of (mark key) ≡ Opens key
 word_opens key.Prefix = refl

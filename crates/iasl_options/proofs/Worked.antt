@@ -18,7 +18,7 @@ all_options = refl
 
 -- short messages and no warnings, one of them asked for twice
 quiet_options : asked_by (codes "-we" ∷ codes "t" ∷ codes "-vi" ∷ codes "-we" ∷ [])
-    ≡ Ok (record { file = Some (codes "t"); prefix = None; directories = []; definitions = []; only = false; enabled = true; switches = record { brief = true; strict = true; c_text = false; listing = false; fold = true; short = true; shorten = true } })
+    ≡ Ok (record { file = Some (codes "t"); prefix = None; directories = []; definitions = []; only = false; enabled = true; switches = record { brief = true; strict = true; c_text = false; listing = false; generic = false; fold = true; short = true; shorten = true; wrap = false } })
 quiet_options = refl
 
 -- the words that spoil others: a second prefix, `-Pn` behind `-P`, a second file, an unknown option; a value or a file is missing

@@ -7,7 +7,7 @@ use Rattle.iasl_options.specs.declared.words.Key.{Key}
 use Rattle.iasl_options.specs.declared.words.Key.TheVariants as key
 use Rattle.iasl_options.specs.declared.switches.Switch.{Switch}
 use Rattle.iasl_options.specs.declared.switches.Switches.{Switches}
-use Rattle.iasl_options.specs.Switches.{switch_word, is_brief, is_strict, is_c_text, is_listing, keeps_constants, keeps_integers, keeps_names}
+use Rattle.iasl_options.specs.Switches.{switch_word, is_brief, is_strict, is_c_text, is_listing, is_generic, keeps_constants, keeps_integers, keeps_names, wraps_externals}
 use Rattle.iasl_options.specs.Words.{Setting, PreprocessOnly, NoPreprocessor, Turned, Prefix, Directory, Definition, File, begins_with_hyphen}
 use Rattle.iasl_options.specs.Asking.{Asked, define_of}
 
@@ -95,9 +95,11 @@ switches_in settings = record {
   strict = list_any (turns is_strict) settings;
   c_text = list_any (turns is_c_text) settings;
   listing = list_any (turns is_listing) settings;
+  generic = list_any (turns is_generic) settings;
   fold = not (list_any (turns keeps_constants) settings);
   short = not (list_any (turns keeps_integers) settings);
   shorten = not (list_any (turns keeps_names) settings);
+  wrap = list_any (turns wraps_externals) settings;
 }
 
 -- all that settings ask for; directories and definitions are in the order of the words

@@ -12,10 +12,12 @@ switch_word switch.Brief = codes "-vi"
 switch_word switch.Strict = codes "-we"
 switch_word switch.CText = codes "-tc"
 switch_word switch.Listing = codes "-l"
+switch_word switch.Generic = codes "-G"
 switch_word switch.LongIntegers = codes "-oi"
 switch_word switch.WrittenNames = codes "-on"
 switch_word switch.Unfolded = codes "-of"
 switch_word switch.Unoptimised = codes "-oa"
+switch_word switch.WrappedExternals = codes "--wrap-externals"
 
 -- this switch, where the word is written so, or else another
 abbrev pub or_other : List ℕ → Switch → Option Switch → Option Switch
@@ -28,10 +30,12 @@ switch_of word =
     or_other word switch.Strict (
     or_other word switch.CText (
     or_other word switch.Listing (
+    or_other word switch.Generic (
     or_other word switch.LongIntegers (
     or_other word switch.WrittenNames (
     or_other word switch.Unfolded (
-    or_other word switch.Unoptimised None)))))))
+    or_other word switch.Unoptimised (
+    or_other word switch.WrappedExternals None)))))))))
 
 abbrev pub is_brief : Switch → Bool
 is_brief switch.Brief = true
@@ -48,6 +52,10 @@ is_c_text _ = false
 abbrev pub is_listing : Switch → Bool
 is_listing switch.Listing = true
 is_listing _ = false
+
+abbrev pub is_generic : Switch → Bool
+is_generic switch.Generic = true
+is_generic _ = false
 
 -- operators on constants are kept
 abbrev pub keeps_constants : Switch → Bool
@@ -67,8 +75,13 @@ keeps_names switch.WrittenNames = true
 keeps_names switch.Unoptimised = true
 keeps_names _ = false
 
+-- Externals stand in Ifs
+abbrev pub wraps_externals : Switch → Bool
+wraps_externals switch.WrappedExternals = true
+wraps_externals _ = false
+
 abbrev pub no_switch : Switches
-no_switch = record { brief = false; strict = false; c_text = false; listing = false; fold = true; short = true; shorten = true }
+no_switch = record { brief = false; strict = false; c_text = false; listing = false; generic = false; fold = true; short = true; shorten = true; wrap = false }
 
 -- what switches ask for, with one more
 abbrev pub with_switch : Switches → Switch → Switches
@@ -77,7 +90,9 @@ with_switch switches one = record {
   strict = switches.strict || is_strict one;
   c_text = switches.c_text || is_c_text one;
   listing = switches.listing || is_listing one;
+  generic = switches.generic || is_generic one;
   fold = switches.fold && not (keeps_constants one);
   short = switches.short && not (keeps_integers one);
   shorten = switches.shorten && not (keeps_names one);
+  wrap = switches.wrap || wraps_externals one;
 }

@@ -5,11 +5,12 @@ use Rattle.iasl_options.specs.declared.request.WordsStop.TheVariants as stop
 use Rattle.iasl_options.specs.declared.task.Task as code
 use Rattle.iasl_options.specs.declared.task.Task.TheVariants as c
 use Rattle.iasl_options.specs.Shown.{asked_of, AreTexts}
-use Rattle.iasl_options.specs.Task.{Task, Compiles, Generates}
+use Rattle.iasl_options.specs.Task.{Task, Compiles, Generates, Templates}
 
 abbrev pub shown_task : code.Task → Task
 shown_task (c.Compile options) = Compiles (asked_of options)
 shown_task (c.Generate count) = Generates count
+shown_task (c.Template table) = Templates table
 
 -- what a call answers of its task, unless memory runs out
 abbrev pub TaskAnswers : Result code.Task WordsStop → Result Task ℕ → Type 0
@@ -21,3 +22,4 @@ TaskAnswers (Err stop.Memory) asked = ⊤
 abbrev pub HasTexts : code.Task → Type 0
 HasTexts (c.Compile options) = AreTexts options
 HasTexts (c.Generate count) = ⊤
+HasTexts (c.Template table) = ⊤

@@ -1,6 +1,7 @@
 //! Options without value that may stand together with every other.
-ghost use Rattle.std.specs.Prelude.{◌≡◌, ◌||◌, ◌&&◌, not};
+ghost use Rattle.std.specs.Prelude.{◌≡◌, ◌||◌, ◌&&◌, not, None};
 ghost use Rattle.iasl_options.specs.Switches as spec;
+ghost use Rattle.iasl_options.specs.declared.switches.Switch.TheVariants as variants;
 
 /// One such option.
 #[derive(Clone, Copy, Debug, PartialEq, Eq)]
@@ -13,6 +14,8 @@ pub(crate) enum Switch {
     CText,
     /// `-l`: a listing of the source with the bytes of its table is put too.
     Listing,
+    /// `-G`: the source is a generic data table.
+    Generic,
     /// `-oi`: no integer is written by an opcode but the words Zero, One and Ones.
     LongIntegers,
     /// `-on`: names are not shortened.
@@ -21,6 +24,8 @@ pub(crate) enum Switch {
     Unfolded,
     /// `-oa`: `-of`, `-oi` and `-on` together.
     Unoptimised,
+    /// `--wrap-externals`: Externals stand in Ifs that nothing enters.
+    WrappedExternals,
 }
 
 /// What the switches of a command line ask for.
@@ -34,12 +39,26 @@ pub struct Switches {
     pub c_text: bool,
     /// Whether a listing of the source with the bytes of its table is put too (`-l`).
     pub listing: bool,
+    /// Whether the source is a generic data table (`-G`).
+    pub generic: bool,
     /// Whether constants are folded (not with `-of` and `-oa`).
     pub fold: bool,
     /// Whether 0, 1 and Ones are written by their opcodes where they are literals too (not with `-oi` and `-oa`).
     pub short: bool,
     /// Whether names have their shortest spelling (not with `-on` and `-oa`).
     pub shorten: bool,
+    /// Whether Externals stand in Ifs that nothing enters (`--wrap-externals`).
+    pub wrap: bool,
+}
+
+// The switch that is written so, with two hyphens.
+fn long_switch(word: &[u8]) -> Option<Switch>
+    ensures { result ≡ spec.or_other word.now variants.WrappedExternals None }
+{
+    if word == b"--wrap-externals".as_slice() {
+        return Some(Switch::WrappedExternals);
+    }
+    None
 }
 
 /// The switch that is written so.
@@ -51,11 +70,12 @@ pub(crate) fn switch_of(word: &[u8]) -> Option<Switch>
         b"-we" => Some(Switch::Strict),
         b"-tc" => Some(Switch::CText),
         b"-l" => Some(Switch::Listing),
+        b"-G" => Some(Switch::Generic),
         b"-oi" => Some(Switch::LongIntegers),
         b"-on" => Some(Switch::WrittenNames),
         b"-of" => Some(Switch::Unfolded),
         b"-oa" => Some(Switch::Unoptimised),
-        _ => None,
+        _ => long_switch(word),
     }
 }
 
@@ -83,6 +103,12 @@ fn is_listing(switch: Switch) -> bool
     matches!(switch, Switch::Listing)
 }
 
+fn is_generic(switch: Switch) -> bool
+    ensures { result ≡ spec.is_generic switch }
+{
+    matches!(switch, Switch::Generic)
+}
+
 fn keeps_constants(switch: Switch) -> bool
     ensures { result ≡ spec.keeps_constants switch }
 {
@@ -99,6 +125,12 @@ fn keeps_names(switch: Switch) -> bool
     ensures { result ≡ spec.keeps_names switch }
 {
     matches!(switch, Switch::WrittenNames | Switch::Unoptimised)
+}
+
+fn wraps_externals(switch: Switch) -> bool
+    ensures { result ≡ spec.wraps_externals switch }
+{
+    matches!(switch, Switch::WrappedExternals)
 }
 
 // Whether one thing is asked for, or the other.
@@ -125,9 +157,11 @@ impl Switches {
             strict: false,
             c_text: false,
             listing: false,
+            generic: false,
             fold: true,
             short: true,
             shorten: true,
+            wrap: false,
         }
     }
 
@@ -140,9 +174,11 @@ impl Switches {
             strict: either(self.strict, is_strict(switch)),
             c_text: either(self.c_text, is_c_text(switch)),
             listing: either(self.listing, is_listing(switch)),
+            generic: either(self.generic, is_generic(switch)),
             fold: unless(self.fold, keeps_constants(switch)),
             short: unless(self.short, keeps_integers(switch)),
             shorten: unless(self.shorten, keeps_names(switch)),
+            wrap: either(self.wrap, wraps_externals(switch)),
         }
     }
 }

@@ -1,16 +1,17 @@
-//! What a call is asked for: to compile a file, or devices that are generated.
+//! What a call is asked for: to compile a file, or devices that are generated, or to write the template of a table.
 ghost use Rattle.std.specs.Prelude.{◌≡◌, ℕ, map, string_bytes, Ok, Err, IfOk};
 ghost use Rattle.std.specs.Str.{bytes_eq};
 ghost use Rattle.iasl_options.specs.Asking.{asked_by};
 ghost use Rattle.iasl_options.specs.CommandLine.{IsOffending};
 ghost use Rattle.iasl_options.specs.Shown.{asked_of, AreTexts, IfBad};
-ghost use Rattle.iasl_options.specs.Task.{Task as SpecTask, IsTask, generate_word, begins_number, count_in, generated_by, compiled_by, task_by, generated_settings};
+ghost use Rattle.iasl_options.specs.Task.{Task as SpecTask, IsTask, generate_word, begins_number, count_in, generated_by, template_word, table_in as spec_table_in, template_by, compiled_by, task_by, generated_settings};
 ghost use Rattle.iasl_options.specs.TaskShown.{shown_task, TaskAnswers, HasTexts};
 
 use crate::command_line::options;
 use crate::request::{Options, WordsStop};
 use crate::switches::Switches;
 use asl_preprocess::Defines;
+use data_layout::table::{Table, table_of};
 use iasl_ports::list::{Text, Texts};
 use std::alloc::{AllocError, Global};
 
@@ -21,6 +22,8 @@ pub enum Task {
     Compile(Options),
     /// To compile the source of so many devices that are generated (`--generate`).
     Generate(u32),
+    /// To write the template of a table (`-T`).
+    Template(Table),
 }
 
 /// The most devices that are generated.
@@ -84,6 +87,39 @@ fn generated(words: &[String]) -> Result<Task, WordsStop>
     }
 }
 
+// The table whose signature a word is, in letters of either case.
+fn table_in(alloc: Global, word: &[u8]) -> Result<Option<Table>, AllocError>
+    ensures { IfOk result (λ table. table ≡ spec_table_in word.now) }
+{
+    let mut upper = Vec::new(alloc);
+    for byte in word {
+        upper.push(byte.to_ascii_uppercase())?;
+    }
+    Ok(table_of(&upper))
+}
+
+// What stands behind `-T`.
+fn templated(alloc: Global, words: &[String]) -> Result<Task, WordsStop>
+    ensures answer { TaskAnswers result (template_by (map string_bytes words.now)) }
+    ensures texts { IfOk result HasTexts }
+{
+    match words {
+        [] => Err(WordsStop::Bad { word: 1 }),
+        [word, rest @ ..] => match table_in(alloc, word.as_bytes())? {
+            None => Err(WordsStop::Bad { word: 1 }),
+            Some(table) if rest.is_empty() => Ok(Task::Template(table)),
+            Some(_) => Err(WordsStop::Bad { word: 2 }),
+        },
+    }
+}
+
+// Whether the word is the option of templates.
+fn writes_template(word: &String) -> bool
+    ensures { result ≡ bytes_eq (string_bytes word.now) template_word }
+{
+    word.as_bytes() == b"-T".as_slice()
+}
+
 // Whether the word is the option of generated devices.
 fn generates(word: &String) -> bool
     ensures { result ≡ bytes_eq (string_bytes word.now) generate_word }
@@ -108,12 +144,13 @@ fn read(alloc: Global, words: &[String]) -> Result<Task, WordsStop>
 {
     match words {
         [first, rest @ ..] if generates(first) => generated(rest),
+        [first, rest @ ..] if writes_template(first) => templated(alloc, rest),
         _ => compiled(alloc, words),
     }
 }
 
 /// What the words of a call ask for, or the word that spoils them: a command line (`options`), or `--generate N` alone, where N is a number
-/// from 1 to 4096 in decimal (docs/OPTIONS.md).
+/// from 1 to 4096 in decimal, or `-T SIGNATURE` alone, where the signature is that of one of the six tables (docs/OPTIONS.md).
 #[tactic(auto, using(crate::proofs::Tasks::answer_good, crate::proofs::Tasks::answer_every, crate::proofs::Tasks::answer_bad, crate::proofs::Tasks::answer_told))]
 pub fn task_of(alloc: Global, words: &[String]) -> Result<Task, WordsStop>
     // What is answered is what the words ask for.

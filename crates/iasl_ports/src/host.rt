@@ -36,10 +36,16 @@ impl<R: HostFileSystem + Drop> HostFiles<R> {
     }
 }
 
-// Whether an error says that there is no file of a name: it is absent, or its path leads through what is
-// no directory.
+// Whether an error says that there is no file of a name: it is absent, its path leads through what is no
+// directory, or no file of the system can have it, since it has a NUL byte or is longer than the system takes.
 fn is_absence(kind: ErrorKind) -> bool {
-    kind == ErrorKind::NotFound || kind == ErrorKind::NotADirectory
+    matches!(
+        kind,
+        ErrorKind::NotFound
+            | ErrorKind::NotADirectory
+            | ErrorKind::InvalidInput
+            | ErrorKind::InvalidFilename
+    )
 }
 
 enum Reading {

@@ -1,6 +1,7 @@
 mod controller;
 mod data;
 mod data_rows;
+mod generic;
 mod runs;
 mod terms;
 
@@ -12,6 +13,7 @@ use iasl_backends::c_hex::CHex;
 use iasl_backends::lent::one_of_each;
 use iasl_backends::listing::Listing;
 use iasl_backends::raw_aml::RawAml;
+use iasl_backends::template::TemplateText;
 use iasl_ports::list::Texts;
 use iasl_ports::memory::{MemoryFiles, MemoryOutputs, MemorySink};
 use iasl_tool::run::iasl;
@@ -43,6 +45,7 @@ fn boxes(alloc: Global) -> Result<Vec<Box<dyn Backend>>, AllocError>
         Box::new(alloc, RawAml::new(alloc))?,
         Box::new(alloc, CHex::new(alloc))?,
         Box::new(alloc, Listing::new(alloc))?,
+        Box::new(alloc, TemplateText::new(alloc))?,
     )
 }
 

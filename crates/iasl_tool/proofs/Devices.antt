@@ -61,8 +61,8 @@ some_file file name e = cc
 
 pub is_due : (asked : Asked) (file : List ℕ) (files : List (List ℕ)) (notes : List Message) (more : List ℕ) (lines : List Line) (count : ℕ) (answer : Answer)
     → asked ≡ generated_settings → asked.file ≡ Some file → files ≡ [] ∷ [] → notes ≡ [] → more ≡ devices_line count → lines ≡ generated_lines count
-    → answer ≡ answer_to_compiled asked file files notes more (of_source (style_of asked) lines) → answer ≡ answer_to_generated count
+    → answer ≡ answer_to_compiled asked file files notes more (of_source asked.switches.generic (style_of asked) lines) → answer ≡ answer_to_generated count
 is_due asked file files notes more lines count answer asked_is file_is one none line lines_are e =
     let named : file ≡ codes "generated" = some_file file (codes "generated") (sym file_is ∙ ap (λ (a : Asked). a.file) asked_is) in
-    e ∙ (λ i. answer_to_compiled (asked_is i) (named i) (one i) (none i) (line i) (of_source (style_of (asked_is i)) (lines_are i)))
-    ∙ no_file (devices_line count) (of_source (style_of generated_settings) (generated_lines count))
+    e ∙ (λ i. answer_to_compiled (asked_is i) (named i) (one i) (none i) (line i) (of_source (asked_is i).switches.generic (style_of (asked_is i)) (lines_are i)))
+    ∙ no_file (devices_line count) (of_source false (style_of generated_settings) (generated_lines count))

@@ -25,15 +25,17 @@ use Rattle.source_pieces.proofs.Joined.{joined_is_table}
 use Rattle.iasl_backends.specs.Table.{table_bytes}
 use Rattle.acpi_names.specs.Errors.{NameError, name_errors, type_errors}
 use Rattle.name_checks.specs.Messages.{message_of, first_errors, told_errors}
-use Rattle.data_text.specs.Kinds.{is_data_table}
 use Rattle.data_tables.specs.declared.compiled.Compiled.{Compiled as DataTable}
 use Rattle.data_tables.specs.Compiling.{Answer as DataAnswer, compiled, joined}
 use Rattle.data_tables.specs.Entries.{unsealed_bytes}
 use Rattle.data_tables.proofs.Law.{reads_as_written}
 use Rattle.data_tables.proofs.Unique.{only_written}
 use Rattle.data_tables.proofs.Sizes.{few_bytes}
+use Rattle.data_generic.specs.Compiling.{compiled_generic}
+use Rattle.data_generic.proofs.Law.{reads_as_written as generic_as_written}
+use Rattle.data_generic.proofs.Only.{only_written as only_generic}
 use Rattle.iasl_options.specs.Asking.{Asked}
-use Rattle.iasl_options.specs.Task.{Task, Compiles, Generates, settings_in, task_by}
+use Rattle.iasl_options.specs.Task.{Task, Compiles, Generates, Templates, settings_in, task_by}
 use Rattle.iasl_options.proofs.Tasks.{task_from, task_to}
 use Rattle.generated_lines.specs.Generated.{generated_lines}
 use Rattle.iasl_messages.specs.Console.{devices_line}
@@ -48,11 +50,11 @@ use Rattle.asl_tables.specs.declared.compile.Compiled.{Compiled}
 use Rattle.asl_tables.specs.declared.compile.Compiled.TheVariants.{Table, Refused}
 use Rattle.asl_tables.specs.declared.compile.Style.{Style}
 use Rattle.asl_tables.specs.Compiled.{own_in, noted_in, with_notes, first_told, told_of_names, told_in, others_in, of_lines, of_items, of_terms, of_table, unless_wrong, with_others, of_outcome, of_tokens, written_in, cut_in, too_long}
-use Rattle.iasl_tool.specs.Sources.{of_data, of_source}
+use Rattle.iasl_tool.specs.Sources.{is_data_source, data_answer, of_data, of_source}
 use Rattle.table_outputs.specs.Files.{table_name, table_files, name_in_use}
-use Rattle.table_outputs.specs.Decision.{only_by, asks_for_text}
+use Rattle.table_outputs.specs.Decision.{only_by, asks_for_text, wants_template, asks_for_template}
 use Rattle.iasl_tool.specs.Due.{style_of, unless_in_use, made_files, refusal, made_or_in_use, has_warning, answer_to_text, answer_to_compiled, answer_to_preprocessed, answer_to_file, answer_to_task, answer_for}
-use Rattle.iasl_tool.specs.Headline.{Request, ComeFrom, a_file, devices, more_of, generated_request, table_of, table_for, data_file_of, further_of, further_data, files_of, data_files_of, LetsPass, NamesLines, NamesSource, NamesData, PutsFaithfulTable, PutsDataTable, AreItsFiles, WritesItsTable, WritesItsDataTable}
+use Rattle.iasl_tool.specs.Headline.{Request, ComeFrom, a_file, devices, more_of, generated_request, table_of, table_for, data_file_of, further_of, further_data, files_of, data_files_of, LetsPass, NamesLines, NamesSource, NamesData, ReadsBack, PutsFaithfulTable, PutsDataTable, AreItsFiles, WritesItsTable, WritesItsDataTable}
 use Rattle.iasl_tool.proofs.Bytes.{as_joined_pieces, as_joined}
 use Rattle.asl_tables.proofs.Programs.{none_told, none_first, none_behind, none_of_others, both_right, some_behind}
 use Rattle.iasl_tool.proofs.Sizes.{come_sizes}
@@ -97,10 +99,10 @@ noted_with request files notes more lines items bytes =
 bytes_are : (request : Request) (lines : List Line) (items : List Raw) → errors_at items ≡ [] → IsKeptSource (writtens items) → table_bytes (cut_in (style_of request.asked) lines items) ≡ table_for request items
 bytes_are request lines items e kept =
     let style = style_of request.asked in
-    as_joined_pieces (cut_in style lines items) ∙ joined_is_table lines style.fold style.short style.shorten items e kept
+    as_joined_pieces (cut_in style lines items) ∙ joined_is_table lines style.wrap style.fold style.short style.shorten items e kept
 
 -- what is due of lines that are read
-come_is : (words : List (List ℕ)) (told : List Named) (request : Request) (files : List (List ℕ)) (lines : List Line) (notes : List Message) (come : ComeFrom words told request files lines notes) (it : Compiled) → of_source (style_of request.asked) lines ≡ it
+come_is : (words : List (List ℕ)) (told : List Named) (request : Request) (files : List (List ℕ)) (lines : List Line) (notes : List Message) (come : ComeFrom words told request files lines notes) (it : Compiled) → of_source request.asked.switches.generic (style_of request.asked) lines ≡ it
     → answer_for words told ≡ Some (answer_to_compiled request.asked request.file files notes (more_of come) it)
 come_is words told request files lines notes (a_file line file_is compiles lines_are) it e =
     let asked = request.asked in
@@ -108,16 +110,16 @@ come_is words told request files lines notes (a_file line file_is compiles lines
     ap (answer_to_task told) (task_to words (Compiles asked) line)
     ∙ ap (answer_to_file asked told) file_is
     ∙ ap (answer_to_preprocessed asked file) lines_are
-    ∙ ap (λ c. Some (cond c (answer_to_text asked file files lines notes) (answer_to_compiled asked file files notes [] (of_source (style_of asked) lines)))) compiles
+    ∙ ap (λ c. Some (cond c (answer_to_text asked file files lines notes) (answer_to_compiled asked file files notes [] (of_source asked.switches.generic (style_of asked) lines)))) compiles
     ∙ ap (λ it. Some (answer_to_compiled asked file files notes [] it)) e
 come_is words told request files lines notes (devices count task request_is files_are lines_are notes_are) it e =
     ap (answer_to_task told) (task_to words (Generates count) task)
-    ∙ ap (λ r. Some (answer_to_compiled r.asked r.file [] [] (devices_line count) (of_source (style_of r.asked) (generated_lines count)))) (sym request_is)
-    ∙ ap (λ fs. Some (answer_to_compiled request.asked request.file fs [] (devices_line count) (of_source (style_of request.asked) (generated_lines count)))) (sym files_are)
-    ∙ ap (λ ns. Some (answer_to_compiled request.asked request.file files ns (devices_line count) (of_source (style_of request.asked) (generated_lines count)))) (sym notes_are)
-    ∙ ap (λ it. Some (answer_to_compiled request.asked request.file files notes (devices_line count) it)) (ap (of_source (style_of request.asked)) (sym lines_are) ∙ e)
+    ∙ ap (λ r. Some (answer_to_compiled r.asked r.file [] [] (devices_line count) (of_source r.asked.switches.generic (style_of r.asked) (generated_lines count)))) (sym request_is)
+    ∙ ap (λ fs. Some (answer_to_compiled request.asked request.file fs [] (devices_line count) (of_source request.asked.switches.generic (style_of request.asked) (generated_lines count)))) (sym files_are)
+    ∙ ap (λ ns. Some (answer_to_compiled request.asked request.file files ns (devices_line count) (of_source request.asked.switches.generic (style_of request.asked) (generated_lines count)))) (sym notes_are)
+    ∙ ap (λ it. Some (answer_to_compiled request.asked request.file files notes (devices_line count) it)) (ap (of_source request.asked.switches.generic (style_of request.asked)) (sym lines_are) ∙ e)
 
-given_is : (words : List (List ℕ)) (told : List Named) (request : Request) (h : NamesLines words told request) (it : Compiled) → of_source (style_of request.asked) h.lines ≡ it → answer_for words told ≡ Some (answer_to_compiled request.asked request.file h.files h.notes (more_of h.come) it)
+given_is : (words : List (List ℕ)) (told : List Named) (request : Request) (h : NamesLines words told request) (it : Compiled) → of_source request.asked.switches.generic (style_of request.asked) h.lines ≡ it → answer_for words told ≡ Some (answer_to_compiled request.asked request.file h.files h.notes (more_of h.come) it)
 given_is words told request h it e = come_is words told request h.files h.lines h.notes h.come it e
 
 -- the parser keeps what it reads
@@ -138,7 +140,7 @@ answer_is words told request items h =
     let style = style_of request.asked in
     let table : of_lines style lines ≡ Table (signature_of items) (own_in items) (cut_in style lines items) (noted_in items) =
     ap (of_tokens style lines) (cut_is_tokens lines h.tokens h.tokens_are) ∙ ap (of_outcome style lines h.tokens) (spelled_is_outcome items h.tokens h.spelled h.shallow h.low) ∙ items_are style lines items h.right h.table_within in
-    given_is words told request h.named (Table (signature_of items) (own_in items) (cut_in style lines items) (noted_in items)) (ap (λ c. cond c (of_data (compiled lines)) (of_lines style lines)) h.is_asl ∙ table)
+    given_is words told request h.named (Table (signature_of items) (own_in items) (cut_in style lines items) (noted_in items)) (ap (λ c. cond c (of_data (data_answer request.asked.switches.generic lines)) (of_lines style lines)) h.is_asl ∙ table)
     ∙ ap (λ bytes. Some (noted_with request files notes more lines items bytes)) (bytes_are request lines items h.right.form (kept_source words told request items h))
     ∙ ap (λ c. Some (cond c (refusal request.asked.switches.brief files (notes ++ noted_in items)) (named_with request files notes more lines items (table_for request items)))) (is_passed request.asked (notes ++ noted_in items) h.notes_pass)
     ∙ ap (λ o. Some (unless_in_use o (due_with request files notes more lines items (table_for request items)))) h.names_are_free
@@ -149,7 +151,7 @@ puts_faithful_table words told request items h =
     record {
       status = ap status_of answer;
       due = ap due_of answer;
-      does = does_as request.asked.switches.fold request.asked.switches.short request.asked.switches.shorten items h.right (kept_source words told request items h) h.table_within;
+      does = does_as request.asked.switches.wrap request.asked.switches.fold request.asked.switches.short request.asked.switches.shorten items h.right (kept_source words told request items h) h.table_within;
     }
 
 -- ---- data tables
@@ -174,10 +176,15 @@ noted_data request files notes more table bytes =
 data_is : (words : List (List ℕ)) (told : List Named) (request : Request) (table : DataTable) (h : NamesData words told request table) → answer_for words told ≡ Some (due_data request h.named.files h.named.notes (more_of h.named.come) table (joined table.pieces))
 data_is words told request table h =
     let lines = h.named.lines in
-    given_is words told request h.named (Table table.signature [] table.pieces table.notes) (ap (λ c. cond c (of_data (compiled lines)) (of_lines (style_of request.asked) lines)) h.is_data ∙ ap of_data h.table_is)
+    given_is words told request h.named (Table table.signature [] table.pieces table.notes) (ap (λ c. cond c (of_data (data_answer request.asked.switches.generic lines)) (of_lines (style_of request.asked) lines)) h.is_data ∙ ap of_data h.table_is)
     ∙ ap (λ bytes. Some (noted_data request h.named.files h.named.notes (more_of h.named.come) table bytes)) (as_joined table.pieces)
     ∙ ap (λ c. Some (cond c (refusal request.asked.switches.brief h.named.files (h.named.notes ++ table.notes)) (named_data request h.named.files h.named.notes (more_of h.named.come) table (joined table.pieces)))) (is_passed request.asked (h.named.notes ++ table.notes) h.notes_pass)
     ∙ ap (λ o. Some (unless_in_use o (due_data request h.named.files h.named.notes (more_of h.named.come) table (joined table.pieces)))) h.names_are_free
+
+-- the table reads back, of whichever kind it is
+reads_back : (generic : Bool) (lines : List Line) (table : DataTable) → data_answer generic lines ≡ Ok table → length (unsealed_bytes lines) < 2 ^ 32 → ReadsBack generic lines (joined table.pieces)
+reads_back true lines table e few = record { reads = generic_as_written lines table e; only = only_generic lines table e }
+reads_back false lines table e few = record { reads = reads_as_written lines table e few; only = only_written lines table e few }
 
 pub puts_data_table : (words : List (List ℕ)) (told : List Named) (request : Request) (table : DataTable) (h : NamesData words told request table) → PutsDataTable words told request table h.named.lines
 puts_data_table words told request table h =
@@ -187,7 +194,7 @@ puts_data_table words told request table h =
     record {
       status = ap status_of answer;
       due = ap due_of answer;
-      reads = record { reads = reads_as_written n.lines table h.table_is few; only = only_written n.lines table h.table_is few };
+      reads = reads_back request.asked.switches.generic n.lines table h.table_is few;
     }
 
 -- ---- which sources have status 0
@@ -224,7 +231,7 @@ abbrev status_with : (words : List (List ℕ)) (told : List Named) → Known wor
 status_with words told k it = status_of (Some (answer_to_compiled k.request.asked k.request.file k.named.files k.named.notes (more_of k.named.come) it))
 
 module _ (words : List (List ℕ)) (told : List Named) where
-  by_name : (k : Known words told) (asl : is_data_table k.named.lines ≡ false) (tokens : List Token) (items : List Raw) (o : Option (List ℕ)) → tokens_of k.named.lines ≡ Ok tokens → outcome tokens ≡ read items → IsRight items → nat_le (length (table_for k.request items)) most_table_bytes ≡ true
+  by_name : (k : Known words told) (asl : is_data_source k.request.asked.switches.generic k.named.lines ≡ false) (tokens : List Token) (items : List Raw) (o : Option (List ℕ)) → tokens_of k.named.lines ≡ Ok tokens → outcome tokens ≡ read items → IsRight items → nat_le (length (table_for k.request items)) most_table_bytes ≡ true
       → LetsPass k.request.asked (k.named.notes ++ noted_in items) → name_in_use k.named.files (files_of k.request k.named.lines items) ≡ o → status_of (Some (unless_in_use o (due_with k.request k.named.files k.named.notes (more_of k.named.come) k.named.lines items (table_for k.request items)))) ≡ 0 → Found words told
   by_name k asl tokens items (Some name) et eo es ec ep en h = absurd (omega (arith, h))
   by_name k asl tokens items None et eo es ec ep en h = a_source k.request items (record {
@@ -241,13 +248,13 @@ module _ (words : List (List ℕ)) (told : List Named) where
     names_are_free = en;
   })
 
-  by_notes : (k : Known words told) (asl : is_data_table k.named.lines ≡ false) (tokens : List Token) (items : List Raw) (c : Bool) → tokens_of k.named.lines ≡ Ok tokens → outcome tokens ≡ read items → IsRight items → nat_le (length (table_for k.request items)) most_table_bytes ≡ true
+  by_notes : (k : Known words told) (asl : is_data_source k.request.asked.switches.generic k.named.lines ≡ false) (tokens : List Token) (items : List Raw) (c : Bool) → tokens_of k.named.lines ≡ Ok tokens → outcome tokens ≡ read items → IsRight items → nat_le (length (table_for k.request items)) most_table_bytes ≡ true
       → (k.request.asked.switches.strict && has_warning (k.named.notes ++ noted_in items)) ≡ c → status_of (Some (cond c (refusal k.request.asked.switches.brief k.named.files (k.named.notes ++ noted_in items)) (named_with k.request k.named.files k.named.notes (more_of k.named.come) k.named.lines items (table_for k.request items)))) ≡ 0 → Found words told
   by_notes k asl tokens items true et eo es ec ep h = absurd (omega (arith, h))
   by_notes k asl tokens items false et eo es ec ep h =
       by_name k asl tokens items (name_in_use k.named.files (files_of k.request k.named.lines items)) et eo es ec (lets_pass k.request.asked (k.named.notes ++ noted_in items) ep) refl h
 
-  by_table : (k : Known words told) (asl : is_data_table k.named.lines ≡ false) (tokens : List Token) (items : List Raw) (c : Bool) → tokens_of k.named.lines ≡ Ok tokens → outcome tokens ≡ read items → IsRight items → nat_le (length (table_for k.request items)) most_table_bytes ≡ c
+  by_table : (k : Known words told) (asl : is_data_source k.request.asked.switches.generic k.named.lines ≡ false) (tokens : List Token) (items : List Raw) (c : Bool) → tokens_of k.named.lines ≡ Ok tokens → outcome tokens ≡ read items → IsRight items → nat_le (length (table_for k.request items)) most_table_bytes ≡ c
       → status_with words told k (with_notes (noted_in items) (if c then Table (signature_of items) (own_in items) (cut_in (style_of k.request.asked) k.named.lines items) [] else Refused (too_long (block_place (writtens items)) ∷ []))) ≡ 0 → Found words told
   by_table k asl tokens items true et eo es ec h =
       let kept = kept_from words told k.request k.named tokens items et (is_spelled tokens (Ok (record { items = items })) eo) in
@@ -255,12 +262,12 @@ module _ (words : List (List ℕ)) (told : List Named) where
       (subst (λ bytes. status_of (Some (noted_with k.request k.named.files k.named.notes (more_of k.named.come) k.named.lines items bytes)) ≡ 0) (bytes_are k.request k.named.lines items es.form kept) h)
   by_table k asl tokens items false et eo es ec h = absurd (omega (arith, h))
 
-  by_locals : (k : Known words told) (asl : is_data_table k.named.lines ≡ false) (tokens : List Token) (items : List Raw) (ms : List Message) → tokens_of k.named.lines ≡ Ok tokens → outcome tokens ≡ read items → locals_in items ≡ ms → (locals_in items ≡ [] → IsRight items)
+  by_locals : (k : Known words told) (asl : is_data_source k.request.asked.switches.generic k.named.lines ≡ false) (tokens : List Token) (items : List Raw) (ms : List Message) → tokens_of k.named.lines ≡ Ok tokens → outcome tokens ≡ read items → locals_in items ≡ ms → (locals_in items ≡ [] → IsRight items)
       → status_with words told k (with_notes (noted_in items) (unless_wrong ms (of_table (block_place (writtens items)) (signature_of items) (own_in items) (table_for k.request items) (cut_in (style_of k.request.asked) k.named.lines items)))) ≡ 0 → Found words told
   by_locals k asl tokens items [] et eo el right h = by_table k asl tokens items (nat_le (length (table_for k.request items)) most_table_bytes) et eo (right el) refl h
   by_locals k asl tokens items (m ∷ ms) et eo el right h = absurd (omega (arith, h))
 
-  by_names : (k : Known words told) (asl : is_data_table k.named.lines ≡ false) (tokens : List Token) (items : List Raw) (ms : List Message) → tokens_of k.named.lines ≡ Ok tokens → outcome tokens ≡ read items → errors_at items ≡ [] → with_others (told_in items) (others_in items) ≡ ms
+  by_names : (k : Known words told) (asl : is_data_source k.request.asked.switches.generic k.named.lines ≡ false) (tokens : List Token) (items : List Raw) (ms : List Message) → tokens_of k.named.lines ≡ Ok tokens → outcome tokens ≡ read items → errors_at items ≡ [] → with_others (told_in items) (others_in items) ≡ ms
       → status_with words told k (with_notes (noted_in items) (unless_wrong ms (unless_wrong (locals_in items) (of_table (block_place (writtens items)) (signature_of items) (own_in items) (table_for k.request items) (cut_in (style_of k.request.asked) k.named.lines items))))) ≡ 0 → Found words told
   by_names k asl tokens items [] et eo form en h =
       let none = both_none (told_in items) (others_in items) en in
@@ -271,48 +278,49 @@ module _ (words : List (List ℕ)) (told : List Named) where
       by_locals k asl tokens items (locals_in items) et eo refl (λ locals. record { form = form; declared = written.0; uses = written.1; names = names.0; counts = names.1; statements = others.statements; layouts = others.layouts; regions = others.regions; types = others.types; sizes = others.sizes; values = others.values; locals = locals }) h
   by_names k asl tokens items (m ∷ ms) et eo form en h = absurd (omega (arith, h))
 
-  by_items : (k : Known words told) (asl : is_data_table k.named.lines ≡ false) (tokens : List Token) (items : List Raw) (ms : List Message) → tokens_of k.named.lines ≡ Ok tokens → outcome tokens ≡ read items → errors_at items ≡ ms
+  by_items : (k : Known words told) (asl : is_data_source k.request.asked.switches.generic k.named.lines ≡ false) (tokens : List Token) (items : List Raw) (ms : List Message) → tokens_of k.named.lines ≡ Ok tokens → outcome tokens ≡ read items → errors_at items ≡ ms
       → status_with words told k (unless_wrong ms (with_notes (noted_in items) (of_terms (style_of k.request.asked) k.named.lines (block_place (writtens items)) (core_places (plans_in items)) (own_in items) (fields_in items) (told_in items) (others_in items) (locals_in items) (terms_in items)))) ≡ 0 → Found words told
   by_items k asl tokens items [] et eo form h = by_names k asl tokens items (with_others (told_in items) (others_in items)) et eo form refl h
   by_items k asl tokens items (m ∷ ms) et eo form h = absurd (omega (arith, h))
 
-  by_outcome : (k : Known words told) (asl : is_data_table k.named.lines ≡ false) (tokens : List Token) (o : ParseOutcome) → tokens_of k.named.lines ≡ Ok tokens → outcome tokens ≡ o → status_with words told k (of_outcome (style_of k.request.asked) k.named.lines tokens o) ≡ 0 → Found words told
+  by_outcome : (k : Known words told) (asl : is_data_source k.request.asked.switches.generic k.named.lines ≡ false) (tokens : List Token) (o : ParseOutcome) → tokens_of k.named.lines ≡ Ok tokens → outcome tokens ≡ o → status_with words told k (of_outcome (style_of k.request.asked) k.named.lines tokens o) ≡ 0 → Found words told
   by_outcome k asl tokens (read items) et eo h = by_items k asl tokens items (errors_at items) et eo refl h
   by_outcome k asl tokens (stopped rest) et eo h = absurd (omega (arith, h))
   by_outcome k asl tokens (sunk rest) et eo h = absurd (omega (arith, h))
   by_outcome k asl tokens (tall number) et eo h = absurd (omega (arith, h))
 
-  by_tokens : (k : Known words told) (asl : is_data_table k.named.lines ≡ false) (r : Result (List Token) Fault) → tokens_of k.named.lines ≡ r → status_with words told k (of_tokens (style_of k.request.asked) k.named.lines r) ≡ 0 → Found words told
+  by_tokens : (k : Known words told) (asl : is_data_source k.request.asked.switches.generic k.named.lines ≡ false) (r : Result (List Token) Fault) → tokens_of k.named.lines ≡ r → status_with words told k (of_tokens (style_of k.request.asked) k.named.lines r) ≡ 0 → Found words told
   by_tokens k asl (Err fault) et h = absurd (omega (arith, h))
   by_tokens k asl (Ok tokens) et h = by_outcome k asl tokens (outcome tokens) et refl h
 
   -- ---- a data table
 
-  by_data_name : (k : Known words told) (table : DataTable) (o : Option (List ℕ)) → is_data_table k.named.lines ≡ true → compiled k.named.lines ≡ Ok table → LetsPass k.request.asked (k.named.notes ++ table.notes) → name_in_use k.named.files (data_files_of k.request table) ≡ o
+  by_data_name : (k : Known words told) (table : DataTable) (o : Option (List ℕ)) → is_data_source k.request.asked.switches.generic k.named.lines ≡ true → data_answer k.request.asked.switches.generic k.named.lines ≡ Ok table → LetsPass k.request.asked (k.named.notes ++ table.notes) → name_in_use k.named.files (data_files_of k.request table) ≡ o
       → status_of (Some (unless_in_use o (due_data k.request k.named.files k.named.notes (more_of k.named.come) table (joined table.pieces)))) ≡ 0 → Found words told
   by_data_name k table (Some name) kind et ep en h = absurd (omega (arith, h))
   by_data_name k table None kind et ep en h = a_data_table k.request table (record { named = k.named; is_data = kind; table_is = et; notes_pass = ep; names_are_free = en })
 
-  by_data_notes : (k : Known words told) (table : DataTable) (c : Bool) → is_data_table k.named.lines ≡ true → compiled k.named.lines ≡ Ok table → (k.request.asked.switches.strict && has_warning (k.named.notes ++ table.notes)) ≡ c
+  by_data_notes : (k : Known words told) (table : DataTable) (c : Bool) → is_data_source k.request.asked.switches.generic k.named.lines ≡ true → data_answer k.request.asked.switches.generic k.named.lines ≡ Ok table → (k.request.asked.switches.strict && has_warning (k.named.notes ++ table.notes)) ≡ c
       → status_of (Some (cond c (refusal k.request.asked.switches.brief k.named.files (k.named.notes ++ table.notes)) (named_data k.request k.named.files k.named.notes (more_of k.named.come) table (joined table.pieces)))) ≡ 0 → Found words told
   by_data_notes k table true kind et ep h = absurd (omega (arith, h))
   by_data_notes k table false kind et ep h = by_data_name k table (name_in_use k.named.files (data_files_of k.request table)) kind et (lets_pass k.request.asked (k.named.notes ++ table.notes) ep) refl h
 
-  by_answer : (k : Known words told) (answer : DataAnswer) → is_data_table k.named.lines ≡ true → compiled k.named.lines ≡ answer → status_with words told k (of_data answer) ≡ 0 → Found words told
+  by_answer : (k : Known words told) (answer : DataAnswer) → is_data_source k.request.asked.switches.generic k.named.lines ≡ true → data_answer k.request.asked.switches.generic k.named.lines ≡ answer → status_with words told k (of_data answer) ≡ 0 → Found words told
   by_answer k (Ok table) kind et h =
       by_data_notes k table (k.request.asked.switches.strict && has_warning (k.named.notes ++ table.notes)) kind et refl
       (subst (λ bytes. status_of (Some (noted_data k.request k.named.files k.named.notes (more_of k.named.come) table bytes)) ≡ 0) (as_joined table.pieces) h)
   by_answer k (Err faults) kind et h = absurd (omega (arith, h))
 
-  by_kind : (k : Known words told) (c : Bool) → is_data_table k.named.lines ≡ c → status_with words told k (cond c (of_data (compiled k.named.lines)) (of_lines (style_of k.request.asked) k.named.lines)) ≡ 0 → Found words told
-  by_kind k true kind h = by_answer k (compiled k.named.lines) kind refl h
+  by_kind : (k : Known words told) (c : Bool) → is_data_source k.request.asked.switches.generic k.named.lines ≡ c
+      → status_with words told k (cond c (of_data (data_answer k.request.asked.switches.generic k.named.lines)) (of_lines (style_of k.request.asked) k.named.lines)) ≡ 0 → Found words told
+  by_kind k true kind h = by_answer k (data_answer k.request.asked.switches.generic k.named.lines) kind refl h
   by_kind k false kind h = by_tokens k kind (tokens_of k.named.lines) refl h
 
   by_only : (asked : Asked) (file : List ℕ) (files : List (List ℕ)) (lines : List Line) (notes : List Message) (c : Bool) → task_by words ≡ Ok (Compiles asked) → asked.file ≡ Some file → preprocessed told file asked.directories asked.definitions asked.enabled ≡ Given files lines notes → asked.only ≡ c → c ≡ false
-      → status_of (Some (cond c (answer_to_text asked file files lines notes) (answer_to_compiled asked file files notes [] (of_source (style_of asked) lines)))) ≡ 0 → Found words told
+      → status_of (Some (cond c (answer_to_text asked file files lines notes) (answer_to_compiled asked file files notes [] (of_source asked.switches.generic (style_of asked) lines)))) ≡ 0 → Found words told
   by_only asked file files lines notes true ew ef el eo z h = absurd cc
   by_only asked file files lines notes false ew ef el eo z h =
-      by_kind (record { request = record { asked = asked; file = file }; named = record { files = files; lines = lines; notes = notes; come = a_file (task_from words (Compiles asked) ew) ef eo el } }) (is_data_table lines) refl h
+      by_kind (record { request = record { asked = asked; file = file }; named = record { files = files; lines = lines; notes = notes; come = a_file (task_from words (Compiles asked) ew) ef eo el } }) (is_data_source asked.switches.generic lines) refl h
 
   by_lines : (asked : Asked) (file : List ℕ) (p : Preprocessed) → task_by words ≡ Ok (Compiles asked) → asked.file ≡ Some file → preprocessed told file asked.directories asked.definitions asked.enabled ≡ p → asked.only ≡ false → status_of (answer_to_preprocessed asked file p) ≡ 0 → Found words told
   by_lines asked file (Given files lines notes) ew ef el z h = by_only asked file files lines notes asked.only ew ef el refl z h
@@ -323,16 +331,17 @@ module _ (words : List (List ℕ)) (told : List Named) where
   by_file asked None ew ef z h = absurd (omega (arith, h))
   by_file asked (Some file) ew ef z h = by_lines asked file (preprocessed told file asked.directories asked.definitions asked.enabled) ew ef refl z h
 
-  by_words : (r : Result Task ℕ) → task_by words ≡ r → only_by (settings_in r) ≡ false → status_of (answer_to_task told r) ≡ 0 → Found words told
-  by_words (Err word) ew z h = absurd (omega (arith, h))
-  by_words (Ok (Compiles asked)) ew z h = by_file asked asked.file ew refl z h
-  by_words (Ok (Generates count)) ew z h =
+  by_words : (r : Result Task ℕ) → task_by words ≡ r → only_by (settings_in r) ≡ false → wants_template r ≡ false → status_of (answer_to_task told r) ≡ 0 → Found words told
+  by_words (Err word) ew z t h = absurd (omega (arith, h))
+  by_words (Ok (Templates table)) ew z t h = absurd cc
+  by_words (Ok (Compiles asked)) ew z t h = by_file asked asked.file ew refl z h
+  by_words (Ok (Generates count)) ew z t h =
       let lines = generated_lines count in
-      by_kind (record { request = generated_request; named = record { files = []; lines = lines; notes = []; come = devices count (task_from words (Generates count) ew) refl refl refl refl } }) (is_data_table lines) refl h
+      by_kind (record { request = generated_request; named = record { files = []; lines = lines; notes = []; come = devices count (task_from words (Generates count) ew) refl refl refl refl } }) (is_data_source false lines) refl h
 
 -- status 0 comes, where preprocessed text alone is not asked for, only of a source, whose table is then what was gained
-pub writes_its_table : (words : List (List ℕ)) (told : List Named) (old new : Option (List Named)) → asks_for_text words ≡ false → status_of (answer_for words told) ≡ 0 → Gains old new (due_of (answer_for words told)) → WritesItsTable words told old new ⊎ WritesItsDataTable words told old new
-writes_its_table words told old new z h gained = by (by_words words told (task_by words) refl z h)
+pub writes_its_table : (words : List (List ℕ)) (told : List Named) (old new : Option (List Named)) → asks_for_text words ≡ false → asks_for_template words ≡ false → status_of (answer_for words told) ≡ 0 → Gains old new (due_of (answer_for words told)) → WritesItsTable words told old new ⊎ WritesItsDataTable words told old new
+writes_its_table words told old new z t h gained = by (by_words words told (task_by words) refl z t h)
   where
     by : Found words told → WritesItsTable words told old new ⊎ WritesItsDataTable words told old new
     by (a_source request items names) =
@@ -373,9 +382,9 @@ module _ (words : List (List ℕ)) (told : List Named) where
       strict_settled asked.switches.brief (asked.switches.strict && has_warning (notes ++ told)) files (notes ++ told) (made_or_in_use asked.switches.brief files (notes ++ told) line due) (named_settled asked.switches.brief (name_in_use files due) files (notes ++ told) line due)
   compiled_settled asked file files notes more (Refused messages) = inr refl
 
-  lines_settled : (asked : Asked) (file : List ℕ) (files : List (List ℕ)) (lines : List Line) (notes : List Message) (c : Bool) → c ≡ false → Settled (Some (cond c (answer_to_text asked file files lines notes) (answer_to_compiled asked file files notes [] (of_source (style_of asked) lines))))
+  lines_settled : (asked : Asked) (file : List ℕ) (files : List (List ℕ)) (lines : List Line) (notes : List Message) (c : Bool) → c ≡ false → Settled (Some (cond c (answer_to_text asked file files lines notes) (answer_to_compiled asked file files notes [] (of_source asked.switches.generic (style_of asked) lines))))
   lines_settled asked file files lines notes true e = absurd cc
-  lines_settled asked file files lines notes false e = compiled_settled asked file files notes [] (of_source (style_of asked) lines)
+  lines_settled asked file files lines notes false e = compiled_settled asked file files notes [] (of_source asked.switches.generic (style_of asked) lines)
 
   given_settled : (asked : Asked) (file : List ℕ) (p : Preprocessed) → asked.only ≡ false → Settled (answer_to_preprocessed asked file p)
   given_settled asked file (Given files lines notes) z = lines_settled asked file files lines notes asked.only z
@@ -388,8 +397,9 @@ module _ (words : List (List ℕ)) (told : List Named) where
 
   words_settled : (r : Result Task ℕ) → only_by (settings_in r) ≡ false → Settled (answer_to_task told r)
   words_settled (Err word) z = inr refl
+  words_settled (Ok (Templates table)) z = inl refl
   words_settled (Ok (Compiles asked)) z = file_settled asked asked.file z
-  words_settled (Ok (Generates count)) z = compiled_settled generated_request.asked generated_request.file [] [] (devices_line count) (of_source (style_of generated_request.asked) (generated_lines count))
+  words_settled (Ok (Generates count)) z = compiled_settled generated_request.asked generated_request.file [] [] (devices_line count) (of_source false (style_of generated_request.asked) (generated_lines count))
 
   found_tables : Found words told → AreItsFiles words told (due_of (answer_for words told))
   found_tables (a_source request items names) =
@@ -399,11 +409,11 @@ module _ (words : List (List ℕ)) (told : List Named) where
       let puts : PutsDataTable words told request table names.named.lines = puts_data_table words told request table names in
       subst (AreItsFiles words told) (sym puts.due) (inr (record { request = request; table = table; names = names; name = refl; bytes = refl; reads = puts.reads; others = refl }))
 
-  by_settled : (o : Option Answer) → answer_for words told ≡ o → asks_for_text words ≡ false → Settled o → AreItsFiles words told (due_of (answer_for words told))
-  by_settled None is z h = subst (AreItsFiles words told) (sym (ap due_of is)) tt
-  by_settled (Some answer) is z (inr none) = subst (AreItsFiles words told) (sym (ap due_of is ∙ none)) tt
-  by_settled (Some answer) is z (inl zero) = found_tables (by_words words told (task_by words) refl z (ap status_of is ∙ zero))
+  by_settled : (o : Option Answer) → answer_for words told ≡ o → asks_for_text words ≡ false → asks_for_template words ≡ false → Settled o → AreItsFiles words told (due_of (answer_for words told))
+  by_settled None is z t h = subst (AreItsFiles words told) (sym (ap due_of is)) tt
+  by_settled (Some answer) is z t (inr none) = subst (AreItsFiles words told) (sym (ap due_of is ∙ none)) tt
+  by_settled (Some answer) is z t (inl zero) = found_tables (by_words words told (task_by words) refl z t (ap status_of is ∙ zero))
 
   -- whatever the status, the files that are due are the table of a source that the words name, and its further outputs
-  pub are_its_files : asks_for_text words ≡ false → AreItsFiles words told (due_of (answer_for words told))
-  are_its_files z = by_settled (answer_for words told) refl z (words_settled (task_by words) z)
+  pub are_its_files : asks_for_text words ≡ false → asks_for_template words ≡ false → AreItsFiles words told (due_of (answer_for words told))
+  are_its_files z t = by_settled (answer_for words told) refl z t (words_settled (task_by words) z)

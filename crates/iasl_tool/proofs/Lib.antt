@@ -6,3 +6,4 @@ pub mod Readings
 mod Strict
 mod Devices
 pub mod Headline
+pub mod TemplateLaws

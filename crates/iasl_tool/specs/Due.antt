@@ -1,5 +1,6 @@
 -- What a call is to end with: its status, the text of the console, and the files to put.
-use Rattle.std.specs.Prelude.{ℕ, Bool, ◌&&◌, cond, List, [], ◌∷◌, ◌++◌, length, codes, Some, None, Result, Ok, Err}
+use Rattle.std.specs.Prelude.{ℕ, Bool, false, ◌&&◌, cond, List, [], ◌∷◌, ◌++◌, length, map, codes, Some, None, Result, Ok, Err}
+use Rattle.std.specs.Char.{to_ascii_lowercase}
 use Rattle.std.specs.declared.option.Option.{Option}
 use Rattle.std.specs.List.{list_any}
 use Rattle.iasl_ports.specs.Gained.{Named}
@@ -9,13 +10,16 @@ use Rattle.iasl_messages.specs.declared.message.Message.{Message}
 use Rattle.iasl_messages.specs.declared.severity.Severity.TheVariants.{Warning}
 use Rattle.iasl_messages.specs.Severity.{severity_of, is_same}
 use Rattle.iasl_messages.specs.Order.{sorted_messages}
-use Rattle.iasl_messages.specs.Console.{messages_text, summary_line, table_line, preprocessed_line, devices_line}
+use Rattle.iasl_messages.specs.Console.{messages_text, summary_line, table_line, preprocessed_line, devices_line, template_line}
 use Rattle.asl_preprocess.specs.Preprocess.{Preprocessed, Given, Stopped, Absent, preprocessed}
 use Rattle.iasl_options.specs.Asking.{Asked}
-use Rattle.iasl_options.specs.Task.{Task, Compiles, Generates, generated_settings, task_by}
+use Rattle.data_layout.specs.declared.table.Table.{Table as Layout}
+use Rattle.iasl_options.specs.Task.{Task, Compiles, Generates, Templates, generated_settings, task_by}
 use Rattle.generated_lines.specs.Generated.{generated_lines}
 use Rattle.iasl_options.specs.Names.{output_name}
 use Rattle.iasl_backends.specs.Table.{table_bytes}
+use Rattle.iasl_backends.specs.Lines.{piece_lines}
+use Rattle.data_generic.specs.Templates.{signature_of, default_pieces}
 use Rattle.table_outputs.specs.Files.{name_in_use, table_name, table_files}
 use Rattle.asl_tables.specs.declared.compile.Style.{Style}
 use Rattle.asl_tables.specs.declared.compile.Compiled.{Compiled}
@@ -79,11 +83,11 @@ answer_to_compiled asked file files notes more (Refused messages) = refusal aske
 
 -- how a table is to be written
 abbrev pub style_of : Asked → Style
-style_of asked = record { fold = asked.switches.fold; short = asked.switches.short; shorten = asked.switches.shorten }
+style_of asked = record { wrap = asked.switches.wrap; fold = asked.switches.fold; short = asked.switches.short; shorten = asked.switches.shorten }
 
 -- of lines, with the files that they are of and the notes of the preprocessor
 abbrev pub answer_to_lines : Asked → List ℕ → List (List ℕ) → List Line → List Message → Answer
-answer_to_lines asked file files lines notes = cond asked.only (answer_to_text asked file files lines notes) (answer_to_compiled asked file files notes [] (of_source (style_of asked) lines))
+answer_to_lines asked file files lines notes = cond asked.only (answer_to_text asked file files lines notes) (answer_to_compiled asked file files notes [] (of_source asked.switches.generic (style_of asked) lines))
 
 -- none where the main file is not there
 abbrev pub answer_to_preprocessed : Asked → List ℕ → Preprocessed → Option Answer
@@ -102,11 +106,20 @@ answer_to_file asked told (Some file) = answer_to_preprocessed asked file (prepr
 -- Of the source of so many devices. No file is fetched for it, and its outputs have the name `generated`; the console tells how many
 -- devices there are.
 abbrev pub answer_to_generated : ℕ → Answer
-answer_to_generated count = answer_to_compiled generated_settings (codes "generated") [] [] (devices_line count) (of_source (style_of generated_settings) (generated_lines count))
+answer_to_generated count = answer_to_compiled generated_settings (codes "generated") [] [] (devices_line count) (of_source false (style_of generated_settings) (generated_lines count))
+
+-- the name of a template: its signature in lower case, with the extension of a source
+abbrev pub template_name : Layout → List ℕ
+template_name table = map to_ascii_lowercase (signature_of table) ++ codes ".asl"
+
+-- Of a template: its lines, for which no file is fetched. Nothing is told but its name and its signature.
+abbrev pub answer_to_template : Layout → Answer
+answer_to_template table = made_files false [] [] (template_line (template_name table) (signature_of table)) ((template_name table, piece_lines (default_pieces table)) ∷ [])
 
 abbrev pub answer_to_task : List Named → Result Task ℕ → Option Answer
 answer_to_task told (Ok (Compiles asked)) = answer_to_file asked told asked.file
 answer_to_task told (Ok (Generates count)) = Some (answer_to_generated count)
+answer_to_task told (Ok (Templates table)) = Some (answer_to_template table)
 answer_to_task told (Err word) = Some usage
 
 -- what a call with these words is to end with, where these are the files

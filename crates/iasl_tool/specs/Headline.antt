@@ -1,5 +1,5 @@
 -- What a call does with a source that is read.
-use Rattle.std.specs.Prelude.{◌≡◌, ◌⊎◌, ℕ, ◌≤◌, true, false, List, [], ◌∷◌, ◌++◌, length, codes, All, Option, None, Some, Ok}
+use Rattle.std.specs.Prelude.{◌≡◌, ◌⊎◌, ℕ, ◌≤◌, Bool, true, false, List, [], ◌∷◌, ◌++◌, length, codes, All, Option, None, Some, Ok}
 use Rattle.iasl_ports.specs.Gained.{Named, Gains}
 use Rattle.iasl_ports.specs.Delivery.{due_of, status_of}
 use Rattle.iasl_messages.specs.declared.place.Line.{Line}
@@ -15,11 +15,12 @@ use Rattle.asl_parser.specs.Grammar.{Spells}
 use Rattle.asl_parser.specs.Grow.{limit}
 use Rattle.asl_parser.specs.Marks.{marks}
 use Rattle.aml_writer.specs.Written.{most_table_bytes}
-use Rattle.data_text.specs.Kinds.{is_data_table}
 use Rattle.data_tables.specs.declared.compiled.Compiled.{Compiled as DataTable}
-use Rattle.data_tables.specs.Compiling.{compiled, joined}
+use Rattle.data_tables.specs.Compiling.{joined}
 use Rattle.data_tables.specs.Entries.{Entry, written_values}
 use Rattle.data_tables.specs.Reading.{ReadsAs}
+use Rattle.data_generic.specs.Compiling.{DataEntry, written_header, written_data}
+use Rattle.data_generic.specs.Reading.{ReadsGeneric, forms_of}
 use Rattle.iasl_options.specs.Asking.{Asked}
 use Rattle.iasl_options.specs.CommandLine.{IsCommandLine}
 use Rattle.iasl_options.specs.Task.{Generates, IsTask, generated_settings}
@@ -28,6 +29,7 @@ use Rattle.iasl_messages.specs.Console.{devices_line}
 use Rattle.program_shapes.specs.Sources.{IsRight, IsTableOf}
 use Rattle.asl_tables.specs.Compiled.{own_in, noted_in, written_in, cut_in}
 use Rattle.table_outputs.specs.Files.{table_name, further_files, name_in_use}
+use Rattle.iasl_tool.specs.Sources.{is_data_source, data_answer}
 use Rattle.iasl_tool.specs.Due.{style_of, answer_for}
 
 -- what good words ask for, and the file that they name
@@ -50,6 +52,10 @@ table_for request items = written_in (style_of request.asked) items
 -- its further outputs, which are of its pieces with the texts of these lines
 abbrev pub further_of : Request → List Line → List Raw → List Named
 further_of request lines items = further_files request.asked request.file (own_in items) (cut_in (style_of request.asked) lines items)
+
+-- whether a generic data table is asked for
+abbrev pub is_generic : Request → Bool
+is_generic request = request.asked.switches.generic
 
 -- those of a data table
 abbrev pub further_data : Request → DataTable → List Named
@@ -97,7 +103,7 @@ LetsPass asked notes = asked.switches.strict ≡ true → All (λ note. severity
 pub record NamesSource (words : List (List ℕ)) (told : List Named) (request : Request) (items : List Raw) : Type 0 where
   pub named : NamesLines words told request
   pub tokens : List Token
-  pub is_asl : is_data_table named.lines ≡ false
+  pub is_asl : is_data_source (is_generic request) named.lines ≡ false
   pub tokens_are : IsCut named.lines tokens
   pub spelled : Spells items tokens
   pub shallow : IsShallow limit (marks 0 tokens)
@@ -112,8 +118,8 @@ pub record NamesSource (words : List (List ℕ)) (told : List Named) (request : 
 -- a file that was fetched, or of another of them.
 pub record NamesData (words : List (List ℕ)) (told : List Named) (request : Request) (table : DataTable) : Type 0 where
   pub named : NamesLines words told request
-  pub is_data : is_data_table named.lines ≡ true
-  pub table_is : compiled named.lines ≡ Ok table
+  pub is_data : is_data_source (is_generic request) named.lines ≡ true
+  pub table_is : data_answer (is_generic request) named.lines ≡ Ok table
   pub notes_pass : LetsPass request.asked (named.notes ++ table.notes)
   pub names_are_free : name_in_use named.files (data_files_of request table) ≡ None
 
@@ -124,15 +130,25 @@ pub record PutsFaithfulTable (words : List (List ℕ)) (told : List Named) (requ
   pub does : IsTableOf items (table_for request items)
 
 -- bytes that read by offset as the values that some lines write, and as no others
-pub record ReadsBack (lines : List Line) (bytes : List ℕ) : Type 0 where
+pub record ReadsByLayout (lines : List Line) (bytes : List ℕ) : Type 0 where
   pub reads : ReadsAs bytes (written_values lines)
   pub only : (values : List Entry) → ReadsAs bytes values → values ≡ written_values lines
+
+-- bytes that read by the types and sizes of what the lines of a generic table write as the values that they write, and as no others
+pub record ReadsByTypes (lines : List Line) (bytes : List ℕ) : Type 0 where
+  pub reads : ReadsGeneric bytes (written_header lines) (written_data lines)
+  pub only : (header : List Entry) (entries : List DataEntry) → ReadsGeneric bytes header entries → forms_of entries ≡ forms_of (written_data lines) → (header ≡ written_header lines) × (entries ≡ written_data lines)
+
+-- the one or the other
+abbrev pub ReadsBack : Bool → List Line → List ℕ → Type 0
+ReadsBack true lines bytes = ReadsByTypes lines bytes
+ReadsBack false lines bytes = ReadsByLayout lines bytes
 
 -- the call puts the data table's files, and nothing else; its bytes read as the values that the text writes
 pub record PutsDataTable (words : List (List ℕ)) (told : List Named) (request : Request) (table : DataTable) (lines : List Line) : Type 0 where
   pub status : status_of (answer_for words told) ≡ 0
   pub due : due_of (answer_for words told) ≡ data_files_of request table
-  pub reads : ReadsBack lines (joined table.pieces)
+  pub reads : ReadsBack (is_generic request) lines (joined table.pieces)
 
 -- A file is the table of an ASL source that the words name: it has the source's header and does what the source says. The files that
 -- follow it are its further outputs: its bytes as an array of C, and the source's lines with their bytes, where these are asked for.
@@ -153,7 +169,7 @@ pub record IsItsDataTable (words : List (List ℕ)) (told : List Named) (file : 
   pub names : NamesData words told request table
   pub name : file.0 ≡ data_file_of request
   pub bytes : file.1 ≡ joined table.pieces
-  pub reads : ReadsBack names.named.lines file.1
+  pub reads : ReadsBack (is_generic request) names.named.lines file.1
   pub others : further ≡ further_data request table
 
 -- the first file is the table, and the others are its further outputs
@@ -177,4 +193,4 @@ pub record WritesItsDataTable (words : List (List ℕ)) (told : List Named) (old
   pub table : DataTable
   pub names : NamesData words told request table
   pub gained : Gains old new ((data_file_of request, joined table.pieces) ∷ further_data request table)
-  pub reads : ReadsBack names.named.lines (joined table.pieces)
+  pub reads : ReadsBack (is_generic request) names.named.lines (joined table.pieces)

@@ -1,8 +1,9 @@
 -- What a source of either kind comes to: its table, or its errors.
-use Rattle.std.specs.Prelude.{List, [], Ok, Err, cond}
+use Rattle.std.specs.Prelude.{Bool, ◌||◌, List, [], Ok, Err, cond}
 use Rattle.iasl_messages.specs.declared.place.Line.{Line}
 use Rattle.data_text.specs.Kinds.{is_data_table}
 use Rattle.data_tables.specs.Compiling.{Answer, compiled}
+use Rattle.data_generic.specs.Compiling.{compiled_generic}
 use Rattle.asl_tables.specs.declared.compile.Style.{Style}
 use Rattle.asl_tables.specs.declared.compile.Compiled.{Compiled}
 use Rattle.asl_tables.specs.declared.compile.Compiled.TheVariants.{Table, Refused}
@@ -13,6 +14,14 @@ abbrev pub of_data : Answer → Compiled
 of_data (Ok table) = Table table.signature [] table.pieces table.notes
 of_data (Err faults) = Refused faults
 
+-- whether lines are a data table: all are, where that of a generic one is asked for
+abbrev pub is_data_source : Bool → List Line → Bool
+is_data_source generic lines = generic || is_data_table lines
+
+-- what the lines of a data table come to
+abbrev pub data_answer : Bool → List Line → Answer
+data_answer generic lines = cond generic (compiled_generic lines) (compiled lines)
+
 -- what lines come to: those of a data table, or those of ASL
-abbrev pub of_source : Style → List Line → Compiled
-of_source style lines = cond (is_data_table lines) (of_data (compiled lines)) (of_lines style lines)
+abbrev pub of_source : Bool → Style → List Line → Compiled
+of_source generic style lines = cond (is_data_source generic lines) (of_data (data_answer generic lines)) (of_lines style lines)

@@ -2,7 +2,7 @@
 ghost use Rattle.std.specs.Prelude.{◌≡◌, ◌≤◌, ◌<◌, ◌++◌, ◌&&◌, [], ◌∷◌, ℕ, List, length, map, All, IfOk, OnOk, IsErrOf, ◌⊎◌, Some, None, string_bytes, false};
 ghost use Rattle.iasl_ports.specs.Delivery.{name_and_bytes, answer_of, IsSettled};
 ghost use Rattle.iasl_runs.specs.Ends.{files_seen};
-ghost use Rattle.iasl_options.specs.Task.{settings_by};
+ghost use Rattle.iasl_options.specs.Task.{task_by};
 ghost use Rattle.asl_preprocess.specs.Sound.{IsGoodLine, IsGoodNote};
 ghost use Rattle.iasl_options.specs.Shown.{AreTexts, asked_of};
 ghost use Rattle.iasl_options.specs.Asking.{Asked};
@@ -19,6 +19,7 @@ ghost use Rattle.std.specs.Str.{IsAscii};
 
 use crate::generated::answer_to_generated;
 use crate::source::compile_source;
+use crate::template::answer_to_template;
 use asl_preprocess::{PreStop, Preprocessed, preprocess};
 use asl_tables::compile::{Compiled, Style};
 use asl_tables::messages::{both, one_message};
@@ -35,7 +36,7 @@ use iasl_ports::files::Files;
 use iasl_ports::list::{List, Text, Texts};
 use std::alloc::{AllocError, Global};
 use std::borrow::CowSlice;
-use table_outputs::decision::{Decision, Making};
+use table_outputs::decision::{Decision, Making, OutputNames};
 use table_outputs::names::{is_fetched, name_in_use, names_of_table};
 
 // Adds a line to the text.
@@ -46,7 +47,7 @@ fn push_text(text: &mut Vec<u8>, line: &Text) -> Result<(), AllocError>
 }
 
 // The messages in order, in the brief form or the full one, a line of what was made, and how many messages there are.
-fn console_text(
+pub(crate) fn console_text(
     alloc: Global,
     brief: bool,
     files: &Texts,
@@ -325,7 +326,7 @@ fn make_table(
     let text = table_text(alloc, brief, files, notes, name, heading, pieces.as_slice())?;
     Ok(Decision::Makes(Making {
         text,
-        names,
+        names: OutputNames::OfTable(names),
         pieces,
     }))
 }
@@ -335,6 +336,7 @@ fn style_of(options: &Options) -> Style
     ensures { result ≡ style_by (asked_of options.now) }
 {
     Style {
+        wrap: options.switches.wrap,
         fold: options.switches.fold,
         short: options.switches.short,
         shorten: options.switches.shorten,
@@ -354,10 +356,10 @@ pub(crate) fn make_compiled(
     requires main { 1 ≤ length lines.now.files }
     requires lines { All (IsGoodLine (length lines.now.files)) lines.now.list }
     requires notes { AreWithin (length lines.now.files) notes }
-    ensures due { IfOk result (λ decision. end_of decision ≡ answer_to_compiled (asked_of options.now) options.now.file lines.now.files notes more.now (of_source (style_by (asked_of options.now)) lines.now.list)) }
+    ensures due { IfOk result (λ decision. end_of decision ≡ answer_to_compiled (asked_of options.now) options.now.file lines.now.files notes more.now (of_source options.now.switches.generic (style_by (asked_of options.now)) lines.now.list)) }
     ensures decided { IfOk result (IsDecidedBy (asked_of options.now)) }
 {
-    match compile_source(alloc, style_of(options), lines)? {
+    match compile_source(alloc, options.switches.generic, style_of(options), lines)? {
         Compiled::Table {
             signature,
             own,
@@ -460,18 +462,19 @@ fn answer<F: Files>(alloc: Global, options: &Options, files: &mut F) -> Result<D
     }
 }
 
-/// What is due for these words, where the file that they name and its includes are fetched, or devices are generated. It ends
+/// What is due for these words, where the file that they name and its includes are fetched, or devices are generated, or a template is written. It ends
 /// without an answer only where the file is absent, a fetch failed, or memory is wanted.
 pub(crate) fn decide<F: Files>(
     alloc: Global,
     words: &[String],
     files: &mut F,
 ) -> Result<Decision, Stop>
-    ensures { Settles (answer_for (map string_bytes words.now)) (IsDecidedFor (settings_by (map string_bytes words.now))) result (files_seen (F.contents files.old) (F.faults files.old) (F.absents files.old)) (files_seen (F.contents files.new) (F.faults files.new) (F.absents files.new)) }
+    ensures { Settles (answer_for (map string_bytes words.now)) (IsDecidedFor (task_by (map string_bytes words.now))) result (files_seen (F.contents files.old) (F.faults files.old) (F.absents files.old)) (files_seen (F.contents files.new) (F.faults files.new) (F.absents files.new)) }
 {
     match task_of(alloc, words) {
         Ok(Task::Compile(options)) => answer(alloc, &options, files),
         Ok(Task::Generate(count)) => Ok(answer_to_generated(alloc, count)?),
+        Ok(Task::Template(table)) => Ok(answer_to_template(alloc, table)?),
         Err(WordsStop::Bad { .. }) => Ok(Decision::Ends(usage(alloc)?)),
         Err(WordsStop::Memory) => Err(Stop::Memory),
     }

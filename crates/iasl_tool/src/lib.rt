@@ -5,3 +5,4 @@ mod due;
 mod generated;
 pub mod run;
 mod source;
+mod template;

@@ -1,16 +1,16 @@
-//! The top call: a source to its table, of ASL or of a data table.
+//! The top call: a source to its table, of ASL or of a data table; or the template of a table.
 ghost use Rattle.std.specs.Prelude.{◌≡◌, ◌≤◌, ◌⊎◌, List, map, string_bytes, true, false};
 ghost use Rattle.std.specs.Option.{ForSome};
 ghost use Rattle.iasl_ports.specs.Delivery.{due_of};
 ghost use Rattle.iasl_runs.specs.Ends.{files_seen, outputs_seen, console_seen, world, IsQuiet, Ends};
 ghost use Rattle.asl_parser.specs.declared.raw.Raw.{Raw};
 ghost use Rattle.iasl_backends.specs.Asked.{IsOneOfEach};
-ghost use Rattle.iasl_options.specs.Task.{settings_by};
+ghost use Rattle.iasl_options.specs.Task.{task_by};
 ghost use Rattle.table_outputs.specs.Boxes.{HoldsAsked, AreRendered, kinds_by};
 ghost use Rattle.iasl_tool.specs.Due.{answer_for, fault_text, memory_text};
 ghost use Rattle.data_tables.specs.declared.compiled.Compiled.{Compiled as DataTable};
 ghost use Rattle.iasl_tool.specs.Headline.{Request, NamesSource, NamesData, AreItsFiles, WritesItsTable, WritesItsDataTable};
-ghost use Rattle.table_outputs.specs.Decision.{asks_for_text};
+ghost use Rattle.table_outputs.specs.Decision.{asks_for_text, asks_for_template};
 
 use crate::due::decide;
 use iasl_backends::backend::Backend;
@@ -28,7 +28,7 @@ const STOP_TEXTS: StopTexts<'static> = StopTexts {
 };
 
 /// Compiles the source that the words name, of ASL or of a data table, and puts its table, with its bytes as an array of C and its listing where
-/// these are asked for, or with `-P` its preprocessed text (docs/OPTIONS.md). The boxes make the outputs of a table; those of kinds that are not asked for are let go. It
+/// these are asked for, or with `-P` its preprocessed text (docs/OPTIONS.md). With `-T SIGNATURE` it puts the template of a table instead. The boxes make the outputs; those of kinds that are not asked for are let go. It
 /// answers 0 where that was done; 1 where the source has errors, or with `-we` a warning; 2 where the words are not good, or an output has the name of a file
 /// that was fetched or of another output; 3 where the file is absent, or a file could not be read, put or written; 4 where there was no memory.
 /// With 1 and 2 no file is put.
@@ -48,13 +48,13 @@ pub fn iasl<F: Files, O: Outputs, C: Sink>(
         (world (files_seen (F.contents files.old) (F.faults files.old) (F.absents files.old)) (outputs_seen (O.written outs.old) (O.faults outs.old)) (console_seen (C.told console.old) (C.faults console.old)))
         (world (files_seen (F.contents files.new) (F.faults files.new) (F.absents files.new)) (outputs_seen (O.written outs.new) (O.faults outs.new)) (console_seen (C.told console.new) (C.faults console.new))) }
 
-    // Whatever the status, the files that are due where preprocessed text alone is not asked for are the table of a source that the words
+    // Whatever the status, the files that are due where neither preprocessed text alone nor a template is asked for are the table of a source that the words
     // name, and its further outputs. A table of ASL has the source's header, and every session over its bytes is the source's; a data table
     // reads as the values that the text writes. By the clause above the files that are put are such files, whole, and perhaps a part of the next.
-    ensures due { asks_for_text (map string_bytes words.now) ≡ false → ForSome (F.contents files.old) (λ told. AreItsFiles (map string_bytes words.now) told (due_of (answer_for (map string_bytes words.now) told))) }
+    ensures due { asks_for_text (map string_bytes words.now) ≡ false → asks_for_template (map string_bytes words.now) ≡ false → ForSome (F.contents files.old) (λ told. AreItsFiles (map string_bytes words.now) told (due_of (answer_for (map string_bytes words.now) told))) }
 
-    // 0 comes, where preprocessed text alone is not asked for, only of such a source, whose table, with its further outputs, is then what the outputs gained.
-    ensures headline { result ≡ 0 → asks_for_text (map string_bytes words.now) ≡ false → ForSome (F.contents files.old) (λ told. WritesItsTable (map string_bytes words.now) told (O.written outs.old) (O.written outs.new) ⊎ WritesItsDataTable (map string_bytes words.now) told (O.written outs.old) (O.written outs.new)) }
+    // 0 comes, where neither is asked for, only of such a source, whose table, with its further outputs, is then what the outputs gained.
+    ensures headline { result ≡ 0 → asks_for_text (map string_bytes words.now) ≡ false → asks_for_template (map string_bytes words.now) ≡ false → ForSome (F.contents files.old) (λ told. WritesItsTable (map string_bytes words.now) told (O.written outs.old) (O.written outs.new) ⊎ WritesItsDataTable (map string_bytes words.now) told (O.written outs.old) (O.written outs.new)) }
 
     // And every such source gives 0, or 4, where no count rose.
     ensures complete { ForSome (F.contents files.old) (λ told. (request : Request) → (items : List Raw) → NamesSource (map string_bytes words.now) told request items
@@ -71,17 +71,17 @@ pub fn iasl<F: Files, O: Outputs, C: Sink>(
         → (result ≡ 0) ⊎ (result ≡ 4)) }
 
     // The boxes are as before, or those of the kinds that are asked for are left, in their old order.
-    ensures boxes { (backends.new.items ≡ backends.old.items) ⊎ HoldsAsked (λ b. kind_of b) (kinds_by (settings_by (map string_bytes words.now))) backends.old.items backends.new.items }
+    ensures boxes { (backends.new.items ≡ backends.old.items) ⊎ HoldsAsked (λ b. kind_of b) (kinds_by (task_by (map string_bytes words.now))) backends.old.items backends.new.items }
 
     // After 1 and 2, and where preprocessed text alone is asked for, they are as before.
     ensures as_before { 1 ≤ result → result ≤ 2 → backends.new.items ≡ backends.old.items }
     ensures text_alone { asks_for_text (map string_bytes words.now) ≡ true → backends.new.items ≡ backends.old.items }
 
-    // After 0, where it is not, exactly those of the kinds that are asked for are left, in their old order. They are finished over one list
+    // After 0, where that is not, exactly those of the kinds that are asked for are left, in their old order. They are finished over one list
     // of pieces, and their texts are the bytes of the files.
     ensures rendered { result ≡ 0 → asks_for_text (map string_bytes words.now) ≡ false
-        → HoldsAsked (λ b. kind_of b) (kinds_by (settings_by (map string_bytes words.now))) backends.old.items backends.new.items
-        × AreRendered (λ b. pieces b) (λ b. finished b) (kinds_by (settings_by (map string_bytes words.now))) backends.new.items (answer_for (map string_bytes words.now)) (F.contents files.old) }
+        → HoldsAsked (λ b. kind_of b) (kinds_by (task_by (map string_bytes words.now))) backends.old.items backends.new.items
+        × AreRendered (λ b. pieces b) (λ b. finished b) (kinds_by (task_by (map string_bytes words.now))) backends.new.items (answer_for (map string_bytes words.now)) (F.contents files.old) }
 {
     let decided = decide(alloc, words, files);
     let rendered = render(backends, decided);

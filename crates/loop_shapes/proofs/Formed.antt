@@ -154,6 +154,7 @@ module _ (Listed : List (FieldItem UnitName) → Type 0) (Symbols Switches : Typ
 
   member_formed : (t : Tree) → IsCaseMember t → Value t
   member_formed (Integer n) h = (refl, tt)
+  member_formed (Constant literal) h = (refl, tt)
   member_formed (String text) h = (refl, h)
   member_formed (Buffer (Integer n) bytes) h = (refl, (refl, tt))
   member_formed (Buffer _ bytes) h = absurd h
@@ -175,6 +176,7 @@ module _ (Listed : List (FieldItem UnitName) → Type 0) (Symbols Switches : Typ
   test_formed i (Package n members) small h = members_formed i members small h
   test_formed i (VarPackage size members) small h = members_formed i members small h.1
   test_formed i (Integer n) small h = equal_formed i (Integer n) small (member_formed (Integer n) h)
+  test_formed i (Constant literal) small h = equal_formed i (Constant literal) small (member_formed (Constant literal) h)
   test_formed i (String text) small h = equal_formed i (String text) small (member_formed (String text) h)
   test_formed i (Buffer size bytes) small h = equal_formed i (Buffer size bytes) small (member_formed (Buffer size bytes) h)
   test_formed i _ small h = absurd h

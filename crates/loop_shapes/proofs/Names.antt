@@ -5,7 +5,7 @@ use Rattle.acpi_state.specs.Objects.{root_objects}
 use Rattle.acpi_state.specs.Outcomes.{choose}
 use Rattle.asl_tree.specs.FieldItems.{FieldItem}
 use Rattle.asl_tree.specs.Names.{denoted}
-use Rattle.asl_tree.specs.Tree.{Tree, Integer, String, Buffer, Trees, no_trees, tree, UnitName}
+use Rattle.asl_tree.specs.Tree.{Tree, Integer, Constant, String, Buffer, Trees, no_trees, tree, UnitName}
 use Rattle.asl_meaning.specs.Declarations.{Declarations, nothing_declared, is_named, scope_path, declarations, calls, calls_all, called, declared_kinds, external_names, as_known, externals, known_of}
 use Rattle.acpi_names.specs.Errors.{NameError, Whole, whole_of, use_errors, scope_errors, declared_errors, names, names_all, element_types, types, element_types_all, types_all, name_errors, type_errors}
 use Rattle.acpi_names.proofs.Mentions.{right_nil}
@@ -20,6 +20,7 @@ use Rattle.loop_shapes.proofs.Walks.{Walk, defaults_last, all_same}
 module _ (has : AbsolutePath → Bool) where
   member_calls : (t : Tree) → IsCaseMember t → (s : AbsolutePath) (d : Declarations) → calls has t s d ≡ []
   member_calls (Integer n) h s d = refl
+  member_calls (Constant literal) h s d = refl
   member_calls (String text) h s d = refl
   member_calls (Buffer (Integer n) bytes) h s d = refl
   member_calls (Buffer _ bytes) h s d = absurd h
@@ -68,6 +69,7 @@ module _ (has : AbsolutePath → Bool) where
 module _ (whole : Whole) where
   member_names : (t : Tree) → IsCaseMember t → (s : AbsolutePath) (d : Declarations) → names whole t s d ≡ []
   member_names (Integer n) h s d = refl
+  member_names (Constant literal) h s d = refl
   member_names (String text) h s d = refl
   member_names (Buffer (Integer n) bytes) h s d = refl
   member_names (Buffer _ bytes) h s d = absurd h
@@ -113,6 +115,7 @@ module _ (whole : Whole) where
 
   member_types : (t : Tree) → IsCaseMember t → (s : AbsolutePath) → element_types whole t (types whole t s) ≡ []
   member_types (Integer n) h s = refl
+  member_types (Constant literal) h s = refl
   member_types (String text) h s = refl
   member_types (Buffer (Integer n) bytes) h s = refl
   member_types (Buffer _ bytes) h s = absurd h

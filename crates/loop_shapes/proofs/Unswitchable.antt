@@ -35,6 +35,7 @@ number_no_method _ h = absurd h
 
 member_no_method : (t : Tree) → IsCaseMember t → HasNoMethod t
 member_no_method (Integer n) h = tt
+member_no_method (Constant literal) h = tt
 member_no_method (String text) h = tt
 member_no_method (Buffer size bytes) h = number_no_method size h
 member_no_method _ h = absurd h
@@ -51,6 +52,7 @@ case_no_method : (t : Tree) → IsCaseValue t → HasNoMethod t
 case_no_method (Package n members) h = some_no_method members h
 case_no_method (VarPackage size members) h = (number_no_method size h.0, some_no_method members h.1)
 case_no_method (Integer n) h = tt
+case_no_method (Constant literal) h = tt
 case_no_method (String text) h = tt
 case_no_method (Buffer size bytes) h = number_no_method size h
 case_no_method _ h = absurd h

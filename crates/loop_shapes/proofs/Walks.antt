@@ -160,6 +160,7 @@ module _ {A : Type 0} (walk : Walk A) where
   -- what a Case compares with tells nothing, and so do the tests
   member_quiet : (t : Tree) → IsCaseMember t → Quiet t
   member_quiet (Integer n) h = walk.of_integer n
+  member_quiet (Constant literal) h = walk.of_word literal
   member_quiet (String text) h = walk.of_string text
   member_quiet (Buffer (Integer n) bytes) h = walk.of_buffer n bytes
   member_quiet (Buffer _ bytes) h = absurd h
@@ -170,6 +171,7 @@ module _ {A : Type 0} (walk : Walk A) where
   value_quiet (VarPackage (Integer n) members) h = walk.of_var_package n members (have_members members h.1)
   value_quiet (VarPackage _ members) h = absurd h.0
   value_quiet (Integer n) h = walk.of_integer n
+  value_quiet (Constant literal) h = walk.of_word literal
   value_quiet (String text) h = walk.of_string text
   value_quiet (Buffer (Integer n) bytes) h = walk.of_buffer n bytes
   value_quiet (Buffer _ bytes) h = absurd h
@@ -187,6 +189,7 @@ module _ {A : Type 0} (walk : Walk A) where
   test_quiet i (Package n members) h = members_quiet i members h
   test_quiet i (VarPackage size members) h = members_quiet i members h.1
   test_quiet i (Integer n) h = walk.of_equal i (Integer n) (walk.of_integer n)
+  test_quiet i (Constant literal) h = walk.of_equal i (Constant literal) (walk.of_word literal)
   test_quiet i (String text) h = walk.of_equal i (String text) (walk.of_string text)
   test_quiet i (Buffer size bytes) h = walk.of_equal i (Buffer size bytes) (member_quiet (Buffer size bytes) h)
   test_quiet i _ h = absurd h

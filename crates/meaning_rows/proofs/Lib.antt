@@ -12,3 +12,13 @@ mod RandomRows
 mod AccessRows
 mod AccessCases
 mod BufferRows
+pub mod Outside
+mod GoneRows
+mod EventRows
+mod FaultRows
+mod NarrowRows
+mod StoreRows
+mod TypeRows
+mod PathRows
+mod UnitRows
+mod TableRows

@@ -1,12 +1,11 @@
 -- Names in their shortest spelling, computed from the definitions alone.
-use Rattle.std.proofs.Common.{◌≡◌, ℕ, true, false, List, [], ◌∷◌, ◌++◌, refl}
+use Rattle.std.proofs.Common.{◌≡◌, ℕ, true, false, List, [], ◌∷◌, refl}
 use Rattle.acpi_values.specs.Values as V
 use Rattle.acpi_values.specs.Values.{Data}
 use Rattle.acpi_values.specs.declared.width.Width.TheVariants.{W64}
 use Rattle.acpi_state.specs.Objects.{Device}
 use Rattle.acpi_state.specs.Outcomes.{Gives, Normal, Done}
 use Rattle.acpi_state.specs.Sessions.{Request}
-use Rattle.asl_tree.specs.declared.path.Path.{Path}
 use Rattle.asl_tree.specs.Tree.{Integer, Use, Return, Name, Method, Container', Package, Trees, no_trees, tree}
 use Rattle.asl_meaning.specs.Declarations.{known_of}
 use Rattle.asl_meaning.specs.SourceSession.{source_session}

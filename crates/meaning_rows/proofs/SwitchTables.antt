@@ -6,7 +6,7 @@ use Rattle.acpi_values.specs.declared.operator.IntOp.TheVariants as IntOp
 use Rattle.acpi_values.specs.declared.operator.DataOp.TheVariants as DataOp
 use Rattle.acpi_values.specs.declared.operator.Plain.TheVariants as Plain
 use Rattle.acpi_state.specs.Outcomes.{Flow, Normal, Gives, Unfinished, Result, Done, Stopped}
-use Rattle.asl_tree.specs.Tree.{Integer, Return, While, Switch, Case, Default, Continue, Operated, Assigned, Trees, no_trees}
+use Rattle.asl_tree.specs.Tree.{Integer, Return, While, Switch, Case, Default, Continue, Operated, Assigned, Trees}
 use Rattle.asl_meaning.specs.Declarations.{known_of}
 use Rattle.asl_meaning.specs.SourceSession.{source_session}
 use Rattle.aml_meaning.specs.Encoded.{encoded_all}

@@ -71,8 +71,8 @@ fn is_declared(facts: &Facts, tables: &Tables, number: usize) -> bool
     }
 }
 
-// The last External of a path.
-fn last_external(facts: &Facts, tables: &Tables, number: usize) -> Option<External>
+// The first External of a path.
+fn first_external(facts: &Facts, tables: &Tables, number: usize) -> Option<External>
     ghost whole: { Whole }
     requires told { Knows facts.now whole }
     requires within { number < length facts.now.index.paths }
@@ -136,11 +136,11 @@ fn same_count(first: Option<u64>, second: Option<u64>) -> bool
     }
 }
 
-// Whether an External is as the last one before.
-fn agrees_with(last: Option<External>, external: External) -> bool
-    ensures { result ≡ spec.agrees_with (option_map type_as last) (type_as external) }
+// Whether an External is as the first of its path, if one stands before.
+fn agrees_with(first: Option<External>, external: External) -> bool
+    ensures { result ≡ spec.agrees_with (option_map type_as first) (type_as external) }
 {
-    match last {
+    match first {
         None => true,
         Some(other) => {
             other.object == external.object && same_count(other.parameters, external.parameters)
@@ -246,10 +246,10 @@ pub fn external_errors<'a>(
     unless(out, !declared, Fault::DeclaredHere { at, path })?;
     step_errors(out, facts, at, written, scope)?;
     length_errors(out, facts, at, written, path)?;
-    let last = last_external(facts, before, path);
+    let first = first_external(facts, before, path);
     unless(
         out,
-        agrees_with(last, external),
+        agrees_with(first, external),
         Fault::Differs {
             at: here,
             name: written,
@@ -327,7 +327,7 @@ pub fn call_errors<'a>(
     match target {
         None => Ok(()),
         Some(number) => {
-            let external = last_external(facts, &facts.tables, number);
+            let external = first_external(facts, &facts.tables, number);
             let first = first_call(facts, number);
             unless(
                 out,

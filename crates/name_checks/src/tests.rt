@@ -271,7 +271,7 @@ static NAMES: [(&str, &str); 11] = [
 ];
 
 // Terms with Scopes and Externals, and their errors.
-static SCOPES_AND_EXTERNALS: [(&str, &str); 14] = [
+static SCOPES_AND_EXTERNALS: [(&str, &str); 15] = [
     // A Scope opens a container, through aliases too, and the same one wherever it is searched.
     ("S:Y___ }", "6041 1.2 Y___; "),
     ("N:X___ S:X___ }", "6042 2.1 X___; "),
@@ -283,7 +283,8 @@ static SCOPES_AND_EXTERNALS: [(&str, &str); 14] = [
     ("E0:Y___ S:Y___ } C1:Y___", "6042 2.1 Y___; "),
     // Externals: declared here, not as before, or called otherwise.
     ("E0:X___ N:X___", "6044 1.2 \\X___; "),
-    ("E1:X___ E2:X___ E2:X___", "6045 2.1 X___; "),
+    ("E1:X___ E2:X___ E2:X___", "6045 2.1 X___; 6045 3.1 X___; "),
+    ("E1:X___ E2:X___ E1:X___", "6045 2.1 X___; "),
     ("E80:X___ E81:X___", "6045 2.1 X___; "),
     ("E1:\\_REV E2:\\_REV", ""),
     ("E8:X___ C1:X___ C2:X___ C1:X___", "6045 3.2 X___; "),

@@ -12,7 +12,7 @@ use Rattle.acpi_names.specs.Tables.{entry_at, Tabled}
 use Rattle.name_kinds.specs.Tables.{TabledBy, Notes}
 use Rattle.name_kinds.specs.Kinds.{kind_as, type_as}
 use Rattle.name_kinds.specs.declared.tables.Tables.{Tables}
-use Rattle.asl_meaning.specs.Declarations.{ExternalType, Declarations, declared_kinds, is_named, with_external}
+use Rattle.asl_meaning.specs.Declarations.{ExternalType, Declarations, declared_kinds, is_named, with_first, with_external}
 use Rattle.acpi_names.proofs.Mentions.{right_nil}
 use Rattle.acpi_names.proofs.Closed.{own_number}
 use Rattle.name_kinds.proofs.Entries.{entry_set, entry_here}
@@ -60,9 +60,20 @@ read_at {A} [] n x d lt e = absurd (omega (arith, lt))
 read_at {A} (y ∷ xs) zero x d lt e = sym e
 read_at {A} (y ∷ xs) (suc n) x d lt e = read_at xs n x d (omega (arith, lt)) e
 
-pub outside_noted : (paths : List AbsolutePath) (has : AbsolutePath → Bool) (new : Tables) (calls : List (AbsolutePath × ℕ)) (d : Declarations) (p : AbsolutePath) (t : ExternalType) (b : Bool) → b ≡ false → TabledBy (kind_as paths) paths new.kinds.items (lookup (declared_kinds has d.declared)) → TabledBy type_as paths new.externals.items (lookup ((p, t) ∷ d.external)) → Tabled paths new.calls.items (lookup calls) → Notes paths has new calls (with_external b p t d)
-outside_noted paths has new calls d p t b e kinds externals first =
-    subst (λ c. Notes paths has new calls (with_external c p t d)) (sym e) (record { kinds = kinds; externals = externals; first = first })
+-- the first External of a path, and a later one
+pub first_noted : (paths : List AbsolutePath) (has : AbsolutePath → Bool) (new : Tables) (calls : List (AbsolutePath × ℕ)) (d : Declarations) (p : AbsolutePath) (t : ExternalType) → lookup d.external p ≡ None
+    → Notes paths has new calls (record d { external = (p, t) ∷ d.external }) → Notes paths has new calls (record d { external = with_first p t d.external })
+first_noted paths has new calls d p t none notes =
+    subst (λ (o : Option ExternalType). Notes paths has new calls (record d { external = choose o ((p, t) ∷ d.external) (λ first. d.external) })) (sym none) notes
+
+pub later_noted : (paths : List AbsolutePath) (has : AbsolutePath → Bool) (new : Tables) (calls : List (AbsolutePath × ℕ)) (d : Declarations) (p : AbsolutePath) (t first : ExternalType) → lookup d.external p ≡ Some first
+    → Notes paths has new calls d → Notes paths has new calls (record d { external = with_first p t d.external })
+later_noted paths has new calls d p t first there notes =
+    subst (λ (o : Option ExternalType). Notes paths has new calls (record d { external = choose o ((p, t) ∷ d.external) (λ first. d.external) })) (sym there) notes
+
+pub outside_noted : (paths : List AbsolutePath) (has : AbsolutePath → Bool) (new : Tables) (calls : List (AbsolutePath × ℕ)) (d : Declarations) (p : AbsolutePath) (t : ExternalType) (b : Bool) → b ≡ false
+    → Notes paths has new calls (record d { external = with_first p t d.external }) → Notes paths has new calls (with_external b p t d)
+outside_noted paths has new calls d p t b e notes = subst (λ c. Notes paths has new calls (with_external c p t d)) (sym e) notes
 
 -- a mention that is no call
 pub noted_plain : (paths : List AbsolutePath) (has : AbsolutePath → Bool) (tables : Tables) (calls : List (AbsolutePath × ℕ)) (d : Declarations) → Notes paths has tables calls d → Notes paths has tables (calls ++ []) d

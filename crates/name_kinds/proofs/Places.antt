@@ -11,6 +11,7 @@ use Rattle.acpi_names.specs.Errors.{Whole}
 use Rattle.acpi_names.specs.Mentions.{Mention, Used', Sought, Called, Declares, Outside, Opens, after, after_all, call_in, calls_in}
 use Rattle.acpi_names.specs.Shown.{shown, all_shown}
 use Rattle.acpi_names.specs.declared.mention.Mention.{Mention as CodeMention}
+use Rattle.acpi_names.proofs.Folds.{first_external}
 use Rattle.acpi_names.proofs.Numbers.{same_path_refl}
 use Rattle.name_kinds.specs.Tables.{IsThere, Notes, Notices}
 use Rattle.name_kinds.specs.declared.tables.Tables.{Tables}
@@ -39,7 +40,9 @@ still_named (Outside here at name type scope) d path e = by_root (in_root (place
     by_root : (c : Bool) → is_named (with_external c (place_of name scope) type d) path ≡ true
     by_root true = e
     by_root false =
-        or_more (is_some (lookup d.declared path)) _ _ _ (λ h. h) (or_more (is_some (lookup d.external path)) _ _ _ (some_more (is_same_path (place_of name scope) path) type (lookup d.external path)) (λ h. h)) e
+        or_more (is_some (lookup d.declared path)) _ _ _ (λ h. h)
+        (or_more (is_some (lookup d.external path)) _ _ _
+        (λ h. first_external (place_of name scope) path type d.external ∙ ap (λ b. is_same_path (place_of name scope) path || b) h ∙ or_right (is_same_path (place_of name scope) path)) (λ h. h)) e
 still_named (Opens here at name scope inner) d path e = e
 
 all_named : (ms : List Mention) (d : Declarations) (path : AbsolutePath) → is_named d path ≡ true → is_named (after_all ms d) path ≡ true
@@ -60,7 +63,8 @@ named_behind (Outside here at name type scope) d all known calls f = f (place_of
         ap (λ b. is_some (lookup d.declared (place_of name scope)) || (is_some (lookup d.external (place_of name scope)) || b)) e
         ∙ ap (λ b. is_some (lookup d.declared (place_of name scope)) || b) (or_right (is_some (lookup d.external (place_of name scope)))) ∙ or_right (is_some (lookup d.declared (place_of name scope)))
     by_root false e =
-        ap (λ b. is_some (lookup d.declared (place_of name scope)) || (is_some (if b then Some type else lookup d.external (place_of name scope)) || in_root (place_of name scope))) (same_path_refl (place_of name scope))
+        ap (λ b. is_some (lookup d.declared (place_of name scope)) || (b || in_root (place_of name scope)))
+        (first_external (place_of name scope) (place_of name scope) type d.external ∙ ap (λ b. b || is_some (lookup d.external (place_of name scope))) (same_path_refl (place_of name scope)))
         ∙ or_right (is_some (lookup d.declared (place_of name scope)))
 named_behind (Opens here at name scope inner) d all known calls f = tt
 

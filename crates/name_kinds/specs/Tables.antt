@@ -4,7 +4,7 @@ use Rattle.std.specs.Option.{option_map}
 use Rattle.acpi_values.specs.Paths.{AbsolutePath}
 use Rattle.acpi_state.specs.Objects.{lookup, root_objects}
 use Rattle.asl_tree.specs.Names.{place_of}
-use Rattle.asl_meaning.specs.Declarations.{Declared, Declarations, with_declared, with_external, in_root, declared_kinds, external_names, as_known, kind_of, called, is_named}
+use Rattle.asl_meaning.specs.Declarations.{Declared, Declarations, with_declared, with_first, with_external, in_root, declared_kinds, external_names, as_known, kind_of, called, is_named}
 use Rattle.acpi_names.specs.Errors.{Whole}
 use Rattle.acpi_names.specs.Paths.{number_in}
 use Rattle.acpi_names.specs.Tables.{entry_at, Tabled}
@@ -41,6 +41,10 @@ IsThere whole _ = Unit {0}
 abbrev pub IsDeclared : List AbsolutePath → Tables → Tables → Kind → AbsolutePath → Type 0
 IsDeclared paths old new kind path =
     (has : AbsolutePath → Bool) (calls : List (AbsolutePath × ℕ)) (d : Declarations) (as' : Declared) → kind_as paths kind ≡ kind_of has as' → Notes paths has old calls d → Notes paths has new calls (with_declared path as' d)
+
+abbrev pub IsExternal : List AbsolutePath → Tables → Tables → External → AbsolutePath → Type 0
+IsExternal paths old new external path =
+    (has : AbsolutePath → Bool) (calls : List (AbsolutePath × ℕ)) (d : Declarations) → Notes paths has old calls d → Notes paths has new calls (record d { external = with_first path (type_as external) d.external })
 
 abbrev pub IsOutside : List AbsolutePath → Tables → Tables → External → AbsolutePath → Type 0
 IsOutside paths old new external path =

@@ -9,7 +9,7 @@ ghost use Rattle.acpi_names.specs.Shown.{shown, declared_as, written_as};
 ghost use Rattle.acpi_values.specs.Paths.{is_same_path};
 ghost use Rattle.std.specs.Option.{option_map};
 ghost use Rattle.name_kinds.specs.Kinds.{object_as, kind_as, at_root};
-ghost use Rattle.name_kinds.specs.Tables.{AreSized, IsThere, IsDeclared, IsOutside, IsCalled, Notices};
+ghost use Rattle.name_kinds.specs.Tables.{AreSized, IsThere, IsDeclared, IsExternal, IsOutside, IsCalled, Notices};
 
 use crate::kind::{External, Kind, Object, root_object};
 use acpi_names::index::{Index, denoted_by};
@@ -19,7 +19,7 @@ use acpi_names::place::{find, prefixed, scope_in};
 use asl_tree::path::Path;
 use std::alloc::{AllocError, Global};
 
-/// What is said of the paths with these numbers: how each is declared last, its last External, and the number of
+/// What is said of the paths with these numbers: how each is declared last, its first External, and the number of
 /// arguments of its first call.
 #[derive(Drop)]
 pub struct Tables {
@@ -132,6 +132,21 @@ fn note_declared(index: &Index, tables: &mut Tables, number: usize, kind: Kind)
     tables.kinds[number] = Some(kind);
 }
 
+// An External of a path that is not of the root.
+fn note_external(index: &Index, tables: &mut Tables, number: usize, external: External)
+    requires within { number < length index.now.paths }
+    requires sized { AreSized index.now.paths tables.old }
+    ensures sized { AreSized index.now.paths tables.new }
+    ensures noted { IsExternal index.now.paths tables.old tables.new external (get_or index.now.paths number []) }
+{
+    let count = index.paths.len();
+    match tables.externals[number] {
+        // The first one counts.
+        Some(_) => {}
+        None => tables.externals[number] = Some(external),
+    }
+}
+
 // An External of a path.
 fn note_outside(index: &Index, tables: &mut Tables, number: usize, external: External)
     requires within { number < length index.now.paths }
@@ -141,7 +156,7 @@ fn note_outside(index: &Index, tables: &mut Tables, number: usize, external: Ext
 {
     let count = index.paths.len();
     if !is_in_root(&index.paths, number) {
-        tables.externals[number] = Some(external);
+        note_external(index, tables, number, external);
     }
 }
 

@@ -4,6 +4,7 @@ use Rattle.std.specs.Prelude.{if◌then◌else◌, nat_eq, nat_le, ◌&&◌, ◌
 use Rattle.std.proofs.lemmas.Bool.Decides.{nat_tests}
 use Rattle.std.proofs.lemmas.Bool.{eqb-true}
 use Rattle.acpi_values.specs.Paths.{NameSeg, AbsolutePath, is_same_path}
+use Rattle.acpi_state.specs.Outcomes.{choose}
 use Rattle.acpi_state.specs.Objects.{Object, DataObject, MethodObject, ContainerObject, ExternalObject, Names, lookup, root_objects, MutexObject, EventObject, as_declared, RegionObject}
 use Rattle.acpi_state.proofs.Lookups.{is_same_path-true}
 use Rattle.asl_tree.specs.declared.path.Path.{Path}
@@ -178,9 +179,10 @@ module _ (whole : Whole) where
   external_good : (here at : At) (name : Path) (x : ExternalType) (scope : AbsolutePath) (d : Declarations) → external_errors whole here at name x scope d ≡ [] → AreGood whole.all d → AreGood whole.all (with_external (in_root (place_of name scope)) (place_of name scope) x d)
   external_good here at name x scope d e g = by_root (in_root (place_of name scope)) refl
     where
-      by_root : (c : Bool) → in_root (place_of name scope) ≡ c → AreGood whole.all (with_external c (place_of name scope) x d)
-      by_root true out = g
-      by_root false out =
+      by_first : in_root (place_of name scope) ≡ false → (o : Option ExternalType) → lookup d.external (place_of name scope) ≡ o
+          → AreGood whole.all (record d { external = choose o ((place_of name scope, x) ∷ d.external) (λ first. d.external) })
+      by_first out (Some first) there = g
+      by_first out None there =
           let path = place_of name scope in
           let e' = right_none (step_errors at name scope) _ (right_none (unless (not (is_some (lookup whole.all.declared path))) (DeclaredHere at path)) _ e) in
           record {
@@ -191,6 +193,10 @@ module _ (whole : Whole) where
             apart = (not_true _ (holds (not (is_some (lookup whole.all.declared path))) (DeclaredHere at path) (left_none _ _ e)), g.apart);
             alike = (holds (agrees_with (lookup d.external path) x) (Differs here name) (right_none (length_errors at name path) _ e'), g.alike);
           }
+
+      by_root : (c : Bool) → in_root (place_of name scope) ≡ c → AreGood whole.all (with_external c (place_of name scope) x d)
+      by_root true out = g
+      by_root false out = by_first out (lookup d.external (place_of name scope)) refl
 
   good_items : (items : List (FieldItem UnitName)) (scope : AbsolutePath) (d : Declarations) → items_errors whole items scope d ≡ [] → AreGood whole.all d → AreGood whole.all (declare_items items scope d)
   good_items [] scope d e g = g

@@ -36,6 +36,7 @@ number_value _ h = absurd h
 
 member_value : (t : Tree) → IsCaseMember t → is_value t ≡ true
 member_value (Integer number) h = refl
+member_value (Constant literal) h = refl
 member_value (String text) h = refl
 member_value (Buffer size bytes) h = number_value size h
 member_value _ h = absurd h
@@ -52,6 +53,7 @@ case_value : (t : Tree) → IsCaseValue t → is_value t ≡ true
 case_value (Package n members) h = some_values members h
 case_value (VarPackage size members) h = and_from (is_value size) (are_values members) (number_value size h.0) (some_values members h.1)
 case_value (Integer number) h = refl
+case_value (Constant literal) h = refl
 case_value (String text) h = refl
 case_value (Buffer size bytes) h = number_value size h
 case_value _ h = absurd h

@@ -40,6 +40,7 @@ IsNumber _ = ⊥
 -- what a Case compares with: an integer, a string, a Buffer of constants, or a Package of at least one of these
 abbrev pub IsCaseMember : Tree → Type 0
 IsCaseMember (Integer number) = Unit {0}
+IsCaseMember (Constant literal) = Unit {0}
 IsCaseMember (String text) = IsText text
 IsCaseMember (Buffer size bytes) = IsNumber size
 IsCaseMember _ = ⊥

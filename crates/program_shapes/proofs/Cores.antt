@@ -1,4 +1,4 @@
--- A program with its symbols named, its constants folded, and then its names spelled by what is known of the program itself, is the core of the first.
+-- A program with its symbols named, its constants folded, its Externals in Ifs, and then its names spelled by what is known of the program itself, is the core of the first.
 use Rattle.std.proofs.Common.{◌≡◌, ℕ, Bool, true, List, [], Option, sym, ap, ◌∙◌, subst}
 use Rattle.acpi_values.specs.Paths.{AbsolutePath}
 use Rattle.acpi_state.specs.Objects.{lookup}
@@ -21,25 +21,28 @@ use Rattle.loop_shapes.proofs.Names as loops
 use Rattle.named_sessions.proofs.Core.{core_spelled}
 use Rattle.asl_fold.specs.Folds.{folded_where}
 use Rattle.asl_fold.proofs.Asked.{where_declarations, where_whole}
+use Rattle.wrapped_externals.specs.Wraps.{wrapped_where}
+use Rattle.wrapped_externals.proofs.Asked as wrapped
 
 -- each path is called first with as many arguments
 same_calls : (program : Trees) → are_terms program ≡ true → (path : AbsolutePath) → lookup (whole_of (named_all program)).calls path ≡ lookup (whole_of program).calls path
 same_calls program terms path =
     ap (λ d. lookup (called (calls_all (is_named d) (named_all program) [] nothing_declared)) path) (same_declarations program) ∙ same_first_call program terms (is_named (declarations program)) path
 
-pub core_lowered : (fold : Bool) (width : Width) (shorten : Bool) (paths : List AbsolutePath) (named : List Bool) (table : List (Option ℕ)) (program spelt : Trees) → are_terms program ≡ true
-    → ((d : Declarations) (counts : List (AbsolutePath × ℕ)) → Agrees paths named d → Tabled paths table (lookup counts) → spelt ≡ spelled_all shorten (is_named d) (written_external counts) (folded_where fold width (named_all program)) [])
-    → Agrees paths named (declarations program) → Tabled paths table (lookup (whole_of program).calls) → spelt ≡ core_of shorten (folded_where fold width (named_all program))
-core_lowered fold width shorten paths named table program spelt terms spells agrees tabled =
-    let core = folded_where fold width (named_all program) in
-    core_spelled shorten paths named table core spelt spells (subst (Agrees paths named) (sym (where_declarations fold width (named_all program) ∙ same_declarations program)) agrees)
-    (λ path. tabled path ∙ sym (ap (λ whole. lookup whole.calls path) (where_whole fold width (named_all program)) ∙ same_calls program terms path))
+pub core_lowered : (wrap fold : Bool) (width : Width) (shorten : Bool) (paths : List AbsolutePath) (named : List Bool) (table : List (Option ℕ)) (program spelt : Trees) → are_terms program ≡ true
+    → ((d : Declarations) (counts : List (AbsolutePath × ℕ)) → Agrees paths named d → Tabled paths table (lookup counts) → spelt ≡ spelled_all shorten (is_named d) (written_external counts) (wrapped_where wrap (folded_where fold width (named_all program))) [])
+    → Agrees paths named (declarations program) → Tabled paths table (lookup (whole_of program).calls) → spelt ≡ core_of shorten (wrapped_where wrap (folded_where fold width (named_all program)))
+core_lowered wrap fold width shorten paths named table program spelt terms spells agrees tabled =
+    let lowered = folded_where fold width (named_all program) in
+    let core = wrapped_where wrap lowered in
+    core_spelled shorten paths named table core spelt spells (subst (Agrees paths named) (sym (wrapped.where_declarations wrap lowered ∙ where_declarations fold width (named_all program) ∙ same_declarations program)) agrees)
+    (λ path. tabled path ∙ sym (ap (λ whole. lookup whole.calls path) (wrapped.where_whole wrap lowered ∙ where_whole fold width (named_all program)) ∙ same_calls program terms path))
 
 -- the same with loops for Switches
-pub core_looped : (fold : Bool) (width : Width) (shorten : Bool) (paths : List AbsolutePath) (named : List Bool) (table : List (Option ℕ)) (program spelt : Trees) → AreFormed AreNamed (Unit {0}) (Unit {0}) program
-    → ((d : Declarations) (counts : List (AbsolutePath × ℕ)) → Agrees paths named d → Tabled paths table (lookup counts) → spelt ≡ spelled_all shorten (is_named d) (written_external counts) (folded_where fold width (named_all (without_switches program))) [])
-    → Agrees paths named (declarations program) → Tabled paths table (lookup (whole_of program).calls) → spelt ≡ core_of shorten (folded_where fold width (named_all (without_switches program)))
-core_looped fold width shorten paths named table program spelt formed spells agrees tabled =
-    core_lowered fold width shorten paths named table (without_switches program) spelt (formed_terms AreNamed (Unit {0}) ⊥ (without_switches program) (loops_formed AreNamed (Unit {0}) (Unit {0}) program formed)) spells
+pub core_looped : (wrap fold : Bool) (width : Width) (shorten : Bool) (paths : List AbsolutePath) (named : List Bool) (table : List (Option ℕ)) (program spelt : Trees) → AreFormed AreNamed (Unit {0}) (Unit {0}) program
+    → ((d : Declarations) (counts : List (AbsolutePath × ℕ)) → Agrees paths named d → Tabled paths table (lookup counts) → spelt ≡ spelled_all shorten (is_named d) (written_external counts) (wrapped_where wrap (folded_where fold width (named_all (without_switches program)))) [])
+    → Agrees paths named (declarations program) → Tabled paths table (lookup (whole_of program).calls) → spelt ≡ core_of shorten (wrapped_where wrap (folded_where fold width (named_all (without_switches program))))
+core_looped wrap fold width shorten paths named table program spelt formed spells agrees tabled =
+    core_lowered wrap fold width shorten paths named table (without_switches program) spelt (formed_terms AreNamed (Unit {0}) ⊥ (without_switches program) (loops_formed AreNamed (Unit {0}) (Unit {0}) program formed)) spells
     (subst (Agrees paths named) (sym (loops.same_declarations AreNamed (Unit {0}) (Unit {0}) program formed)) agrees)
     (λ path. tabled path ∙ sym (ap (λ whole. lookup whole.calls path) (loops.same_whole AreNamed (Unit {0}) (Unit {0}) program formed)))

@@ -7,7 +7,7 @@ use Rattle.asl_tree.specs.declared.constant.NoConstant.{NoConstant}
 use Rattle.asl_tree.specs.declared.term.Op.{Op}
 use Rattle.asl_tree.specs.declared.term.Literal.{Literal}
 use Rattle.asl_tree.specs.declared.term.Special.TheVariants as Special
-use Rattle.asl_tree.specs.Tree.{At, Tree, Integer, String, Omitted, Use, Buffer, Package, VarPackage, Trees, no_trees, tree, count}
+use Rattle.asl_tree.specs.Tree.{At, Tree, Integer, Constant, String, Omitted, Use, Buffer, Package, VarPackage, Trees, no_trees, tree, count}
 use Rattle.asl_tree.specs.View.{form, counted}
 use Rattle.aml_sessions.specs.Ready.{is_expression, is_constant, IsText}
 use Rattle.named_sessions.specs.Shaped.{IsCaseMember, IsCaseValue}
@@ -22,6 +22,7 @@ use Rattle.program_shapes.proofs.Forms.{IsPackageOf}
 use Rattle.asl_numbers.specs.Numbers.{numbered, numbered_all}
 use Rattle.program_shapes.proofs.Plans.{PlanAs, integer_as, text_as, word_as, name_as, form_as}
 use Rattle.program_shapes.proofs.Branches.{IsBranchBehind, branch_as}
+use Rattle.program_shapes.proofs.Settled.{literal_as}
 
 -- how a part is read before it is evaluated
 abbrev pub loose : Slot → Slot
@@ -149,10 +150,12 @@ begun_fit width place p h e = by (is_element p) e
 case_member_fit : (width : Width) (place : Place) (p : Plan) → IsLooseMember p → (case_member width place p).faults ≡ [] → PlanAs IsCaseMember (case_member width place p).made
 case_member_fit width place (a_text bytes) h e = text_as IsCaseMember bytes h
 case_member_fit width place (a_form (Op.Special Special.Buffer) args body) h e = h
+case_member_fit width place (a_form (Op.Literal literal) no_plans no_plans) h e = literal_as IsCaseMember (Op.Literal literal) (λ at. tt)
 case_member_fit width place p h e = valued_fit IsCaseMember 0 18446744073709551615 place (constant_of width p) (λ n le. tt) e
 
 member_value : (t : Tree) → IsCaseMember t → IsCaseValue t
 member_value (Integer n) h = h
+member_value (Constant literal) h = h
 member_value (String text) h = h
 member_value (Buffer size bytes) h = h
 member_value _ h = absurd h
@@ -183,6 +186,7 @@ case_value_fit : (width : Width) (place : Place) (p : Plan) → IsLooseValue p �
 case_value_fit width place (a_text bytes) h e = text_as IsCaseValue bytes h
 case_value_fit width place (a_form (Op.Special Special.Buffer) args body) h e = λ at next. member_value (numbered at next (a_form (Op.Special Special.Buffer) args body)) (h at next)
 case_value_fit width place (a_form (Op.Special Special.Package) args body) h e = package_value place args body h e
+case_value_fit width place (a_form (Op.Literal literal) no_plans no_plans) h e = literal_as IsCaseValue (Op.Literal literal) (λ at. tt)
 case_value_fit width place p h e = valued_fit IsCaseValue 0 18446744073709551615 place (constant_of width p) (λ n le. tt) e
 
 pub evaluated_fit : (width : Width) (s : Slot) (place : Place) (p : Plan) → Loosely s p → (evaluated width s place p).faults ≡ [] → PlanAs (Fits s) (evaluated width s place p).made

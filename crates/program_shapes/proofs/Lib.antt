@@ -24,6 +24,7 @@ pub mod Lists
 pub mod Laid
 pub mod Lowered
 pub mod Folded
+pub mod Wrapped
 pub mod Cores
 pub mod Tables
 pub mod ListPlaces

@@ -218,6 +218,7 @@ module _ (Listed : List (FieldItem UnitName) → Type 0) (Switches : Type 0) whe
 
   member_named : (t : Tree) → IsCaseMember t → IsCaseMember (named t)
   member_named (Integer number) h = h
+  member_named (Constant literal) h = h
   member_named (String text) h = h
   member_named (Buffer size bytes) h = number_named size h
   member_named _ h = absurd h
@@ -234,6 +235,7 @@ module _ (Listed : List (FieldItem UnitName) → Type 0) (Switches : Type 0) whe
   case_named (Package n members) h = some_named members h
   case_named (VarPackage size members) h = (number_named size h.0, some_named members h.1)
   case_named (Integer number) h = h
+  case_named (Constant literal) h = h
   case_named (String text) h = h
   case_named (Buffer size bytes) h = number_named size h
   case_named _ h = absurd h

@@ -22,6 +22,7 @@ use Rattle.loop_shapes.proofs.Names.{same_name_errors, same_type_errors}
 use Rattle.loop_shapes.proofs.Faithful.{does_unswitched}
 use Rattle.switch_checks.proofs.Silent.{have_locals}
 use Rattle.asl_fold.proofs.Asked.{where_shaped, where_name_errors, where_type_errors}
+use Rattle.wrapped_externals.proofs.Asked as wrapped
 use Rattle.asl_lower.proofs.Named.{same_named}
 use Rattle.asl_lower.proofs.Declared.{same_known, same_externals}
 use Rattle.asl_lower.proofs.Errors.{no_name_errors, no_type_errors}
@@ -35,8 +36,9 @@ use Rattle.program_shapes.specs.Kept.{IsKeptSource}
 use Rattle.program_shapes.proofs.Lists.{plans_laid}
 use Rattle.program_shapes.proofs.Laid.{terms_laid}
 use Rattle.descriptor_shapes.proofs.Resolved.{resolved_formed}
-use Rattle.program_shapes.specs.Sources.{source_in, plans_in, terms_in, layouts_in, fields_in, width_in, lowered_in, table_in, IsRight, IsTableOf}
+use Rattle.program_shapes.specs.Sources.{source_in, plans_in, terms_in, layouts_in, fields_in, width_in, lowered_in, core_in, table_in, IsRight, IsTableOf}
 use Rattle.program_shapes.proofs.Folded.{does_unfolded}
+use Rattle.program_shapes.proofs.Wrapped.{does_unwrapped}
 use Rattle.program_shapes.proofs.Blocks.{terms_as, room_in}
 use Rattle.program_shapes.proofs.Headers.{HaveRoom}
 
@@ -65,15 +67,16 @@ lowered_faithful width program bytes terms faithful =
       whole = both.whole;
     }
 
-pub does_as : (fold short shorten : Bool) (items : List Raw) → IsRight items → IsKeptSource (writtens items) → length (table_in fold short shorten items) ≤ 16777216 → IsTableOf items (table_in fold short shorten items)
+pub does_as : (wrap fold short shorten : Bool) (items : List Raw) → IsRight items → IsKeptSource (writtens items) → length (table_in wrap fold short shorten items) ≤ 16777216 → IsTableOf items (table_in wrap fold short shorten items)
 unfolding errors_at
-does_as fold short shorten items right kept within =
+does_as wrap fold short shorten items right kept within =
     let fields = fields_in items in
     let width = width_in items in
     let program = terms_in items in
     let loops = without_switches program in
     let named = named_all loops in
-    let core = lowered_in fold items in
+    let lowered = lowered_in fold items in
+    let core = core_in wrap fold items in
     let content = encoded_all width short (core_of shorten core) in
     let size = header_length + length content in
     let header = header_with fields size (checksum_of (header_with fields size 0 ++ content)) in
@@ -85,10 +88,12 @@ does_as fold short shorten items right kept within =
     let counts : type_errors loops ≡ [] = same_type_errors AreNamed (Unit {0}) (Unit {0}) program formed ∙ right.counts in
     let room : HaveRoom (args_of (writtens items)) = room_in (writtens items) right.form kept in
     let signature : length fields.signature ≡ 4 = room.signature in
-    let table = table_in fold short shorten items in
+    let table = table_in wrap fold short shorten items in
     record {
       header = is_header fields content signature (omega (arith, small)) (mod_below (number_of (plan_at (args_of (writtens items)) 5)) 4294967296 (omega arith));
       faithful = does_unswitched AreNamed (Unit {0}) (Unit {0}) program formed locals width table
-          (lowered_faithful width loops table terms (does_unfolded fold width named table
-          (is_faithful shorten width short core table (where_shaped fold width named (core_is_shaped items right.form right.layouts kept)) (where_name_errors fold width named ∙ no_name_errors loops terms names) (where_type_errors fold width named ∙ no_type_errors loops terms counts) (width_is fields content signature) (omega (arith, small)) (definition_is fields content signature (omega (arith, small))))));
+          (lowered_faithful width loops table terms (does_unfolded fold width named table (does_unwrapped wrap width lowered table
+          (is_faithful shorten width short core table (wrapped.where_shaped wrap lowered (where_shaped fold width named (core_is_shaped items right.form right.layouts kept)))
+          (wrapped.where_name_errors wrap lowered ∙ where_name_errors fold width named ∙ no_name_errors loops terms names) (wrapped.where_type_errors wrap lowered ∙ where_type_errors fold width named ∙ no_type_errors loops terms counts)
+          (width_is fields content signature) (omega (arith, small)) (definition_is fields content signature (omega (arith, small)))))));
     }

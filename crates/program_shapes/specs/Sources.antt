@@ -11,6 +11,7 @@ use Rattle.acpi_names.specs.Errors.{name_errors, type_errors}
 use Rattle.named_sessions.specs.Core.{core_of}
 use Rattle.asl_lower.specs.Nodes.{named_all}
 use Rattle.asl_fold.specs.Folds.{folded_where}
+use Rattle.wrapped_externals.specs.Wraps.{wrapped_where}
 use Rattle.hidden_locals.specs.Switches.{without_switches}
 use Rattle.asl_parser.specs.declared.raw.Raw.{Raw}
 use Rattle.asl_parser.specs.Written.{writtens}
@@ -98,14 +99,17 @@ locals_in items = few_locals (terms_in items) (plans_in items)
 abbrev pub notes_in : List Raw → List Message
 notes_in items = name_notes (terms_in items)
 
--- the program's core, before its names are spelled: loops stand for its Switches, its symbols are named, and its constants are folded where that is
--- asked for
+-- the program lowered: loops stand for its Switches, its symbols are named, and its constants are folded where that is asked for
 abbrev pub lowered_in : Bool → List Raw → Trees
 lowered_in fold items = folded_where fold (width_in items) (named_all (without_switches (terms_in items)))
 
--- its table: the header, and the bytes of its core with its names spelled; whether constants are folded, whether 0, 1 and all ones have a byte of their own, and whether names are shortened, is the caller's choice
-abbrev pub table_in : Bool → Bool → Bool → List Raw → List ℕ
-table_in fold short shorten items = table_bytes (fields_in items) (encoded_all (width_in items) short (core_of shorten (lowered_in fold items)))
+-- its core, before its names are spelled: lowered, with its Externals in Ifs where that is asked for
+abbrev pub core_in : (wrap fold : Bool) → List Raw → Trees
+core_in wrap fold items = wrapped_where wrap (lowered_in fold items)
+
+-- its table: the header, and the bytes of its core with its names spelled; whether Externals stand in Ifs, whether constants are folded, whether 0, 1 and all ones have a byte of their own, and whether names are shortened, is the caller's choice
+abbrev pub table_in : (wrap fold short shorten : Bool) → List Raw → List ℕ
+table_in wrap fold short shorten items = table_bytes (fields_in items) (encoded_all (width_in items) short (core_of shorten (core_in wrap fold items)))
 
 -- nothing is wrong with its form, its names, those of its resource descriptors among these, how many arguments its calls have, its statements, the
 -- lists of its fields and their accesses, the kinds of its arguments, the lengths of its lists, the values of its Cases, and the Locals that are

@@ -1,6 +1,6 @@
 -- A source's core has as many pieces as places.
 use Rattle.std.proofs.Common.{◌≡◌, ℕ, suc, ◌+◌, Bool, true, false, List, [], ◌∷◌, length, Option, Some, None, refl, sym, ap, ◌∙◌, arith, length-append}
-use Rattle.std.specs.Prelude.{nat_le, ◌||◌, if◌then◌else◌}
+use Rattle.std.specs.Prelude.{nat_le, ◌||◌, if◌then◌else◌, not, ◌++◌}
 use Rattle.iasl_messages.specs.declared.place.Place.{Place}
 use Rattle.acpi_values.specs.Paths.{AbsolutePath}
 use Rattle.acpi_values.specs.declared.operator.Plain.{Plain}
@@ -8,7 +8,7 @@ use Rattle.acpi_values.specs.declared.width.Width.{Width}
 use Rattle.asl_tree.specs.declared.term.Op.{Op}
 use Rattle.asl_tree.specs.declared.term.Declaration.TheVariants as Declaration
 use Rattle.asl_tree.specs.declared.term.Control.TheVariants as Control
-use Rattle.asl_tree.specs.Tree.{At, Tree, Integer, Use, Apply, Package, VarPackage, Method, Container', Scope, If, ElseIf, Else, While, Break, Continue, Switch, Case, Default, Trees, no_trees, tree}
+use Rattle.asl_tree.specs.Tree.{At, Tree, Integer, Use, Apply, Package, VarPackage, External, Method, Container', Scope, If, ElseIf, Else, While, Break, Continue, Switch, Case, Default, Trees, no_trees, tree}
 use Rattle.asl_tree.specs.View.{form, counted}
 use Rattle.asl_tree.specs.Names.{place_of, is_known}
 use Rattle.asl_meaning.specs.Declarations.{ExternalType, known_of}
@@ -17,6 +17,9 @@ use Rattle.named_sessions.specs.Core.{says_of, core_of}
 use Rattle.asl_fold.specs.declared.fate.Fate.{Fate}
 use Rattle.asl_fold.specs.Folds.{fate_of, replaced, reduced, sized, folded, folded_args, folded_all, folded_where}
 use Rattle.asl_lower.specs.Nodes.{before, named, named_all}
+use Rattle.asl_lower.specs.Nests.{joined}
+use Rattle.wrapped_externals.specs.Wraps.{starts_branch, leading, in_if, wrapped, behind, wrapped_all, wrapped_where}
+use Rattle.wrapped_externals.specs.Starts.{is_free, inner_starts, starts, with_ifs, placed_where}
 use Rattle.asl_shape.specs.Plans.{Plan, a_form, Plans, no_plans, plan}
 use Rattle.asl_numbers.specs.Numbers.{inside as within, nodes, numbered, numbered_all}
 use Rattle.hidden_locals.specs.Crossing.{has_continue, have_continue}
@@ -322,11 +325,121 @@ mutual
       (λ k. plans_count (suc next + nodes args) body k) (λ k. cases_count behind ps k)
   cases_count next (plan place p ps) h turns level = absurd h
 
+-- ---- Externals are put into Ifs: an If is one term more
+
+abbrev marked : List Bool → ℕ
+marked [] = 0
+marked (true ∷ rest) = suc (marked rest)
+marked (false ∷ rest) = marked rest
+
+marked_append : (fs gs : List Bool) → marked (fs ++ gs) ≡ marked fs + marked gs
+marked_append [] gs = omega arith
+marked_append (true ∷ fs) gs = let h = marked_append fs gs in omega (arith, h)
+marked_append (false ∷ fs) gs = marked_append fs gs
+
+more_places : (fs : List Bool) (ps : List Place) → length fs ≡ length ps → length (with_ifs fs ps) ≡ length ps + marked fs
+more_places [] [] e = refl
+more_places [] (p ∷ ps) e = absurd (omega (arith, e))
+more_places (f ∷ fs) [] e = absurd (omega (arith, e))
+more_places (true ∷ fs) (p ∷ ps) e = let h = more_places fs ps (omega (arith, e)) in omega (arith, h)
+more_places (false ∷ fs) (p ∷ ps) e = let h = more_places fs ps (omega (arith, e)) in omega (arith, h)
+
+joined_counts : (ts us : Trees) → all_cuts (joined ts us) ≡ all_cuts ts + all_cuts us
+joined_counts no_trees us = omega arith
+joined_counts (tree t ts) us = let h = joined_counts ts us in omega (arith, h)
+
+-- sums of what stands first and what stands behind
+zero_first : (n : ℕ) → n ≡ 0 + n
+zero_first n = omega arith
+
+one_first : (n : ℕ) → suc n ≡ 1 + n
+one_first n = omega arith
+
+suc_first : (a b : ℕ) → suc (a + b) ≡ suc a + b
+suc_first a b = omega arith
+
+one_more : (a b : ℕ) → suc a + b ≡ 1 + (a + b)
+one_more a b = omega arith
+
+one_each : (a b c d : ℕ) → a + b ≡ c + d → (1 + a) + b ≡ (1 + c) + d
+one_each a b c d h = omega (arith, h)
+
+both_lengths : (i r a b : ℕ) → suc i ≡ a → r ≡ b → suc (i + r) ≡ a + b
+both_lengths i r a b h k = omega (arith, h, k)
+
+both_counts : (w g a b i r : ℕ) → w ≡ a + i → g ≡ b + r → 0 + (w + g) ≡ (a + b) + (i + r)
+both_counts w g a b i r h k = omega (arith, h, k)
+
+flag_first : (f a b c s m : ℕ) → a + b ≡ c + s → m ≡ f + s → f + (a + b) ≡ c + m
+flag_first f a b c s m h k = omega (arith, h, k)
+
+mutual
+  inner_length : (t : Tree) → suc (length (inner_starts t)) ≡ cuts t
+  inner_length (Method at name flags body) = ap suc (starts_length false body)
+  inner_length (Container' kind at name body) = ap suc (starts_length false body)
+  inner_length (Scope here at name body) = ap suc (starts_length false body)
+  inner_length (If test body) = ap suc (starts_length false body)
+  inner_length (Else body) = ap suc (starts_length false body)
+  inner_length (While test body) = ap suc (starts_length false body)
+  inner_length t = refl
+
+  starts_length : (inside : Bool) (ts : Trees) → length (starts inside ts) ≡ all_cuts ts
+  starts_length inside no_trees = refl
+  starts_length inside (tree (External here at name type parameters) ts) = ap suc (starts_length true ts) ∙ one_first (all_cuts ts)
+  starts_length inside (tree t ts) =
+      ap suc (length-append (inner_starts t) (starts false ts)) ∙ both_lengths (length (inner_starts t)) (length (starts false ts)) (cuts t) (all_cuts ts) (inner_length t) (starts_length false ts)
+
+-- an Else that stands behind the Externals which stand first
+behind_free : (ts : Trees) → starts_branch (behind ts) ≡ not (is_free ts)
+behind_free no_trees = refl
+behind_free (tree (External here at name type parameters) ts) = behind_free ts
+behind_free (tree (Else body) ts) = refl
+behind_free (tree (ElseIf test body) ts) = refl
+behind_free (tree _ ts) = refl
+
+if_counts : (run us : Trees) (first : Tree) (branch free : Bool) → branch ≡ not free → all_cuts (joined (in_if (tree first run) branch) us) ≡ marked (free ∷ []) + (all_cuts (tree first run) + all_cuts us)
+if_counts run us first branch true e = ap (λ b. all_cuts (joined (in_if (tree first run) b) us)) e ∙ one_more (all_cuts (tree first run)) (all_cuts us)
+if_counts run us first branch false e = ap (λ b. all_cuts (joined (in_if (tree first run) b) us)) e ∙ joined_counts (tree first run) us ∙ zero_first (all_cuts (tree first run) + all_cuts us)
+
+-- a list of which what stands behind its first Externals is counted
+list_counts : (ts : Trees) → all_cuts (leading ts) + all_cuts (behind ts) ≡ all_cuts ts + marked (starts true ts) → all_cuts (wrapped_all ts) ≡ all_cuts ts + marked (starts false ts)
+list_counts no_trees h = refl
+list_counts (tree (External here at name type parameters) ts) h =
+    let first : Tree = External here at name type parameters in
+    if_counts (leading ts) (behind ts) first (starts_branch (behind ts)) (is_free ts) (behind_free ts)
+    ∙ flag_first (marked (is_free ts ∷ [])) (all_cuts (tree first (leading ts))) (all_cuts (behind ts)) (all_cuts (tree first ts)) (marked (starts true ts)) (marked (starts false (tree first ts))) h (marked_append (is_free ts ∷ []) (starts true ts))
+list_counts (tree t ts) h = zero_first (all_cuts (wrapped_all (tree t ts))) ∙ h
+
+mutual
+  wrapped_count : (t : Tree) → cuts (wrapped t) ≡ cuts t + marked (inner_starts t)
+  wrapped_count (Method at name flags body) = ap suc (list_counts body (behind_count body)) ∙ suc_first (all_cuts body) (marked (starts false body))
+  wrapped_count (Container' kind at name body) = ap suc (list_counts body (behind_count body)) ∙ suc_first (all_cuts body) (marked (starts false body))
+  wrapped_count (Scope here at name body) = ap suc (list_counts body (behind_count body)) ∙ suc_first (all_cuts body) (marked (starts false body))
+  wrapped_count (If test body) = ap suc (list_counts body (behind_count body)) ∙ suc_first (all_cuts body) (marked (starts false body))
+  wrapped_count (Else body) = ap suc (list_counts body (behind_count body)) ∙ suc_first (all_cuts body) (marked (starts false body))
+  wrapped_count (While test body) = ap suc (list_counts body (behind_count body)) ∙ suc_first (all_cuts body) (marked (starts false body))
+  wrapped_count t = refl
+
+  behind_count : (ts : Trees) → all_cuts (leading ts) + all_cuts (behind ts) ≡ all_cuts ts + marked (starts true ts)
+  behind_count no_trees = refl
+  behind_count (tree (External here at name type parameters) ts) = one_each (all_cuts (leading ts)) (all_cuts (behind ts)) (all_cuts ts) (marked (starts true ts)) (behind_count ts)
+  behind_count (tree t ts) =
+      both_counts (cuts (wrapped t)) (all_cuts (wrapped_all ts)) (cuts t) (all_cuts ts) (marked (inner_starts t)) (marked (starts false ts)) (wrapped_count t) (list_counts ts (behind_count ts))
+      ∙ ap (λ n. (cuts t + all_cuts ts) + n) (sym (marked_append (inner_starts t) (starts false ts)))
+
+wrapped_counts : (wrap : Bool) (ts : Trees) (places : List Place) → all_cuts ts ≡ length places → all_cuts (wrapped_where wrap ts) ≡ length (placed_where wrap ts places)
+wrapped_counts false ts places e = e
+wrapped_counts true ts places e =
+    list_counts ts (behind_count ts) ∙ ap (λ n. n + marked (starts false ts)) e ∙ sym (more_places (starts false ts) places (starts_length false ts ∙ e))
+
 -- as many terms in the term lists of a formed program's core as its plans have places
-pub core_count : (shorten fold : Bool) (width : Width) (ps : Plans) → FormedTerms (numbered_all 0 ps) → all_cuts (core_of shorten (folded_where fold width (named_all (without_switches (numbered_all 0 ps))))) ≡ length (core_places ps)
+pub core_count : (shorten wrap fold : Bool) (width : Width) (ps : Plans) → FormedTerms (numbered_all 0 ps)
+    → all_cuts (core_of shorten (wrapped_where wrap (folded_where fold width (named_all (without_switches (numbered_all 0 ps)))))) ≡ length (placed_where wrap (folded_where fold width (named_all (without_switches (numbered_all 0 ps)))) (core_places ps))
 unfolding core_places
-core_count shorten fold width ps h =
+core_count shorten wrap fold width ps h =
     let terms = numbered_all 0 ps in
     let loops = without_switches terms in
-    let program = folded_where fold width (named_all loops) in
-    spelled_counts shorten (is_known (known_of program)) (says_of program) program [] ∙ where_counts fold width (named_all loops) ∙ named_counts loops ∙ plans_count 0 ps h (plan_of terms) 0 false
+    let lowered = folded_where fold width (named_all loops) in
+    let program = wrapped_where wrap lowered in
+    spelled_counts shorten (is_known (known_of program)) (says_of program) program []
+    ∙ wrapped_counts wrap lowered (core_places_in false ps) (where_counts fold width (named_all loops) ∙ named_counts loops ∙ plans_count 0 ps h (plan_of terms) 0 false)

@@ -16,7 +16,7 @@ use Rattle.asl_tree.specs.declared.term.Term.TheVariants as V
 use Rattle.asl_shape.specs.Plans.{Plan, an_integer, a_text, a_fill, a_word, a_local, an_arg, debug, omitted, a_name, a_unit, a_skip, an_offset, a_call, a_form, Plans, plan_of, plans_of}
 use Rattle.asl_shape.proofs.Plans.{plan_form, plan_call}
 use Rattle.statement_checks.proofs.Terms.{form_is}
-use Rattle.switch_checks.specs.Values.{byte_of, alone_bytes, size_in, is_buffer, is_package, if_buffer, value_of}
+use Rattle.switch_checks.specs.Values.{byte_of, alone_bytes, size_in, is_package, form_value, value_of}
 use Rattle.switch_checks.specs.Repeats.{found_in, is_case, is_switch, value_at, members_at, first_members, case_values, switch_repeats, term_repeats, repeated_values}
 use Rattle.switch_checks.specs.Locals.{is_method, switch_in, first_switch}
 
@@ -60,7 +60,7 @@ byte_alone t not_text not_fill =
     of_plans (λ p. byte_of p ∷ [] ≡ alone_bytes p) t (λ n e. refl) (λ s e. absurd (not_text s e)) (λ s ds e. absurd (not_fill s ds e)) (λ o v w e. refl) (λ w. refl) (λ n. refl) (λ n. refl) refl refl (λ p. refl) (λ s n. refl) (λ n. refl) (λ n. refl) (λ p qs. refl)
 
 pub form_value_is : (width : Width) (t : Term) (op : Op) (args body : Vec Node Global) (xs ys : List Node) → t ≡ D.Form op args body → xs ≡ args.items → ys ≡ body.items
-    → if_buffer (is_buffer op) (plans_of xs) (plans_of ys) ≡ value_of width (plan_of t)
+    → form_value width op (plans_of xs) (plans_of ys) ≡ value_of width (plan_of t)
 form_value_is width t op args body xs ys e a b = sym (ap (value_of width) (form_is t op args body xs ys e a b))
 
 pub no_value : (width : Width) (t : Term) → ((n : ℕ) → t ≡ D.Integer n → ⊥) → ((s : List ℕ) → t ≡ D.Text s → ⊥) → ((o : Op) (v w : Vec Node Global) → t ≡ D.Form o v w → ⊥) → value_of width (plan_of t) ≡ None

@@ -5,6 +5,7 @@ use Rattle.std.specs.Str.{bytes_eq}
 use Rattle.std.specs.HashSet.{HashSet}
 use Rattle.acpi_values.specs.Integers.{wrapped}
 use Rattle.acpi_values.specs.declared.width.Width.{Width}
+use Rattle.asl_tree.specs.Literals.{literal_number}
 use Rattle.asl_tree.specs.declared.term.Op.{Op}
 use Rattle.asl_tree.specs.declared.term.Special.TheVariants as Special
 use Rattle.asl_shape.specs.Plans.{Plan, an_integer, a_text, a_fill, a_form, Plans, no_plans, plan, plan_at, number_of}
@@ -76,11 +77,16 @@ abbrev pub if_buffer : Bool → Plans → Plans → Option CaseValue
 if_buffer true args body = Some (buffer_of (size_in (plan_at args 0)) (buffer_bytes body))
 if_buffer false args body = None
 
+-- the value of a form, a word or a Buffer
+abbrev pub form_value : Width → Op → Plans → Plans → Option CaseValue
+form_value width (Op.Literal literal) args body = Some (AnInteger (literal_number width literal))
+form_value width op args body = if_buffer (is_buffer op) args body
+
 -- the value of a constant; Integers are compared at this width
 abbrev pub value_of : Width → Plan → Option CaseValue
 value_of width (an_integer number) = Some (AnInteger (wrapped width number))
 value_of width (a_text bytes) = Some (AString bytes)
-value_of width (a_form op args body) = if_buffer (is_buffer op) args body
+value_of width (a_form op args body) = form_value width op args body
 value_of width p = None
 
 -- what a value in code stands for

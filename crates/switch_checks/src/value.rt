@@ -6,6 +6,7 @@ ghost use Rattle.switch_checks.specs.Values as spec;
 
 use acpi_values::integer::wrap;
 use acpi_values::width::Width;
+use asl_tree::constant::literal_value;
 use asl_tree::term::{Node, Op, Special, Term};
 use std::alloc::{AllocError, Global};
 
@@ -22,12 +23,6 @@ fn first_of(nodes: &[Node]) -> Option<&Node>
     ensures { option_copied result ≡ slice_get nodes.now 0 }
 {
     nodes.get(0)
-}
-
-pub(crate) fn is_buffer(op: Op) -> bool
-    ensures { result ≡ spec.is_buffer op }
-{
-    matches!(op, Op::Special(Special::Buffer))
 }
 
 pub(crate) fn is_package(op: Op) -> bool
@@ -155,16 +150,17 @@ fn buffer_value(alloc: Global, args: &[Node], body: &[Node]) -> Result<CaseValue
 
 fn form_value(
     alloc: Global,
+    width: Width,
     op: Op,
     args: &[Node],
     body: &[Node],
 ) -> Result<Option<CaseValue>, AllocError>
-    ensures { IfOk result (λ value. option_map spec.shown value ≡ spec.if_buffer (spec.is_buffer op) (plans_of args.now) (plans_of body.now)) }
+    ensures { IfOk result (λ value. option_map spec.shown value ≡ spec.form_value width op (plans_of args.now) (plans_of body.now)) }
 {
-    if is_buffer(op) {
-        Ok(Some(buffer_value(alloc, args, body)?))
-    } else {
-        Ok(None)
+    match op {
+        Op::Literal(literal) => Ok(Some(CaseValue::Integer(literal_value(literal, width)))),
+        Op::Special(Special::Buffer) => Ok(Some(buffer_value(alloc, args, body)?)),
+        _ => Ok(None),
     }
 }
 
@@ -186,7 +182,7 @@ pub(crate) fn value_of(
     match term {
         Term::Integer(number) => Ok(Some(CaseValue::Integer(wrap(width, *number)))),
         Term::Text(text) => Ok(Some(string_value(alloc, text.as_bytes())?)),
-        Term::Form { op, args, body } => Ok(form_value(alloc, *op, args, body)?),
+        Term::Form { op, args, body } => Ok(form_value(alloc, width, *op, args, body)?),
         _ => Ok(None),
     }
 }

@@ -10,12 +10,13 @@ use Rattle.iasl_ports.specs.declared.delivery.Stop.{Stop}
 use Rattle.iasl_ports.specs.declared.delivery.Stop.TheVariants.{Fault, Memory}
 use Rattle.iasl_messages.specs.declared.place.Piece.{Piece}
 use Rattle.iasl_backends.specs.declared.backend.Kind.{Kind}
-use Rattle.iasl_backends.specs.declared.backend.Kind.TheVariants.{RawAml, CHex, Listing}
+use Rattle.iasl_backends.specs.declared.backend.Kind.TheVariants.{RawAml, CHex, Listing, Template}
 use Rattle.iasl_backends.specs.declared.asked.Asked.{Asked as Kinds}
 use Rattle.iasl_backends.specs.Rendering.{rendering}
-use Rattle.iasl_options.specs.Asking.{Asked, asked_by}
+use Rattle.iasl_options.specs.Task.{Task, Compiles, Generates, Templates, settings_in}
 use Rattle.iasl_runs.specs.Ends.{FilesSeen, OutputsSeen, ConsoleSeen, Decides, Finishes, stop_status}
 use Rattle.table_outputs.specs.declared.decision.OutputNames.{OutputNames}
+use Rattle.table_outputs.specs.declared.decision.OutputNames.TheVariants.{OfTable, OfTemplate}
 use Rattle.table_outputs.specs.declared.decision.Making.{Making}
 use Rattle.table_outputs.specs.declared.decision.Decision.{Decision}
 use Rattle.table_outputs.specs.declared.decision.Decision.TheVariants.{Ends, Makes}
@@ -23,8 +24,10 @@ use Rattle.table_outputs.specs.Decision.{file_under, files_under, kinds_of, kind
 use Rattle.table_outputs.specs.Boxes.{kinds_by, HoldsAsked, order_of, AreRendered, ChangesBy}
 
 -- an end is settled
-end_settled : (r : Result Asked ℕ) (due : Due) → IsDecidedFor r (Ends due) → IsSettled due
-end_settled (Ok asked) due h = h.0
+end_settled : (r : Result Task ℕ) (due : Due) → IsDecidedFor r (Ends due) → IsSettled due
+end_settled (Ok (Compiles asked)) due h = h.0
+end_settled (Ok (Generates count)) due h = h.0
+end_settled (Ok (Templates table)) due h = absurd h
 end_settled (Err word) due h = h.0
 
 as_decided : (stop later : Stop) → later ≡ stop → IsErrOf {T = Due} (Err later) Fault → IsErrOf {T = Decision} (Err stop) Fault
@@ -42,7 +45,7 @@ due_then (Err stop) (Err later) (Ok due) r m = absurd m
 due_then (Err stop) (Err later) (Err last) r m = m ∙ r
 
 -- what a call decides, once its outputs are made
-pub decides : (answer : List Named → Option Answer) (r : Result Asked ℕ) (decided : Result Decision Stop) (made : Result Due Stop) (old new : FilesSeen)
+pub decides : (answer : List Named → Option Answer) (r : Result Task ℕ) (decided : Result Decision Stop) (made : Result Due Stop) (old new : FilesSeen)
     → Settles answer (IsDecidedFor r) decided old new → IsDueOf decided made → Decides answer made old new
 decides answer r (Ok (Makes making)) (Ok due) old new s m = record {
   due = λ told is. s.due told is ∙ ap Some (sym m.0);
@@ -81,17 +84,23 @@ decides answer r (Err stop) (Err later) old new s m = record {
 
 -- ---- what becomes of the boxes
 
-kinds_are : (r : Result Asked ℕ) (making : Making) → IsDecidedFor r (Makes making) → kinds_of making.names ≡ kinds_by r
-kinds_are (Ok asked) making h = h.1
+kinds_are : (r : Result Task ℕ) (making : Making) → IsDecidedFor r (Makes making) → kinds_of making.names ≡ kinds_by r
+kinds_are (Ok (Compiles asked)) making h = h.1
+kinds_are (Ok (Generates count)) making h = h.1
+kinds_are (Ok (Templates table)) making h = h
 kinds_are (Err word) making h = absurd h
 
-compiles : (r : Result Asked ℕ) (making : Making) → IsDecidedFor r (Makes making) → only_by r ≡ false
-compiles (Ok asked) making h = h.0
+compiles : (r : Result Task ℕ) (making : Making) → IsDecidedFor r (Makes making) → only_by (settings_in r) ≡ false
+compiles (Ok (Compiles asked)) making h = h.0
+compiles (Ok (Generates count)) making h = refl
+compiles (Ok (Templates table)) making h = refl
 compiles (Err word) making h = absurd h
 
 -- an end of status 0 is one of preprocessed text alone
-text_alone : (r : Result Asked ℕ) (due : Due) → IsDecidedFor r (Ends due) → due.status ≡ 0 → only_by r ≡ true
-text_alone (Ok asked) due h zero = h.1 zero
+text_alone : (r : Result Task ℕ) (due : Due) → IsDecidedFor r (Ends due) → due.status ≡ 0 → only_by (settings_in r) ≡ true
+text_alone (Ok (Compiles asked)) due h zero = h.1 zero
+text_alone (Ok (Generates count)) due h zero = h.1 zero
+text_alone (Ok (Templates table)) due h zero = absurd h
 text_alone (Err word) due h zero = absurd (h.1 zero)
 
 -- the texts behind the table
@@ -101,6 +110,11 @@ texts_with name_of None None pieces = refl
 texts_with name_of None (Some name) pieces = refl
 texts_with name_of (Some name) None pieces = refl
 texts_with name_of (Some name) (Some other) pieces = refl
+
+-- those of all outputs, in the order of their files
+texts_of : (names : OutputNames) (pieces : List Piece) → map (λ (file : Named). file.1) (files_under names pieces) ≡ map (λ kind. rendering kind pieces) (order_of (kinds_of names))
+texts_of (OfTable names) pieces = ap (λ texts. rendering RawAml pieces ∷ texts) (texts_with string_bytes names.c_text names.listing pieces)
+texts_of (OfTemplate name) pieces = refl
 
 -- which status comes of a table
 of_making : (due : Due) (status : ℕ) {A : Type 0} → due.status ≡ 0 → (status ≡ due.status) ⊎ (((status ≡ 3) × A) ⊎ (status ≡ 4)) → 1 ≤ status → status ≤ 2 → ⊥
@@ -117,14 +131,14 @@ stops : (stop : Stop) (status : ℕ) → status ≡ stop_status stop → 3 ≤ s
 stops Fault status e = omega (arith, e)
 stops Memory status e = omega (arith, e)
 
-module _ {X : Type 0} (kind_of : X → Kind) (pieces_of : X → List Piece) (is_finished : X → Bool) (r : Result Asked ℕ) (old new : List X) where
+module _ {X : Type 0} (kind_of : X → Kind) (pieces_of : X → List Piece) (is_finished : X → Bool) (r : Result Task ℕ) (old new : List X) where
   pub boxes_kept : (decided rendered : Result Decision Stop) → IfOk decided (IsDecidedFor r) → ChangesBy kind_of pieces_of is_finished decided rendered old new → (new ≡ old) ⊎ HoldsAsked kind_of (kinds_by r) old new
   boxes_kept (Ok (Makes making)) rendered h change = inr (subst (λ kinds. HoldsAsked kind_of kinds old new) (kinds_are r making h) change.0)
   boxes_kept (Ok (Ends due)) rendered h change = inl change
   boxes_kept (Err stop) rendered h change = inl change
 
-  pub boxes_of_text : (decided rendered : Result Decision Stop) → IfOk decided (IsDecidedFor r) → ChangesBy kind_of pieces_of is_finished decided rendered old new → only_by r ≡ true → new ≡ old
-  boxes_of_text (Ok (Makes making)) rendered h change alone = let no : only_by r ≡ false = compiles r making h in absurd cc
+  pub boxes_of_text : (decided rendered : Result Decision Stop) → IfOk decided (IsDecidedFor r) → ChangesBy kind_of pieces_of is_finished decided rendered old new → only_by (settings_in r) ≡ true → new ≡ old
+  boxes_of_text (Ok (Makes making)) rendered h change alone = let no : only_by (settings_in r) ≡ false = compiles r making h in absurd cc
   boxes_of_text (Ok (Ends due)) rendered h change alone = change
   boxes_of_text (Err stop) rendered h change alone = change
 
@@ -138,7 +152,7 @@ module _ {X : Type 0} (kind_of : X → Kind) (pieces_of : X → List Piece) (is_
 
     pub boxes_rendered : (answer : List Named → Option Answer) (files now_files : FilesSeen) (decided rendered : Result Decision Stop) (made : Result Due Stop) → Settles answer (IsDecidedFor r) decided files now_files → IsDueOf decided made → IsDueOf rendered made
         → ChangesBy kind_of pieces_of is_finished decided rendered old new → Finishes fault memory made status put now_put told now_told
-        → status ≡ 0 → only_by r ≡ false → HoldsAsked kind_of (kinds_by r) old new × AreRendered pieces_of is_finished (kinds_by r) new answer files.contents
+        → status ≡ 0 → only_by (settings_in r) ≡ false → HoldsAsked kind_of (kinds_by r) old new × AreRendered pieces_of is_finished (kinds_by r) new answer files.contents
     boxes_rendered answer files now_files (Ok (Makes making)) (Ok rendered) (Ok due) s m n change f zero asks =
         let kinds = kinds_are r making s.settled in (
           subst (λ kinds. HoldsAsked kind_of kinds old new) kinds change.0,
@@ -148,14 +162,14 @@ module _ {X : Type 0} (kind_of : X → Kind) (pieces_of : X → List Piece) (is_
             finished = change.1.1;
             texts = λ all is.
                 ap (λ o. map (λ (file : Named). file.1) (due_of o)) (s.due all is)
-                ∙ ap (λ texts. rendering RawAml making.pieces ∷ texts) (texts_with string_bytes making.names.c_text making.names.listing making.pieces)
+                ∙ texts_of making.names making.pieces
                 ∙ ap (λ kinds. map (λ kind. rendering kind making.pieces) (order_of kinds)) kinds;
           },
         )
     boxes_rendered answer files now_files (Ok (Makes making)) (Err stop) (Ok due) s m n change f zero asks = absurd n
     boxes_rendered answer files now_files (Ok (Makes making)) rendered (Err stop) s m n change f zero asks = let high = stops stop status f.1.is in absurd (omega (arith, high, zero))
     boxes_rendered answer files now_files (Ok (Ends decided)) rendered (Ok due) s m n change f zero asks =
-        let yes : only_by r ≡ true = text_alone r decided s.settled (ap (λ d. d.status) (sym m) ∙ of_zero due status zero f.is) in absurd cc
+        let yes : only_by (settings_in r) ≡ true = text_alone r decided s.settled (ap (λ d. d.status) (sym m) ∙ of_zero due status zero f.is) in absurd cc
     boxes_rendered answer files now_files (Ok (Ends decided)) rendered (Err stop) s m n change f zero asks = absurd m
     boxes_rendered answer files now_files (Err stop) rendered (Ok due) s m n change f zero asks = absurd m
     boxes_rendered answer files now_files (Err stop) rendered (Err later) s m n change f zero asks = let high = stops later status f.1.is in absurd (omega (arith, high, zero))

@@ -9,20 +9,22 @@ use Rattle.iasl_ports.specs.declared.delivery.Stop.{Stop}
 use Rattle.iasl_messages.specs.declared.place.Piece.{Piece}
 use Rattle.iasl_backends.specs.declared.asked.Asked.{Asked as Kinds}
 use Rattle.iasl_backends.specs.declared.backend.Kind.{Kind}
-use Rattle.iasl_backends.specs.declared.backend.Kind.TheVariants.{RawAml, CHex, Listing}
+use Rattle.iasl_backends.specs.declared.backend.Kind.TheVariants.{RawAml, CHex, Listing, Template}
 use Rattle.iasl_backends.specs.Asked.{is_asked, has_kind}
 use Rattle.iasl_backends.specs.Each.{Each}
 use Rattle.iasl_backends.specs.Rendering.{rendering}
-use Rattle.iasl_options.specs.Asking.{Asked, asked_by}
+use Rattle.iasl_options.specs.Task.{Task, Compiles, Generates, Templates, generated_settings}
 use Rattle.table_outputs.specs.declared.decision.Making.{Making}
 use Rattle.table_outputs.specs.declared.decision.Decision.{Decision}
 use Rattle.table_outputs.specs.declared.decision.Decision.TheVariants.{Ends, Makes}
-use Rattle.table_outputs.specs.Decision.{kinds_in, kinds_of}
+use Rattle.table_outputs.specs.Decision.{kinds_in, kinds_of, template_kinds}
 
 -- the kinds that words ask for; the table alone where they are not good
-abbrev pub kinds_by : Result Asked ℕ → Kinds
-kinds_by (Ok asked) = kinds_in asked
-kinds_by (Err word) = record { c_text = false; listing = false }
+abbrev pub kinds_by : Result Task ℕ → Kinds
+kinds_by (Ok (Compiles asked)) = kinds_in asked
+kinds_by (Ok (Generates count)) = kinds_in generated_settings
+kinds_by (Ok (Templates table)) = template_kinds
+kinds_by (Err word) = record { template = false; c_text = false; listing = false }
 
 -- the list holds exactly the boxes of the kinds that are asked for, in their old order
 abbrev pub HoldsAsked : {X : Type 0} → (X → Kind) → Kinds → List X → List X → Type 0
@@ -30,7 +32,7 @@ HoldsAsked kind_of kinds old new = Each (λ b c. kind_of c ≡ kind_of b) (filte
 
 -- the outputs that are asked for, in the order of their files
 abbrev pub order_of : Kinds → List Kind
-order_of kinds = RawAml ∷ cond kinds.c_text (CHex ∷ []) [] ++ cond kinds.listing (Listing ∷ []) []
+order_of kinds = cond kinds.template (Template ∷ []) (RawAml ∷ []) ++ cond kinds.c_text (CHex ∷ []) [] ++ cond kinds.listing (Listing ∷ []) []
 
 -- The boxes are finished over one list of pieces, and the texts of their kinds are the bytes of the files that were due.
 pub record AreRendered {X : Type 0} (pieces_of : X → List Piece) (is_finished : X → Bool) (kinds : Kinds) (boxes : List X) (answer : List Named → Option Answer) (contents : Option (List Named)) : Type 0 where
@@ -39,7 +41,7 @@ pub record AreRendered {X : Type 0} (pieces_of : X → List Piece) (is_finished 
   pub finished : All (λ b. is_finished b ≡ true) boxes
   pub texts : ForSome contents (λ told. map (λ file. file.1) (due_of (answer told)) ≡ map (λ kind. rendering kind pieces) (order_of kinds))
 
--- The boxes hold the texts of a table's outputs: each is finished over the table, and there is one of each kind that has a name.
+-- The boxes hold the texts of outputs: each is finished over the pieces, and there is one of each kind that has a name.
 pub record HoldsTexts {X : Type 0} (kind_of : X → Kind) (pieces_of : X → List Piece) (is_finished : X → Bool) (making : Making) (boxes : List X) : Type 0 where
   pub over : All (λ b. pieces_of b ≡ making.pieces) boxes
   pub finished : All (λ b. is_finished b ≡ true) boxes
@@ -52,7 +54,7 @@ HoldsOutputs kind_of pieces_of is_finished (Ok (Ends due)) boxes = ⊤
 HoldsOutputs kind_of pieces_of is_finished (Err stop) boxes = ⊤
 
 -- What making the outputs of a decision does to the boxes: nothing where there are none to make; else those of other kinds are let go,
--- and the others are finished over the table, unless memory is wanted.
+-- and the others are finished over the pieces, unless memory is wanted.
 abbrev pub ChangesBy : {X : Type 0} → (X → Kind) → (X → List Piece) → (X → Bool) → Result Decision Stop → Result Decision Stop → List X → List X → Type 0
 ChangesBy kind_of pieces_of is_finished (Ok (Makes making)) rendered old new =
     HoldsAsked kind_of (kinds_of making.names) old new

@@ -11,11 +11,13 @@ use Rattle.iasl_ports.specs.declared.delivery.Stop.TheVariants.{Fault, Memory}
 use Rattle.iasl_runs.specs.Ends.{FilesSeen}
 use Rattle.iasl_messages.specs.declared.place.Piece.{Piece}
 use Rattle.iasl_backends.specs.declared.asked.Asked.{Asked as Kinds}
-use Rattle.iasl_backends.specs.declared.backend.Kind.TheVariants.{RawAml, CHex, Listing}
+use Rattle.iasl_backends.specs.declared.backend.Kind.TheVariants.{RawAml, CHex, Listing, Template}
 use Rattle.iasl_backends.specs.Rendering.{rendering}
 use Rattle.iasl_options.specs.Asking.{Asked}
-use Rattle.iasl_options.specs.Task.{settings_by}
+use Rattle.iasl_options.specs.Task.{Task, Compiles, Generates, Templates, generated_settings, settings_by, task_by}
+use Rattle.table_outputs.specs.declared.decision.TableNames.{TableNames}
 use Rattle.table_outputs.specs.declared.decision.OutputNames.{OutputNames}
+use Rattle.table_outputs.specs.declared.decision.OutputNames.TheVariants.{OfTable, OfTemplate}
 use Rattle.table_outputs.specs.declared.decision.Decision.{Decision}
 use Rattle.table_outputs.specs.declared.decision.Decision.TheVariants.{Ends, Makes}
 
@@ -25,23 +27,37 @@ file_under name_of None text = []
 file_under name_of (Some name) text = (name_of name, text) ∷ []
 
 -- the files of a table in pieces, in the order of their putting
-abbrev pub files_under : OutputNames → List Piece → List Named
-files_under names pieces =
+abbrev pub table_files_under : TableNames → List Piece → List Named
+table_files_under names pieces =
     (string_bytes names.table, rendering RawAml pieces)
     ∷ file_under string_bytes names.c_text (rendering CHex pieces) ++ file_under string_bytes names.listing (rendering Listing pieces)
+
+-- those of a table, or the one of a template
+abbrev pub files_under : OutputNames → List Piece → List Named
+files_under (OfTable names) pieces = table_files_under names pieces
+files_under (OfTemplate name) pieces = (string_bytes name, rendering Template pieces) ∷ []
 
 -- what a decision is to end with
 abbrev pub end_of : Decision → Answer
 end_of (Ends due) = answer_of due
 end_of (Makes making) = record { status = 0; text = making.text; due = files_under making.names making.pieces }
 
+-- the kinds of a table's outputs that have names
+abbrev pub table_kinds : TableNames → Kinds
+table_kinds names = record { template = false; c_text = is_some names.c_text; listing = is_some names.listing }
+
+-- a template alone
+abbrev pub template_kinds : Kinds
+template_kinds = record { template = true; c_text = false; listing = false }
+
 -- the kinds of outputs that have names
 abbrev pub kinds_of : OutputNames → Kinds
-kinds_of names = record { c_text = is_some names.c_text; listing = is_some names.listing }
+kinds_of (OfTable names) = table_kinds names
+kinds_of (OfTemplate name) = template_kinds
 
--- the kinds of outputs that are asked for
+-- the kinds of outputs that a compilation is asked for
 abbrev pub kinds_in : Asked → Kinds
-kinds_in asked = record { c_text = asked.switches.c_text; listing = asked.switches.listing }
+kinds_in asked = record { template = false; c_text = asked.switches.c_text; listing = asked.switches.listing }
 
 -- An end is settled, and has status 0 only where preprocessed text alone is asked for; else the outputs of the kinds that are asked for
 -- are made.
@@ -49,9 +65,16 @@ abbrev pub IsDecidedBy : Asked → Decision → Type 0
 IsDecidedBy asked (Ends due) = IsSettled due × (due.status ≡ 0 → asked.only ≡ true)
 IsDecidedBy asked (Makes making) = (asked.only ≡ false) × (kinds_of making.names ≡ kinds_in asked)
 
+-- of a template nothing but its text is made
+abbrev pub IsTemplate : Decision → Type 0
+IsTemplate (Ends due) = ⊥
+IsTemplate (Makes making) = kinds_of making.names ≡ template_kinds
+
 -- the same of words, where they are good
-abbrev pub IsDecidedFor : Result Asked ℕ → Decision → Type 0
-IsDecidedFor (Ok asked) decision = IsDecidedBy asked decision
+abbrev pub IsDecidedFor : Result Task ℕ → Decision → Type 0
+IsDecidedFor (Ok (Compiles asked)) decision = IsDecidedBy asked decision
+IsDecidedFor (Ok (Generates count)) decision = IsDecidedBy generated_settings decision
+IsDecidedFor (Ok (Templates table)) decision = IsTemplate decision
 IsDecidedFor (Err word) (Ends due) = IsSettled due × (due.status ≡ 0 → ⊥)
 IsDecidedFor (Err word) (Makes making) = ⊥
 
@@ -93,3 +116,13 @@ only_by (Err word) = false
 
 abbrev pub asks_for_text : List (List ℕ) → Bool
 asks_for_text words = only_by (settings_by words)
+
+-- whether words ask for a template
+abbrev pub wants_template : Result Task ℕ → Bool
+wants_template (Ok (Compiles asked)) = false
+wants_template (Ok (Generates count)) = false
+wants_template (Ok (Templates table)) = true
+wants_template (Err word) = false
+
+abbrev pub asks_for_template : List (List ℕ) → Bool
+asks_for_template words = wants_template (task_by words)

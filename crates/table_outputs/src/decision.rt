@@ -7,13 +7,22 @@ use iasl_ports::list::Text;
 /// The names of what is put of a table: of the table's file, and, where these are asked for, of its bytes as an array of C and
 /// of its listing.
 #[derive(Drop)]
-pub struct OutputNames {
+pub struct TableNames {
     pub table: String,
     pub c_text: Option<String>,
     pub listing: Option<String>,
 }
 
-/// A table in pieces whose outputs are to be made and put, and the text of the console then.
+/// The names of what is put.
+#[derive(Drop)]
+pub enum OutputNames {
+    /// Those of a table's outputs.
+    OfTable(TableNames),
+    /// That of the text of a template.
+    OfTemplate(String),
+}
+
+/// A table or a template in pieces whose outputs are to be made and put, and the text of the console then.
 #[derive(Drop)]
 pub struct Making {
     pub text: Text,
@@ -26,6 +35,6 @@ pub struct Making {
 pub enum Decision {
     /// An end of which no output has to be made. Its file, if there is one, has bytes of its own.
     Ends(Due<'static>),
-    /// The outputs of a table, and status 0.
+    /// The outputs of a table or of a template, and status 0.
     Makes(Making),
 }

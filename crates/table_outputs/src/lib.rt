@@ -1,4 +1,4 @@
-//! The outputs of a table: their names, and their texts, which a list of boxes makes.
+//! The outputs of a call: their names, and their texts, which a list of boxes makes.
 #![tactic(auto)]
 
 pub mod decision;

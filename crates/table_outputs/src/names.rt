@@ -8,9 +8,9 @@ ghost use Rattle.iasl_messages.specs.declared.place.Piece.{Piece};
 ghost use Rattle.iasl_options.specs.Names.{further_name as name_beside};
 ghost use Rattle.iasl_options.specs.Shown.{AreTexts, asked_of};
 ghost use Rattle.table_outputs.specs.Files.{is_fetched, first_in_use, name_in_use, table_files};
-ghost use Rattle.table_outputs.specs.Decision.{file_under, files_under, kinds_of, kinds_in};
+ghost use Rattle.table_outputs.specs.Decision.{file_under, table_files_under, table_kinds, kinds_in};
 
-use crate::decision::OutputNames;
+use crate::decision::TableNames;
 use iasl_options::names::{further_name, table_name};
 use iasl_options::request::Options;
 use iasl_options::switches::Switches;
@@ -42,18 +42,18 @@ pub fn names_of_table(
     alloc: Global,
     options: &Options,
     own: &Text,
-) -> Result<OutputNames, AllocError>
+) -> Result<TableNames, AllocError>
     requires texts { AreTexts options.now }
     requires own { IsAscii own.now }
-    ensures files { (pieces : List Piece) → IfOk result (λ names. files_under names pieces ≡ table_files (asked_of options.now) options.now.file own.now pieces) }
-    ensures kinds { IfOk result (λ names. kinds_of names ≡ kinds_in (asked_of options.now)) }
+    ensures files { (pieces : List Piece) → IfOk result (λ names. table_files_under names pieces ≡ table_files (asked_of options.now) options.now.file own.now pieces) }
+    ensures kinds { IfOk result (λ names. table_kinds names ≡ kinds_in (asked_of options.now)) }
 {
     let Switches {
         c_text,
         listing,
         ..
     } = options.switches;
-    Ok(OutputNames {
+    Ok(TableNames {
         table: table_name(alloc, options, own)?,
         c_text: name_where(alloc, c_text, options, own, ".hex")?,
         listing: name_where(alloc, listing, options, own, ".lst")?,
@@ -102,8 +102,8 @@ fn first_in_use<'a>(files: &[Text], names: &[&'a String]) -> Option<&'a String>
 }
 
 /// The first name in the order of the files that a fetched file has, or another of them.
-pub fn name_in_use<'a>(files: &[Text], names: &'a OutputNames) -> Option<&'a String>
-    ensures { (pieces : List Piece) → option_map (λ name. string_bytes name.now) result ≡ name_in_use files.now (files_under names.now pieces) }
+pub fn name_in_use<'a>(files: &[Text], names: &'a TableNames) -> Option<&'a String>
+    ensures { (pieces : List Piece) → option_map (λ name. string_bytes name.now) result ≡ name_in_use files.now (table_files_under names.now pieces) }
 {
     let table = &names.table;
     match (&names.c_text, &names.listing) {

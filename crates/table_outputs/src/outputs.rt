@@ -1,16 +1,17 @@
-//! The outputs of a table, which a list of boxes makes and lends.
-ghost use Rattle.std.specs.Prelude.{◌≡◌, ◌++◌, List, map, string_bytes, is_some, true, IfOk, OnOk};
+//! The outputs of a call, which a list of boxes makes and lends.
+ghost use Rattle.std.specs.Prelude.{◌≡◌, ◌++◌, ◌∷◌, [], List, map, string_bytes, is_some, true, IfOk, OnOk};
 ghost use Rattle.std.specs.List.{All};
 ghost use Rattle.iasl_ports.specs.Delivery.{answer_of, name_and_bytes, IsSettled};
 ghost use Rattle.iasl_messages.specs.declared.place.Piece.{Piece as SpecPiece};
 ghost use Rattle.iasl_backends.specs.declared.backend.Kind.TheVariants as kinds;
-ghost use Rattle.iasl_backends.specs.Asked.{has_kind, IsOneOfEach};
+ghost use Rattle.iasl_backends.specs.declared.backend.Kind.{Kind as SpecKind};
+ghost use Rattle.iasl_backends.specs.Asked.{has_kind, is_asked, IsOneOfEach};
 ghost use Rattle.iasl_backends.specs.Rendering.{rendering};
 ghost use Rattle.table_outputs.specs.declared.decision.Decision.TheVariants.{Makes};
-ghost use Rattle.table_outputs.specs.Decision.{file_under, files_under, kinds_of, end_of, IsRendered, IsDueOf};
+ghost use Rattle.table_outputs.specs.Decision.{file_under, table_files_under, files_under, kinds_of, end_of, IsRendered, IsDueOf};
 ghost use Rattle.table_outputs.specs.Boxes.{HoldsAsked, ChangesBy, HoldsOutputs, HoldsTexts};
 
-use crate::decision::{Decision, Making, OutputNames};
+use crate::decision::{Decision, Making, OutputNames, TableNames};
 use iasl_backends::asked::Asked;
 use iasl_backends::backend::{Backend, Kind};
 use iasl_backends::lent::{render_asked, rendered_text};
@@ -18,17 +19,31 @@ use iasl_ports::delivery::{Due, OutFile, Stop};
 use std::alloc::{AllocError, Global};
 use std::borrow::CowSlice;
 
-// Makes the texts of a table's outputs that are asked for.
+// The kinds of outputs that have names.
+fn asked_of(names: &OutputNames) -> Asked
+    ensures { result ≡ kinds_of names.now }
+{
+    match names {
+        OutputNames::OfTable(names) => Asked {
+            template: false,
+            c_text: names.c_text.is_some(),
+            listing: names.listing.is_some(),
+        },
+        OutputNames::OfTemplate(_) => Asked {
+            template: true,
+            c_text: false,
+            listing: false,
+        },
+    }
+}
+
+// Makes the texts of the outputs that are asked for.
 fn make(backends: &mut Vec<Box<dyn Backend>>, making: &Making) -> Result<(), AllocError>
     requires { IsOneOfEach (λ b. kind_of b) backends.old.items }
     ensures held { HoldsAsked (λ b. kind_of b) (kinds_of making.now.names) backends.old.items backends.new.items }
     ensures texts { OnOk result (HoldsTexts (λ b. kind_of b) (λ b. pieces b) (λ b. finished b) making.now backends.new.items) }
 {
-    let asked = Asked {
-        c_text: making.names.c_text.is_some(),
-        listing: making.names.listing.is_some(),
-    };
-    render_asked(backends, asked, making.pieces.as_slice())
+    render_asked(backends, asked_of(&making.names), making.pieces.as_slice())
 }
 
 /// Makes the texts of the outputs of what was decided, where there are any. The boxes of other kinds are let go then.
@@ -80,19 +95,19 @@ fn push_named<'a>(
     Ok(())
 }
 
-// The files with the texts of the outputs.
-fn files_of<'a>(
+// The files with the texts of a table's outputs.
+fn table_files_of<'a>(
     alloc: Global,
     backends: &'a Vec<Box<dyn Backend>>,
-    names: OutputNames,
+    names: TableNames,
 ) -> Result<Vec<OutFile<'a>>, AllocError>
     requires done { All (λ b. finished b ≡ true) backends.now.items }
     requires table { has_kind (λ b. kind_of b) kinds.RawAml backends.now.items ≡ true }
     requires c_text { is_some names.c_text ≡ true → has_kind (λ b. kind_of b) kinds.CHex backends.now.items ≡ true }
     requires listing { is_some names.listing ≡ true → has_kind (λ b. kind_of b) kinds.Listing backends.now.items ≡ true }
-    ensures { (all : List SpecPiece) → All (λ b. pieces b ≡ all) backends.now.items → IfOk result (λ files. map name_and_bytes files.items ≡ files_under names all) }
+    ensures { (all : List SpecPiece) → All (λ b. pieces b ≡ all) backends.now.items → IfOk result (λ files. map name_and_bytes files.items ≡ table_files_under names all) }
 {
-    let OutputNames {
+    let TableNames {
         table,
         c_text,
         listing,
@@ -104,8 +119,39 @@ fn files_of<'a>(
     Ok(files)
 }
 
-// What is due of a table whose outputs the boxes hold.
-fn due_of_table<'a>(
+// The file with the text of a template.
+fn template_file_of<'a>(
+    alloc: Global,
+    backends: &'a Vec<Box<dyn Backend>>,
+    name: String,
+) -> Result<Vec<OutFile<'a>>, AllocError>
+    requires done { All (λ b. finished b ≡ true) backends.now.items }
+    requires there { has_kind (λ b. kind_of b) kinds.Template backends.now.items ≡ true }
+    ensures { (all : List SpecPiece) → All (λ b. pieces b ≡ all) backends.now.items → IfOk result (λ files. map name_and_bytes files.items ≡ (string_bytes name, rendering kinds.Template all) ∷ []) }
+{
+    let mut files = Vec::new(alloc);
+    files.push(file_of(backends, Kind::Template, name))?;
+    Ok(files)
+}
+
+// The files with the texts of the outputs.
+fn files_of<'a>(
+    alloc: Global,
+    backends: &'a Vec<Box<dyn Backend>>,
+    names: OutputNames,
+) -> Result<Vec<OutFile<'a>>, AllocError>
+    requires done { All (λ b. finished b ≡ true) backends.now.items }
+    requires there { (kind : SpecKind) → is_asked (kinds_of names) kind ≡ true → has_kind (λ b. kind_of b) kind backends.now.items ≡ true }
+    ensures { (all : List SpecPiece) → All (λ b. pieces b ≡ all) backends.now.items → IfOk result (λ files. map name_and_bytes files.items ≡ files_under names all) }
+{
+    match names {
+        OutputNames::OfTable(names) => table_files_of(alloc, backends, names),
+        OutputNames::OfTemplate(name) => template_file_of(alloc, backends, name),
+    }
+}
+
+// What is due of outputs that the boxes hold.
+fn due_of_outputs<'a>(
     alloc: Global,
     backends: &'a Vec<Box<dyn Backend>>,
     making: Making,
@@ -131,7 +177,7 @@ pub fn lend<'a>(
     ensures { IsDueOf rendered result }
 {
     match rendered {
-        Ok(Decision::Makes(making)) => Ok(due_of_table(alloc, backends, making)?),
+        Ok(Decision::Makes(making)) => Ok(due_of_outputs(alloc, backends, making)?),
         Ok(Decision::Ends(due)) => Ok(due),
         Err(stop) => Err(stop),
     }

@@ -60,7 +60,7 @@ fn add_line(alloc: Global, lines: &mut Lines, number: u32, text: &[u8]) -> Resul
 }
 
 // The lines that are ended.
-fn lines_of(alloc: Global, text: &[u8]) -> Result<Lines, AllocError> {
+pub(super) fn lines_of(alloc: Global, text: &[u8]) -> Result<Lines, AllocError> {
     let mut lines = Lines {
         files: List::new(alloc),
         list: List::new(alloc),
@@ -84,14 +84,18 @@ fn put_message(alloc: Global, out: &mut Vec<u8>, message: &Message) -> Result<()
     Ok(())
 }
 
-fn put_messages(alloc: Global, out: &mut Vec<u8>, messages: &Messages) -> Result<(), AllocError> {
+pub(super) fn put_messages(
+    alloc: Global,
+    out: &mut Vec<u8>,
+    messages: &Messages,
+) -> Result<(), AllocError> {
     for message in messages.as_slice() {
         put_message(alloc, out, message)?;
     }
     Ok(())
 }
 
-fn put_pieces(out: &mut Vec<u8>, pieces: &Pieces) -> Result<(), AllocError> {
+pub(super) fn put_pieces(out: &mut Vec<u8>, pieces: &Pieces) -> Result<(), AllocError> {
     for piece in pieces.as_slice() {
         put(out, piece.bytes.as_bytes())?;
     }

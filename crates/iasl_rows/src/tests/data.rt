@@ -148,7 +148,7 @@ fn is_right(alloc: Global, row: &DataRow) -> Result<bool, AllocError> {
 }
 
 // Whether runs over texts do.
-fn are_right(alloc: Global, rows: &[DataRow]) -> Result<bool, AllocError> {
+pub(super) fn are_right(alloc: Global, rows: &[DataRow]) -> Result<bool, AllocError> {
     for row in rows {
         if !is_right(alloc, row)? {
             return Ok(false);

@@ -64,6 +64,7 @@ macro_rules! right {
 }
 
 mod descriptors;
+mod externals;
 mod folding;
 mod kinds;
 mod rows;

@@ -4,6 +4,7 @@ use iasl_backends::c_hex::CHex;
 use iasl_backends::lent::{keep_asked, one_of_each, render_all, text_of_kind};
 use iasl_backends::listing::Listing;
 use iasl_backends::raw_aml::RawAml;
+use iasl_backends::template::TemplateText;
 use iasl_messages::place::{Piece, Place};
 use iasl_ports::list::Text;
 use std::alloc::{AllocError, Global};
@@ -44,6 +45,7 @@ fn outputs(alloc: Global) -> Result<Vec<Box<dyn Backend>>, AllocError> {
         Box::new(alloc, RawAml::new(alloc))?,
         Box::new(alloc, CHex::new(alloc))?,
         Box::new(alloc, Listing::new(alloc))?,
+        Box::new(alloc, TemplateText::new(alloc))?,
     )
 }
 
@@ -77,7 +79,14 @@ fn are_right(
     listing: bool,
     count: usize,
 ) -> Result<bool, AllocError> {
-    keep_asked(backends, Asked { c_text, listing });
+    keep_asked(
+        backends,
+        Asked {
+            template: false,
+            c_text,
+            listing,
+        },
+    );
     render_all(backends, pieces)?;
     let raw = text_of_kind(backends, Kind::RawAml);
     let is_raw = raw.is_some_and(|text| text.len() == 43
@@ -109,5 +118,28 @@ fn outputs_of_a_table(rt: HostRuntime) -> Result<(), AllocError> {
     for (c_text, listing, count) in &ASKED {
         assert!(rt; are_right(&mut backends, &pieces, *c_text, *listing, *count)?);
     }
+    Ok(())
+}
+
+const LINES: &str = "DefinitionBlock (\"\", \"SSDT\", 2, \"OEMX00\", \"TABLE001\", 1)
+    Name (X, 5)
+";
+
+const TEMPLATE: Asked = Asked {
+    template: true,
+    c_text: false,
+    listing: false,
+};
+
+#[test]
+fn lines_of_a_template(rt: HostRuntime) -> Result<(), AllocError> {
+    let alloc = rt.alloc();
+    let pieces = table(alloc)?;
+    let mut backends = outputs(alloc)?;
+    keep_asked(&mut backends, TEMPLATE);
+    render_all(&mut backends, &pieces)?;
+    assert!(rt; backends.len() == 1);
+    assert!(rt; text_of_kind(&backends, Kind::Template) == Some(LINES.as_bytes()));
+    assert!(rt; text_of_kind(&backends, Kind::RawAml).is_none());
     Ok(())
 }

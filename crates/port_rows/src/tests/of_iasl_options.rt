@@ -74,9 +74,11 @@ const NONE: Switches = Switches {
     strict: false,
     c_text: false,
     listing: false,
+    generic: false,
     fold: true,
     short: true,
     shorten: true,
+    wrap: false,
 };
 
 // What `t.asl` alone asks for.
@@ -92,7 +94,7 @@ const PLAIN: Good = Good {
 };
 
 // Words that are taken, each with what they ask for.
-static GOOD_WORDS: [Good; 19] = [
+static GOOD_WORDS: [Good; 21] = [
     PLAIN,
     Good {
         words: &["-p", "out", "t.asl"],
@@ -199,6 +201,19 @@ static GOOD_WORDS: [Good; 19] = [
         ..PLAIN
     },
     Good {
+        words: &["--wrap-externals", "t.asl", "--wrap-externals"],
+        switches: Switches { wrap: true, ..NONE },
+        ..PLAIN
+    },
+    Good {
+        words: &["-G", "t.asl", "-G"],
+        switches: Switches {
+            generic: true,
+            ..NONE
+        },
+        ..PLAIN
+    },
+    Good {
         words: &["-tc", "t.asl", "-tc"],
         switches: Switches {
             c_text: true,
@@ -236,7 +251,7 @@ fn good_words(rt: HostRuntime) -> Result<(), AllocError> {
 }
 
 // Words, and where they are refused: the number of a word, or how many there are.
-static BAD_WORDS: [(&[&str], usize); 24] = [
+static BAD_WORDS: [(&[&str], usize); 25] = [
     (&[], 0),
     (&["-P"], 1),
     (&[""], 0),
@@ -256,6 +271,7 @@ static BAD_WORDS: [(&[&str], usize); 24] = [
     (&["t.asl", "--generate", "2"], 1),
     (&["--generate", "2"], 0),
     (&["-L", "t.asl"], 0),
+    (&["t.asl", "--wrap-external"], 1),
     (&["-vi", "-we", "-oa", "-of", "-oi", "-on"], 6),
     (&["-v", "t.asl"], 0),
     (&["t.asl", "-vi", "-wea"], 2),

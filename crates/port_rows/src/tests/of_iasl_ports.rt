@@ -70,6 +70,16 @@ fn the_host_has_what_was_put(rt: HostRuntime) {
     assert!(rt; write_all(&mut sink, b"told\n") == Ok(()));
 }
 
+// Names that no file of the system can have: one with a NUL byte, and one of 5,000 characters.
+#[test]
+fn the_host_lacks_impossible_names(rt: HostRuntime) -> Result<(), AllocError> {
+    let mut files = HostFiles::new(rt);
+    assert!(rt; fetch_len(&mut files, rt.alloc(), "made\0.bin") == Err(FetchFault::Absent));
+    let long = "long/".repeat(rt.alloc(), 1000)?;
+    assert!(rt; fetch_len(&mut files, rt.alloc(), &long) == Err(FetchFault::Absent));
+    Ok(())
+}
+
 // A delivery of two files, with a put and a write that fail, and how many files stand after it.
 #[derive(Drop)]
 struct Delivery {

@@ -18,12 +18,15 @@ use Rattle.acpi_names.specs.Tables.{Tabled}
 use Rattle.acpi_names.specs.Terms.{are_terms}
 use Rattle.acpi_values.specs.Revisions.{width_of}
 use Rattle.asl_fold.specs.Folds.{folded_where}
+use Rattle.wrapped_externals.specs.Wraps.{wrapped_where}
+use Rattle.wrapped_externals.specs.Starts.{placed_where}
+use Rattle.wrapped_externals.proofs.Asked as wrapped
 use Rattle.asl_shape.specs.Plans.{plans_of}
 use Rattle.term_places.specs.Places.{places_of}
 use Rattle.source_pieces.specs.Places.{core_places}
 use Rattle.program_shapes.proofs.Cores.{core_looped}
 use Rattle.asl_fold.proofs.Asked.{where_shaped, where_name_errors, where_type_errors}
-use Rattle.named_sessions.specs.Shaped.{AreNamed}
+use Rattle.named_sessions.specs.Shaped.{AreNamed, AreShaped}
 use Rattle.named_sessions.proofs.Terms.{formed_terms}
 use Rattle.asl_tables.proofs.Programs.{like_another}
 use Rattle.asl_tables.proofs.compile.table_of.Goals as goal
@@ -41,13 +44,15 @@ returns c =
     let lowered = c.in_ok-core in
     let index = c.args.names.now.index in
     let width = width_of block.revision in
-    let made : Trees = folded_where c.args.style.fold width (named_all program) in
-    let core = core_looped c.args.style.fold width c.args.style.shorten index.paths index.named.items c.as_slice.result.now terms (trees_of c.spell.new.terms.items) formed
+    let low : Trees = folded_where c.args.style.fold width (named_all program) in
+    let made : Trees = wrapped_where c.args.style.wrap low in
+    let shaped : AreShaped low = where_shaped c.args.style.fold width (named_all program) c.requires.shaped in
+    let core = core_looped c.args.style.wrap c.args.style.fold width c.args.style.shorten index.paths index.named.items c.as_slice.result.now terms (trees_of c.spell.new.terms.items) formed
     (subst
     (λ ts. (d : Declarations) (counts : List (AbsolutePath × ℕ)) → Agrees index.paths index.named.items d → Tabled index.paths c.as_slice.result.now (lookup counts) → trees_of c.spell.new.terms.items ≡ spelled_all c.args.style.shorten (is_named d) (written_external counts) ts [])
     lowered.ensures.terms c.in_ok-spell.ensures.trees)
     names.names (subst (λ table. Tabled index.paths table (lookup (whole_of terms).calls)) (sym c.as_slice.ensures.value) names.calls) in
     let room : HasRoom (fields_of lowered.core) = subst HasRoom (sym lowered.ensures.fields) c.requires.room in
-    like_another c.args.style c.args.lines.now.list c.write_block.result lowered.core.place block.place (places_of c.spell.new.terms.items) (core_places (plans_of block.terms.items)) lowered.core.file block.file (fields_of lowered.core) (fields_of block) made
-    lowered.ensures.place (c.in_ok-spell.ensures.places ∙ lowered.ensures.places) lowered.ensures.file lowered.ensures.fields
-    (c.write_block.ensures made (record { room = room; shaped = where_shaped c.args.style.fold width (named_all program) c.requires.shaped; names = where_name_errors c.args.style.fold width (named_all program) ∙ no_name_errors program loops named; counts = where_type_errors c.args.style.fold width (named_all program) ∙ no_type_errors program loops called; core = core }))
+    like_another c.args.style c.args.lines.now.list c.write_block.result lowered.core.place block.place (places_of c.spell.new.terms.items) (placed_where c.args.style.wrap low (core_places (plans_of block.terms.items))) lowered.core.file block.file (fields_of lowered.core) (fields_of block) made
+    lowered.ensures.place (c.in_ok-spell.ensures.places ∙ lowered.ensures.places shaped) lowered.ensures.file lowered.ensures.fields
+    (c.write_block.ensures made (record { room = room; shaped = wrapped.where_shaped c.args.style.wrap low shaped; names = wrapped.where_name_errors c.args.style.wrap low ∙ where_name_errors c.args.style.fold width (named_all program) ∙ no_name_errors program loops named; counts = wrapped.where_type_errors c.args.style.wrap low ∙ where_type_errors c.args.style.fold width (named_all program) ∙ no_type_errors program loops called; core = core }))

@@ -1,8 +1,8 @@
-use Rattle.std.proofs.Common.{[], length, get_or, refl, ap, ◌∙◌, arith}
+use Rattle.std.proofs.Common.{◌++◌, [], length, get_or, refl, ap, ◌∙◌, arith}
 use Rattle.acpi_names.proofs.Trees.{call_smaller, form_smaller}
 use Rattle.asl_meaning.specs.Declarations.{is_named}
 use Rattle.asl_shape.specs.Plans.{plan_of, plans_of}
-use Rattle.descriptor_names.specs.Resolved.{inner}
+use Rattle.descriptor_names.specs.Resolved.{inner, told_form}
 use Rattle.descriptor_names.specs.Shown.{position_as, among_as}
 use Rattle.descriptor_names.proofs.Walks.{popped_size, turned_size}
 use Rattle.descriptor_names.proofs.Uses.{begin_from, one_here, next_from, end_from, begin_told, told_here, next_told, end_told, other_resolved, other_told, name_resolved, name_told, call_resolved, call_told, form_resolved, form_told}
@@ -93,11 +93,11 @@ pub resolve_term-returns-in_ok-body-in-Form-clause-made : goal.resolve_term-retu
 resolve_term-returns-in_ok-body-in-Form-clause-made t c d look agrees tabled =
     let scope = get_or c.args.names.now.index.now.paths c.args.standing.scope [] in
     form_resolved (is_named d) look c.args.standing.bits (position_as c.args.standing.position) scope c.args.term c.in-Form.op c.in-Form.args c.in-Form.body c.in_ok-args-in-Form.args c.in_ok-body-in-Form.body _ c.in-Form.is (c.in_ok-args-in-Form.ensures.made d look agrees tabled)
-    (c.in_ok-inside-in-Form.ensures.path d agrees ∙ ap (λ ns. inner (is_named d) c.in-Form.op (plans_of ns) scope) c.deref.ensures.value) (c.in_ok-body-in-Form.ensures.made d look agrees tabled)
+    (c.in_ok-inside-in-Form.ensures.path d agrees ∙ ap (λ ns. inner (is_named d) c.in-Form.op (plans_of ns) scope) c.deref-in-Form.ensures.value) (c.in_ok-body-in-Form.ensures.made d look agrees tabled)
 
 pub resolve_term-returns-in_ok-body-in-Form-clause-told : goal.resolve_term-returns-in_ok-body-in-Form-clause-told
 resolve_term-returns-in_ok-body-in-Form-clause-told t c d look agrees tabled =
     let scope = get_or c.args.names.now.index.now.paths c.args.standing.scope [] in
-    form_told (is_named d) look c.args.standing.bits (position_as c.args.standing.position) scope c.args.place c.args.faults.now.items c.resolve_list-in-Form.new.faults.items c.resolve_list-in-Form-2.new.faults.items c.args.term c.in-Form.op c.in-Form.args c.in-Form.body c.in_ok-args-in-Form.args _ c.in-Form.is
-    (c.in_ok-args-in-Form.ensures.made d look agrees tabled) (c.in_ok-inside-in-Form.ensures.path d agrees ∙ ap (λ ns. inner (is_named d) c.in-Form.op (plans_of ns) scope) c.deref.ensures.value)
-    (c.in_ok-args-in-Form.ensures.told d look agrees tabled) (c.in_ok-body-in-Form.ensures.told d look agrees tabled)
+    form_told (is_named d) look c.args.standing.bits (position_as c.args.standing.position) scope c.args.place c.args.faults.now.items c.tell_form.new.faults.items c.resolve_list-in-Form.new.faults.items c.resolve_list-in-Form-2.new.faults.items c.args.term c.in-Form.op c.in-Form.args c.in-Form.body c.in_ok-args-in-Form.args _ c.in-Form.is
+    (c.in_ok-args-in-Form.ensures.made d look agrees tabled) (c.in_ok-inside-in-Form.ensures.path d agrees ∙ ap (λ ns. inner (is_named d) c.in-Form.op (plans_of ns) scope) c.deref-in-Form.ensures.value)
+    (c.in_ok-tell_form-in-Form.ensures d look agrees tabled ∙ ap (λ ns. c.args.faults.now.items ++ told_form (is_named d) look c.in-Form.op c.args.place (plans_of ns) scope) c.deref.ensures.value) (c.in_ok-args-in-Form.ensures.told d look agrees tabled) (c.in_ok-body-in-Form.ensures.told d look agrees tabled)

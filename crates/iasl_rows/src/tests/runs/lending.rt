@@ -9,6 +9,7 @@ use iasl_backends::c_hex::CHex;
 use iasl_backends::lent::one_of_each;
 use iasl_backends::listing::Listing;
 use iasl_backends::raw_aml::RawAml;
+use iasl_backends::template::TemplateText;
 use iasl_messages::place::Piece;
 use iasl_ports::memory::{MemoryFiles, MemoryOutputs, MemorySink};
 use iasl_tool::run::iasl;
@@ -68,6 +69,7 @@ fn refusing_boxes(alloc: Global) -> Result<Vec<Box<dyn Backend>>, AllocError>
         Box::new(alloc, RawAml::new(alloc))?,
         Box::new(alloc, array)?,
         Box::new(alloc, Listing::new(alloc))?,
+        Box::new(alloc, TemplateText::new(alloc))?,
     )
 }
 
@@ -125,6 +127,7 @@ fn boxes_of_two_pieces(alloc: Global) -> Result<Vec<Box<dyn Backend>>, AllocErro
         Box::new(alloc, RawAml::new(alloc))?,
         Box::new(alloc, CHex::new(alloc))?,
         Box::new(alloc, listing)?,
+        Box::new(alloc, TemplateText::new(alloc))?,
     )
 }
 
@@ -137,9 +140,9 @@ struct Lending {
     left: &'static [Kind],
 }
 
-const ALL: &[Kind] = &[Kind::RawAml, Kind::CHex, Kind::Listing];
+const ALL: &[Kind] = &[Kind::RawAml, Kind::CHex, Kind::Listing, Kind::Template];
 
-static LENDINGS: [Lending; 7] = [
+static LENDINGS: [Lending; 9] = [
     Lending {
         words: &["t.asl"],
         file: ("t.asl", ONE_NAME),
@@ -162,6 +165,18 @@ static LENDINGS: [Lending; 7] = [
         words: &["-tc", "-l", "t.asl"],
         file: ("t.asl", ONE_NAME),
         status: 0,
+        left: &[Kind::RawAml, Kind::CHex, Kind::Listing],
+    },
+    Lending {
+        words: &["-T", "HPET"],
+        file: ("t.asl", ONE_NAME),
+        status: 0,
+        left: &[Kind::Template],
+    },
+    Lending {
+        words: &["-T", "DSDT"],
+        file: ("t.asl", ONE_NAME),
+        status: 2,
         left: ALL,
     },
     Lending {

@@ -47,6 +47,91 @@ const METHOD_LINES: &[u8] =
 0000002B  A4 01
 ";
 
+// An ElseIf is one piece, and so is each Case behind the first; an Else and the If in it are two.
+const BRANCHES: &[u8] = b"DefinitionBlock (\"\", \"SSDT\", 2, \"OEMX00\", \"TABLE001\", 1)
+{
+    Method (M, 1)
+    {
+        If (Arg0) { Noop }
+        ElseIf (Local0) { Noop }
+        Else { If (Local1) { Noop } }
+        Switch (Arg0)
+        {
+            Case (1) { }
+            Case (2) { Noop }
+            Default { }
+        }
+    }
+}
+";
+
+const BRANCHES_TABLE: &[u8] =
+    b"SSDTR\x00\x00\x00\x02\x9BOEMX00TABLE001\x01\x00\x00\x00INTL\x05\x01! \x14-M___\x01\xA0\x03h\xA3\xA1\x0B\xA0\x03`\xA3\xA1\x05\xA0\x03a\xA3\xA2\x16\x01phb\xA0\x04\x93b\x01\xA1\x0A\xA0\x06\x93b\x0A\x02\xA3\xA1\x01\xA5";
+
+const BRANCHES_LINES: &[u8] =
+    b"     1  DefinitionBlock (\"\", \"SSDT\", 2, \"OEMX00\", \"TABLE001\", 1)
+00000000  53 53 44 54 52 00 00 00 02 9B 4F 45 4D 58 30 30
+00000010  54 41 42 4C 45 30 30 31 01 00 00 00 49 4E 54 4C
+00000020  05 01 21 20
+     3      Method (M, 1)
+00000024  14 2D 4D 5F 5F 5F 01
+     5          If (Arg0) { Noop }
+0000002B  A0 03 68
+     5          If (Arg0) { Noop }
+0000002E  A3
+     6          ElseIf (Local0) { Noop }
+0000002F  A1 0B A0 03 60
+     6          ElseIf (Local0) { Noop }
+00000034  A3
+     7          Else { If (Local1) { Noop } }
+00000035  A1 05
+     7          Else { If (Local1) { Noop } }
+00000037  A0 03 61
+     7          Else { If (Local1) { Noop } }
+0000003A  A3
+     8          Switch (Arg0)
+0000003B  A2 16 01
+     8          Switch (Arg0)
+0000003E  70 68 62
+    10              Case (1) { }
+00000041  A0 04 93 62 01
+    11              Case (2) { Noop }
+00000046  A1 0A A0 06 93 62 0A 02
+    11              Case (2) { Noop }
+0000004E  A3
+    12              Default { }
+0000004F  A1 01
+     8          Switch (Arg0)
+00000051  A5
+";
+
+// Two Externals, which an If takes.
+const EXTERNALS: &[u8] = b"DefinitionBlock (\"\", \"SSDT\", 2, \"OEMX00\", \"TABLE001\", 1)
+{
+    External (A, IntObj)
+    External (B, IntObj)
+    Name (X, 5)
+}
+";
+
+const EXTERNALS_TABLE: &[u8] =
+    b"SSDT\x3C\x00\x00\x00\x02\x4EOEMX00TABLE001\x01\x00\x00\x00INTL\x05\x01\x21\x20\xA0\x10\x00\x15A___\x01\x00\x15B___\x01\x00\x08X___\x0A\x05";
+
+const EXTERNALS_LINES: &[u8] =
+    b"     1  DefinitionBlock (\"\", \"SSDT\", 2, \"OEMX00\", \"TABLE001\", 1)
+00000000  53 53 44 54 3C 00 00 00 02 4E 4F 45 4D 58 30 30
+00000010  54 41 42 4C 45 30 30 31 01 00 00 00 49 4E 54 4C
+00000020  05 01 21 20
+     3      External (A, IntObj)
+00000024  A0 10 00
+     3      External (A, IntObj)
+00000027  15 41 5F 5F 5F 01 00
+     4      External (B, IntObj)
+0000002E  15 42 5F 5F 5F 01 00
+     5      Name (X, 5)
+00000035  08 58 5F 5F 5F 0A 05
+";
+
 const MCFG: &[u8] = b"// made by hand
 Signature : \"MCFG\"
 Table Length : 00000000
@@ -100,7 +185,7 @@ const MCFG_LINES: &[u8] = b"     2  Signature : \"MCFG\"
 00000038  00 00 00 00
 ";
 
-static CASES_1: [Case; 4] = [
+static CASES_1: [Case; 5] = [
     Case {
         words: &["-l", "t.asl"],
         files: &[("t.asl", ONE_NAME)],
@@ -132,6 +217,15 @@ static CASES_1: [Case; 4] = [
         names: &[b"t.aml", b"t.lst"],
         bodies: &[ONE_METHOD_TABLE, METHOD_LINES],
         told: b"t.aml: SSDT, 45 bytes\n0 errors, 0 warnings, 0 remarks\n",
+    },
+    // The If that takes Externals stands at the first of them.
+    Case {
+        words: &["-l", "--wrap-externals", "t.asl", "--wrap-externals"],
+        files: &[("t.asl", EXTERNALS)],
+        status: 0,
+        names: &[b"t.aml", b"t.lst"],
+        bodies: &[EXTERNALS_TABLE, EXTERNALS_LINES],
+        told: b"t.aml: SSDT, 60 bytes\n0 errors, 0 warnings, 0 remarks\n",
     },
 ];
 
@@ -174,6 +268,15 @@ static CASES_2: [Case; 4] = [
     },
 ];
 
+static CASES_3: [Case; 1] = [Case {
+    words: &["-l", "t.asl"],
+    files: &[("t.asl", BRANCHES)],
+    status: 0,
+    names: &[b"t.aml", b"t.lst"],
+    bodies: &[BRANCHES_TABLE, BRANCHES_LINES],
+    told: b"t.aml: SSDT, 82 bytes\n0 errors, 0 warnings, 0 remarks\n",
+}];
+
 #[test]
 fn listings_1(rt: HostRuntime) -> Result<(), AllocError> {
     assert!(rt; are_right(rt.alloc(), &CASES_1)?);
@@ -183,5 +286,11 @@ fn listings_1(rt: HostRuntime) -> Result<(), AllocError> {
 #[test]
 fn listings_2(rt: HostRuntime) -> Result<(), AllocError> {
     assert!(rt; are_right(rt.alloc(), &CASES_2)?);
+    Ok(())
+}
+
+#[test]
+fn branches_in_a_listing(rt: HostRuntime) -> Result<(), AllocError> {
+    assert!(rt; are_right(rt.alloc(), &CASES_3)?);
     Ok(())
 }

@@ -178,7 +178,7 @@ static TOLD_2: [Row; 13] = [
     ),
 ];
 
-static TOLD_3: [Row; 13] = [
+static TOLD_3: [Row; 14] = [
     // Nothing is declared below a descriptor, and it is no scope.
     told!(
         BEFORE,
@@ -190,10 +190,16 @@ static TOLD_3: [Row; 13] = [
         "Scope (D) { Name (X, 1) }",
         b"t.asl:4:1: error 6042: scope is not a container: D___\nt.asl:4:19: error 6041: name is not found: X___\n2 errors, 0 warnings, 0 remarks\n"
     ),
+    // A field is told with its descriptor, as it is written.
+    told!(
+        BEFORE,
+        "Scope (D._LEN) { }",
+        b"t.asl:4:1: error 6042: scope is not a container: D___._LEN\n1 errors, 0 warnings, 0 remarks\n"
+    ),
     told!(
         BEFORE,
         "Scope (^D._LEN) { }",
-        b"t.asl:4:1: error 6042: scope is not a container: ^D___\nt.asl:4:8: error 6043: path leaves the root: ^D___._LEN\n2 errors, 0 warnings, 0 remarks\n"
+        b"t.asl:4:1: error 6042: scope is not a container: ^D___._LEN\nt.asl:4:8: error 6043: path leaves the root: ^D___._LEN\n2 errors, 0 warnings, 0 remarks\n"
     ),
     // A descriptor has no value: it is no expression, no term and no member of a Package.
     told!(

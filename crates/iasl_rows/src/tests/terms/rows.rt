@@ -63,7 +63,7 @@ static ROWS: [Row; 15] = [
     ),
 ];
 
-static TOLD: [Row; 5] = [
+static TOLD: [Row; 7] = [
     told!(
         "OperationRegion (R, SystemMemory, 0, 1) Field (R, WordAcc, NoLock, Preserve) { A, 8 }",
         b"t.asl:3:45: error 6072: access is wider than the region\n1 errors, 0 warnings, 0 remarks\n"
@@ -83,6 +83,15 @@ static TOLD: [Row; 5] = [
     told!(
         "Method (M) { ElseIf (1) { } Else { } }",
         b"t.asl:3:18: error 6025: not allowed here\n1 errors, 0 warnings, 0 remarks\n"
+    ),
+    // An External is as the first of its path, or not.
+    told!(
+        "External (X, IntObj) External (X, StrObj) External (X, StrObj)",
+        b"t.asl:3:26: error 6045: external arguments differ: X___\nt.asl:3:47: error 6045: external arguments differ: X___\n2 errors, 0 warnings, 0 remarks\n"
+    ),
+    told!(
+        "External (X, IntObj) External (X, StrObj) External (X, IntObj)",
+        b"t.asl:3:26: error 6045: external arguments differ: X___\n1 errors, 0 warnings, 0 remarks\n"
     ),
 ];
 

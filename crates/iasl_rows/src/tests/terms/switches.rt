@@ -1,5 +1,5 @@
 // Switches: the bytes that they come to, and what is told of those that are refused.
-use super::{Row, Wants, are_right};
+use super::{Row, Wants, are_right, puts};
 use std::alloc::AllocError;
 
 static ROWS: [Row; 7] = [
@@ -67,6 +67,19 @@ static TOLD: [Row; 5] = [
 #[test]
 fn switches_come_to_loops(rt: HostRuntime) -> Result<(), AllocError> {
     assert!(rt; are_right(rt.alloc(), &ROWS)?);
+    Ok(())
+}
+
+// The words Zero, One and Ones stay opcodes where 0 and 1 of literals have bytes of their own.
+#[test]
+fn words_of_cases_stay(rt: HostRuntime) -> Result<(), AllocError> {
+    let one = "Method (M, 1) { Switch (Arg0) { Case (Ones) { } } }";
+    let bytes = b"\x14\x12M___\x01\xA2\x0B\x01\x70\x68\x60\xA0\x04\x93\x60\xFF\xA5";
+    assert!(rt; puts(rt.alloc(), &["-oi", "t.asl"], b'2', one, bytes)?);
+    let two = "Method (M, 1) { Switch (Arg0) { Case (Package () {Zero, 1}) { } } }";
+    let bytes =
+        b"\x14\x17M___\x01\xA2\x10\x01\x70\x68\x60\xA0\x09\x91\x93\x60\x00\x93\x60\x0A\x01\xA5";
+    assert!(rt; puts(rt.alloc(), &["-oi", "t.asl"], b'2', two, bytes)?);
     Ok(())
 }
 

@@ -8,7 +8,7 @@ use Rattle.iasl_options.specs.Asking.{Asked}
 use Rattle.iasl_options.specs.Shown.{asked_of}
 use Rattle.table_outputs.specs.Files.{table_name, table_files, name_in_use}
 use Rattle.iasl_ports.specs.Delivery.{Answer}
-use Rattle.table_outputs.specs.Decision.{end_of, files_under}
+use Rattle.table_outputs.specs.Decision.{end_of, table_files_under}
 use Rattle.iasl_backends.specs.Table.{table_bytes}
 use Rattle.iasl_tool.specs.Due.{refusal, made_files, in_use, unless_in_use, made_or_in_use, has_warning, made_or_refused}
 use Rattle.iasl_tool.proofs.due.make_table.Goals as goal
@@ -26,9 +26,9 @@ returns-in-Some-clause-due c =
     let own = c.args.heading.now.own.now in
     let due = table_files asked file own c.args.pieces in
     let free : (asked.switches.strict && has_warning c.args.notes) ≡ false = sym c.is_refused.ensures ∙ c.if-is_refused.false in
-    let files : files_under c.in_ok-names.names c.args.pieces ≡ due = c.in_ok-names.ensures.files c.args.pieces in
+    let files : table_files_under c.in_ok-names.names c.args.pieces ≡ due = c.in_ok-names.ensures.files c.args.pieces in
     let fetched = c.as_slice.result.now in
-    let used : option_map (λ name. string_bytes name.now) c.name_in_use.result ≡ name_in_use fetched (files_under c.in_ok-names.names c.args.pieces) = c.name_in_use.ensures c.args.pieces in
+    let used : option_map (λ name. string_bytes name.now) c.name_in_use.result ≡ name_in_use fetched (table_files_under c.in_ok-names.names c.args.pieces) = c.name_in_use.ensures c.args.pieces in
     let found : option_map (λ name. string_bytes name.now) c.name_in_use.result ≡ Some c.deref.result.now = grind (rules, c.in-Some.is, c.deref.ensures) in
     let is : name_in_use c.args.files.now due ≡ Some c.deref.result.now =
     sym (ap (λ fs. name_in_use fs due) c.as_slice.ensures) ∙ sym (ap (name_in_use fetched) files) ∙ sym used ∙ found

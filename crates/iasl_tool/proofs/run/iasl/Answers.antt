@@ -1,5 +1,5 @@
 use Rattle.std.proofs.Common.{map, string_bytes, ◌∙◌, arith}
-use Rattle.iasl_options.specs.Task.{settings_by}
+use Rattle.iasl_options.specs.Task.{task_by}
 use Rattle.iasl_runs.specs.EndLaws.{ends}
 use Rattle.iasl_tool.specs.Due.{answer_for, fault_text, memory_text}
 use Rattle.table_outputs.proofs.BoxLaws.{decides, due_then, boxes_kept, boxes_of_text, boxes_as_before, boxes_rendered}
@@ -9,17 +9,17 @@ use Rattle.iasl_tool.proofs.run.iasl.Goals as goal
 pub returns-clause-ends : goal.returns-clause-ends
 returns-clause-ends g c =
     ends (answer_for (map string_bytes c.args.words.now)) fault_text memory_text c.finish.result _ _ _ _ _ _ c.lend-made.result
-    (decides (answer_for (map string_bytes c.args.words.now)) (settings_by (map string_bytes c.args.words.now)) c.decide-decided.result c.lend-made.result _ _ c.decide-decided.ensures
+    (decides (answer_for (map string_bytes c.args.words.now)) (task_by (map string_bytes c.args.words.now)) c.decide-decided.result c.lend-made.result _ _ c.decide-decided.ensures
     (due_then c.decide-decided.result c.render-rendered.result c.lend-made.result c.render-rendered.ensures.rendered c.lend-made.ensures))
     c.finish.ensures
 
 pub returns-clause-due : goal.returns-clause-due
-returns-clause-due g c = λ compiles told is. are_its_files (map string_bytes c.args.words.now) told compiles
+returns-clause-due g c = λ compiles table told is. are_its_files (map string_bytes c.args.words.now) told compiles table
 
 pub returns-clause-headline : goal.returns-clause-headline
-returns-clause-headline g c = λ zero_is compiles told is.
+returns-clause-headline g c = λ zero_is compiles table told is.
     let end = returns-clause-ends g c in
-    writes_its_table (map string_bytes c.args.words.now) told _ _ compiles (end.settled (omega (arith, zero_is)) told is ∙ zero_is) ((end.outs told is).ended (omega (arith, zero_is)))
+    writes_its_table (map string_bytes c.args.words.now) told _ _ compiles table (end.settled (omega (arith, zero_is)) told is ∙ zero_is) ((end.outs told is).ended (omega (arith, zero_is)))
 
 pub returns-clause-complete : goal.returns-clause-complete
 returns-clause-complete g c = λ told is request source names quiet.
@@ -33,24 +33,24 @@ returns-clause-complete_data g c = λ told is request table names quiet.
 
 pub returns-clause-boxes : goal.returns-clause-boxes
 returns-clause-boxes g c =
-    boxes_kept (λ b. (goal.Backend-dyn g (b.vtable, b.value)).kind_of b.value) (λ b. (goal.Backend-dyn g (b.vtable, b.value)).pieces b.value) (λ b. (goal.Backend-dyn g (b.vtable, b.value)).finished b.value) (settings_by (map string_bytes c.args.words.now)) _ _
+    boxes_kept (λ b. (goal.Backend-dyn g (b.vtable, b.value)).kind_of b.value) (λ b. (goal.Backend-dyn g (b.vtable, b.value)).pieces b.value) (λ b. (goal.Backend-dyn g (b.vtable, b.value)).finished b.value) (task_by (map string_bytes c.args.words.now)) _ _
     c.decide-decided.result c.render-rendered.result c.decide-decided.ensures.settled c.render-rendered.ensures.boxes
 
 pub returns-clause-as_before : goal.returns-clause-as_before
 returns-clause-as_before g c =
-    boxes_as_before (λ b. (goal.Backend-dyn g (b.vtable, b.value)).kind_of b.value) (λ b. (goal.Backend-dyn g (b.vtable, b.value)).pieces b.value) (λ b. (goal.Backend-dyn g (b.vtable, b.value)).finished b.value) (settings_by (map string_bytes c.args.words.now)) _ _
+    boxes_as_before (λ b. (goal.Backend-dyn g (b.vtable, b.value)).kind_of b.value) (λ b. (goal.Backend-dyn g (b.vtable, b.value)).pieces b.value) (λ b. (goal.Backend-dyn g (b.vtable, b.value)).finished b.value) (task_by (map string_bytes c.args.words.now)) _ _
     fault_text memory_text c.finish.result _ _ _ _ c.decide-decided.result c.render-rendered.result c.lend-made.result
     (due_then c.decide-decided.result c.render-rendered.result c.lend-made.result c.render-rendered.ensures.rendered c.lend-made.ensures)
     c.render-rendered.ensures.boxes c.finish.ensures
 
 pub returns-clause-text_alone : goal.returns-clause-text_alone
 returns-clause-text_alone g c = λ alone.
-    boxes_of_text (λ b. (goal.Backend-dyn g (b.vtable, b.value)).kind_of b.value) (λ b. (goal.Backend-dyn g (b.vtable, b.value)).pieces b.value) (λ b. (goal.Backend-dyn g (b.vtable, b.value)).finished b.value) (settings_by (map string_bytes c.args.words.now)) _ _
+    boxes_of_text (λ b. (goal.Backend-dyn g (b.vtable, b.value)).kind_of b.value) (λ b. (goal.Backend-dyn g (b.vtable, b.value)).pieces b.value) (λ b. (goal.Backend-dyn g (b.vtable, b.value)).finished b.value) (task_by (map string_bytes c.args.words.now)) _ _
     c.decide-decided.result c.render-rendered.result c.decide-decided.ensures.settled c.render-rendered.ensures.boxes alone
 
 pub returns-clause-rendered : goal.returns-clause-rendered
 returns-clause-rendered g c =
-    boxes_rendered (λ b. (goal.Backend-dyn g (b.vtable, b.value)).kind_of b.value) (λ b. (goal.Backend-dyn g (b.vtable, b.value)).pieces b.value) (λ b. (goal.Backend-dyn g (b.vtable, b.value)).finished b.value) (settings_by (map string_bytes c.args.words.now)) _ _
+    boxes_rendered (λ b. (goal.Backend-dyn g (b.vtable, b.value)).kind_of b.value) (λ b. (goal.Backend-dyn g (b.vtable, b.value)).pieces b.value) (λ b. (goal.Backend-dyn g (b.vtable, b.value)).finished b.value) (task_by (map string_bytes c.args.words.now)) _ _
     fault_text memory_text c.finish.result _ _ _ _ (answer_for (map string_bytes c.args.words.now)) _ _ c.decide-decided.result c.render-rendered.result c.lend-made.result c.decide-decided.ensures
     (due_then c.decide-decided.result c.render-rendered.result c.lend-made.result c.render-rendered.ensures.rendered c.lend-made.ensures)
     c.lend-made.ensures c.render-rendered.ensures.boxes c.finish.ensures

@@ -27,4 +27,4 @@ returns g c d before =
     (finds_then paths w1 w2 w4 _ _ c.in_ok-step_errors.ensures
     (finds_then paths w2 w3 w4 _ _
     (finds_as paths w2 w3 _ _ (ap (spec.length_errors at name) e) c.in_ok-length_errors.ensures)
-    (finds_as paths w3 w4 _ _ (ap (λ b. spec.unless b differs) (c.agrees_with.ensures ∙ ap (λ o. spec.agrees_with o type) (c.last_external-last.ensures d before ∙ ap (lookup d.external) e))) (c.in_ok-unless-2.ensures paths))))
+    (finds_as paths w3 w4 _ _ (ap (λ b. spec.unless b differs) (c.agrees_with.ensures ∙ ap (λ o. spec.agrees_with o type) (c.first_external-first.ensures d before ∙ ap (lookup d.external) e))) (c.in_ok-unless-2.ensures paths))))

@@ -12,5 +12,5 @@ ghost-step_errors g a = g.whole
 abbrev pub ghost-length_errors : goal.ghost-length_errors
 ghost-length_errors g a = g.whole
 
-abbrev pub ghost-last_external : goal.ghost-last_external
-ghost-last_external g a = g.whole
+abbrev pub ghost-first_external : goal.ghost-first_external
+ghost-first_external g a = g.whole

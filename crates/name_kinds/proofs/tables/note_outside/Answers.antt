@@ -1,11 +1,9 @@
-use Rattle.std.proofs.Common.{[], get_or, sym, ◌∙◌, refl}
-use Rattle.acpi_state.specs.Objects.{lookup}
+use Rattle.std.proofs.Common.{[], get_or, sym, ◌∙◌}
 use Rattle.name_kinds.specs.Kinds.{type_as}
-use Rattle.name_kinds.proofs.Noting.{look_set, outside_noted}
+use Rattle.name_kinds.proofs.Noting.{outside_noted}
 use Rattle.name_kinds.proofs.tables.note_outside.Goals as goal
 
 pub returns-then-not-is_in_root-clause-noted : goal.returns-then-not-is_in_root-clause-noted
 returns-then-not-is_in_root-clause-noted c has calls d notes =
     let paths = c.args.index.now.paths in
-    outside_noted paths has _ calls d (get_or paths c.args.number []) (type_as c.args.external) _ (sym c.is_in_root.ensures ∙ c.if-not-is_in_root.true) notes.kinds
-    (look_set type_as paths c.args.tables.now.externals.items c.args.number c.args.external _ (lookup d.external) c.len-count.ensures.distinct c.requires.within c.requires.sized.externals refl notes.externals) notes.first
+    outside_noted paths has _ calls d (get_or paths c.args.number []) (type_as c.args.external) _ (sym c.is_in_root.ensures ∙ c.if-not-is_in_root.true) (c.note_external.ensures.noted has calls d notes)

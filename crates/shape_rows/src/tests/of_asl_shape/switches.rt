@@ -1,4 +1,6 @@
 use super::{HEAD, errors, errors_within, with_term};
+use acpi_values::width::Width;
+use asl_tree::constant::constant;
 use asl_tree::term::{Control, Node, Op, Term};
 use std::alloc::{AllocError, Global};
 use std::test::Fail;
@@ -118,16 +120,13 @@ fn control_of(node: &Node) -> Option<Control> {
     }
 }
 
-/// The number that is the value of a Case.
+/// The number that the value of a Case comes to.
 fn value_of(node: &Node) -> Option<u64> {
     let Term::Form { args, .. } = &node.term else {
         return None;
     };
     match args.get(0) {
-        Some(value) => match &value.term {
-            Term::Integer(number) => Some(*number),
-            _ => None,
-        },
+        Some(value) => constant(&value.term, Width::W64).ok(),
         None => None,
     }
 }

@@ -1,0 +1,12 @@
+pub mod Given
+pub mod Data
+pub mod Law
+pub mod Wraps
+pub mod Templates
+pub mod Worked
+pub mod Tables
+pub mod Only
+pub mod Homes
+pub mod OneTemplate
+pub mod Writes
+pub mod Found

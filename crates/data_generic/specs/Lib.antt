@@ -1,0 +1,13 @@
+pub mod Types
+pub mod Words
+pub mod Labels
+pub mod Values
+pub mod Shown
+pub mod LabelTable
+pub mod Walk
+pub mod Steps
+pub mod Compiling
+pub mod Reading
+pub mod Templates
+pub mod Writing
+pub mod Telling

@@ -1,0 +1,58 @@
+//! What a call is to end with that asks for a template.
+ghost use Rattle.std.specs.Prelude.{◌≡◌, ◌++◌, ◌∷◌, [], IfOk, codes, map, string_bytes};
+ghost use Rattle.std.specs.Char.{to_ascii_lowercase};
+ghost use Rattle.data_generic.specs.Templates.{signature_of};
+ghost use Rattle.table_outputs.specs.Decision.{end_of, IsTemplate};
+ghost use Rattle.iasl_tool.specs.Due.{template_name, answer_to_template};
+
+use crate::due::console_text;
+use data_generic::template::{default_lines, signature_of};
+use data_layout::table::Table;
+use iasl_messages::console::template_line;
+use iasl_messages::message::Messages;
+use iasl_ports::list::{Text, Texts};
+use std::alloc::{AllocError, Global};
+use table_outputs::decision::{Decision, Making, OutputNames};
+
+// The name of the file of a template.
+fn template_name(table: Table) -> &'static str
+    ensures { result.now ≡ template_name table }
+{
+    match table {
+        Table::Facp => "facp.asl",
+        Table::Apic => "apic.asl",
+        Table::Mcfg => "mcfg.asl",
+        Table::Hpet => "hpet.asl",
+        Table::Srat => "srat.asl",
+        Table::Slit => "slit.asl",
+    }
+}
+
+// What the console is told of a template.
+fn template_text(alloc: Global, table: Table) -> Result<Text, AllocError>
+    ensures { IfOk result (λ text. text ≡ (answer_to_template table).text) }
+{
+    let line = template_line(alloc, template_name(table).as_bytes(), signature_of(table))?;
+    console_text(
+        alloc,
+        false,
+        &Texts::new(alloc),
+        Messages::new(alloc),
+        &line,
+    )
+}
+
+/// What is due of the template of a table.
+#[tactic(auto, using(crate::proofs::TemplateLaws::is_known, crate::proofs::TemplateLaws::due_is))]
+pub(crate) fn answer_to_template(alloc: Global, table: Table) -> Result<Decision, AllocError>
+    ensures due { IfOk result (λ decision. end_of decision ≡ answer_to_template table) }
+    ensures decided { IfOk result IsTemplate }
+{
+    let name = String::from_str(alloc, template_name(table))?;
+    let pieces = default_lines(alloc, signature_of(table))?;
+    Ok(Decision::Makes(Making {
+        text: template_text(alloc, table)?,
+        names: OutputNames::OfTemplate(name),
+        pieces,
+    }))
+}

@@ -1,0 +1,10 @@
+pub mod Declared
+pub mod Errors
+pub mod Formed
+pub mod Same
+pub mod Asked
+pub mod KindRows
+pub mod Forms
+pub mod Nodes
+pub mod Places
+pub mod Runs

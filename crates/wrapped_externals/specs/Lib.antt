@@ -1,0 +1,4 @@
+pub mod Kinds
+pub mod Wraps
+pub mod Starts
+pub mod Nodes
