@@ -5,7 +5,7 @@ use Rattle.acpi_values.specs.Paths.{AbsolutePath}
 use Rattle.acpi_values.specs.Operators.{Letter, Used, row_of}
 use Rattle.acpi_state.specs.Objects.{MethodObject, ContainerObject, DataObject, RegionObject}
 use Rattle.acpi_state.specs.FieldActs.{region_letters, field_letters}
-use Rattle.asl_tree.specs.FieldItems.{FieldItem, UnitItem, SkipItem, OffsetItem}
+use Rattle.asl_tree.specs.FieldItems.{FieldItem, UnitItem, SkipItem, OffsetItem, AccessItem, ConnectionItem, ToName, ToBytes}
 use Rattle.asl_tree.specs.Names.{place_of, denoted}
 use Rattle.asl_tree.specs.Tree.{Tree, Use, Call, Apply, Buffer, Package, VarPackage, CondRefOf, Return, Name, Alias, External, Method, Mutex, Event, Container', Scope, Trees, no_trees, tree, count, OperationRegion, Field, IndexField, BankField, CreateField, UnitName, If, ElseIf, Else, While, Operated, Assigned, AssignedBy, Switch, Case, Default}
 use Rattle.asl_meaning.specs.Declarations.{as_unit, as_buffer_field, As, Declarations, with_declared, scope_path, declare, calls, calls_all}
@@ -154,6 +154,9 @@ module _ (whole : Whole) where
       ap (λ es. declared_errors whole name.at (unit_path name.segment) scope d ++ es) (items_same items scope (with_declared (name.segment ∷ scope) as_unit d))
   items_same (SkipItem bits ∷ items) scope d = items_same items scope d
   items_same (OffsetItem bytes ∷ items) scope d = items_same items scope d
+  items_same (AccessItem access attribute length ∷ items) scope d = items_same items scope d
+  items_same (ConnectionItem (ToName at name) ∷ items) scope d = ap (λ es. use_errors whole at name scope ++ es) (items_same items scope d)
+  items_same (ConnectionItem (ToBytes bytes) ∷ items) scope d = items_same items scope d
 
   -- a list of mentions behind one that is declared
   errors_then : (a b : List Mention) (d e : Declarations) (xs ys : List NameError) → after_all a d ≡ e → xs ≡ all_errors whole a d → ys ≡ all_errors whole b e → xs ++ ys ≡ all_errors whole (a ++ b) d
@@ -226,6 +229,9 @@ module _ (has : AbsolutePath → Bool) where
   no_items (UnitItem name bits ∷ items) scope = no_items items scope
   no_items (SkipItem bits ∷ items) scope = no_items items scope
   no_items (OffsetItem bytes ∷ items) scope = no_items items scope
+  no_items (AccessItem access attribute length ∷ items) scope = no_items items scope
+  no_items (ConnectionItem (ToName at name) ∷ items) scope = no_items items scope
+  no_items (ConnectionItem (ToBytes bytes) ∷ items) scope = no_items items scope
 
   mutual
     value_calls : (asked : Bool) (t : Tree) → is_value t ≡ true → (scope : AbsolutePath) (d : Declarations) → calls has t scope d ≡ calls_in has (mentions asked t scope)

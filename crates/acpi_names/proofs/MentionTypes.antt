@@ -10,7 +10,7 @@ use Rattle.acpi_state.specs.Objects.{MethodObject, ContainerObject}
 use Rattle.acpi_state.specs.FieldActs.{region_letters, field_letters}
 use Rattle.acpi_state.specs.Outcomes.{choose}
 use Rattle.acpi_state.proofs.Lookups.{is_same_path-true}
-use Rattle.asl_tree.specs.FieldItems.{FieldItem, UnitItem, SkipItem, OffsetItem}
+use Rattle.asl_tree.specs.FieldItems.{FieldItem, UnitItem, SkipItem, OffsetItem, AccessItem, ConnectionItem, ToName, ToBytes}
 use Rattle.asl_tree.specs.Names.{place_of, denoted}
 use Rattle.asl_tree.specs.declared.path.Path.{Path}
 use Rattle.asl_tree.specs.Tree.{At, Tree, Use, Call, Apply, Buffer, Package, VarPackage, CondRefOf, Return, Name, Alias, External, Method, Mutex, Event, Container', Scope, Trees, no_trees, tree, count, OperationRegion, Field, IndexField, BankField, CreateField, UnitName, If, ElseIf, Else, While, Operated, Assigned, AssignedBy, Switch, Case, Default}
@@ -199,6 +199,9 @@ module _ (whole : Whole) where
   no_items (UnitItem name bits ∷ items) scope = no_items items scope
   no_items (SkipItem bits ∷ items) scope = no_items items scope
   no_items (OffsetItem bytes ∷ items) scope = no_items items scope
+  no_items (AccessItem access attribute length ∷ items) scope = no_items items scope
+  no_items (ConnectionItem (ToName at name) ∷ items) scope = no_items items scope
+  no_items (ConnectionItem (ToBytes bytes) ∷ items) scope = no_items items scope
 
   -- a Scope without error opens what its name denotes over the whole block
   same_scope : (here at : At) (name : Path) (scope : AbsolutePath) (d : Declarations) → use_errors whole at name scope ++ scope_errors whole here at name scope d ≡ [] → choose (denoted (is_named whole.all) name scope) [] (λ path. path) ≡ scope_path d name scope

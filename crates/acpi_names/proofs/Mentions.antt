@@ -4,7 +4,7 @@ use Rattle.std.specs.Prelude.{◌&&◌, not}
 use Rattle.acpi_values.specs.Paths.{AbsolutePath}
 use Rattle.acpi_values.specs.Operators.{Letter, Used, row_of}
 use Rattle.acpi_state.specs.FieldActs.{region_letters, field_letters}
-use Rattle.asl_tree.specs.FieldItems.{FieldItem, UnitItem, SkipItem, OffsetItem}
+use Rattle.asl_tree.specs.FieldItems.{FieldItem, UnitItem, SkipItem, OffsetItem, AccessItem, ConnectionItem, ToName, ToBytes}
 use Rattle.asl_tree.specs.Names.{place_of}
 use Rattle.asl_tree.specs.Tree.{Tree, Use, Call, Apply, Buffer, Package, VarPackage, CondRefOf, Return, Name, Alias, External, Method, Mutex, Event, Container', Scope, Trees, no_trees, tree, OperationRegion, Field, IndexField, BankField, CreateField, UnitName, If, ElseIf, Else, While, Operated, Assigned, AssignedBy, Switch, Case, Default}
 use Rattle.asl_meaning.specs.Declarations.{Declarations, scope_path, declare, declare_all, declare_items}
@@ -84,6 +84,9 @@ after_items [] scope d = refl
 after_items (UnitItem name bits ∷ items) scope d = after_items items scope _
 after_items (SkipItem bits ∷ items) scope d = after_items items scope d
 after_items (OffsetItem bytes ∷ items) scope d = after_items items scope d
+after_items (AccessItem access attribute length ∷ items) scope d = after_items items scope d
+after_items (ConnectionItem (ToName at name) ∷ items) scope d = after_items items scope d
+after_items (ConnectionItem (ToBytes bytes) ∷ items) scope d = after_items items scope d
 
 -- what a term declares
 mutual

@@ -5,18 +5,20 @@ use Rattle.std.specs.Option.{option_map}
 use Rattle.std.proofs.lemmas.List.{take_all}
 use Rattle.acpi_values.specs.Paths.{NameSeg, AbsolutePath}
 use Rattle.acpi_state.specs.Outcomes.{choose}
-use Rattle.asl_tree.specs.FieldItems.{FieldItem, UnitItem, SkipItem, OffsetItem}
+use Rattle.asl_tree.specs.FieldItems.{FieldItem, UnitItem, SkipItem, OffsetItem, AccessItem, ConnectionItem, ToName, ToBytes}
+use Rattle.asl_tree.specs.declared.path.Path.{Path}
 use Rattle.asl_tree.specs.declared.term.Op.{Op}
 use Rattle.asl_tree.specs.declared.term.Node.{Node}
 use Rattle.asl_tree.specs.declared.term.Term.{Term}
 use Rattle.asl_tree.specs.declared.term.Term as D
-use Rattle.asl_tree.specs.Tree.{At, Tree, Item, UnitName, Trees, no_trees, tree}
+use Rattle.asl_tree.specs.Tree.{At, Tree, Use, Item, Fill, UnitName, Trees, no_trees, tree}
 use Rattle.asl_tree.specs.View.{tree_of, row_trees, trees_of, items_in}
 use Rattle.asl_meaning.specs.Declarations.{Declarations, declare_items, is_named}
-use Rattle.acpi_names.specs.Mentions.{item_mentions}
+use Rattle.acpi_names.specs.Errors.{Anything}
+use Rattle.acpi_names.specs.Mentions.{Used', item_mentions}
 use Rattle.acpi_names.specs.Parts.{Leads, is_item_list, is_item_term, unit_of, listed_items, declare_part}
 use Rattle.acpi_names.specs.Walked.{node_tree, part_mentions, field_mentions}
-use Rattle.acpi_names.specs.Units.{unit_in, declare_unit, unit_mentions}
+use Rattle.acpi_names.specs.Units.{unit_in, declare_unit, unit_mentions, connection_mentions, entry_mentions}
 use Rattle.acpi_names.specs.declared.part.Over.{Over}
 use Rattle.acpi_names.specs.declared.part.Part.TheVariants as P
 use Rattle.acpi_names.proofs.Plain.{is_plain, plain_form}
@@ -25,10 +27,14 @@ use Rattle.acpi_names.proofs.Telling.{trees_at, no_more}
 
 abbrev is_item : Tree → Bool
 is_item (Item item) = true
+is_item (Use at name) = true
+is_item (Fill bytes) = true
 is_item _ = false
 
 plain_item : (t : Tree) → is_plain t ≡ true → is_item t ≡ false
 plain_item (Item item) e = absurd (grind arith)
+plain_item (Use at name) e = absurd (grind arith)
+plain_item (Fill bytes) e = absurd (grind arith)
 plain_item t e = refl
 
 item_term : (at : At) (t : Term) → is_item (tree_of at t) ≡ is_item_term t
@@ -43,6 +49,8 @@ some_more (Some items) item = refl
 
 list_step : (t : Tree) (ts : Trees) → is_item_list (tree t ts) ≡ (is_item t && is_item_list ts)
 list_step (Item item) ts = some_more (items_in ts) item
+list_step (Use at name) ts = some_more (items_in ts) (ConnectionItem (ToName at name))
+list_step (Fill bytes) ts = some_more (items_in ts) (ConnectionItem (ToBytes bytes))
 list_step t ts = refl
 
 pub items_next : (nodes : List Node) (i : ℕ) (node : Node) (c : Bool) → i < length nodes → node ≡ get_or nodes i node → is_item_term node.term ≡ c → is_item_list (trees_of (drop i nodes)) ≡ (c && is_item_list (trees_of (drop (i + 1) nodes)))
@@ -59,6 +67,10 @@ items_end nodes i le = ap is_item_list (no_more nodes i le)
 pub items_listed : (ts : Trees) → is_item_list ts ≡ true → items_in ts ≡ Some (listed_items ts)
 items_listed no_trees e = refl
 items_listed (tree (Item item) ts) e = ap (λ o. choose o None (λ items. Some (item ∷ items))) (items_listed ts (sym (some_more (items_in ts) item) ∙ e))
+items_listed (tree (Use at name) ts) e =
+    let item = ConnectionItem (ToName at name) in ap (λ o. choose o None (λ items. Some (item ∷ items))) (items_listed ts (sym (some_more (items_in ts) item) ∙ e))
+items_listed (tree (Fill bytes) ts) e =
+    let item = ConnectionItem (ToBytes bytes) in ap (λ o. choose o None (λ items. Some (item ∷ items))) (items_listed ts (sym (some_more (items_in ts) item) ∙ e))
 items_listed (tree t ts) e = absurd (grind arith)
 
 none_listed : (o : Option (List (FieldItem UnitName))) → choose o false (λ items. true) ≡ false → o ≡ None
@@ -87,17 +99,47 @@ unit_none at (D.Unit s bits) e = absurd (grind arith)
 unit_none at (D.Form' op shape args shape' body) e = plain_unit _ (plain_form at op (row_trees args) (row_trees body))
 unit_none at t e = refl
 
+-- what a form is no connection of
+plain_connection : (t : Tree) (scope : AbsolutePath) → is_plain t ≡ true → connection_mentions t scope ≡ []
+plain_connection (Item item) scope e = absurd (grind arith)
+plain_connection (Use at name) scope e = absurd (grind arith)
+plain_connection t scope e = refl
+
+pub connection_none : (at : At) (t : Term) (scope : AbsolutePath) → ((path : Path) → t ≡ D.Name path → ⊥) → connection_mentions (tree_of at t) scope ≡ []
+unfolding tree_of
+connection_none at (D.Name path) scope e = absurd (e path refl)
+connection_none at (D.Form' op shape args shape' body) scope e = plain_connection _ scope (plain_form at op (row_trees args) (row_trees body))
+connection_none at t scope e = refl
+
+pub connection_there : (at : At) (t : Term) (path : Path) (scope : AbsolutePath) → t ≡ D.Name path → Used' Anything at path scope ∷ [] ≡ connection_mentions (tree_of at t) scope
+unfolding tree_of
+connection_there at t path scope e = ap (λ t. connection_mentions (tree_of at t) scope) (sym e)
+
+-- a unit is no connection
+pub entry_unit : (t : Tree) (name : UnitName) (scope : AbsolutePath) → unit_in t ≡ Some name → unit_mentions (Some name) scope ≡ entry_mentions t scope
+entry_unit (Item (UnitItem unit bits)) name scope e = ap (λ u. unit_mentions u scope) (sym e)
+entry_unit t name scope e = absurd (grind arith)
+
 -- one item more
-pub mention_step : (t : Tree) (ts : Trees) (scope : AbsolutePath) → item_mentions (listed_items (tree t ts)) scope ≡ unit_mentions (unit_in t) scope ++ item_mentions (listed_items ts) scope
+pub mention_step : (t : Tree) (ts : Trees) (scope : AbsolutePath) → item_mentions (listed_items (tree t ts)) scope ≡ entry_mentions t scope ++ item_mentions (listed_items ts) scope
 mention_step (Item (UnitItem name bits)) ts scope = refl
 mention_step (Item (SkipItem bits)) ts scope = refl
 mention_step (Item (OffsetItem bytes)) ts scope = refl
+mention_step (Item (AccessItem access attribute length)) ts scope = refl
+mention_step (Item (ConnectionItem (ToName at name))) ts scope = refl
+mention_step (Item (ConnectionItem (ToBytes bytes))) ts scope = refl
+mention_step (Use at name) ts scope = refl
+mention_step (Fill bytes) ts scope = refl
 mention_step t ts scope = refl
 
 declare_step : (t : Tree) (ts : Trees) (scope : AbsolutePath) (d : Declarations) → declare_items (listed_items (tree t ts)) scope d ≡ declare_items (listed_items ts) scope (declare_unit (unit_in t) scope d)
 declare_step (Item (UnitItem name bits)) ts scope d = refl
 declare_step (Item (SkipItem bits)) ts scope d = refl
 declare_step (Item (OffsetItem bytes)) ts scope d = refl
+declare_step (Item (AccessItem access attribute length)) ts scope d = refl
+declare_step (Item (ConnectionItem to)) ts scope d = refl
+declare_step (Use at name) ts scope d = refl
+declare_step (Fill bytes) ts scope d = refl
 declare_step t ts scope d = refl
 
 declared_none : (nodes : List Node) (scope : AbsolutePath) (d : Declarations) → declare_items (listed_items (trees_of (take 0 nodes))) scope d ≡ d

@@ -12,15 +12,13 @@ use Rattle.asl_tree.specs.Names.{Known, end_of, place_of, denoted}
 use Rattle.asl_meaning.specs.Declarations.{As, ExternalType, Declarations, nothing_declared, in_root, is_named, scope_path, with_declared, declare, declarations, calls_all, called, known_of, declare_item}
 use Rattle.asl_meaning.specs.Meaning.{SpotForm, OfResult, OfInside, NoSpot, spot_form}
 use Rattle.acpi_state.specs.FieldActs.{region_letters, field_letters}
-use Rattle.asl_tree.specs.FieldItems.{FieldItem, UnitItem, SkipItem, OffsetItem}
+use Rattle.asl_tree.specs.FieldItems.{FieldItem, UnitItem, SkipItem, OffsetItem, AccessItem, ConnectionItem, Connected, ToName, ToBytes}
 use Rattle.asl_tree.specs.Tree.{At, Tree, Use, Call, Apply, Buffer, Package, VarPackage, CondRefOf, Return, Name, Alias, External, Method, Mutex, Event, Container', Scope, Trees, no_trees, tree, count, OperationRegion, Field, IndexField, BankField, CreateField, UnitName, If, ElseIf, Else, While, Operated, Assigned, AssignedBy, Switch, Case, Default}
 
--- an error at a node, with the path that is declared or the name as it is written; a field over a space that is not
--- built has no name
+-- an error at a node, with the path that is declared or the name as it is written
 pub data NameError : Type 0 where
   Twice DeclaredHere : (at : At) (path : AbsolutePath) → NameError
   Missing NoContainer LeavesRoot Differs TooLong WrongCount WrongKind : (at : At) (name : Path) → NameError
-  UnbuiltSpace : (at : At) → NameError
 
 -- what is asked of a used name: nothing; that it is a value, and so no method with arguments; or that it is an object
 -- of a kind. A field asks at its own node for a region that it can lie in.
@@ -118,15 +116,6 @@ is_unit (Some (path, UnitObject unit)) = true
 is_unit (Some (path, ExternalObject (ExternalData type))) = nat_eq type 5
 is_unit _ = false
 
--- SMBus, IPMI, GeneralPurposeIO and GenericSerialBus are not built
-abbrev pub is_unbuilt_space : ℕ → Bool
-is_unbuilt_space space = nat_eq space 4 || (nat_eq space 7 || (nat_eq space 8 || nat_eq space 9))
-
--- a region of this source that no field can lie in
-abbrev pub is_unbuilt : Option (AbsolutePath × Object) → Bool
-is_unbuilt (Some (path, RegionObject space offset length)) = is_unbuilt_space space
-is_unbuilt _ = false
-
 -- the name of a unit as one that is declared
 abbrev pub unit_path : NameSeg → Path
 unit_path segment = record { root = false; up = 0; segs = segment ∷ [] }
@@ -163,11 +152,18 @@ module _ (whole : Whole) where
   scope_errors here at name scope d =
       choose (denoted (is_named whole.all) name scope) [] (λ path. unless (is_same_path path (scope_path d name scope)) (Missing at name) ++ unless (is_container (final whole.known path)) (NoContainer here name))
 
+  -- what the units of a field are connected to
+  abbrev pub connected_errors : Connected → AbsolutePath → List NameError
+  connected_errors (ToName at name) scope = use_errors at name scope
+  connected_errors (ToBytes bytes) scope = []
+
   -- the units of a field, each declared in turn
   abbrev pub item_errors : FieldItem UnitName → AbsolutePath → Declarations → List NameError
   item_errors (UnitItem name bits) scope d = declared_errors name.at (unit_path name.segment) scope d
   item_errors (SkipItem bits) scope d = []
   item_errors (OffsetItem bytes) scope d = []
+  item_errors (AccessItem access attribute length) scope d = []
+  item_errors (ConnectionItem to) scope d = connected_errors to scope
 
   abbrev pub items_errors : List (FieldItem UnitName) → AbsolutePath → Declarations → List NameError
   items_errors [] scope d = []
@@ -233,8 +229,7 @@ module _ (whole : Whole) where
   asked_types AMutex at name scope = unless (is_mutex (name_end name scope)) (WrongKind at name)
   asked_types AnEvent at name scope = unless (is_event (name_end name scope)) (WrongKind at name)
   asked_types AUnit at name scope = unless (is_unit (name_end name scope)) (WrongKind at name)
-  asked_types (ARegion field) at name scope =
-      unless (is_region (name_end name scope)) (WrongKind at name) ++ unless (not (is_unbuilt (name_end name scope))) (UnbuiltSpace field)
+  asked_types (ARegion field) at name scope = unless (is_region (name_end name scope)) (WrongKind at name)
 
   -- the path that an operator uses
   abbrev pub used_types : Asked → Tree → AbsolutePath → List NameError

@@ -8,7 +8,7 @@ use Rattle.acpi_values.specs.declared.operator.Plain.{Plain}
 use Rattle.acpi_state.specs.Objects.{MethodObject, ContainerObject, DataObject, MutexObject, EventObject, RegionObject}
 use Rattle.acpi_state.specs.Outcomes.{choose}
 use Rattle.asl_tree.specs.declared.path.Path.{Path}
-use Rattle.asl_tree.specs.FieldItems.{FieldItem, UnitItem, SkipItem, OffsetItem}
+use Rattle.asl_tree.specs.FieldItems.{FieldItem, UnitItem, SkipItem, OffsetItem, AccessItem, ConnectionItem, Connected, ToName, ToBytes}
 use Rattle.asl_tree.specs.Names.{place_of, denoted}
 use Rattle.asl_tree.specs.Tree.{At, Tree, Use, Call, Apply, Buffer, Package, VarPackage, CondRefOf, Return, Name, Alias, External, Method, Mutex, Event, Container', Scope, Trees, no_trees, tree, count, OperationRegion, Field, IndexField, BankField, CreateField, UnitName, If, ElseIf, Else, While, Operated, Assigned, AssignedBy, Switch, Case, Default}
 use Rattle.asl_meaning.specs.Declarations.{Declared, As, AliasOf, ExternalType, Declarations, in_root, is_named, with_declared, with_external, scope_path, declare, as_unit, as_buffer_field}
@@ -107,12 +107,19 @@ abbrev mutual
   element_mentions asked no_trees scope = []
   element_mentions asked (tree t ts) scope = mentions (asked && not (is_use t)) t scope ++ element_mentions asked ts scope
 
--- the units of a field
+-- what the units of a field are connected to
+abbrev pub connected_mentions : Connected → AbsolutePath → List Mention
+connected_mentions (ToName at name) scope = Used' Anything at name scope ∷ []
+connected_mentions (ToBytes bytes) scope = []
+
+-- the items of a field
 abbrev pub item_mentions : List (FieldItem UnitName) → AbsolutePath → List Mention
 item_mentions [] scope = []
 item_mentions (UnitItem name bits ∷ items) scope = Declares name.at (unit_path name.segment) as_unit scope ∷ item_mentions items scope
 item_mentions (SkipItem bits ∷ items) scope = item_mentions items scope
 item_mentions (OffsetItem bytes ∷ items) scope = item_mentions items scope
+item_mentions (AccessItem access attribute length ∷ items) scope = item_mentions items scope
+item_mentions (ConnectionItem to ∷ items) scope = connected_mentions to scope ++ item_mentions items scope
 
 -- a term, behind others that declare some names
 abbrev mutual

@@ -14,7 +14,7 @@ use Rattle.asl_tree.specs.declared.term.Declaration.TheVariants as Declaration
 use Rattle.asl_tree.specs.declared.term.Control.TheVariants as Control
 use Rattle.asl_meaning.specs.Declarations.{is_named, As, AliasOf, Declarations, with_declared, with_external, in_root, scope_path, declare_all, declare_items}
 use Rattle.asl_tree.specs.Names.{place_of}
-use Rattle.asl_tree.specs.View.{items_in}
+use Rattle.asl_tree.specs.View.{item_in, items_in}
 use Rattle.asl_tree.specs.FieldItems.{FieldItem}
 use Rattle.asl_tree.specs.Tree.{Tree, Use, Integer, Item, UnitName, Trees, no_trees, tree}
 use Rattle.acpi_names.specs.Paths.{is_named_in}
@@ -154,6 +154,9 @@ abbrev pub is_item_term : Term → Bool
 is_item_term (D.Unit segment bits) = true
 is_item_term (D.Skip bits) = true
 is_item_term (D.Offset bytes) = true
+is_item_term (D.Access access attribute length) = true
+is_item_term (D.Name path) = true
+is_item_term (D.Fill bytes named) = true
 is_item_term _ = false
 
 abbrev pub unit_of : Term → Option NameSeg
@@ -163,8 +166,7 @@ unit_of _ = None
 -- the items among some trees
 abbrev pub listed_items : Trees → List (FieldItem UnitName)
 listed_items no_trees = []
-listed_items (tree (Item item) ts) = item ∷ listed_items ts
-listed_items (tree _ ts) = listed_items ts
+listed_items (tree t ts) = choose (item_in t) (listed_items ts) (λ item. item ∷ listed_items ts)
 
 -- the flags name what is declared
 abbrev pub Agrees : List AbsolutePath → List Bool → Declarations → Type 0

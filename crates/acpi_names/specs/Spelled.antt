@@ -1,12 +1,13 @@
 -- A program with its names as they stand in the bytes, shortened or not.
-use Rattle.std.specs.Prelude.{Bool, []}
+use Rattle.std.specs.Prelude.{Bool, List, [], ◌∷◌}
 use Rattle.acpi_values.specs.Paths.{AbsolutePath}
 use Rattle.acpi_state.specs.Outcomes.{choose}
 use Rattle.asl_tree.specs.declared.path.Path.{Path}
 use Rattle.asl_tree.specs.Names.{place_of, denoted, spelled_name}
 use Rattle.asl_meaning.specs.Declarations.{ExternalType}
 use Rattle.acpi_names.specs.Shortest.{spelled_use, spelled_item}
-use Rattle.asl_tree.specs.Tree.{Tree, Use, Call, Apply, Buffer, Package, VarPackage, CondRefOf, Return, Name, Alias, External, Method, Container', Scope, Trees, no_trees, tree, OperationRegion, Field, IndexField, BankField, CreateField, If, ElseIf, Else, While, Operated, Assigned, AssignedBy, Switch, Case, Default}
+use Rattle.asl_tree.specs.FieldItems.{FieldItem, ConnectionItem, Connected, ToName, ToBytes}
+use Rattle.asl_tree.specs.Tree.{Tree, UnitName, Item, Use, Call, Apply, Buffer, Package, VarPackage, CondRefOf, Return, Name, Alias, External, Method, Container', Scope, Trees, no_trees, tree, OperationRegion, Field, IndexField, BankField, CreateField, If, ElseIf, Else, While, Operated, Assigned, AssignedBy, Switch, Case, Default}
 
 module _ (has : AbsolutePath → Bool) where
   -- the scope of a Scope's terms
@@ -18,6 +19,19 @@ module _ (shorten : Bool) (has : AbsolutePath → Bool) where
   abbrev pub element_spelled : Tree → Tree → AbsolutePath → Tree
   element_spelled (Use at name) other scope = Use at (spelled_item has shorten name scope)
   element_spelled t other scope = other
+
+  -- what the units of a field are connected to
+  abbrev pub connected_spelled : Connected → AbsolutePath → Connected
+  connected_spelled (ToName at name) scope = ToName at (spelled_use has shorten name scope)
+  connected_spelled (ToBytes bytes) scope = ToBytes bytes
+
+  abbrev pub item_spelled : FieldItem UnitName → AbsolutePath → FieldItem UnitName
+  item_spelled (ConnectionItem to) scope = ConnectionItem (connected_spelled to scope)
+  item_spelled item scope = item
+
+  abbrev pub items_spelled : List (FieldItem UnitName) → AbsolutePath → List (FieldItem UnitName)
+  items_spelled [] scope = []
+  items_spelled (item ∷ items) scope = item_spelled item scope ∷ items_spelled items scope
 
 module _ (shorten : Bool) (has : AbsolutePath → Bool) (says : AbsolutePath → ExternalType → ExternalType) where
   -- declared names stay as they are written, the name of a Scope is never shortened, and an External says its type and
@@ -42,11 +56,11 @@ module _ (shorten : Bool) (has : AbsolutePath → Bool) (says : AbsolutePath →
     spelled (Case value body) scope = Case (spelled value scope) (spelled_all body scope)
     spelled (Default body) scope = Default (spelled_all body scope)
     spelled (OperationRegion at name space args) scope = OperationRegion at name space (spelled_all args scope)
-    spelled (Field here from region flags items) scope = Field here from (spelled_use has shorten region scope) flags items
+    spelled (Field here from region flags items) scope = Field here from (spelled_use has shorten region scope) flags (items_spelled shorten has items scope)
     spelled (IndexField here from index to register flags items) scope =
-        IndexField here from (spelled_use has shorten index scope) to (spelled_use has shorten register scope) flags items
+        IndexField here from (spelled_use has shorten index scope) to (spelled_use has shorten register scope) flags (items_spelled shorten has items scope)
     spelled (BankField here from region to bank value flags items) scope =
-        BankField here from (spelled_use has shorten region scope) to (spelled_use has shorten bank scope) (spelled value scope) flags items
+        BankField here from (spelled_use has shorten region scope) to (spelled_use has shorten bank scope) (spelled value scope) flags (items_spelled shorten has items scope)
     spelled (CreateField form args at name) scope = CreateField form (spelled_all args scope) at name
     spelled (Return value) scope = Return (spelled value scope)
     spelled (Name at name value) scope = Name at name (spelled value scope)
@@ -56,6 +70,7 @@ module _ (shorten : Bool) (has : AbsolutePath → Bool) (says : AbsolutePath →
     spelled (Method at name flags body) scope = Method at name flags (spelled_all body (place_of name scope))
     spelled (Container' kind at name body) scope = Container' kind at name (spelled_all body (place_of name scope))
     spelled (Scope here at name body) scope = Scope here at (spelled_name has name scope) (spelled_all body (inner_scope has name scope))
+    spelled (Item item) scope = Item (item_spelled shorten has item scope)
     spelled term scope = term
 
     pub spelled_all : Trees → AbsolutePath → Trees

@@ -9,7 +9,7 @@ ghost use Rattle.acpi_names.specs.Paths.{Extends};
 ghost use Rattle.acpi_names.specs.Parts.{Leads, Marks, is_item_list, is_item_term, unit_of, listed_items};
 ghost use Rattle.acpi_names.specs.Shown.{Tells, asked_as, spot_as};
 ghost use Rattle.acpi_names.specs.Walked.{node_tree, name_mention, field_mentions};
-ghost use Rattle.acpi_names.specs.Units.{unit_in, unit_mentions, declare_unit};
+ghost use Rattle.acpi_names.specs.Units.{unit_in, declare_unit, connection_mentions, entry_mentions};
 ghost use Rattle.acpi_names.specs.Folding.{LeadsBy, TellsBy};
 
 use crate::index::{Index, reach};
@@ -25,7 +25,15 @@ use std::alloc::AllocError;
 fn is_item(term: &Term) -> bool
     ensures { result ≡ is_item_term term.now }
 {
-    matches!(term, Term::Unit { .. } | Term::Skip(_) | Term::Offset(_))
+    matches!(
+        term,
+        Term::Unit { .. }
+            | Term::Skip(_)
+            | Term::Offset(_)
+            | Term::Access { .. }
+            | Term::Name(_)
+            | Term::Fill { .. }
+    )
 }
 
 // Whether a body lists items of a field, and nothing else.
@@ -64,6 +72,28 @@ fn declared_unit(index: &mut Index, segment: NameSeg, scope: usize) -> Result<()
     Ok(())
 }
 
+// What units are connected to, where a node is a name.
+fn connection<'a>(
+    out: &mut Vec<Mention<'a>>,
+    node: &'a Node,
+    scope: usize,
+) -> Result<(), AllocError>
+    ensures { OnOk result (Tells out.old.items out.new.items (λ paths. connection_mentions (node_tree node.now) (get_or paths scope []))) }
+{
+    match &node.term {
+        Term::Name(name) => {
+            out.push(Mention::Used {
+                asked: Asked::Anything,
+                at: spot_of(node),
+                name,
+                scope,
+            })?;
+            Ok(())
+        }
+        _ => Ok(()),
+    }
+}
+
 // An item of a field's list.
 fn fold_item<'a>(
     index: &mut Index,
@@ -76,7 +106,7 @@ fn fold_item<'a>(
     ensures size { OnOk result (length index.new.named.items ≡ length index.new.paths) }
     ensures others { OnOk result (Extends index.old.paths index.new.paths) }
     ensures names { OnOk result (Leads index.old.paths index.old.named.items index.new.paths index.new.named.items (declare_unit (unit_in (node_tree node.now)) (get_or index.old.paths scope []))) }
-    ensures told { OnOk result (Tells out.old.items out.new.items (λ paths. unit_mentions (unit_in (node_tree node.now)) (get_or paths scope []))) }
+    ensures told { OnOk result (Tells out.old.items out.new.items (λ paths. entry_mentions (node_tree node.now) (get_or paths scope []))) }
 {
     match segment_in(&node.term) {
         Some(segment) => {
@@ -89,11 +119,14 @@ fn fold_item<'a>(
             declared_unit(index, segment, scope)?;
             Ok(())
         }
-        None => Ok(()),
+        None => {
+            connection(out, node, scope)?;
+            Ok(())
+        }
     }
 }
 
-// The units of a field's list, in order.
+// The items of a field's list, in order.
 fn fold_items<'a>(
     index: &mut Index,
     out: &mut Vec<Mention<'a>>,

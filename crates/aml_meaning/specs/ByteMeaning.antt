@@ -1,6 +1,6 @@
 -- What bytes mean (ACPI Specification 6.4, 20): they are decoded as the run goes, and names are searched among the
 -- objects that exist.
-use Rattle.std.specs.Prelude.{ℕ, zero, suc, Bool, false, List, [], ◌∷◌, length, Option, Some, None, if◌then◌else◌, ◌+◌, nat_eq, true}
+use Rattle.std.specs.Prelude.{ℕ, zero, suc, Bool, false, List, [], ◌∷◌, length, Option, Some, None, if◌then◌else◌, nat_eq, true}
 use Rattle.acpi_values.specs.declared.width.Width.{Width}
 use Rattle.acpi_values.specs.declared.operator.Plain.{Plain}
 use Rattle.acpi_values.specs.Paths.{AbsolutePath}
@@ -19,10 +19,10 @@ use Rattle.acpi_state.specs.Stores.{Spot, Nowhere, DebugObject, At, read, store}
 use Rattle.acpi_state.specs.Acts.{Operand, OfValue, OfKept, OfSpot, OfNumber, number_of, act_of, last_of}
 use Rattle.acpi_state.specs.Forms.{buffer_of, package_of, slot_here, if_data, spot_in, cond_ref_of}
 use Rattle.acpi_state.specs.Uses.{use_object}
-use Rattle.acpi_state.specs.FieldUnits.{Extent, FieldUnit, InRegion, InBank, BehindIndex}
+use Rattle.acpi_state.specs.FieldUnits.{Connection, ToObject, ToResource, Extent, FieldUnit, InRegion, InBank, BehindIndex}
 use Rattle.acpi_state.specs.Registers.{register_of}
 use Rattle.acpi_state.specs.FieldActs.{region_letters, make_region, FieldForm, field_letters, make_buffer_field}
-use Rattle.asl_meaning.specs.FieldTerms.{create_unit}
+use Rattle.asl_meaning.specs.FieldTerms.{Cursor, first_unit, behind_bits, accessed, connected_to, resource_of, create_unit}
 use Rattle.asl_tree.specs.Names.{place_of, is_searched, search_path}
 use Rattle.asl_tree.specs.declared.path.Path.{Path}
 use Rattle.asl_meaning.specs.Meaning.{SpotForm, OfResult, OfInside, NoSpot, spot_form}
@@ -244,35 +244,75 @@ register_named scope name rest = followed_by rest (then_run (found name scope) (
 abbrev pub register_at : List ℕ → AbsolutePath → ByteRun (FieldUnit × List ℕ)
 register_at bytes scope = with_front (name_front bytes) (register_named scope)
 
--- At most n items of a field's list, where the next bit is `at`: a gap behind 00, or a unit.
-abbrev pub walk_items : ℕ → (Extent → FieldUnit) → ℕ → AbsolutePath → ℕ → List ℕ → ByteRun Flow
-walk_items n unit flags scope at [] = done (Normal false)
-walk_items zero unit flags scope at (byte ∷ bytes) = stop Broken
-walk_items (suc n) unit flags scope at (byte ∷ bytes) =
-    if nat_eq byte 0x00 then with_front (bit_count_front bytes) (λ bits rest. walk_items n unit flags scope (at + bits) rest)
-    else with_front (segment_front (byte ∷ bytes)) (λ name rest. with_front (bit_count_front rest)
-    (λ bits rest. then_run (create_unit unit flags scope name at bits) (λ u. walk_items n unit flags scope (at + bits) rest)))
+-- an access and its attribute, and where it is written the length of transfers
+abbrev pub access_front : List ℕ → Front (ℕ × ℕ)
+access_front (access ∷ attribute ∷ rest) = Some ((access, attribute), rest)
+access_front _ = None
+
+abbrev pub long_access_front : List ℕ → Front (ℕ × ℕ × ℕ)
+long_access_front (access ∷ attribute ∷ length ∷ rest) = Some ((access, attribute, length), rest)
+long_access_front _ = None
+
+-- what units are connected to: what a name leads to, or a Buffer, whose size stands before its bytes
+abbrev pub object_link : AbsolutePath → Path → List ℕ → ByteRun (Connection × List ℕ)
+object_link scope name rest = then_run (region_named scope name rest) (λ r. done (ToObject r.0, r.1))
+
+abbrev pub resource_link : Width → List ℕ → ByteRun Connection
+resource_link width content =
+    with_front (integer_front width content) (λ size bytes. then_run (act (resource_of size bytes)) (λ bytes. done (ToResource bytes)))
+
+abbrev pub buffer_link : Width → List ℕ → ByteRun (Connection × List ℕ)
+buffer_link width [] = stop Broken
+buffer_link width (code ∷ bytes) =
+    if nat_eq code 0x11 then with_front (package_front bytes) (λ content after. followed_by after (resource_link width content)) else stop Broken
+
+abbrev pub link_at : Width → AbsolutePath → List ℕ → ByteRun (Connection × List ℕ)
+link_at width scope bytes = if begins_name bytes then with_front (name_front bytes) (object_link scope) else buffer_link width bytes
+
+-- what the first byte of an item says: a gap, an access, a connection, an access with a length, or a unit
+pub data ItemCode : Type 0 where
+  GapCode AccessCode ConnectionCode LongAccessCode UnitCode : ItemCode
+
+abbrev pub item_code : ℕ → ItemCode
+item_code byte =
+    if nat_eq byte 0x00 then GapCode else if nat_eq byte 0x01 then AccessCode else if nat_eq byte 0x02 then ConnectionCode else if nat_eq byte 0x03 then LongAccessCode else UnitCode
+
+-- an item, of which `bytes` follow the first byte, and then the items behind it
+abbrev pub walk_item : Width → (Extent → FieldUnit) → AbsolutePath → Cursor → (Cursor → List ℕ → ByteRun Flow) → ItemCode → List ℕ → List ℕ → ByteRun Flow
+walk_item width unit scope c go GapCode whole bytes = with_front (bit_count_front bytes) (λ bits rest. go (behind_bits c bits) rest)
+walk_item width unit scope c go AccessCode whole bytes = with_front (access_front bytes) (λ a rest. go (accessed c a.0 a.1 0) rest)
+walk_item width unit scope c go ConnectionCode whole bytes = then_run (link_at width scope bytes) (λ r. go (connected_to c r.0) r.1)
+walk_item width unit scope c go LongAccessCode whole bytes = with_front (long_access_front bytes) (λ a rest. go (accessed c a.0 a.1 a.2) rest)
+walk_item width unit scope c go UnitCode whole bytes =
+    with_front (segment_front whole) (λ name rest. with_front (bit_count_front rest)
+    (λ bits rest. then_run (create_unit unit scope c name bits) (λ u. go (behind_bits c bits) rest)))
+
+-- at most n items of a field's list
+abbrev pub walk_items : Width → ℕ → (Extent → FieldUnit) → AbsolutePath → Cursor → List ℕ → ByteRun Flow
+walk_items width n unit scope c [] = done (Normal false)
+walk_items width zero unit scope c (byte ∷ bytes) = stop Broken
+walk_items width (suc n) unit scope c (byte ∷ bytes) = walk_item width unit scope c (walk_items width n unit scope) (item_code byte) (byte ∷ bytes) bytes
 
 -- the flags of a field, and its list
-abbrev pub field_list : (Extent → FieldUnit) → AbsolutePath → List ℕ → ByteRun Flow
-field_list unit scope [] = stop Broken
-field_list unit scope (flags ∷ items) = walk_items (length items) unit flags scope 0 items
+abbrev pub field_list : Width → (Extent → FieldUnit) → AbsolutePath → List ℕ → ByteRun Flow
+field_list width unit scope [] = stop Broken
+field_list width unit scope (flags ∷ items) = walk_items width (length items) unit scope (first_unit flags) items
 
 -- the byte of the space, and then the offset and the length
 abbrev pub region_term : Width → Walk → AbsolutePath → AbsolutePath → List ℕ → ByteRun (Flow × List ℕ)
 region_term width w scope path [] = stop Broken
 region_term width w scope path (space ∷ bytes) = then_run (operands w region_letters bytes scope) (λ r. followed_by r.1 (make_region width path space r.0))
 
-abbrev pub field_term : AbsolutePath → List ℕ → ByteRun Flow
-field_term scope content = then_run (region_at content scope) (λ r. field_list (InRegion r.0) scope r.1)
+abbrev pub field_term : Width → AbsolutePath → List ℕ → ByteRun Flow
+field_term width scope content = then_run (region_at content scope) (λ r. field_list width (InRegion r.0) scope r.1)
 
-abbrev pub index_field_term : AbsolutePath → List ℕ → ByteRun Flow
-index_field_term scope content =
-    then_run (register_at content scope) (λ i. then_run (register_at i.1 scope) (λ r. field_list (BehindIndex i.0 r.0) scope r.1))
+abbrev pub index_field_term : Width → AbsolutePath → List ℕ → ByteRun Flow
+index_field_term width scope content =
+    then_run (register_at content scope) (λ i. then_run (register_at i.1 scope) (λ r. field_list width (BehindIndex i.0 r.0) scope r.1))
 
 abbrev pub bank_field_term : Width → Walk → AbsolutePath → List ℕ → ByteRun Flow
 bank_field_term width w scope content =
-    then_run (region_at content scope) (λ r. then_run (register_at r.1 scope) (λ b. then_run (size_of width w b.1 scope) (λ n. field_list (InBank r.0 b.0 n.0) scope n.1)))
+    then_run (region_at content scope) (λ r. then_run (register_at r.1 scope) (λ b. then_run (size_of width w b.1 scope) (λ n. field_list width (InBank r.0 b.0 n.0) scope n.1)))
 
 -- the operands, and then the name
 abbrev pub buffer_field_term : Width → Walk → AbsolutePath → FieldForm → List ℕ → ByteRun (Flow × List ℕ)
@@ -329,8 +369,8 @@ module _ (width : Width) (turns : ℕ) (call : AbsolutePath → List Value → B
   term_of_code w due scope BreakCode bytes = done (Break, bytes)
   term_of_code w due scope ContinueCode bytes = done (Continue, bytes)
   term_of_code w due scope OperationRegionCode bytes = with_front (name_front bytes) (λ name rest. region_term width w scope (place_of name scope) rest)
-  term_of_code w due scope FieldCode bytes = with_front (package_front bytes) (λ content after. followed_by after (field_term scope content))
-  term_of_code w due scope IndexFieldCode bytes = with_front (package_front bytes) (λ content after. followed_by after (index_field_term scope content))
+  term_of_code w due scope FieldCode bytes = with_front (package_front bytes) (λ content after. followed_by after (field_term width scope content))
+  term_of_code w due scope IndexFieldCode bytes = with_front (package_front bytes) (λ content after. followed_by after (index_field_term width scope content))
   term_of_code w due scope BankFieldCode bytes = with_front (package_front bytes) (λ content after. followed_by after (bank_field_term width w scope content))
   term_of_code w due scope (CreateFieldCode form) bytes = buffer_field_term width w scope form bytes
   term_of_code w due scope code bytes = container_of_code w scope code bytes

@@ -1,23 +1,35 @@
 -- The bytes of a core tree (ACPI Specification 6.4, 20.2).
-use Rattle.std.specs.Prelude.{ℕ, ◌-◌, ◌*◌, ◌%◌, Bool, nat_eq, if◌then◌else◌, List, [], ◌∷◌, ◌++◌, Option, Some, None}
+use Rattle.std.specs.Prelude.{ℕ, ◌-◌, ◌*◌, ◌%◌, Bool, nat_eq, if◌then◌else◌, List, [], ◌∷◌, ◌++◌, length, Option, Some, None}
 use Rattle.byteorder.specs.Endian.{little_bytes}
 use Rattle.acpi_values.specs.declared.width.Width.{Width}
 use Rattle.acpi_values.specs.Integers.{wrapped}
 use Rattle.acpi_values.specs.Revisions.{width_of}
 use Rattle.asl_tree.specs.declared.term.Literal.{Literal}
-use Rattle.asl_tree.specs.FieldItems.{FieldItem, UnitItem, SkipItem, OffsetItem, behind_item}
+use Rattle.asl_tree.specs.FieldItems.{FieldItem, UnitItem, SkipItem, OffsetItem, AccessItem, ConnectionItem, Connected, ToName, ToBytes, behind_item}
 use Rattle.asl_tree.specs.Tree.{Tree, Integer, Constant, String, InSlot, Debug, Omitted, Raw, Use, Call, Apply, Buffer, Package, VarPackage, CondRefOf, Return, Name, Alias, External, Method, Mutex, Event, Container', Scope, Fill, Misshapen, Operated, Assigned, AssignedBy, Trees, no_trees, tree, UnitName, OperationRegion, Field, IndexField, BankField, CreateField, If, ElseIf, Else, While, Break, Continue, Item, Switch, Case, Default}
 use Rattle.acpi_state.specs.Objects.{Container, ThermalZone, PowerResource, Processor}
 use Rattle.aml_meaning.specs.Codes.{Code, PlainCode, SlotCode, DebugCode, OmittedCode, StringCode, BufferCode, PackageCode, VarPackageCode, CondRefOfCode, NameCode, AliasCode, ScopeCode, MethodCode, ExternalCode, MutexCode, EventCode, ReturnCode, DeviceCode, ThermalZoneCode, PowerResourceCode, ProcessorCode, code_bytes, OperationRegionCode, FieldCode, IndexFieldCode, BankFieldCode, CreateFieldCode, IfCode, ElseCode, WhileCode, BreakCode, ContinueCode}
-use Rattle.aml_code.specs.Encoding.{bit_count_bytes, packed, integer_bytes, name_bytes}
+use Rattle.aml_code.specs.Encoding.{bit_count_bytes, packed, integer_bytes, prefixed_bytes, name_bytes}
 use Rattle.aml_code.specs.Header.{table_bytes, fields_of}
 use Rattle.asl_tree.specs.declared.program.Block.{Block}
 use Rattle.asl_tree.specs.View.{trees_of}
+
+-- an access with its attribute, and where it is written the length of transfers, of which the attribute then is one
+abbrev pub access_bytes : ℕ → ℕ → Option ℕ → List ℕ
+access_bytes access attribute None = 0x01 ∷ (access % 256) ∷ (attribute % 256) ∷ []
+access_bytes access attribute (Some length) = 0x03 ∷ (access % 256) ∷ (attribute % 256) ∷ (length % 256) ∷ []
+
+-- a name, or a Buffer with its size
+abbrev pub connected_bytes : Connected → List ℕ
+connected_bytes (ToName at name) = name_bytes name
+connected_bytes (ToBytes bytes) = 0x11 ∷ packed (prefixed_bytes (length bytes) ++ bytes)
 
 -- an item of a field's list that stands at a bit; an Offset is written as the gap that it makes, if there is one
 abbrev pub item_bytes : ℕ → FieldItem UnitName → List ℕ
 item_bytes at (UnitItem name bits) = name.segment ++ bit_count_bytes bits
 item_bytes at (SkipItem bits) = 0x00 ∷ bit_count_bytes bits
+item_bytes at (AccessItem access attribute length) = access_bytes access attribute length
+item_bytes at (ConnectionItem to) = 0x02 ∷ connected_bytes to
 item_bytes at (OffsetItem bytes) = if nat_eq (8 * bytes) at then [] else 0x00 ∷ bit_count_bytes (8 * bytes - at)
 
 abbrev pub items_bytes : ℕ → List (FieldItem UnitName) → List ℕ

@@ -567,21 +567,21 @@ module _ (given : Setting) (turns : ℕ) (call : AbsolutePath → List Value →
         let inside : length content ≤ n = omega (arith, le, length-append (package_length_bytes (length content)) content) in
         agree_to (as_bytes given)
         (code_step given.width turns call' n FieldCode (packed content ++ rest) scope due tt tt
-        ∙ package_step content rest (λ content after. followed_by after (B.field_term scope content)) (omega (arith, inside, fits)))
+        ∙ package_step content rest (λ content after. followed_by after (B.field_term given.width scope content)) (omega (arith, inside, fits)))
         (agree_followed given rest
         (agree_then (as_bytes given) Any (λ f. f) _ (agree_region_at given region scope (field_bytes flags items) ready.0)
-        (λ r any. agree_field_list given (InRegion r) flags scope items ready.1 ready.2 ready.3)))
+        (λ r any. agree_field_list given (InRegion r) flags scope items ready.1 ready.2 ready.3 (omega (arith, inside, fits, length-append (name_bytes region) (field_bytes flags items))))))
     agree_run (IndexField here from index to register flags items) scope due (suc n) rest ready le fits =
         let list = field_bytes flags items in
         let content = name_bytes index ++ (name_bytes register ++ list) in
         let inside : length content ≤ n = omega (arith, le, length-append (package_length_bytes (length content)) content) in
         agree_to (as_bytes given)
         (code_step given.width turns call' n IndexFieldCode (packed content ++ rest) scope due tt tt
-        ∙ package_step content rest (λ content after. followed_by after (B.index_field_term scope content)) (omega (arith, inside, fits)))
+        ∙ package_step content rest (λ content after. followed_by after (B.index_field_term given.width scope content)) (omega (arith, inside, fits)))
         (agree_followed given rest
         (agree_then (as_bytes given) Any (λ f. f) _ (agree_register_at given index scope (name_bytes register ++ list) ready.0)
         (λ i any. agree_then (as_bytes given) Any (λ f. f) _ (agree_register_at given register scope list ready.1)
-        (λ r any. agree_field_list given (BehindIndex i r) flags scope items ready.2 ready.3 ready.4))))
+        (λ r any. agree_field_list given (BehindIndex i r) flags scope items ready.2 ready.3 ready.4 (omega (arith, inside, fits, length-append (name_bytes index) (name_bytes register ++ list), length-append (name_bytes register) list))))))
     agree_run (BankField here from region to bank value flags items) scope due (suc n) rest ready le fits =
         let list = field_bytes flags items in
         let later = E given value ++ list in
@@ -597,7 +597,7 @@ module _ (given : Setting) (turns : ℕ) (call : AbsolutePath → List Value →
         (agree_size given (R value scope false) (W n) later list scope
         (agree_operand given (is_expression value) (R value scope false) (W n) later list scope ready.2
         (agree_run value scope false n list ready.3 (omega (arith, inside, length-append (name_bytes region) (name_bytes bank ++ later), length-append (name_bytes bank) later, length-append (E given value) list)) (omega (arith, fits)))))
-        (λ k any. agree_field_list given (InBank r b k) flags scope items ready.4 ready.5 ready.6)))))
+        (λ k any. agree_field_list given (InBank r b k) flags scope items ready.4 ready.5 ready.6 (omega (arith, inside, fits, length-append (name_bytes region) (name_bytes bank ++ later), length-append (name_bytes bank) later, length-append (E given value) list)))))))
     agree_run (CreateField form args at name) scope due (suc n) rest ready le fits =
         let path = place_of name scope in
         let whole = length-append (EA given args) (name_bytes name) in

@@ -1,5 +1,5 @@
 -- What a core tree must be so that its bytes mean what it means.
-use Rattle.std.specs.Prelude.{ℕ, ◌≡◌, ◌<◌, ◌≤◌, ◌^◌, Bool, true, false, nat_eq, List, [], ◌∷◌, length, Some, ◌-◌, ◌*◌}
+use Rattle.std.specs.Prelude.{ℕ, ◌≡◌, ◌<◌, ◌≤◌, ◌^◌, Bool, true, false, nat_eq, List, [], ◌∷◌, length, Option, Some, None, ◌-◌, ◌*◌}
 use Rattle.acpi_values.specs.Paths.{AbsolutePath}
 use Rattle.acpi_values.specs.Operators.{Letter, Valued, Kept, Placed, Used, Row, row_of}
 use Rattle.acpi_values.specs.Operators as L
@@ -10,7 +10,7 @@ use Rattle.asl_tree.specs.Names.{Kind, Is, AliasTo, Known, is_known, kind_at, en
 use Rattle.asl_meaning.specs.Meaning.{SpotForm, OfResult, OfInside, NoSpot, spot_form}
 use Rattle.acpi_state.specs.FieldUnits.{OfOtherTable, OverItsOwn}
 use Rattle.acpi_state.specs.FieldActs.{region_letters, field_letters}
-use Rattle.asl_tree.specs.FieldItems.{FieldItem, UnitItem, SkipItem, OffsetItem, behind_item}
+use Rattle.asl_tree.specs.FieldItems.{FieldItem, UnitItem, SkipItem, OffsetItem, AccessItem, ConnectionItem, Connected, ToName, ToBytes, behind_item}
 use Rattle.asl_tree.specs.Tree.{Tree, Integer, Constant, String, InSlot, Debug, Omitted, Raw, Use, Call, Apply, Buffer, Package, VarPackage, CondRefOf, Return, Name, Alias, External, Method, Mutex, Event, Container', Scope, Fill, Misshapen, Operated, Assigned, AssignedBy, Trees, no_trees, tree, count, OperationRegion, Field, IndexField, BankField, CreateField, UnitName, If, ElseIf, Else, While, Break, Continue, Item, Switch, Case, Default}
 use Rattle.asl_tree.specs.View.{trees_of}
 use Rattle.aml_code.specs.Fronts.{IsName, IsUsedName, is_segment}
@@ -88,11 +88,22 @@ abbrev pub RawReady : ℕ → Tree → Type 0
 RawReady size (Raw other number) = (other ≡ size) × (number < 256 ^ size)
 RawReady size _ = ⊥
 
+abbrev pub IsLength : Option ℕ → Type 0
+IsLength None = Unit {0}
+IsLength (Some length) = length < 256
+
+-- the name of a connection can be written
+abbrev pub IsConnection : Connected → Type 0
+IsConnection (ToName at name) = IsUsedName name
+IsConnection (ToBytes bytes) = Unit {0}
+
 -- an item of a field's list that stands at a bit: an Offset does not go back, and counts of bits can be written
 abbrev pub IsItem : ℕ → FieldItem UnitName → Type 0
 IsItem at (UnitItem name bits) = (is_segment name.segment ≡ true) × (bits < 2 ^ 28)
 IsItem at (SkipItem bits) = bits < 2 ^ 28
 IsItem at (OffsetItem bytes) = (at ≤ 8 * bytes) × (8 * bytes - at < 2 ^ 28)
+IsItem at (AccessItem access attribute length) = (access < 256) × (attribute < 256) × IsLength length
+IsItem at (ConnectionItem to) = IsConnection to
 
 abbrev pub AreItems : ℕ → List (FieldItem UnitName) → Type 0
 AreItems at [] = Unit {0}
@@ -127,12 +138,18 @@ module _ (known : Known) where
   abbrev pub IsFound : Path → AbsolutePath → Type 0
   IsFound name scope = (path : AbsolutePath) × Denotes name scope path
 
-  -- the units of a field are known as such
+  abbrev pub IsConnected : Connected → AbsolutePath → Type 0
+  IsConnected (ToName at name) scope = IsFound name scope
+  IsConnected (ToBytes bytes) scope = Unit {0}
+
+  -- the units of a field are known as such, and its connections are found
   abbrev pub AreUnits : List (FieldItem UnitName) → AbsolutePath → Type 0
   AreUnits [] scope = Unit {0}
   AreUnits (UnitItem name bits ∷ items) scope = (kind_at known (name.segment ∷ scope) ≡ Some (Is (UnitObject (OfOtherTable [])))) × AreUnits items scope
   AreUnits (SkipItem bits ∷ items) scope = AreUnits items scope
   AreUnits (OffsetItem bytes ∷ items) scope = AreUnits items scope
+  AreUnits (AccessItem access attribute length ∷ items) scope = AreUnits items scope
+  AreUnits (ConnectionItem to ∷ items) scope = IsConnected to scope × AreUnits items scope
 
   -- a name in a Package has one place
   pub record IsElementName (name : Path) : Type 0 where

@@ -46,13 +46,10 @@ use Rattle.aml_writer.specs.Written.{most_table_bytes, IsTableOf}
 use Rattle.aml_writer.proofs.NodePieces.{nodes_joined}
 use Rattle.acpi_state.specs.Outcomes.{choose}
 use Rattle.aml_writer.proofs.FormLeaves.{tree_leaf, tree_leaves, form_leaf}
-use Rattle.aml_writer.proofs.FieldLists.{IsWritten, items_written}
+use Rattle.aml_writer.proofs.FieldLists.{IsWritten, name_written, items_written}
 use Rattle.aml_writer.proofs.Forms.{IsWhole, AreWhole, is_field, apply_whole, no_symbol, trees_bytes, all_is, formed_bytes, formed_parts, form_is}
 
 -- a name that can be written has its bytes
-name_written : (path : Path) → IsName path → written_name path ≡ name_bytes path
-name_written path valid = let few : nat_le (length path.segs) 255 ≡ true = grind (arith, nat_tests, valid.count) in ap (λ c. if c then name_bytes path else []) few
-
 by_spot : {R : Type 0} (how : SpotForm) (A B : Type 0) → SpotReady how A B → (A → R) → (B → R) → R
 by_spot OfResult A B h f g = f h
 by_spot OfInside A B h f g = g h

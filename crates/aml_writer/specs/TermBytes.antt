@@ -16,11 +16,8 @@ use Rattle.aml_code.specs.Encoding.{integer_bytes, name_bytes, package_length_by
 use Rattle.aml_writer.specs.declared.style.IntegerStyle.{IntegerStyle}
 use Rattle.aml_writer.specs.Leaves.{Leaf, leaf_of, leaves_of, operand_bytes, first_letter, letters_behind, fill_bytes, is_first_left_out, stated_count}
 use Rattle.aml_writer.specs.Codes.{code_of, letters_of}
+pub use Rattle.aml_writer.specs.Items.{written_name}
 use Rattle.aml_writer.specs.Items.{written_items}
-
--- a name of more than 255 segments stands in no program, and has no bytes
-abbrev pub written_name : Path → List ℕ
-written_name path = if nat_le (length path.segs) 255 then name_bytes path else []
 
 -- whether what follows the opcode is a package
 abbrev pub is_package : Op → Bool
@@ -102,6 +99,7 @@ module _ (style : IntegerStyle) where
     term_bytes (D.Unit segment bits) = []
     term_bytes (D.Skip bits) = []
     term_bytes (D.Offset bytes) = []
+    term_bytes (D.Access access attribute count) = []
     term_bytes (D.Name path) = written_name path
     term_bytes (D.Call' path shape args) = written_name path ++ row_bytes [] args
     term_bytes (D.Form' op shape args shape' body) =

@@ -79,6 +79,7 @@ other_folded width statement at t not_call not_form = flat_folded width statemen
     by_layer (D.Term-F.Unit segment bits) e = ap is_flat (e ∙ V.rolls-Unit segment bits)
     by_layer (D.Term-F.Skip n) e = ap is_flat (e ∙ V.rolls-Skip n)
     by_layer (D.Term-F.Offset n) e = ap is_flat (e ∙ V.rolls-Offset n)
+    by_layer (D.Term-F.Access access attribute count) e = ap is_flat (e ∙ V.rolls-Access access attribute count)
 
 pub call_folded : (width : Width) (statement : Bool) (at : At) (t : Term) (path : Path) (args made : Vec Node Global) → t ≡ D.Call path args → trees_of made.items ≡ folded_by width (part_in Listing.Elements) (trees_of args.items)
     → tree_of at (D.Call path made) ≡ folded width statement (tree_of at t)

@@ -12,13 +12,14 @@ use Rattle.acpi_values.specs.Integers.{wrapped, applied}
 use Rattle.acpi_values.specs.Widths.{ones_of}
 use Rattle.acpi_values.specs.Operators.{Letter, row_of}
 use Rattle.acpi_values.specs.Paths.{AbsolutePath}
-use Rattle.acpi_values.specs.Values.{Value}
+use Rattle.acpi_values.specs.Values.{Value, LocalOf}
 use Rattle.acpi_state.specs.State.{State, Store}
-use Rattle.acpi_state.specs.Outcomes.{Flow, Gives, Broken, Result, Done, Stopped, Step, Steps, Fails, Waits, step_result, Action, done, stop, next, then_run, act, choose, value_of}
+use Rattle.acpi_state.specs.Outcomes.{Flow, Gives, Broken, Result, Done, Stopped, Step, Steps, Fails, Waits, step_result, Action, Outcome, done, stop, next, then_run, act, choose, value_of, on_flow}
 use Rattle.acpi_state.specs.Actions.{give, go_on, and_then, computed}
-use Rattle.acpi_state.specs.Stores.{Spot, store}
-use Rattle.acpi_state.specs.Acts.{Operand, OfValue, OfSpot, act_of, last_of}
-use Rattle.acpi_state.specs.Forms.{LocalSlot, package_of}
+use Rattle.acpi_state.specs.Places.{put}
+use Rattle.acpi_state.specs.Stores.{Spot, At, unanswered, store, store_to}
+use Rattle.acpi_state.specs.Acts.{Operand, OfValue, OfSpot, give_one, answer_or, act_of, last_of}
+use Rattle.acpi_state.specs.Forms.{LocalSlot, here, slot_of, package_of}
 use Rattle.asl_tree.specs.Constants.{is_unary}
 use Rattle.asl_tree.specs.Literals.{literal_number}
 use Rattle.asl_tree.specs.Names.{Known}
@@ -52,15 +53,55 @@ two_operands {A} {C} first f second g = fun_ext (λ s. by_first (first s).result
 abbrev nothing : SourceRun (Unit {0})
 nothing = done tt
 
--- a value that is stored, as Store does it and as an operator with a target does
-stored_act : (a : Action (Unit {0})) (v : Value) (s : State Trees) →
-    then_run (act (and_then a (λ u. give (v ∷ [])))) (λ rs. then_run (nothing) (λ u. done (last_of rs))) s ≡ then_run (then_run (act a) (λ u. nothing)) (λ u. done (Gives v)) s
+-- Two runs of a term that end alike, or, where it is a statement, whose value nobody takes, after which a list of terms goes on alike.
+abbrev pub EndAlike : Bool → SourceRun Flow → SourceRun Flow → State Trees → Type 0
+EndAlike false m m' s = m s ≡ m' s
+EndAlike true m m' s = (go : Bool → SourceRun Flow) → then_run m (λ f. on_flow f go) s ≡ then_run m' (λ f. on_flow f go) s
+
+same_end : (statement : Bool) (m m' : SourceRun Flow) (s : State Trees) → m s ≡ m' s → EndAlike statement m m' s
+same_end false m m' s e = e
+same_end true m m' s e = λ go. ap (λ (o : Outcome Trees Flow). next o.result o.state (λ f. on_flow f go)) e
+
+then_same : (statement : Bool) (m m' m'' : SourceRun Flow) (s : State Trees) → EndAlike statement m m' s → m' s ≡ m'' s → EndAlike statement m m'' s
+then_same false m m' m'' s h e = h ∙ e
+then_same true m m' m'' s h e = λ go. h go ∙ ap (λ (o : Outcome Trees Flow). next o.result o.state (λ f. on_flow f go)) e
+
+-- a value as Store stores and gives it, and as an operator with a target does
+abbrev as_store : Action (Option Value) → Value → SourceRun Flow
+as_store a v = then_run (act (and_then a (λ answer. give_one (answer_or answer v)))) (λ rs. then_run nothing (λ u. done (last_of rs)))
+
+abbrev as_target : Action (Option Value) → Value → SourceRun Flow
+as_target a v = then_run (then_run (act (and_then a (λ answer. give {A = Unit {0}} tt))) (λ u. nothing)) (λ u. done (Gives v))
+
+abbrev on_outcome : {A C : Type 0} → Outcome Trees A → (A → SourceRun C) → Outcome Trees C
+on_outcome o k = next o.result o.state k
+
+-- an action that goes on behind a step
+abbrev step_on : {A C : Type 0} → State Trees → Step A × Store → (A → Action C) → Step C × Store
+step_on s r k = go_on r.0 k s.names r.1
+
+abbrev stepped : {A : Type 0} → State Trees → Step A × Store → Outcome Trees A
+stepped s r = record { result = step_result r.0; state = record s { store = r.1 } }
+
+-- without an answer
+stored_act : (a : Action (Unit {0})) (v : Value) (s : State Trees) → as_store (unanswered a) v s ≡ as_target (unanswered a) v s
 stored_act a v s = by_step (a s.names s.store).0 (a s.names s.store).1
   where
     by_step : (r : Step (Unit {0})) (st : Store) →
-        next (step_result (go_on r (λ u. give (v ∷ [])) s.names st).0) (record s { store = (go_on r (λ u. give (v ∷ [])) s.names st).1 }) (λ rs. then_run (nothing) (λ u. done (last_of rs)))
-        ≡ next (next (step_result r) (record s { store = st }) (λ u. nothing)).result (next (step_result r) (record s { store = st }) (λ u. nothing)).state (λ u. done (Gives v))
+        on_outcome (stepped s (step_on s (step_on s (r, st) (λ u. give {A = Option Value} None)) (λ answer. give_one (answer_or answer v)))) (λ rs. then_run nothing (λ u. done (last_of rs)))
+        ≡ on_outcome (on_outcome (stepped s (step_on s (step_on s (r, st) (λ u. give {A = Option Value} None)) (λ answer. give {A = Unit {0}} tt))) (λ u. nothing)) (λ u. done (Gives v))
     by_step (Steps u) st = refl
+    by_step (Fails f) st = refl
+    by_step Waits st = refl
+
+-- with an answer, which nobody takes
+stored_unseen : (a : Action (Option Value)) (v : Value) (s : State Trees) (go : Bool → SourceRun Flow) → then_run (as_store a v) (λ f. on_flow f go) s ≡ then_run (as_target a v) (λ f. on_flow f go) s
+stored_unseen a v s go = by_step (a s.names s.store).0 (a s.names s.store).1
+  where
+    by_step : (r : Step (Option Value)) (st : Store) →
+        on_outcome (on_outcome (stepped s (step_on s (r, st) (λ answer. give_one (answer_or answer v)))) (λ rs. then_run nothing (λ u. done (last_of rs)))) (λ f. on_flow f go)
+        ≡ on_outcome (on_outcome (on_outcome (stepped s (step_on s (r, st) (λ answer. give {A = Unit {0}} tt))) (λ u. nothing)) (λ u. done (Gives v))) (λ f. on_flow f go)
+    by_step (Steps answer) st = refl
     by_step (Fails f) st = refl
     by_step Waits st = refl
 
@@ -134,57 +175,90 @@ module _ (width : Width) (known : Known) (turns : ℕ) (call : AbsolutePath → 
         runs = ap (λ ts. R (Apply (Plain.Number op) ts targets) scope due s) o.args_are ∙ two_runs op o.term o.other targets o.value o.behind n scope due s e o.is o.other_is o.gives;
       }
 
-  -- Store of a result
-  store_runs : (n : ℕ) (target : Tree) (scope : AbsolutePath) (due : Bool) (s : State Trees) → wrapped width n ≡ n
-      → R (Apply (Plain.Data DataOp.Store) (tree (Integer n) (tree target no_trees)) no_trees) scope due s ≡ targets_take (tree target no_trees) (number n ∷ []) n scope s
+  -- Store of a result, by what its place is
+  abbrev of_spot : ℕ → Outcome Trees Spot → Outcome Trees Flow
+  of_spot n o =
+      let taken = next o.result o.state (λ p. done (OfValue (number n) ∷ OfSpot p ∷ [])) in
+      next taken.result taken.state (λ os. then_run (act (act_of (Plain.Data DataOp.Store) width os)) (λ rs. then_run nothing (λ u. done (last_of rs))))
+
+  abbrev of_target : ℕ → Outcome Trees Spot → Outcome Trees Flow
+  of_target n o =
+      let taken = next o.result o.state (λ p. then_run (act (store width p (number n))) (λ u. nothing)) in
+      next taken.result taken.state (λ u. done (Gives (number n)))
+
+  abbrev StoreOf : ℕ → Tree → Tree
+  StoreOf n target = Apply (Plain.Data DataOp.Store) (tree (Integer n) (tree target no_trees)) no_trees
+
+  store_runs : (n : ℕ) (target : Tree) (scope : AbsolutePath) (due : Bool) (s : State Trees) → wrapped width n ≡ n → R (StoreOf n target) scope due s ≡ of_spot n (spot_at target scope s)
   store_runs n target scope due s e =
-      let v : Value = number n in
-      let k : List Operand → SourceRun Flow = λ os. then_run (act (act_of (Plain.Data DataOp.Store) width os)) (λ rs. then_run (nothing) (λ u. done (last_of rs))) in
+      let k : List Operand → SourceRun Flow = λ os. then_run (act (act_of (Plain.Data DataOp.Store) width os)) (λ rs. then_run nothing (λ u. done (last_of rs))) in
       ap (λ (ops : SourceRun (List Operand)). then_run ops k s) (two_operands (then_run (R (Integer n) scope false) value_of) (λ v. OfValue v) (spot_at target scope) (λ p. OfSpot p))
       ∙ ap (λ m. then_run (then_run (spot_at target scope) (λ p. done (OfValue (number m) ∷ OfSpot p ∷ []))) k s) e
-      ∙ by_spot (spot_at target scope s).result (spot_at target scope s).state
+
+  abbrev local_spot : ℕ → State Trees → Step ℕ × Store → Outcome Trees Spot
+  local_spot index s r = on_outcome (stepped s (step_on s r (λ number. give (slot_of number (LocalSlot index))))) (λ place. done (At place))
+
+  -- into a Local, which has no answer
+  local_runs : (n index : ℕ) (scope : AbsolutePath) (due : Bool) (s : State Trees) → wrapped width n ≡ n → R (StoreOf n (InSlot (LocalSlot index))) scope due s ≡ targets_take (tree (InSlot (LocalSlot index)) no_trees) (number n ∷ []) n scope s
+  local_runs n index scope due s e = store_runs n (InSlot (LocalSlot index)) scope due s e ∙ by_here (here s.names s.store).0 (here s.names s.store).1
     where
-      by_spot : (r : Result Spot) (t : State Trees) →
-          next (next r t (λ p. done (OfValue (number n) ∷ OfSpot p ∷ []))).result (next r t (λ p. done (OfValue (number n) ∷ OfSpot p ∷ []))).state (λ os. then_run (act (act_of (Plain.Data DataOp.Store) width os)) (λ rs. then_run (nothing) (λ u. done (last_of rs))))
-          ≡ next (next r t (λ p. then_run (act (store width p (number n))) (λ u. nothing))).result (next r t (λ p. then_run (act (store width p (number n))) (λ u. nothing))).state (λ u. done (Gives (number n)))
-      by_spot (Done p) t = stored_act (store width p (number n)) (number n) t
-      by_spot (Stopped x) t = refl
+      by_here : (r : Step ℕ) (st : Store) → of_spot n (local_spot index s (r, st)) ≡ of_target n (local_spot index s (r, st))
+      by_here (Steps m) st = stored_act (put width (LocalOf m index) (number n)) (number n) (record s { store = st })
+      by_here (Fails f) st = refl
+      by_here Waits st = refl
+
+  -- into any place, where nobody takes the value
+  unseen_runs : (n : ℕ) (target : Tree) (scope : AbsolutePath) (due : Bool) (s : State Trees) → wrapped width n ≡ n → EndAlike true (R (StoreOf n target) scope due) (targets_take (tree target no_trees) (number n ∷ []) n scope) s
+  unseen_runs n target scope due s e =
+      λ go. ap (λ (o : Outcome Trees Flow). next o.result o.state (λ f. on_flow f go)) (store_runs n target scope due s e) ∙ by_spot go (spot_at target scope s).result (spot_at target scope s).state
+    where
+      by_spot : (go : Bool → SourceRun Flow) (r : Result Spot) (t : State Trees) → on_outcome (of_spot n (record { result = r; state = t })) (λ f. on_flow f go) ≡ on_outcome (of_target n (record { result = r; state = t })) (λ f. on_flow f go)
+      by_spot go (Done p) t = stored_unseen (store_to width p (number n)) (number n) t go
+      by_spot go (Stopped x) t = refl
 
   -- with a target
   at_target : (statement : Bool) (target : Tree) (op : Plain) (args targets : Trees) (n : ℕ) (scope : AbsolutePath) (due : Bool) (s : State Trees) → wrapped width n ≡ n → F.last_of targets ≡ tree target no_trees
       → R (Apply op args targets) scope due s ≡ targets_take (tree target no_trees) (number n ∷ []) n scope s
-      → R (replaced (fate_at statement target n) op args targets) scope due s ≡ targets_take (tree target no_trees) (number n ∷ []) n scope s
-  at_target statement Omitted op args targets n scope due s e l h = ap (λ m. done (Gives (number m)) s) e
+      → EndAlike statement (R (replaced (fate_at statement target n) op args targets) scope due) (targets_take (tree target no_trees) (number n ∷ []) n scope) s
+  at_target statement Omitted op args targets n scope due s e l h = same_end statement _ _ s (ap (λ m. done (Gives (number m)) s) e)
   at_target statement (InSlot (LocalSlot index)) op args targets n scope due s e l h =
-      ap (λ ts. R (Apply (Plain.Data DataOp.Store) (tree (Integer n) ts) no_trees) scope due s) l ∙ store_runs n (InSlot (LocalSlot index)) scope due s e
-  at_target true target op args targets n scope due s e l h = ap (λ ts. R (Apply (Plain.Data DataOp.Store) (tree (Integer n) ts) no_trees) scope due s) l ∙ store_runs n target scope due s e
+      same_end statement _ _ s (ap (λ ts. R (Apply (Plain.Data DataOp.Store) (tree (Integer n) ts) no_trees) scope due s) l ∙ local_runs n index scope due s e)
+  at_target true target op args targets n scope due s e l h =
+      λ go. ap (λ ts. then_run (R (Apply (Plain.Data DataOp.Store) (tree (Integer n) ts) no_trees) scope due) (λ f. on_flow f go) s) l ∙ unseen_runs n target scope due s e go
   at_target false target op args targets n scope due s e l h = h
 
   -- with so many
   with_targets : (statement : Bool) (many : ℕ) (op : Plain) (args targets : Trees) (r n : ℕ) (scope : AbsolutePath) (due : Bool) (s : State Trees) → wrapped width n ≡ n
       → R (Apply op args targets) scope due s ≡ targets_take targets (results many r n) n scope s
-      → R (replaced (fate_with statement many targets n) op args targets) scope due s ≡ targets_take targets (results many r n) n scope s
-  with_targets statement zero op args no_trees r n scope due s e h = ap (λ m. done (Gives (number m)) s) e
+      → EndAlike statement (R (replaced (fate_with statement many targets n) op args targets) scope due) (targets_take targets (results many r n) n scope) s
+  with_targets statement zero op args no_trees r n scope due s e h = same_end statement _ _ s (ap (λ m. done (Gives (number m)) s) e)
   with_targets statement (suc zero) op args (tree target no_trees) r n scope due s e h = at_target statement target op args (tree target no_trees) n scope due s e refl h
   with_targets statement (suc (suc zero)) op args (tree Omitted (tree target no_trees)) r n scope due s e h = at_target statement target op args (tree Omitted (tree target no_trees)) n scope due s e refl h
-  with_targets statement many op args targets r n scope due s e h = h
+  with_targets statement many op args targets r n scope due s e h = same_end statement _ _ s h
 
   number_runs : (statement : Bool) (op : IntOp) (args targets : Trees) (scope : AbsolutePath) (due : Bool) (s : State Trees)
-      → R (reduced width statement (Plain.Number op) args targets) scope due s ≡ R (Apply (Plain.Number op) args targets) scope due s
+      → EndAlike statement (R (reduced width statement (Plain.Number op) args targets) scope due) (R (Apply (Plain.Number op) args targets) scope due) s
   number_runs statement op args targets scope due s = by_result (result_on width op (is_unary op) (constants width args)) refl
     where
       by_result : (o : Option ℕ) → result_on width op (is_unary op) (constants width args) ≡ o
-          → R (replaced (choose o Fate.Stays (fate_with statement (row_of (Plain.Number op)).targets targets)) (Plain.Number op) args targets) scope due s ≡ R (Apply (Plain.Number op) args targets) scope due s
-      by_result None e = refl
+          → EndAlike statement (R (replaced (choose o Fate.Stays (fate_with statement (row_of (Plain.Number op)).targets targets)) (Plain.Number op) args targets) scope due) (R (Apply (Plain.Number op) args targets) scope due) s
+      by_result None e = same_end statement _ _ s refl
       by_result (Some n) e =
           let g = gives_result op (is_unary op) args targets n scope due s refl e in
-          with_targets statement (row_of (Plain.Number op)).targets (Plain.Number op) args targets g.remainder n scope due s (wrapped_same width n (fits width op (is_unary op) args n e)) g.runs ∙ sym g.runs
+          then_same statement _ _ _ s (with_targets statement (row_of (Plain.Number op)).targets (Plain.Number op) args targets g.remainder n scope due s (wrapped_same width n (fits width op (is_unary op) args n e)) g.runs) (sym g.runs)
 
-  -- an operator and what it becomes
-  pub reduced_runs : (statement : Bool) (op : Plain) (args targets : Trees) (scope : AbsolutePath) (due : Bool) → R (reduced width statement op args targets) scope due ≡ R (Apply op args targets) scope due
-  reduced_runs statement (Plain.Number op) args targets scope due = fun_ext (λ s. number_runs statement op args targets scope due s)
-  reduced_runs statement (Plain.Data op) args targets scope due = refl
-  reduced_runs statement (Plain.Event op) args targets scope due = refl
+  -- an operator in an expression and what it becomes
+  pub reduced_runs : (op : Plain) (args targets : Trees) (scope : AbsolutePath) (due : Bool) → R (reduced width false op args targets) scope due ≡ R (Apply op args targets) scope due
+  reduced_runs (Plain.Number op) args targets scope due = fun_ext (λ s. number_runs false op args targets scope due s)
+  reduced_runs (Plain.Data op) args targets scope due = refl
+  reduced_runs (Plain.Event op) args targets scope due = refl
+
+  -- and as a statement, behind which a list of terms goes on: a Store's answer is not seen
+  pub reduced_statement : (op : Plain) (args targets : Trees) (scope : AbsolutePath) (due : Bool) (go : Bool → SourceRun Flow)
+      → then_run (R (reduced width true op args targets) scope due) (λ f. on_flow f go) ≡ then_run (R (Apply op args targets) scope due) (λ f. on_flow f go)
+  reduced_statement (Plain.Number op) args targets scope due go = fun_ext (λ s. number_runs true op args targets scope due s go)
+  reduced_statement (Plain.Data op) args targets scope due go = refl
+  reduced_statement (Plain.Event op) args targets scope due go = refl
 
   -- as a place
   pub reduced_spot : (statement : Bool) (op : Plain) (args targets : Trees) (scope : AbsolutePath) → spot_at (reduced width statement op args targets) scope ≡ spot_at (Apply op args targets) scope

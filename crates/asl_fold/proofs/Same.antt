@@ -1,5 +1,5 @@
 -- A program does the same with its constants folded.
-use Rattle.std.proofs.Common.{◌≡◌, ℕ, zero, suc, Bool, true, false, List, [], ◌∷◌, Option, Some, None, refl, ap}
+use Rattle.std.proofs.Common.{◌≡◌, ℕ, zero, suc, Bool, true, false, List, [], ◌∷◌, length, Option, Some, None, refl, sym, ap, ◌∙◌}
 use Rattle.std.specs.Prelude.{◌||◌}
 use Rattle.acpi_values.specs.declared.width.Width.{Width}
 use Rattle.acpi_values.specs.declared.operator.Plain.{Plain}
@@ -15,31 +15,31 @@ use Rattle.acpi_values.specs.Integers.{wrapped}
 use Rattle.acpi_state.specs.Objects.{Object, DataObject, MethodObject, ContainerObject, MutexObject, EventObject, AliasObject, Names, UnitObject}
 use Rattle.acpi_state.specs.Finds.{first_there, reached}
 use Rattle.acpi_state.specs.Sessions.{Request, initial}
-use Rattle.acpi_state.specs.Outcomes.{Flow, Normal, Gives, Unfinished, Broken, Result, Done, Stopped, done, stop, fault, next, then_run, act, choose, value_of}
+use Rattle.acpi_state.specs.Outcomes.{Flow, Normal, Gives, Unfinished, Broken, Result, Done, Stopped, done, stop, fault, next, then_run, act, choose, value_of, on_flow}
 use Rattle.acpi_state.specs.Outcomes as O
 use Rattle.acpi_state.specs.Loops.{is_true}
 use Rattle.acpi_state.specs.Actions.{computed, write_named}
 use Rattle.acpi_state.specs.Activations.{create}
 use Rattle.acpi_state.specs.Stores.{Spot, Nowhere, DebugObject, At, read, store}
 use Rattle.acpi_state.specs.Acts.{Operand, OfValue, OfKept, OfSpot, OfNumber, number_of, act_of, last_of}
-use Rattle.acpi_state.specs.FieldUnits.{Extent, FieldUnit, InRegion, InBank, BehindIndex}
+use Rattle.acpi_state.specs.FieldUnits.{ToObject, ToResource, Extent, FieldUnit, InRegion, InBank, BehindIndex}
 use Rattle.acpi_state.specs.Registers.{register_of}
 use Rattle.acpi_state.specs.FieldActs.{region_letters, field_letters}
 use Rattle.acpi_state.specs.Forms.{buffer_of, package_of, slot_here, if_data, spot_in, cond_ref_of}
-use Rattle.asl_tree.specs.FieldItems.{Placed as PlacedUnit, placed_from}
+use Rattle.asl_tree.specs.FieldItems.{FieldItem, UnitItem, SkipItem, OffsetItem, AccessItem, ConnectionItem, Connected, ToName, ToBytes}
 use Rattle.asl_tree.specs.declared.path.Path.{Path}
 use Rattle.asl_tree.specs.Symbols.{compound_operator}
 use Rattle.asl_tree.specs.Literals.{literal_number}
 use Rattle.asl_tree.specs.Names.{Known, is_known, place_of, denoted, element_path}
 use Rattle.asl_tree.specs.Tree.{Tree, Integer, Constant, String, InSlot, Debug, Omitted, Raw, Use, Call, Apply, Buffer, Package, VarPackage, CondRefOf, Return, Name, Alias, External, Method, Mutex, Event, Container', Scope, Fill, Misshapen, Trees, no_trees, tree, OperationRegion, Field, IndexField, BankField, CreateField, UnitName, If, ElseIf, Else, While, Break, Continue, Item, Operated, Assigned, AssignedBy, Switch, Case, Default}
-use Rattle.asl_meaning.specs.FieldTerms.{create_units}
+use Rattle.asl_meaning.specs.FieldTerms.{Cursor, first_unit, behind_bits, at_byte, accessed, length_or_none, connected_to, resource_of, connect, create_units}
 use Rattle.asl_meaning.specs.Meaning as S
 use Rattle.asl_meaning.specs.Meaning.{SourceRun, SpotForm, OfResult, OfInside, NoSpot, spot_form, store_last, operate, two_values, store_with, assign_with, target_operator, leave_switch}
 use Rattle.asl_meaning.specs.SourceSession.{source_session}
 use Rattle.asl_fold.specs.Folds.{folded, folded_args, folded_all}
 use Rattle.asl_fold.proofs.Alike.{Alike, alike_done, alike_stop, alike_fault, alike_then, alike_to, alike_act, alike_existing, alike_look, alike_if, alike_valued, alike_on_flow, alike_loop, alike_create, alike_keep, alike_body, alike_activation, alike_use, alike_written, alike_region, alike_buffer_field, same_session}
 use Rattle.asl_fold.proofs.Values.{reduced_other, sized_other, sized_as}
-use Rattle.asl_fold.proofs.Reduced.{reduced_runs, reduced_spot, sized_runs}
+use Rattle.asl_fold.proofs.Reduced.{reduced_runs, reduced_statement, reduced_spot, sized_runs}
 
 module _ (width : Width) (known : Known) where
   alike_find : (name : Path) (scope : AbsolutePath) → Alike (folded_all width) (S.find known name scope) (S.find known name scope)
@@ -57,10 +57,21 @@ module _ (width : Width) (known : Known) where
   alike_register_at : (name : Path) (scope : AbsolutePath) → Alike (folded_all width) (S.register_at known name scope) (S.register_at known name scope)
   alike_register_at name scope = alike_then (alike_found name scope) (λ e. alike_act (register_of e))
 
-  alike_units : (unit : Extent → FieldUnit) (flags : ℕ) (scope : AbsolutePath) (units : List (PlacedUnit UnitName)) → Alike (folded_all width) (create_units unit flags scope units) (create_units unit flags scope units)
-  alike_units unit flags scope [] = alike_done (Normal false)
-  alike_units unit flags scope (placed ∷ later) =
-      alike_then (alike_create (placed.name.segment ∷ scope) (UnitObject (unit (record { at = placed.at; bits = placed.bits; flags = flags })))) (λ u. alike_units unit flags scope later)
+  abbrev leads : AbsolutePath → Path → SourceRun AbsolutePath
+  leads scope name = S.region_at known name scope
+
+  alike_connect : (to : Connected) (scope : AbsolutePath) → Alike (folded_all width) (connect (leads scope) to) (connect (leads scope) to)
+  alike_connect (ToName at name) scope = alike_then (alike_region_at name scope) (λ path. alike_done (ToObject path))
+  alike_connect (ToBytes bytes) scope = alike_then (alike_act (resource_of (length bytes) bytes)) (λ bytes. alike_done (ToResource bytes))
+
+  alike_units : (unit : Extent → FieldUnit) (scope : AbsolutePath) (c : Cursor) (items : List (FieldItem UnitName)) → Alike (folded_all width) (create_units (leads scope) unit scope c items) (create_units (leads scope) unit scope c items)
+  alike_units unit scope c [] = alike_done (Normal false)
+  alike_units unit scope c (UnitItem name bits ∷ items) =
+      alike_then (alike_create (name.segment ∷ scope) (UnitObject (unit (record { at = c.at; bits = bits; flags = c.flags; link = c.link })))) (λ u. alike_units unit scope (behind_bits c bits) items)
+  alike_units unit scope c (SkipItem bits ∷ items) = alike_units unit scope (behind_bits c bits) items
+  alike_units unit scope c (OffsetItem bytes ∷ items) = alike_units unit scope (at_byte c bytes) items
+  alike_units unit scope c (AccessItem access attribute count ∷ items) = alike_units unit scope (accessed c access attribute (length_or_none count)) items
+  alike_units unit scope c (ConnectionItem to ∷ items) = alike_then (alike_connect to scope) (λ x. alike_units unit scope (connected_to c x) items)
 
   alike_size : {m m' : SourceRun Flow} → Alike (folded_all width) m m' → Alike (folded_all width) (S.size_by width known m) (S.size_by width known m')
   alike_size h = alike_then (alike_valued h) (λ v. alike_act (number_of width v))
@@ -161,71 +172,79 @@ module _ (width : Width) (known : Known) (turns : ℕ) (call : AbsolutePath → 
   alike_created : (path : AbsolutePath) (object : Object) → Alike (folded_all width) (then_run (create path object) (λ u. done (Normal false))) (then_run (create path object) (λ u. done (Normal false)))
   alike_created path object = alike_then (alike_create path object) (λ u. alike_done (Normal false))
 
+  -- a list goes on behind a term as behind the same term in an expression
+  statement_runs : (t : Tree) (scope : AbsolutePath) (due : Bool) (go : Bool → SourceRun Flow)
+      → then_run (S.run width known turns call (folded width true t) scope due) (λ f. on_flow f go) ≡ then_run (S.run width known turns call (folded width false t) scope due) (λ f. on_flow f go)
+  statement_runs (Apply op args targets) scope due go =
+      reduced_statement width known turns call op (folded_args width args) (folded_args width targets) scope due go
+      ∙ ap (λ m. then_run m (λ f. on_flow f go)) (sym (reduced_runs width known turns call op (folded_args width args) (folded_args width targets) scope due))
+  statement_runs _ scope due go = refl
+
   mutual
-    alike : (statement : Bool) (t : Tree) (scope : AbsolutePath) (due : Bool) → Alike (folded_all width) (S.run width known turns call t scope due) (S.run width known turns call (folded width statement t) scope due)
-    alike statement (Integer number) scope due = alike_done (Gives (Data (V.Integer (wrapped width number))))
-    alike statement (Constant literal) scope due = alike_done (Gives (Data (V.Integer (literal_number width literal))))
-    alike statement (String text) scope due = alike_done (Gives (Data (V.String text)))
-    alike statement (InSlot slot) scope due = alike_then (alike_act (slot_here slot)) (λ place. alike_then (alike_act (read width place)) (λ v. alike_done (Gives v)))
-    alike statement Debug scope due = alike_fault WrongType
-    alike statement Omitted scope due = alike_stop Broken
-    alike statement (Raw size number) scope due = alike_stop Broken
-    alike statement (Use at name) scope due = alike_then (alike_found width known name scope) (λ e. alike_use width call calls e.0 e.1 [])
-    alike statement (Call at name args) scope due =
+    alike : (t : Tree) (scope : AbsolutePath) (due : Bool) → Alike (folded_all width) (S.run width known turns call t scope due) (S.run width known turns call (folded width false t) scope due)
+    alike (Integer number) scope due = alike_done (Gives (Data (V.Integer (wrapped width number))))
+    alike (Constant literal) scope due = alike_done (Gives (Data (V.Integer (literal_number width literal))))
+    alike (String text) scope due = alike_done (Gives (Data (V.String text)))
+    alike (InSlot slot) scope due = alike_then (alike_act (slot_here slot)) (λ place. alike_then (alike_act (read width place)) (λ v. alike_done (Gives v)))
+    alike Debug scope due = alike_fault WrongType
+    alike Omitted scope due = alike_stop Broken
+    alike (Raw size number) scope due = alike_stop Broken
+    alike (Use at name) scope due = alike_then (alike_found width known name scope) (λ e. alike_use width call calls e.0 e.1 [])
+    alike (Call at name args) scope due =
         alike_then (alike_found width known name scope) (λ e. alike_then (alike_values args scope) (λ vs. alike_written width call calls e.0 e.1 vs))
-    alike statement (Apply op args targets) scope due =
-        alike_to (reduced_runs width known turns call statement op (folded_args width args) (folded_args width targets) scope due) (alike_plain width known op (alike_operands (row_of op).operands args scope) (λ rs. alike_stores targets rs scope))
-    alike statement (Operated op args) scope due = alike_operate width known op (alike_operands (row_of op).operands args scope) (alike_done Nowhere)
-    alike statement (Assigned target value) scope due =
+    alike (Apply op args targets) scope due =
+        alike_to (reduced_runs width known turns call op (folded_args width args) (folded_args width targets) scope due) (alike_plain width known op (alike_operands (row_of op).operands args scope) (λ rs. alike_stores targets rs scope))
+    alike (Operated op args) scope due = alike_operate width known op (alike_operands (row_of op).operands args scope) (alike_done Nowhere)
+    alike (Assigned target value) scope due =
         alike_to (ap (λ o. assign_with width o (λ letters. S.inner_operands width known turns call letters (folded width false value) scope) (then_run (S.run width known turns call (folded width false value) scope false) value_of) (S.spot width known turns call (folded width false target) scope)) (target_same width known value))
-        (alike_assign width known (target_operator value) (λ letters. alike_inner letters value scope) (alike_valued (alike false value scope false)) (alike_spot target scope))
-    alike statement (AssignedBy op target value) scope due =
+        (alike_assign width known (target_operator value) (λ letters. alike_inner letters value scope) (alike_valued (alike value scope false)) (alike_spot target scope))
+    alike (AssignedBy op target value) scope due =
         alike_operate width known (compound_operator op)
-        (alike_then (alike_valued (alike false target scope false)) (λ v. alike_then (alike_valued (alike false value scope false)) (λ w. alike_done (OfValue v ∷ OfValue w ∷ [])))) (alike_spot target scope)
-    alike statement (Buffer size bytes) scope due =
-        alike_then (alike_size width known (alike false size scope false)) (λ n. alike_then (alike_act (computed (buffer_of n bytes))) (λ v. alike_done (Gives v)))
-    alike statement (Package count items) scope due =
+        (alike_then (alike_valued (alike target scope false)) (λ v. alike_then (alike_valued (alike value scope false)) (λ w. alike_done (OfValue v ∷ OfValue w ∷ [])))) (alike_spot target scope)
+    alike (Buffer size bytes) scope due =
+        alike_then (alike_size width known (alike size scope false)) (λ n. alike_then (alike_act (computed (buffer_of n bytes))) (λ v. alike_done (Gives v)))
+    alike (Package count items) scope due =
         alike_then (alike_elements items scope) (λ es. alike_then (alike_act (computed (package_of count es))) (λ v. alike_done (Gives v)))
-    alike statement (VarPackage count items) scope due =
+    alike (VarPackage count items) scope due =
         alike_to (sized_runs width known turns call (folded width false count) (folded_args width items) scope due)
-        (alike_then (alike_size width known (alike false count scope false)) (λ n. alike_then (alike_elements items scope) (λ es. alike_then (alike_act (computed (package_of n es))) (λ v. alike_done (Gives v)))))
-    alike statement (CondRefOf place target) scope due =
+        (alike_then (alike_size width known (alike count scope false)) (λ n. alike_then (alike_elements items scope) (λ es. alike_then (alike_act (computed (package_of n es))) (λ v. alike_done (Gives v)))))
+    alike (CondRefOf place target) scope due =
         alike_then (alike_cond width known place scope (alike_spot place scope)) (λ o. alike_then (alike_spot target scope) (λ p. alike_then (alike_act (cond_ref_of width o p)) (λ v. alike_done (Gives v))))
-    alike statement (Return value) scope due = alike_then (alike_valued (alike false value scope false)) (λ v. alike_done (O.Return v))
-    alike statement (Name at name value) scope due =
-        alike_then (alike_valued (alike false value scope false)) (λ v. alike_then (alike_create (place_of name scope) DataObject) (λ u. alike_then (alike_act (write_named (place_of name scope) v)) (λ u. alike_done (Normal false))))
-    alike statement (Alias from source at name) scope due = alike_then (alike_found width known source scope) (λ e. alike_created (place_of name scope) (AliasObject e.0))
-    alike statement (External here at name type parameters) scope due = alike_done (Normal false)
-    alike statement (Method at name flags body) scope due =
+    alike (Return value) scope due = alike_then (alike_valued (alike value scope false)) (λ v. alike_done (O.Return v))
+    alike (Name at name value) scope due =
+        alike_then (alike_valued (alike value scope false)) (λ v. alike_then (alike_create (place_of name scope) DataObject) (λ u. alike_then (alike_act (write_named (place_of name scope) v)) (λ u. alike_done (Normal false))))
+    alike (Alias from source at name) scope due = alike_then (alike_found width known source scope) (λ e. alike_created (place_of name scope) (AliasObject e.0))
+    alike (External here at name type parameters) scope due = alike_done (Normal false)
+    alike (Method at name flags body) scope due =
         alike_then (alike_create (place_of name scope) (MethodObject flags)) (λ u. alike_then (alike_keep (place_of name scope) body) (λ u. alike_done (Normal false)))
-    alike statement (Mutex at name level) scope due = alike_created (place_of name scope) (MutexObject level)
-    alike statement (Event at name) scope due = alike_created (place_of name scope) EventObject
-    alike statement (Container' kind at name body) scope due = alike_then (alike_create (place_of name scope) (ContainerObject kind)) (λ u. alike_all body (place_of name scope) false)
-    alike statement (Scope here at name body) scope due = alike_then (alike_find width known name scope) (λ path. alike_all body path false)
-    alike statement (If test body) scope due =
-        alike_then (alike_size width known (alike false test scope false)) (λ n. alike_if (is_true n) (alike_all body scope false) (alike_done (Normal true)))
-    alike statement (ElseIf test body) scope due =
-        alike_if due (alike_then (alike_size width known (alike false test scope false)) (λ n. alike_if (is_true n) (alike_all body scope false) (alike_done (Normal true)))) (alike_done (Normal false))
-    alike statement (Else body) scope due = alike_if due (alike_all body scope false) (alike_done (Normal false))
-    alike statement (While test body) scope due =
-        alike_loop {X = Unit {0}} turns (alike_then (alike_size width known (alike false test scope false)) (λ n. alike_done (is_true n, tt))) (λ u. alike_all body scope false)
-    alike statement (Switch value cases) scope due =
-        alike_then (alike_valued (alike false value scope false)) (λ v. alike_then (alike_cases cases v scope _ _ (alike_default cases scope)) (λ f. alike_leave width known f))
-    alike statement (Case value body) scope due = alike_stop Broken
-    alike statement (Default body) scope due = alike_stop Broken
-    alike statement Break scope due = alike_done O.Break
-    alike statement Continue scope due = alike_done O.Continue
-    alike statement (OperationRegion at name space args) scope due = alike_then (alike_operands region_letters args scope) (λ os. alike_region width (place_of name scope) space os)
-    alike statement (Field here from region flags items) scope due = alike_then (alike_region_at width known region scope) (λ r. alike_units width known (InRegion r) flags scope (placed_from 0 items))
-    alike statement (IndexField here from index to register flags items) scope due =
-        alike_then (alike_register_at width known index scope) (λ i. alike_then (alike_register_at width known register scope) (λ r. alike_units width known (BehindIndex i r) flags scope (placed_from 0 items)))
-    alike statement (BankField here from region to bank value flags items) scope due =
+    alike (Mutex at name level) scope due = alike_created (place_of name scope) (MutexObject level)
+    alike (Event at name) scope due = alike_created (place_of name scope) EventObject
+    alike (Container' kind at name body) scope due = alike_then (alike_create (place_of name scope) (ContainerObject kind)) (λ u. alike_all body (place_of name scope) false)
+    alike (Scope here at name body) scope due = alike_then (alike_find width known name scope) (λ path. alike_all body path false)
+    alike (If test body) scope due =
+        alike_then (alike_size width known (alike test scope false)) (λ n. alike_if (is_true n) (alike_all body scope false) (alike_done (Normal true)))
+    alike (ElseIf test body) scope due =
+        alike_if due (alike_then (alike_size width known (alike test scope false)) (λ n. alike_if (is_true n) (alike_all body scope false) (alike_done (Normal true)))) (alike_done (Normal false))
+    alike (Else body) scope due = alike_if due (alike_all body scope false) (alike_done (Normal false))
+    alike (While test body) scope due =
+        alike_loop {X = Unit {0}} turns (alike_then (alike_size width known (alike test scope false)) (λ n. alike_done (is_true n, tt))) (λ u. alike_all body scope false)
+    alike (Switch value cases) scope due =
+        alike_then (alike_valued (alike value scope false)) (λ v. alike_then (alike_cases cases v scope _ _ (alike_default cases scope)) (λ f. alike_leave width known f))
+    alike (Case value body) scope due = alike_stop Broken
+    alike (Default body) scope due = alike_stop Broken
+    alike Break scope due = alike_done O.Break
+    alike Continue scope due = alike_done O.Continue
+    alike (OperationRegion at name space args) scope due = alike_then (alike_operands region_letters args scope) (λ os. alike_region width (place_of name scope) space os)
+    alike (Field here from region flags items) scope due = alike_then (alike_region_at width known region scope) (λ r. alike_units width known (InRegion r) scope (first_unit flags) items)
+    alike (IndexField here from index to register flags items) scope due =
+        alike_then (alike_register_at width known index scope) (λ i. alike_then (alike_register_at width known register scope) (λ r. alike_units width known (BehindIndex i r) scope (first_unit flags) items))
+    alike (BankField here from region to bank value flags items) scope due =
         alike_then (alike_region_at width known region scope) (λ r. alike_then (alike_register_at width known bank scope)
-        (λ b. alike_then (alike_size width known (alike false value scope false)) (λ n. alike_units width known (InBank r b n) flags scope (placed_from 0 items))))
-    alike statement (CreateField form args at name) scope due = alike_then (alike_operands (field_letters form) args scope) (λ os. alike_buffer_field width form (place_of name scope) os)
-    alike statement (Item item) scope due = alike_stop Broken
-    alike statement (Fill bytes) scope due = alike_stop Broken
-    alike statement Misshapen scope due = alike_stop Broken
+        (λ b. alike_then (alike_size width known (alike value scope false)) (λ n. alike_units width known (InBank r b n) scope (first_unit flags) items)))
+    alike (CreateField form args at name) scope due = alike_then (alike_operands (field_letters form) args scope) (λ os. alike_buffer_field width form (place_of name scope) os)
+    alike (Item item) scope due = alike_stop Broken
+    alike (Fill bytes) scope due = alike_stop Broken
+    alike Misshapen scope due = alike_stop Broken
 
     alike_spot : (t : Tree) (scope : AbsolutePath) → Alike (folded_all width) (S.spot width known turns call t scope) (S.spot width known turns call (folded width false t) scope)
     alike_spot Omitted scope = alike_done Nowhere
@@ -259,13 +278,13 @@ module _ (width : Width) (known : Known) (turns : ℕ) (call : AbsolutePath → 
     alike_any : (ts : Trees) (v : Value) (scope : AbsolutePath) → Alike (folded_all width) (S.hits_any width known turns call ts v scope) (S.hits_any width known turns call (folded_args width ts) v scope)
     alike_any no_trees v scope = alike_done false
     alike_any (tree t ts) v scope =
-        alike_then (alike_equals width known v (alike_valued (alike false t scope false))) (λ first. alike_then (alike_any ts v scope) (λ others. alike_done (first || others)))
+        alike_then (alike_equals width known v (alike_valued (alike t scope false))) (λ first. alike_then (alike_any ts v scope) (λ others. alike_done (first || others)))
 
     -- the Cases of a Switch, and its Default
     alike_cases : (ts : Trees) (v : Value) (scope : AbsolutePath) (m m' : SourceRun Flow) → Alike (folded_all width) m m' → Alike (folded_all width) (S.run_cases width known turns call ts v scope m) (S.run_cases width known turns call (folded_all width ts) v scope m')
     alike_cases no_trees v scope m m' h = h
     alike_cases (tree (Case value body) cases) v scope m m' h =
-        alike_then (alike_hits value v scope _ _ (alike_equals width known v (alike_valued (alike false value scope false)))) (λ hit. alike_if hit (alike_all body scope false) (alike_cases cases v scope m m' h))
+        alike_then (alike_hits value v scope _ _ (alike_equals width known v (alike_valued (alike value scope false)))) (λ hit. alike_if hit (alike_all body scope false) (alike_cases cases v scope m m' h))
     alike_cases (tree (Apply op args targets) cases) v scope m m' h =
         alike_to (reduced_other (λ t. S.run_cases width known turns call (tree t (folded_all width cases)) v scope m' ≡ S.run_cases width known turns call (folded_all width cases) v scope m') (λ op args targets. refl) (λ n. refl) width true op (folded_args width args) (folded_args width targets)) (alike_cases cases v scope m m' h)
     alike_cases (tree (VarPackage size elements) cases) v scope m m' h =
@@ -284,7 +303,7 @@ module _ (width : Width) (known : Known) (turns : ℕ) (call : AbsolutePath → 
     alike_operands [] (tree t ts) scope = alike_stop Broken
     alike_operands (letter ∷ letters) no_trees scope = alike_stop Broken
     alike_operands (letter ∷ letters) (tree t ts) scope =
-        alike_then (alike_letter width known letter t scope (alike false t scope false) (alike_spot t scope)) (λ o. alike_then (alike_operands letters ts scope) (λ os. alike_done (o ∷ os)))
+        alike_then (alike_letter width known letter t scope (alike t scope false) (alike_spot t scope)) (λ o. alike_then (alike_operands letters ts scope) (λ os. alike_done (o ∷ os)))
 
     alike_stores : (ts : Trees) (rs : List Value) (scope : AbsolutePath) → Alike (folded_all width) (S.store_all width known turns call ts rs scope) (S.store_all width known turns call (folded_args width ts) rs scope)
     alike_stores no_trees rs scope = alike_done tt
@@ -293,20 +312,20 @@ module _ (width : Width) (known : Known) (turns : ℕ) (call : AbsolutePath → 
 
     alike_first : (ts : Trees) (scope : AbsolutePath) → Alike (folded_all width) (S.first_value width known turns call ts scope) (S.first_value width known turns call (folded_args width ts) scope)
     alike_first no_trees scope = alike_stop Broken
-    alike_first (tree t ts) scope = alike_valued (alike false t scope false)
+    alike_first (tree t ts) scope = alike_valued (alike t scope false)
 
     alike_values : (ts : Trees) (scope : AbsolutePath) → Alike (folded_all width) (S.values width known turns call ts scope) (S.values width known turns call (folded_args width ts) scope)
     alike_values no_trees scope = alike_done []
-    alike_values (tree t ts) scope = alike_then (alike_valued (alike false t scope false)) (λ v. alike_then (alike_values ts scope) (λ vs. alike_done (v ∷ vs)))
+    alike_values (tree t ts) scope = alike_then (alike_valued (alike t scope false)) (λ v. alike_then (alike_values ts scope) (λ vs. alike_done (v ∷ vs)))
 
     alike_elements : (ts : Trees) (scope : AbsolutePath) → Alike (folded_all width) (S.elements width known turns call ts scope) (S.elements width known turns call (folded_args width ts) scope)
     alike_elements no_trees scope = alike_done no_elements
-    alike_elements (tree t ts) scope = alike_then (alike_element width known t scope (alike false t scope false)) (λ v. alike_then (alike_elements ts scope) (λ es. alike_done (element v es)))
+    alike_elements (tree t ts) scope = alike_then (alike_element width known t scope (alike t scope false)) (λ v. alike_then (alike_elements ts scope) (λ es. alike_done (element v es)))
 
     pub alike_all : (ts : Trees) (scope : AbsolutePath) (due : Bool) → Alike (folded_all width) (S.run_all width known turns call ts scope due) (S.run_all width known turns call (folded_all width ts) scope due)
     alike_all no_trees scope due = alike_done (Normal false)
     alike_all (tree t ts) scope due =
-        alike_then (alike true t scope due) (λ f. alike_on_flow f (λ d. alike_all ts scope d))
+        alike_to (statement_runs t scope due (λ d. S.run_all width known turns call (folded_all width ts) scope d)) (alike_then (alike t scope due) (λ f. alike_on_flow f (λ d. alike_all ts scope d)))
 
 module _ (width : Width) (known : Known) (turns : ℕ) where
   alike_call : (depth : ℕ) (path : AbsolutePath) (args : List Value) → Alike (folded_all width) (S.call_method width known turns depth path args) (S.call_method width known turns depth path args)

@@ -18,7 +18,7 @@ use Rattle.asl_meaning.specs.Declarations.{As, Declarations, nothing_declared, i
 use Rattle.asl_meaning.specs.Meaning.{SpotForm, OfResult, OfInside, NoSpot, spot_form, target_operator}
 use Rattle.acpi_names.specs.Errors.{Asked, Anything, AValue, AMutex, AnEvent, AUnit, ARegion, asked_by, asked_types, used_types, NameError, Whole, whole_of, names, names_all, cond_errors, use_errors, call_errors, declared_errors, scope_errors, items_errors, types, types_all, spot_types, first_types, operand_types, spot_types_all, element_types, element_types_all, letter_types, spot_form_types, name_errors, type_errors}
 use Rattle.acpi_names.specs.Errors as E
-use Rattle.asl_tree.specs.FieldItems.{FieldItem, UnitItem, SkipItem, OffsetItem}
+use Rattle.asl_tree.specs.FieldItems.{FieldItem, UnitItem, SkipItem, OffsetItem, AccessItem, ConnectionItem, ToName, ToBytes}
 use Rattle.acpi_names.specs.Terms.{has_no_targets, is_value, are_values, is_term, are_terms}
 use Rattle.acpi_names.proofs.MentionErrors.{undeclared}
 use Rattle.acpi_names.proofs.Mentions.{first_true, second_true}
@@ -157,6 +157,9 @@ module _ (whole : Whole) (others : List (AbsolutePath × ℕ)) (same : (path : A
       item_none (UnitItem name bits) h = h
       item_none (SkipItem bits) h = refl
       item_none (OffsetItem bytes) h = refl
+      item_none (AccessItem access attribute count) h = refl
+      item_none (ConnectionItem (ToName at name)) h = h
+      item_none (ConnectionItem (ToBytes bytes)) h = refl
 
   mutual
     term_names : (t : Tree) → is_term t ≡ true → (scope : AbsolutePath) (d : Declarations) → N t scope d ≡ [] → N' t scope d ≡ []

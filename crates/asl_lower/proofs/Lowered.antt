@@ -158,6 +158,7 @@ other_named at t not_call not_form = flat_named at t (by_layer (D.out-Term t) (s
     by_layer (D.Term-F.Unit segment bits) e = ap is_flat (e ∙ V.rolls-Unit segment bits)
     by_layer (D.Term-F.Skip n) e = ap is_flat (e ∙ V.rolls-Skip n)
     by_layer (D.Term-F.Offset n) e = ap is_flat (e ∙ V.rolls-Offset n)
+    by_layer (D.Term-F.Access access attribute count) e = ap is_flat (e ∙ V.rolls-Access access attribute count)
 
 -- a term that is no form has no arguments
 pub no_args : (made : List Node) (t : Term) → made ≡ [] → ((o : Op) (v w : Vec Node Global) → t ≡ D.Form o v w → ⊥) → (trees_of made ≡ shape_args (term_shape t)) × (nodes_size made ≡ 0)
@@ -178,6 +179,7 @@ no_args made t e not_form = (ap trees_of e ∙ none ∙ sym (by_layer (D.out-Ter
     by_layer (D.Term-F.Unit segment bits) e = ap (λ t. shape_args (term_shape t)) (e ∙ V.rolls-Unit segment bits)
     by_layer (D.Term-F.Skip n) e = ap (λ t. shape_args (term_shape t)) (e ∙ V.rolls-Skip n)
     by_layer (D.Term-F.Offset n) e = ap (λ t. shape_args (term_shape t)) (e ∙ V.rolls-Offset n)
+    by_layer (D.Term-F.Access access attribute count) e = ap (λ t. shape_args (term_shape t)) (e ∙ V.rolls-Access access attribute count)
 
 pub call_named : (at : At) (t : Term) (path : Path) (args made : Vec Node Global) → t ≡ D.Call path args → trees_of made.items ≡ named_args (trees_of args.items) → tree_of at (D.Call path made) ≡ named (tree_of at t)
 call_named at t path args made e h = call_tree at path made ∙ ap (Call at path) h ∙ ap named (sym (call_tree at path args)) ∙ ap (λ t. named (tree_of at t)) (sym e)

@@ -73,6 +73,7 @@ not_formed t never = by_layer (D.out-Term t) (sym (D.roll-out-Term t))
     by_layer (D.Term-F.Unit segment bits) e = ap is_form (e ∙ V.rolls-Unit segment bits)
     by_layer (D.Term-F.Skip n) e = ap is_form (e ∙ V.rolls-Skip n)
     by_layer (D.Term-F.Offset n) e = ap is_form (e ∙ V.rolls-Offset n)
+    by_layer (D.Term-F.Access access attribute count) e = ap is_form (e ∙ V.rolls-Access access attribute count)
 
 flat_places : (place : Place) (t : Term) → is_form t ≡ false → nested_at place t ≡ lowered_at place t
 unfolding lowered_at

@@ -99,5 +99,14 @@ fn copied_term(alloc: Global, term: &Term) -> Result<Term, AllocError>
         }),
         Term::Skip(bits) => Ok(Term::Skip(*bits)),
         Term::Offset(bytes) => Ok(Term::Offset(*bytes)),
+        Term::Access {
+            access,
+            attribute,
+            length,
+        } => Ok(Term::Access {
+            access: *access,
+            attribute: *attribute,
+            length: *length,
+        }),
     }
 }

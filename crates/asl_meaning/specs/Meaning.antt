@@ -27,8 +27,7 @@ use Rattle.asl_tree.specs.declared.path.Path.{Path}
 use Rattle.acpi_state.specs.FieldUnits.{FieldUnit, InRegion, InBank, BehindIndex}
 use Rattle.acpi_state.specs.Registers.{register_of}
 use Rattle.acpi_state.specs.FieldActs.{region_letters, make_region, field_letters, make_buffer_field}
-use Rattle.asl_tree.specs.FieldItems.{placed_from}
-use Rattle.asl_meaning.specs.FieldTerms.{create_units}
+use Rattle.asl_meaning.specs.FieldTerms.{first_unit, create_units}
 use Rattle.asl_tree.specs.Literals.{literal_number}
 use Rattle.asl_tree.specs.Names.{Known, is_known, place_of, denoted, element_path}
 use Rattle.asl_tree.specs.Symbols.{compound_operator, takes_target}
@@ -101,7 +100,7 @@ module _ (known : Known) where
   abbrev pub sought : Path → AbsolutePath → SourceRun (Option (AbsolutePath × Object))
   sought name scope s = done (choose (choose (denoted (is_known known) name scope) None (λ path. first_there s.names (path ∷ []))) None (reached s.names)) s
 
-  -- the region that a name leads to, and the register
+  -- the path of the region, or of what a connection's name leads to, and the register
   abbrev pub region_at : Path → AbsolutePath → SourceRun AbsolutePath
   region_at name scope = then_run (found name scope) (λ e. done e.0)
 
@@ -215,12 +214,12 @@ module _ (width : Width) (known : Known) where
       run (OperationRegion at name space args) scope due =
           then_run (operands region_letters args scope) (λ os. make_region width (place_of name scope) space os)
       run (Field here from region flags items) scope due =
-          then_run (region_at known region scope) (λ r. create_units (InRegion r) flags scope (placed_from 0 items))
+          then_run (region_at known region scope) (λ r. create_units (λ name. region_at known name scope) (InRegion r) scope (first_unit flags) items)
       run (IndexField here from index to register flags items) scope due =
-          then_run (register_at known index scope) (λ i. then_run (register_at known register scope) (λ r. create_units (BehindIndex i r) flags scope (placed_from 0 items)))
+          then_run (register_at known index scope) (λ i. then_run (register_at known register scope) (λ r. create_units (λ name. region_at known name scope) (BehindIndex i r) scope (first_unit flags) items))
       run (BankField here from region to bank value flags items) scope due =
           then_run (region_at known region scope) (λ r. then_run (register_at known bank scope) (λ b.
-          then_run (size_by (run value scope false)) (λ n. create_units (InBank r b n) flags scope (placed_from 0 items))))
+          then_run (size_by (run value scope false)) (λ n. create_units (λ name. region_at known name scope) (InBank r b n) scope (first_unit flags) items)))
       run (CreateField form args at name) scope due =
           then_run (operands (field_letters form) args scope) (λ os. make_buffer_field width form (place_of name scope) os)
       run (Item item) scope due = stop Broken

@@ -1,5 +1,5 @@
 -- The trees of terms that are taken apart.
-use Rattle.std.proofs.Common.{◌≡◌, ℕ, ◌+◌, List, Vec, Global, refl, ap, ◌∙◌}
+use Rattle.std.proofs.Common.{◌≡◌, ℕ, ◌+◌, List, Option, Vec, Global, refl, ap, ◌∙◌}
 use mathlib.Core.Former.{Count}
 use Rattle.asl_tree.specs.declared.path.Path.{Path}
 use Rattle.asl_tree.specs.declared.term.Op.{Op}
@@ -154,4 +154,12 @@ pub offset_tree : (bytes : ℕ) (at : At) (next : ℕ) → tree_of at (D.Offset 
 unfolding plan_of tree_of numbered
 offset_tree bytes at next = refl
 
-pub ruleset alone_rules = (none_in_integer, integer_tree, none_in_text, text_tree, none_in_fill, fill_tree, none_in_word, word_tree, none_in_local, local_tree, none_in_arg, arg_tree, none_in_debug, debug_tree, none_in_omitted, omitted_tree, none_in_name, name_tree, none_in_unit, unit_tree, none_in_skip, skip_tree, none_in_offset, offset_tree)
+pub none_in_access : (access attribute : ℕ) (count : Option ℕ) → inside (plan_of (D.Access access attribute count)) ≡ 0
+unfolding plan_of
+none_in_access access attribute count = refl
+
+pub access_tree : (access attribute : ℕ) (count : Option ℕ) (at : At) (next : ℕ) → tree_of at (D.Access access attribute count) ≡ numbered at next (plan_of (D.Access access attribute count))
+unfolding plan_of tree_of numbered
+access_tree access attribute count at next = refl
+
+pub ruleset alone_rules = (none_in_integer, integer_tree, none_in_text, text_tree, none_in_fill, fill_tree, none_in_word, word_tree, none_in_local, local_tree, none_in_arg, arg_tree, none_in_debug, debug_tree, none_in_omitted, omitted_tree, none_in_name, name_tree, none_in_unit, unit_tree, none_in_skip, skip_tree, none_in_offset, offset_tree, none_in_access, access_tree)

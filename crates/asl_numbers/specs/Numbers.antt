@@ -1,11 +1,11 @@
 -- The trees of a program whose nodes are numbered in preorder: each node, then its arguments, then its body.
 use Rattle.std.specs.Prelude.{ℕ, suc, ◌+◌}
 use Rattle.acpi_state.specs.Forms.{LocalSlot, ArgSlot}
-use Rattle.asl_tree.specs.FieldItems.{UnitItem, SkipItem, OffsetItem}
+use Rattle.asl_tree.specs.FieldItems.{UnitItem, SkipItem, OffsetItem, AccessItem}
 use Rattle.asl_tree.specs.Literals.{word_number}
 use Rattle.asl_tree.specs.Tree.{At, Tree, Integer, String, InSlot, Debug, Omitted, Use, Call, Fill, Item, Trees, no_trees, tree}
 use Rattle.asl_tree.specs.View.{form}
-use Rattle.asl_shape.specs.Plans.{Plan, an_integer, a_text, a_fill, a_word, a_local, an_arg, debug, omitted, a_name, a_unit, a_skip, an_offset, a_call, a_form, Plans, no_plans, plan}
+use Rattle.asl_shape.specs.Plans.{Plan, an_integer, a_text, a_fill, a_word, a_local, an_arg, debug, omitted, a_name, a_unit, a_skip, an_offset, an_access, a_call, a_form, Plans, no_plans, plan}
 
 -- how many nodes stand inside a term, and how many some terms have
 abbrev mutual
@@ -33,6 +33,7 @@ unfoldable mutual
   numbered at next (a_unit segment bits) = Item (UnitItem (record { at = at; segment = segment }) bits)
   numbered at next (a_skip bits) = Item (SkipItem bits)
   numbered at next (an_offset bytes) = Item (OffsetItem bytes)
+  numbered at next (an_access access attribute count) = Item (AccessItem access attribute count)
   numbered at next (a_call name args) = Call at name (numbered_all next args)
   numbered at next (a_form op args body) = form at op (numbered_all next args) (numbered_all (next + nodes args) body)
 

@@ -67,5 +67,17 @@ fn numbered_inside(term: Term, first: u32) -> Option<(Term, u32)>
         Term::Unit { segment, bits } => Some((Term::Unit { segment, bits }, first)),
         Term::Skip(bits) => Some((Term::Skip(bits), first)),
         Term::Offset(bytes) => Some((Term::Offset(bytes), first)),
+        Term::Access {
+            access,
+            attribute,
+            length,
+        } => Some((
+            Term::Access {
+                access,
+                attribute,
+                length,
+            },
+            first,
+        )),
     }
 }

@@ -1,5 +1,5 @@
 -- The list of a field, member by member.
-use Rattle.std.proofs.Common.{◌≡◌, ℕ, ◌+◌, ◌<◌, ◌≤◌, length, get_or, drop, List, [], ◌∷◌, refl, ap, ◌∙◌, Option, Some, None, true, false}
+use Rattle.std.proofs.Common.{◌≡◌, ℕ, ◌+◌, ◌<◌, ◌≤◌, length, get_or, drop, arith, List, [], ◌∷◌, refl, ap, sym, ◌∙◌, Option, Some, None, true, false}
 use Rattle.std.specs.Prelude.{if◌then◌else◌}
 use Rattle.std.proofs.lemmas.List.{drop_all}
 use Rattle.acpi_state.specs.Outcomes.{choose}
@@ -8,15 +8,15 @@ use Rattle.asl_parser.specs.declared.raw.Infix.{Infix}
 use Rattle.asl_parser.specs.declared.raw.Raw.{Raw}
 use Rattle.asl_parser.specs.declared.raw.Raw.TheVariants as raw
 use Rattle.asl_words.specs.declared.meaning.Meaning.TheVariants as is
-use Rattle.asl_words.specs.Meanings.{meaning_of}
+use Rattle.asl_words.specs.Meanings.{meaning_of, is_whole, is_connection}
 use Rattle.asl_shape.specs.declared.fields.Due.{Due}
-use Rattle.asl_parser.specs.Written.{writtens}
-use Rattle.asl_shape.specs.Plans.{Plan, no_plans}
-use Rattle.asl_shape.specs.Shapes.{meaning_in, is_offset, next_due, may_stop, is_offset_plan, offset_alone, one_plan}
-use Rattle.asl_shape.specs.AtRaw.{is_some, is_comma_at, is_separator_at, meaning_at, goes_on_at, due_behind_at, is_field_list_at}
+use Rattle.asl_parser.specs.Written.{written, writtens}
+use Rattle.asl_shape.specs.Shapes.{meaning_in, next_due, may_stop, nowhere, place_of, first_place, inner_place}
+use Rattle.asl_shape.specs.AtRaw.{is_some, inside_at, is_comma_at, is_separator_at, meaning_at, place_at, first_place_at, inner_place_at, element_place_at, goes_on_at, due_behind_at, is_field_list_at}
 use Rattle.asl_parser.proofs.Views.{written_number, written_text, written_item, written_apply, written_list, written_comma, written_semicolon, written_empty}
 use Rattle.asl_shape.proofs.Settled.{join_nothing}
 use Rattle.asl_shape.proofs.Braces.{given_some, from_item}
+use Rattle.asl_shape.proofs.ItemLaws.{inside_written}
 
 -- ---- what a member is
 
@@ -56,7 +56,7 @@ pub ruleset meaning_rules = (meaning_number, meaning_text, meaning_item, meaning
 
 -- ---- what may come behind it
 
-pub goes_on_is : (due : Due) (r : Raw) → goes_on_at due r ≡ next_due due (is_comma_at r) (is_separator_at r) (is_offset (meaning_at r))
+pub goes_on_is : (due : Due) (r : Raw) → goes_on_at due r ≡ next_due due (is_comma_at r) (is_separator_at r) (is_whole (meaning_at r))
 unfolding goes_on_at is_comma_at is_separator_at meaning_at
 goes_on_is due r = refl
 
@@ -90,10 +90,54 @@ pub ruleset list_steps = (list_end, list_stop, list_go, list_over)
 
 -- ---- terms
 
-pub alone_some : (place : Place) (p : Plan) → is_offset_plan p ≡ true → offset_alone place p ≡ one_plan place p
-alone_some place p e = ap (λ b. if b then one_plan place p else no_plans) e
+pub ruleset whole_rules = (join_nothing)
 
-pub alone_none : (place : Place) (p : Plan) → is_offset_plan p ≡ false → offset_alone place p ≡ no_plans
-alone_none place p e = ap (λ b. if b then one_plan place p else no_plans) e
+-- ---- where an element stands
 
-pub ruleset alone_rules = (alone_some, alone_none, join_nothing)
+pub first_place_none : (place : Place) (args : List Raw) → length args ≤ 0 → first_place_at place args ≡ place
+unfolding first_place_at writtens
+first_place_none place [] le = refl
+first_place_none place (r ∷ rs) le = absurd (omega (arith, le))
+
+pub first_place_some : (place : Place) (args : List Raw) (d : Raw) → 0 < length args → d ≡ get_or args 0 d → first_place_at place args ≡ place_at place d
+unfolding first_place_at writtens place_at
+first_place_some place [] d lt e = absurd (omega (arith, lt))
+first_place_some place (r ∷ rs) d lt e = ap (λ r. place_of place (written r)) (sym e)
+
+pub inner_item : (place p : Place) (word : List ℕ) (args body : Option (List Raw)) → inner_place_at place (raw.Item p word args body) ≡ first_place_at place (inside_at args)
+unfolding inner_place_at first_place_at
+inner_item place p word args body = ap (inner_place place) (written_item p word args body) ∙ ap (first_place place) (inside_written args)
+
+pub inner_number : (place p : Place) (n : ℕ) → inner_place_at place (raw.Number p n) ≡ place
+unfolding inner_place_at
+inner_number place p n = ap (inner_place place) (written_number p n)
+
+pub inner_text : (place p : Place) (bytes : List ℕ) → inner_place_at place (raw.Text p bytes) ≡ place
+unfolding inner_place_at
+inner_text place p bytes = ap (inner_place place) (written_text p bytes)
+
+pub inner_apply : (place p : Place) (op : Infix) (args : List Raw) → inner_place_at place (raw.Apply p op args) ≡ place
+unfolding inner_place_at
+inner_apply place p op args = ap (inner_place place) (written_apply p op args)
+
+pub inner_list : (place p : Place) (items : List Raw) → inner_place_at place (raw.List p items) ≡ place
+unfolding inner_place_at
+inner_list place p items = ap (inner_place place) (written_list p items)
+
+pub inner_comma : (place : Place) → inner_place_at place (raw.Comma) ≡ place
+unfolding inner_place_at
+inner_comma place = ap (inner_place place) (written_comma)
+
+pub inner_semicolon : (place : Place) → inner_place_at place (raw.Semicolon) ≡ place
+unfolding inner_place_at
+inner_semicolon place = ap (inner_place place) (written_semicolon)
+
+pub inner_empty : (place : Place) → inner_place_at place (raw.Empty) ≡ place
+unfolding inner_place_at
+inner_empty place = ap (inner_place place) (written_empty)
+
+pub element_place_is : (r : Raw) → element_place_at r ≡ (if is_connection (meaning_at r) then inner_place_at (place_at nowhere r) r else place_at nowhere r)
+unfolding element_place_at inner_place_at place_at meaning_at
+element_place_is r = refl
+
+pub ruleset place_rules = (first_place_none, first_place_some, inner_item, inner_number, inner_text, inner_apply, inner_list, inner_comma, inner_semicolon, inner_empty, element_place_is)

@@ -8,10 +8,11 @@ use Rattle.asl_shape.specs.declared.around.Around.{Around}
 use Rattle.asl_shape.specs.declared.fields.Due.{Due}
 use Rattle.asl_shape.specs.declared.fields.UnitName.{UnitName}
 use Rattle.asl_parser.specs.Written.{writtens}
-use Rattle.asl_shape.specs.Plans.{omitted, Plans, no_plans, join, number_of}
+use Rattle.asl_words.specs.Meanings.{slot_as, is_whole}
+use Rattle.asl_shape.specs.Plans.{Plan, omitted, Plans, no_plans, join, number_of}
 use Rattle.asl_shape.specs.Shapes
-use Rattle.asl_shape.specs.Shapes.{Shaped, fine, nowhere, begin, followed, field_part, field_slot, no_comma, offset_alone, of_bits, named_unit, unit_behind}
-use Rattle.asl_shape.specs.AtRaw.{place_at, shape_at, bare_at, is_separator_at, elements_at, part_at, unit_at, due_behind_at, begin_at, comma_at, bits_at}
+use Rattle.asl_shape.specs.Shapes.{Shaped, fine, begin, followed, field_part, no_comma, whole_alone, begun, of_bits, unit_behind}
+use Rattle.asl_shape.specs.AtRaw.{place_at, shape_at, bare_at, is_separator_at, elements_at, element_place_at, meaning_at, part_at, unit_at, due_behind_at, begin_at, comma_at, bits_at}
 use Rattle.asl_shape.proofs.Terms.{nothing_more}
 use Rattle.asl_shape.proofs.Braces.{from_item}
 use Rattle.asl_shape.proofs.Shapes.{join_assoc, nothing_behind}
@@ -22,7 +23,10 @@ pub part_begin : (unit : Option UnitName) (inside : Around) (r : Raw) → part_a
 unfolding part_at begin_at
 part_begin unit inside r = by (is_separator_at r)
   where
-    by : (b : Bool) → field_part Due.Element unit (place_at nowhere r) b (shape_at slot.FieldElement inside r) ≡ field_part Due.Element None (place_at nowhere r) b (shape_at slot.FieldElement inside r)
+    read : Shaped Plan
+    read = shape_at (slot_as slot.FieldElement (meaning_at r)) inside r
+
+    by : (b : Bool) → field_part Due.Element unit (element_place_at r) (is_whole (meaning_at r)) b read ≡ field_part Due.Element None (element_place_at r) (is_whole (meaning_at r)) b read
     by true = refl
     by false = refl
 
@@ -30,7 +34,8 @@ pub part_comma : (unit : Option UnitName) (inside : Around) (r : Raw) → part_a
 unfolding part_at comma_at
 part_comma unit inside r = by (is_separator_at r)
   where
-    by : (b : Bool) → field_part Due.NameComma unit (place_at nowhere r) b (shape_at slot.FieldElement inside r) ≡ field_part Due.NameComma unit (place_at nowhere r) b (fine omitted)
+    by : (b : Bool) → field_part Due.NameComma unit (element_place_at r) (is_whole (meaning_at r)) b (shape_at (slot_as slot.FieldElement (meaning_at r)) inside r)
+        ≡ field_part Due.NameComma unit (element_place_at r) (is_whole (meaning_at r)) b (fine omitted)
     by true = refl
     by false = refl
 
@@ -46,7 +51,10 @@ pub unit_begin : (unit : Option UnitName) (inside : Around) (r : Raw) → unit_a
 unfolding unit_at
 unit_begin unit inside r = by (is_separator_at r)
   where
-    by : (b : Bool) → unit_behind Due.Element unit (place_at nowhere r) b (shape_at slot.FieldElement inside r).made ≡ unit_behind Due.Element None (place_at nowhere r) b (shape_at slot.FieldElement inside r).made
+    read : Plan
+    read = (shape_at (slot_as slot.FieldElement (meaning_at r)) inside r).made
+
+    by : (b : Bool) → unit_behind Due.Element unit (element_place_at r) (is_whole (meaning_at r)) b read ≡ unit_behind Due.Element None (element_place_at r) (is_whole (meaning_at r)) b read
     by true = refl
     by false = refl
 
@@ -66,7 +74,7 @@ pub comma_made : (unit : Option UnitName) (r : Raw) → (comma_at unit r).made �
 unfolding comma_at
 comma_made unit r = by (is_separator_at r)
   where
-    by : (b : Bool) → (field_part Due.NameComma unit (place_at nowhere r) b (fine omitted)).made ≡ no_plans
+    by : (b : Bool) → (field_part Due.NameComma unit (element_place_at r) (is_whole (meaning_at r)) b (fine omitted)).made ≡ no_plans
     by true = refl
     by false = refl
 
@@ -74,25 +82,30 @@ pub ruleset part_rules = (part_begin, part_comma, part_bits, part_none, unit_beg
 
 -- ---- a begin
 
+abbrev read_begin : Around → Raw → Shaped Plan
+read_begin inside r = shape_at (slot_as slot.FieldElement (meaning_at r)) inside r
+
 pub begin_skip : (inside : Around) (r : Raw) → is_separator_at r ≡ true → begin_at inside r ≡ fine no_plans
 unfolding begin_at
-begin_skip inside r e = ap (λ b. field_part begin None (place_at nowhere r) b (shape_at slot.FieldElement inside r)) e
+begin_skip inside r e = ap (λ b. field_part begin None (element_place_at r) (is_whole (meaning_at r)) b (read_begin inside r)) e
 
-pub begin_faults : (inside : Around) (r : Raw) → is_separator_at r ≡ false → (begin_at inside r).faults ≡ (shape_at slot.FieldElement inside r).faults
+pub begin_faults : (inside : Around) (r : Raw) → is_separator_at r ≡ false → (begin_at inside r).faults ≡ (shape_at (slot_as slot.FieldElement (meaning_at r)) inside r).faults
 unfolding begin_at
-begin_faults inside r e = ap (λ b. (field_part begin None (place_at nowhere r) b (shape_at slot.FieldElement inside r)).faults) e
+begin_faults inside r e = ap (λ b. (field_part begin None (element_place_at r) (is_whole (meaning_at r)) b (read_begin inside r)).faults) e
 
-pub begin_made : (inside : Around) (r : Raw) → is_separator_at r ≡ false → (begin_at inside r).made ≡ offset_alone (place_at nowhere r) (shape_at slot.FieldElement inside r).made
+pub begin_made : (inside : Around) (r : Raw) → is_separator_at r ≡ false
+    → (begin_at inside r).made ≡ whole_alone (is_whole (meaning_at r)) (element_place_at r) (shape_at (slot_as slot.FieldElement (meaning_at r)) inside r).made
 unfolding begin_at
-begin_made inside r e = ap (λ b. (field_part begin None (place_at nowhere r) b (shape_at slot.FieldElement inside r)).made) e
+begin_made inside r e = ap (λ b. (field_part begin None (element_place_at r) (is_whole (meaning_at r)) b (read_begin inside r)).made) e
 
 pub unit_skip : (inside : Around) (r : Raw) → is_separator_at r ≡ true → unit_at begin None inside r ≡ None
 unfolding unit_at
-unit_skip inside r e = ap (λ b. unit_behind begin None (place_at nowhere r) b (shape_at slot.FieldElement inside r).made) e
+unit_skip inside r e = ap (λ b. unit_behind begin None (element_place_at r) (is_whole (meaning_at r)) b (read_begin inside r).made) e
 
-pub unit_named : (inside : Around) (r : Raw) → is_separator_at r ≡ false → unit_at begin None inside r ≡ named_unit (place_at nowhere r) (shape_at slot.FieldElement inside r).made
+pub unit_named : (inside : Around) (r : Raw) → is_separator_at r ≡ false
+    → unit_at begin None inside r ≡ begun (is_whole (meaning_at r)) (element_place_at r) (shape_at (slot_as slot.FieldElement (meaning_at r)) inside r).made
 unfolding unit_at
-unit_named inside r e = ap (λ b. unit_behind begin None (place_at nowhere r) b (shape_at slot.FieldElement inside r).made) e
+unit_named inside r e = ap (λ b. unit_behind begin None (element_place_at r) (is_whole (meaning_at r)) b (read_begin inside r).made) e
 
 pub ruleset begin_rules = (begin_skip, begin_faults, begin_made, unit_skip, unit_named, nothing_more, nothing_behind)
 
@@ -100,11 +113,11 @@ pub ruleset begin_rules = (begin_skip, begin_faults, begin_made, unit_skip, unit
 
 pub comma_skip : (unit : Option UnitName) (r : Raw) → is_separator_at r ≡ true → (comma_at unit r).faults ≡ []
 unfolding comma_at
-comma_skip unit r e = ap (λ b. (field_part Due.NameComma unit (place_at nowhere r) b (fine omitted)).faults) e
+comma_skip unit r e = ap (λ b. (field_part Due.NameComma unit (element_place_at r) (is_whole (meaning_at r)) b (fine omitted)).faults) e
 
 pub comma_missed : (unit : Option UnitName) (r : Raw) → is_separator_at r ≡ false → (comma_at unit r).faults ≡ no_comma unit
 unfolding comma_at
-comma_missed unit r e = ap (λ b. (field_part Due.NameComma unit (place_at nowhere r) b (fine omitted)).faults) e
+comma_missed unit r e = ap (λ b. (field_part Due.NameComma unit (element_place_at r) (is_whole (meaning_at r)) b (fine omitted)).faults) e
 
 pub ruleset comma_rules = (comma_skip, comma_missed, nothing_more)
 
@@ -114,7 +127,7 @@ pub bits_faults : (unit : Option UnitName) (inside : Around) (r : Raw) → (bits
 unfolding bits_at
 bits_faults unit inside r = refl
 
-pub bits_made : (unit : Option UnitName) (inside : Around) (r : Raw) → (bits_at unit inside r).made ≡ of_bits unit (place_at nowhere r) (number_of (shape_at slot.Measure inside r).made)
+pub bits_made : (unit : Option UnitName) (inside : Around) (r : Raw) → (bits_at unit inside r).made ≡ of_bits unit (element_place_at r) (number_of (shape_at slot.Measure inside r).made)
 unfolding bits_at
 bits_made unit inside r = refl
 
@@ -124,7 +137,7 @@ pub ruleset bits_rules = (bits_faults, bits_made)
 
 pub element_step : (due : Due) (unit : Option UnitName) (inside : Around) (raws : List Raw) (i : ℕ) (d : Raw) → i < length raws
     → elements_at due unit inside (drop i raws) ≡ followed (part_at due unit inside (get_or raws i d)) (elements_at (due_behind_at due (get_or raws i d)) (unit_at due unit inside (get_or raws i d)) inside (drop (i + 1) raws))
-unfolding elements_at writtens place_at bare_at is_separator_at due_behind_at part_at unit_at
+unfolding elements_at writtens place_at bare_at is_separator_at due_behind_at part_at unit_at element_place_at meaning_at
 element_step due unit inside raws i d lt = ap (λ rs. Shapes.elements due unit inside (writtens rs)) (from_item raws i d lt)
 
 pub element_end : (due : Due) (unit : Option UnitName) (inside : Around) (raws : List Raw) (i : ℕ) → length raws ≤ i → elements_at due unit inside (drop i raws) ≡ fine no_plans

@@ -1,16 +1,17 @@
 -- Items, argument by argument.
-use Rattle.std.proofs.Common.{◌≡◌, suc, nat_le, length, arith, List, [], ◌∷◌, refl, ap, true, false, not, ◌&&◌, ◌||◌, None}
+use Rattle.std.proofs.Common.{◌≡◌, suc, nat_le, length, arith, List, [], ◌∷◌, refl, ap, true, false, not, ◌&&◌, ◌||◌, Option, Some, None}
 use Rattle.asl_parser.specs.declared.raw.Raw.{Raw}
 use Rattle.asl_tree.specs.declared.term.Op.{Op}
 use Rattle.asl_words.specs.declared.operator.Known.{Known}
 use Rattle.asl_words.specs.declared.operator.Parameter.{Parameter}
 use Rattle.asl_words.specs.declared.operator.TextMacro.{TextMacro}
 use Rattle.asl_words.specs.declared.meaning.Meaning.TheVariants as is
-use Rattle.asl_parser.specs.Written.{written, writtens}
-use Rattle.asl_words.specs.Operators.{parameters_of, offset_parameters, macro_parameters}
+use Rattle.asl_parser.specs.Written.{written, writtens, written_in}
+use Rattle.asl_words.specs.declared.operator.FieldWord.{FieldWord}
+use Rattle.asl_words.specs.Operators.{parameters_of, element_parameters, macro_parameters}
 use Rattle.asl_words.specs.Resources.{descriptor_parameters}
 use Rattle.resource_layout.specs.declared.descriptor.Descriptor.{Descriptor}
-use Rattle.asl_shape.specs.Shapes.{is_empty, count, none_empty, is_none}
+use Rattle.asl_shape.specs.Shapes.{is_empty, count, none_empty, is_none, inside_of}
 use Rattle.asl_words.specs.Meanings.{may_end}
 use Rattle.asl_shape.specs.AtRaw.{takes_at, none_empty_at, has_arguments_at, inside_at, is_call_at}
 
@@ -80,9 +81,9 @@ pub has_unknown : (raws : List Raw) → has_arguments_at is.Unknown raws ≡ tru
 unfolding has_arguments_at
 has_unknown raws = refl
 
-pub has_offset : (raws : List Raw) → has_arguments_at is.Offset raws ≡ takes_at offset_parameters raws
+pub has_element : (e : FieldWord) (raws : List Raw) → has_arguments_at (is.Element e) raws ≡ takes_at (element_parameters e) raws
 unfolding has_arguments_at takes_at
-has_offset raws = refl
+has_element e raws = refl
 
 pub has_macro : (m : TextMacro) (raws : List Raw) → has_arguments_at (is.Macro m) raws ≡ takes_at (macro_parameters m) raws
 unfolding has_arguments_at takes_at
@@ -96,9 +97,14 @@ pub has_descriptor : (d : Descriptor) (raws : List Raw) → has_arguments_at (is
 unfolding has_arguments_at takes_at
 has_descriptor d raws = refl
 
-pub ruleset has_rules = (has_operator, has_offset, has_macro, has_template, has_descriptor, has_known, has_name, has_path, has_unknown, is_none_short, is_none_long)
+pub ruleset has_rules = (has_operator, has_element, has_macro, has_template, has_descriptor, has_known, has_name, has_path, has_unknown, is_none_short, is_none_long)
 
 pub inside_none : inside_at None ≡ []
 inside_none = refl
 
 pub ruleset inside_rules = (inside_none)
+
+pub inside_written : (raws : Option (List Raw)) → inside_of (written_in raws) ≡ writtens (inside_at raws)
+unfolding writtens
+inside_written None = refl
+inside_written (Some raws) = refl

@@ -7,6 +7,7 @@ pub mod Braces
 pub mod Types
 pub mod Settled
 pub mod TextMacros
+pub mod FieldWords
 pub mod Descriptors
 pub mod FieldLaws
 pub mod Shapes

@@ -32,15 +32,17 @@ use Rattle.acpi_values.specs.Paths.{NameSeg}
 use Rattle.asl_tree.specs.Names.{single_segment}
 use Rattle.asl_shape.specs.Plans.{Plan, Plans, no_plans, an_integer, a_name, is_omitted, constant_of}
 use Rattle.asl_words.specs.Paths.{path_of}
-use Rattle.asl_words.specs.Operators.{parameters_of, body_of, role_of, block_parameters, offset_parameters, macro_parameters, parameters_as, body_as}
+use Rattle.asl_words.specs.declared.operator.FieldWord.{FieldWord}
+use Rattle.asl_words.specs.declared.meaning.Meaning.{Meaning}
+use Rattle.asl_words.specs.Operators.{parameters_of, body_of, role_of, block_parameters, element_parameters, macro_parameters, parameters_as, body_as}
 use Rattle.acpi_values.specs.Integers.{wrapped}
 use Rattle.acpi_values.specs.declared.width.Width.TheVariants.{W64}
 use Rattle.asl_shape.specs.Symbols.{symbol_of}
-use Rattle.asl_shape.specs.Shapes.{Shaped, fine, fault_at, refused, room_faults, template_shape, descriptor_shape, nowhere, valued, evaluated, after, checked, is_member, is_given, takes, count, has_arguments, are_all_types, text_plan, number_shape, string_shape, text_shape, path_shape, call_shape, listed_shape, read_shape, item_shape, form_shape, symbol_shape, within, place_of, is_separator, is_listed, byte_slot, list_shape, skipped, run_after, bare, operands, call_args, arguments, arguments_in, contents, members, terms, inside_of, is_element, meaning_in, offset_shape, macro_shape, macro_text, eisa_shape, uuid_shape, buffer_plan, is_field_list, begin, named_unit, unit_behind, no_comma, field_part, field_slot, due_behind, elements, case_member, case_value, is_case_member, member_count, is_case_package, cases, default_after}
+use Rattle.asl_shape.specs.Shapes.{Shaped, fine, fault_at, refused, room_faults, template_shape, descriptor_shape, nowhere, valued, evaluated, after, checked, is_member, is_given, takes, count, has_arguments, are_all_types, text_plan, number_shape, string_shape, text_shape, path_shape, call_shape, listed_shape, read_shape, item_shape, form_shape, symbol_shape, within, place_of, is_separator, is_listed, byte_slot, list_shape, skipped, run_after, bare, operands, call_args, arguments, arguments_in, contents, members, terms, inside_of, is_element, meaning_in, element_shape, macro_shape, macro_text, eisa_shape, uuid_shape, buffer_plan, is_field_list, begin, named_unit, begun, first_place, inner_place, element_place, unit_behind, no_comma, field_part, field_slot, due_behind, elements, case_member, case_value, is_case_member, member_count, is_case_package, cases, default_after}
 use Rattle.asl_words.specs.Resources.{descriptor_parameters, descriptor_body}
 use Rattle.resource_layout.specs.declared.descriptor.Descriptor.{Descriptor}
 use Rattle.asl_shape.specs.Descriptors.{is_roomy}
-use Rattle.asl_words.specs.Meanings.{unfit, item_fault, meaning_of, reading_of, takes_expression, takes_role, slot_as}
+use Rattle.asl_words.specs.Meanings.{unfit, item_fault, meaning_of, reading_of, takes_expression, takes_role, slot_as, is_whole, is_connection}
 use Rattle.asl_words.specs.Texts.{is_all_text, has_form}
 use Rattle.resource_macros.specs.Identifiers.{eisaid_of, uuid_of, utf16_of}
 use Rattle.asl_shape.specs.Forms.{start, is_block_word, block_fault, errors_inside, block_errors, no_block, errors_before, first_errors, errors_of, errors_at, block_args, revision_in}
@@ -133,17 +135,17 @@ module _ (files : ℕ) where
   call_told place None args h k = one 6024 place h
   call_told place (Some path) args h k = k
 
-  read_told : (s : Slot) (place : Place) (text : List ℕ) (reading : Reading) (args : Shaped Plans) (offset : Shaped Plan) (expanded : TextMacro → Shaped Plan) (template : Shaped Plan) (described : Descriptor → Shaped Plan) (form : Op → Shaped Plan) → IsIn files place → AreTold files args.faults → AreTold files offset.faults
-      → ((m : TextMacro) → AreTold files (expanded m).faults) → AreTold files template.faults → ((d : Descriptor) → AreTold files (described d).faults) → ((o : Op) → AreTold files (form o).faults) → AreTold files (read_shape s place text reading args offset expanded template described form).faults
-  read_told s place text read.Wrong args offset expanded template described form h k l m t d go = one (unfit s) place h
-  read_told s place text read.Path args offset expanded template described form h k l m t d go = path_told place (path_of text) h
-  read_told s place text read.Call args offset expanded template described form h k l m t d go = call_told place (path_of text) args h k
-  read_told s place text read.Offset args offset expanded template described form h k l m t d go = l
-  read_told s place text (read.Macro which) args offset expanded template described form h k l m t d go = m which
-  read_told s place text read.Template args offset expanded template described form h k l m t d go = t
-  read_told s place text (read.Descriptor of) args offset expanded template described form h k l m t d go = d of
-  read_told s place text (read.Known known) args offset expanded template described form h k l m t d go = tt
-  read_told s place text (read.Form o) args offset expanded template described form h k l m t d go = go o
+  read_told : (s : Slot) (place : Place) (text : List ℕ) (reading : Reading) (args : Shaped Plans) (element : FieldWord → Shaped Plan) (expanded : TextMacro → Shaped Plan) (template : Shaped Plan) (described : Descriptor → Shaped Plan) (form : Op → Shaped Plan) → IsIn files place → AreTold files args.faults → ((e : FieldWord) → AreTold files (element e).faults)
+      → ((m : TextMacro) → AreTold files (expanded m).faults) → AreTold files template.faults → ((d : Descriptor) → AreTold files (described d).faults) → ((o : Op) → AreTold files (form o).faults) → AreTold files (read_shape s place text reading args element expanded template described form).faults
+  read_told s place text read.Wrong args element expanded template described form h k l m t d go = one (unfit s) place h
+  read_told s place text read.Path args element expanded template described form h k l m t d go = path_told place (path_of text) h
+  read_told s place text read.Call args element expanded template described form h k l m t d go = call_told place (path_of text) args h k
+  read_told s place text (read.Element e) args element expanded template described form h k l m t d go = l e
+  read_told s place text (read.Macro which) args element expanded template described form h k l m t d go = m which
+  read_told s place text read.Template args element expanded template described form h k l m t d go = t
+  read_told s place text (read.Descriptor of) args element expanded template described form h k l m t d go = d of
+  read_told s place text (read.Known known) args element expanded template described form h k l m t d go = tt
+  read_told s place text (read.Form o) args element expanded template described form h k l m t d go = go o
 
   symbol_told : (width : Width) (s : Slot) (place : Place) (o : Op) (args : Shaped Plans) → IsIn files place → AreTold files args.faults → AreTold files (symbol_shape width s place o args).faults
   symbol_told width s place o args h k = either (takes_role s (role_of o)) (form_shape width o place args (fine no_plans)) (refused (unfit s) place) (both args.faults [] k tt) (one (unfit s) place h)
@@ -188,24 +190,51 @@ module _ (files : ℕ) where
       by (Some segment) = h
   named_in place _ h = tt
 
-  unit_in : (due : Due) (unit : Option UnitName) (place : Place) (separator : Bool) (p : Plan) → UnitIn unit → IsIn files place → UnitIn (unit_behind due unit place separator p)
-  unit_in Due.Element unit place true p u h = tt
-  unit_in Due.Element unit place false p u h = named_in place p h
-  unit_in Due.NameComma unit place separator p u h = u
-  unit_in Due.Bits unit place separator p u h = tt
-  unit_in Due.Comma unit place separator p u h = tt
+  begun_in : (whole : Bool) (place : Place) (p : Plan) → IsIn files place → UnitIn (begun whole place p)
+  begun_in true place p h = tt
+  begun_in false place p h = named_in place p h
+
+  unit_in : (due : Due) (unit : Option UnitName) (place : Place) (whole separator : Bool) (p : Plan) → UnitIn unit → IsIn files place → UnitIn (unit_behind due unit place whole separator p)
+  unit_in Due.Element unit place whole true p u h = tt
+  unit_in Due.Element unit place whole false p u h = begun_in whole place p h
+  unit_in Due.NameComma unit place whole separator p u h = u
+  unit_in Due.Bits unit place whole separator p u h = tt
+  unit_in Due.Comma unit place whole separator p u h = tt
+
+  -- where an element stands
+  first_in : (place : Place) (ws : Writtens) → IsIn files place → AreWithin files ws → IsIn files (first_place place ws)
+  first_in place none h k = h
+  first_in place (more w ws) h k = place_in place w h k.0
+
+  inner_in : (place : Place) (w : Written) → IsIn files place → IsWithin files w → IsIn files (inner_place place w)
+  inner_in place (item p w absent body) h k = h
+  inner_in place (item p w (given ws) body) h k = first_in place ws h k.1
+  inner_in place (piece.number p n) h k = h
+  inner_in place (piece.text p t) h k = h
+  inner_in place (apply p o args) h k = h
+  inner_in place (listed p ws) h k = h
+  inner_in place comma h k = h
+  inner_in place semicolon h k = h
+  inner_in place empty h k = h
+
+  element_in : (w : Written) → IsIn files nowhere → IsWithin files w → IsIn files (element_place w)
+  element_in w h k = by (is_connection (meaning_in w))
+    where
+      by : (b : Bool) → IsIn files (if b then inner_place (place_of nowhere w) w else place_of nowhere w)
+      by true = inner_in (place_of nowhere w) w (place_in nowhere w h k) k
+      by false = place_in nowhere w h k
 
   comma_told : (unit : Option UnitName) → UnitIn unit → AreTold files (no_comma unit)
   comma_told None u = tt
   comma_told (Some unit) u = one 6022 unit.place u
 
-  part_told : (due : Due) (unit : Option UnitName) (place : Place) (separator : Bool) (shape : Shaped Plan) → UnitIn unit → AreTold files shape.faults → AreTold files (field_part due unit place separator shape).faults
-  part_told Due.Element unit place true shape u h = tt
-  part_told Due.Element unit place false shape u h = h
-  part_told Due.NameComma unit place true shape u h = tt
-  part_told Due.NameComma unit place false shape u h = comma_told unit u
-  part_told Due.Bits unit place separator shape u h = h
-  part_told Due.Comma unit place separator shape u h = tt
+  part_told : (due : Due) (unit : Option UnitName) (place : Place) (whole separator : Bool) (shape : Shaped Plan) → UnitIn unit → AreTold files shape.faults → AreTold files (field_part due unit place whole separator shape).faults
+  part_told Due.Element unit place whole true shape u h = tt
+  part_told Due.Element unit place whole false shape u h = h
+  part_told Due.NameComma unit place whole true shape u h = tt
+  part_told Due.NameComma unit place whole false shape u h = comma_told unit u
+  part_told Due.Bits unit place whole separator shape u h = h
+  part_told Due.Comma unit place whole separator shape u h = tt
 
   module _ (main : 0 < files) where
     mutual
@@ -219,14 +248,14 @@ module _ (files : ℕ) where
       bare_told s inside (item place w args body) h =
           let meaning = meaning_of w (is_given body) in
           let form : Op → Shaped Plan = λ o. form_shape inside.width o place (arguments (parameters_as o s) place inside args) (contents (body_as o s) (within o inside) place body) in
-          let offset : Shaped Plan = offset_shape (arguments offset_parameters place inside args) in
+          let element : FieldWord → Shaped Plan = λ e. element_shape e (arguments (element_parameters e) place inside args) in
           let expanded : TextMacro → Shaped Plan = λ m. macro_shape (arguments (macro_parameters m) place inside args) in
-          let template : Shaped Plan = template_shape place (contents braces.Descriptors inside place body) in
+          let template : Shaped Plan = template_shape place (contents (braces.Descriptors false) inside place body) in
           let described : Descriptor → Shaped Plan = λ d. descriptor_shape d place (arguments (descriptor_parameters d) place inside args) (contents (descriptor_body d) inside place body) in
-          item_told place (item_fault s inside.method meaning (has_arguments meaning (inside_of args)) (is_given body)) (read_shape s place w (reading_of s meaning (is_given args)) (call_args inside args) offset expanded template described form) h.0
-          (read_told s place w (reading_of s meaning (is_given args)) (call_args inside args) offset expanded template described form h.0 (call_told_in inside args h.1) (arguments_told offset_parameters place inside args h.0 h.1)
+          item_told place (item_fault s inside.method meaning (has_arguments meaning (inside_of args)) (is_given body)) (read_shape s place w (reading_of s meaning (is_given args)) (call_args inside args) element expanded template described form) h.0
+          (read_told s place w (reading_of s meaning (is_given args)) (call_args inside args) element expanded template described form h.0 (call_told_in inside args h.1) (λ e. arguments_told (element_parameters e) place inside args h.0 h.1)
           (λ m. arguments_told (macro_parameters m) place inside args h.0 h.1)
-          (contents_told braces.Descriptors inside place body h.0 h.2)
+          (contents_told (braces.Descriptors false) inside place body h.0 h.2)
           (λ d.
           let first : Shaped Plans = arguments (descriptor_parameters d) place inside args in
           let rest : Shaped Plans = contents (descriptor_body d) inside place body in
@@ -265,21 +294,21 @@ module _ (files : ℕ) where
       contents_told braces.Elements inside place (given ws) p h = list_told place (is_listed true ws) (members slot.Element inside ws) p (members_told slot.Element inside ws h)
       contents_told braces.FieldList inside place (given ws) p h = list_told place (is_field_list begin ws) (elements begin None inside ws) p (elements_told begin None inside ws tt h)
       contents_told (braces.Numbers most) inside place (given ws) p h = list_told place (is_listed true ws) (members (slot.Constant 0 most) inside ws) p (members_told (slot.Constant 0 most) inside ws h)
-      contents_told braces.Descriptors inside place (given ws) p h = members_told slot.Descriptor inside ws h
+      contents_told (braces.Descriptors chosen) inside place (given ws) p h = members_told (slot.Descriptor chosen) inside ws h
       contents_told braces.Cases inside place (given ws) p h = cases_told inside false ws h
       contents_told braces.CaseMembers inside place (given ws) p h = list_told place (is_listed true ws) (members slot.CaseMember inside ws) p (members_told slot.CaseMember inside ws h)
 
       elements_told : (due : Due) (unit : Option UnitName) (inside : Around) (ws : Writtens) → UnitIn unit → AreWithin files ws → AreTold files (elements due unit inside ws).faults
       elements_told due unit inside none u h = tt
       elements_told due unit inside (more w ws) u h =
-          let place : Place = place_of nowhere w in
-          let shape : Shaped Plan = checked inside.width (field_slot due) place (bare (field_slot due) inside w) in
-          let part : Shaped Plans = field_part due unit place (is_separator w) shape in
-          let next : Option UnitName = unit_behind due unit place (is_separator w) shape.made in
-          let at : IsIn files place = place_in nowhere w main h.0 in
+          let m : Meaning = meaning_in w in
+          let s : Slot = field_slot due m in
+          let shape : Shaped Plan = checked inside.width s (place_of nowhere w) (bare s inside w) in
+          let part : Shaped Plans = field_part due unit (element_place w) (is_whole m) (is_separator w) shape in
+          let next : Option UnitName = unit_behind due unit (element_place w) (is_whole m) (is_separator w) shape.made in
           both part.faults (elements (due_behind due w) next inside ws).faults
-          (part_told due unit place (is_separator w) shape u (checked_told inside.width (field_slot due) place (bare (field_slot due) inside w) at (bare_told (field_slot due) inside w h.0)))
-          (elements_told (due_behind due w) next inside ws (unit_in due unit place (is_separator w) shape.made u at) h.1)
+          (part_told due unit (element_place w) (is_whole m) (is_separator w) shape u (checked_told inside.width s (place_of nowhere w) (bare s inside w) (place_in nowhere w main h.0) (bare_told s inside w h.0)))
+          (elements_told (due_behind due w) next inside ws (unit_in due unit (element_place w) (is_whole m) (is_separator w) shape.made u (element_in w main h.0)) h.1)
 
       members_told : (s : Slot) (inside : Around) (ws : Writtens) → AreWithin files ws → AreTold files (members s inside ws).faults
       members_told s inside none h = tt

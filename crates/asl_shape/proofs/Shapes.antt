@@ -25,17 +25,19 @@ use Rattle.asl_words.specs.declared.operator.Body.TheVariants as braces
 use Rattle.asl_words.specs.declared.meaning.Reading.TheVariants as read
 use Rattle.asl_parser.specs.Written.{writtens, written, written_in}
 use Rattle.asl_shape.specs.Sizes.{size, sizes, size_at, sizes_at, size_in_at}
-use Rattle.asl_words.specs.Operators.{parameters_of, body_of, parameters_as, body_as, offset_parameters, macro_parameters}
+use Rattle.asl_words.specs.declared.operator.FieldWord.{FieldWord}
+use Rattle.asl_words.specs.Operators.{parameters_of, body_of, parameters_as, body_as, element_parameters, macro_parameters}
 use Rattle.asl_shape.specs.Shapes
 use Rattle.asl_shape.specs.Symbols.{symbol_of}
-use Rattle.asl_shape.specs.Shapes.{Shaped, fine, refused, template_shape, descriptor_shape, is_given, inside_of, has_arguments, after, checked, evaluated, number_shape, text_shape, listed_shape, form_shape, symbol_shape, read_shape, item_shape, path_shape, call_shape, known_plan, within, place_of, joined, left_out, list_shape, skipped, is_separator, nowhere, bare, call_args, arguments, contents, meaning_in, offset_shape, macro_shape, begin}
+use Rattle.asl_shape.specs.Shapes.{Shaped, fine, refused, template_shape, descriptor_shape, is_given, inside_of, has_arguments, after, checked, evaluated, number_shape, text_shape, listed_shape, form_shape, symbol_shape, read_shape, item_shape, path_shape, call_shape, known_plan, within, place_of, joined, left_out, list_shape, skipped, is_separator, nowhere, bare, call_args, arguments, contents, meaning_in, element_shape, macro_shape, begin}
 use Rattle.asl_words.specs.Meanings.{item_fault, meaning_of, reading_of, slot_as, unfit}
 use Rattle.asl_words.specs.Resources.{descriptor_parameters, descriptor_body}
 use Rattle.resource_layout.specs.declared.descriptor.Descriptor.{Descriptor}
-use Rattle.asl_shape.specs.AtRaw.{has_arguments_at, template_at, descriptor_at, inside_at, bare_at, listed_at, place_at, shape_at, is_separator_at, run_after_at, operands_at, call_at, arguments_at, arguments_in_at, contents_at, members_at, terms_at, member_at, argument_at, form_at, read_at, is_some, one_at, left_at, is_listed_at, byte_slot_at, item_at, meaning_at, offset_at, macro_at, is_field_list_at, elements_at, cases_at, default_after_at}
+use Rattle.asl_shape.specs.AtRaw.{has_arguments_at, template_at, descriptor_at, inside_at, bare_at, listed_at, place_at, shape_at, is_separator_at, run_after_at, operands_at, call_at, arguments_at, arguments_in_at, contents_at, members_at, terms_at, member_at, argument_at, form_at, read_at, is_some, one_at, left_at, is_listed_at, byte_slot_at, item_at, meaning_at, element_at, macro_at, is_field_list_at, elements_at, cases_at, default_after_at}
 use Rattle.asl_parser.proofs.Views.{written_number, written_text, written_item, written_apply, written_list, written_comma, written_semicolon, written_empty}
-use Rattle.asl_shape.proofs.Terms.{term_rules, omitted_term, offset_term, nothing_more}
+use Rattle.asl_shape.proofs.Terms.{term_rules, omitted_term, nothing_more}
 use Rattle.asl_shape.proofs.Braces.{given_some, from_item}
+use Rattle.asl_shape.proofs.ItemLaws.{inside_written}
 
 -- ---- errors in order
 
@@ -87,23 +89,18 @@ pub bare_empty : (s : Slot) (inside : Around) → bare_at s inside (raw.Empty) �
 unfolding bare_at
 bare_empty s inside = ap (bare s inside) (written_empty)
 
-pub inside_written : (raws : Option (List Raw)) → inside_of (written_in raws) ≡ writtens (inside_at raws)
-unfolding writtens
-inside_written None = refl
-inside_written (Some raws) = refl
-
 pub bare_item : (s : Slot) (inside : Around) (place : Place) (w : List ℕ) (args body : Option (List Raw)) → bare_at s inside (raw.Item place w args body) ≡ item_at s inside place w args body
-unfolding bare_at item_at has_arguments_at read_at call_at offset_at macro_at template_at descriptor_at form_at arguments_at contents_at
+unfolding bare_at item_at has_arguments_at read_at call_at element_at macro_at template_at descriptor_at form_at arguments_at contents_at
 bare_item s inside place w args body =
     let form : Op → Shaped Plan = λ o. form_at s o place inside args body in
-    let offset : Shaped Plan = offset_at place inside args in
+    let element : FieldWord → Shaped Plan = λ e. element_at e place inside args in
     let expanded : TextMacro → Shaped Plan = λ m. macro_at m place inside args in
     let template : Shaped Plan = template_at place inside body in
     let described : Descriptor → Shaped Plan = λ d. descriptor_at d place inside args body in
     ap (bare s inside) (written_item place w args body)
-    ∙ ap (λ b. item_shape place (item_fault s inside.method (meaning_of w b) (has_arguments (meaning_of w b) (inside_of (written_in args))) b) (read_shape s place w (reading_of s (meaning_of w b) (is_given (written_in args))) (call_args inside (written_in args)) offset expanded template described form)) (given_some body)
-    ∙ ap (λ ws. item_shape place (item_fault s inside.method (meaning_of w (is_some body)) (has_arguments (meaning_of w (is_some body)) ws) (is_some body)) (read_shape s place w (reading_of s (meaning_of w (is_some body)) (is_given (written_in args))) (call_args inside (written_in args)) offset expanded template described form)) (inside_written args)
-    ∙ ap (λ b. item_shape place (item_fault s inside.method (meaning_of w (is_some body)) (has_arguments (meaning_of w (is_some body)) (writtens (inside_at args))) (is_some body)) (read_shape s place w (reading_of s (meaning_of w (is_some body)) b) (call_args inside (written_in args)) offset expanded template described form)) (given_some args)
+    ∙ ap (λ b. item_shape place (item_fault s inside.method (meaning_of w b) (has_arguments (meaning_of w b) (inside_of (written_in args))) b) (read_shape s place w (reading_of s (meaning_of w b) (is_given (written_in args))) (call_args inside (written_in args)) element expanded template described form)) (given_some body)
+    ∙ ap (λ ws. item_shape place (item_fault s inside.method (meaning_of w (is_some body)) (has_arguments (meaning_of w (is_some body)) ws) (is_some body)) (read_shape s place w (reading_of s (meaning_of w (is_some body)) (is_given (written_in args))) (call_args inside (written_in args)) element expanded template described form)) (inside_written args)
+    ∙ ap (λ b. item_shape place (item_fault s inside.method (meaning_of w (is_some body)) (has_arguments (meaning_of w (is_some body)) (writtens (inside_at args))) (is_some body)) (read_shape s place w (reading_of s (meaning_of w (is_some body)) b) (call_args inside (written_in args)) element expanded template described form)) (given_some args)
 
 pub ruleset bare_rules = (bare_number, bare_text, bare_apply, bare_list, bare_comma, bare_semicolon, bare_empty, bare_item, nothing_more, omitted_term)
 
@@ -139,15 +136,15 @@ pub form_is : (s : Slot) (o : Op) (place : Place) (inside : Around) (args body :
 unfolding form_at
 form_is s o place inside args body = ap (λ a. form_shape inside.width o place a (contents_at (body_as o s) (within o inside) place body)) (arguments_are (parameters_as o s) place inside args)
 
-pub offset_is : (place : Place) (inside : Around) (args : Option (List Raw)) → offset_at place inside args ≡ offset_shape (arguments_in_at offset_parameters place inside (inside_at args))
-unfolding offset_at
-offset_is place inside args = ap offset_shape (arguments_are offset_parameters place inside args)
+pub element_is : (e : FieldWord) (place : Place) (inside : Around) (args : Option (List Raw)) → element_at e place inside args ≡ element_shape e (arguments_in_at (element_parameters e) place inside (inside_at args))
+unfolding element_at
+element_is e place inside args = ap (element_shape e) (arguments_are (element_parameters e) place inside args)
 
 pub macro_is : (m : TextMacro) (place : Place) (inside : Around) (args : Option (List Raw)) → macro_at m place inside args ≡ macro_shape (arguments_in_at (macro_parameters m) place inside (inside_at args))
 unfolding macro_at
 macro_is m place inside args = ap macro_shape (arguments_are (macro_parameters m) place inside args)
 
-pub template_is : (place : Place) (inside : Around) (body : Option (List Raw)) → template_at place inside body ≡ template_shape place (contents_at braces.Descriptors inside place body)
+pub template_is : (place : Place) (inside : Around) (body : Option (List Raw)) → template_at place inside body ≡ template_shape place (contents_at (braces.Descriptors false) inside place body)
 unfolding template_at
 template_is place inside body = refl
 
@@ -177,9 +174,9 @@ pub read_form : (s : Slot) (place : Place) (w : List ℕ) (o : Op) (inside : Aro
 unfolding read_at
 read_form s place w o inside args body = form_is s o place inside args body
 
-pub read_offset : (s : Slot) (place : Place) (w : List ℕ) (inside : Around) (args body : Option (List Raw)) → read_at s place w read.Offset inside args body ≡ offset_at place inside args
+pub read_element : (s : Slot) (place : Place) (w : List ℕ) (e : FieldWord) (inside : Around) (args body : Option (List Raw)) → read_at s place w (read.Element e) inside args body ≡ element_at e place inside args
 unfolding read_at
-read_offset s place w inside args body = refl
+read_element s place w e inside args body = refl
 
 pub read_macro : (s : Slot) (place : Place) (w : List ℕ) (m : TextMacro) (inside : Around) (args body : Option (List Raw)) → read_at s place w (read.Macro m) inside args body ≡ macro_at m place inside args
 unfolding read_at
@@ -193,7 +190,7 @@ pub read_descriptor : (s : Slot) (place : Place) (w : List ℕ) (d : Descriptor)
 unfolding read_at
 read_descriptor s place w d inside args body = refl
 
-pub ruleset read_rules = (read_wrong, read_path, read_call, read_offset, read_macro, read_template, read_descriptor, read_known, read_form, nothing_more)
+pub ruleset read_rules = (read_wrong, read_path, read_call, read_element, read_macro, read_template, read_descriptor, read_known, read_form, nothing_more)
 
 -- ---- lists from one of their items on
 
@@ -241,7 +238,7 @@ pub ruleset argument_rules = (append_assoc, join_assoc, nothing_more, nothing_be
 
 pub ruleset call_rules = (plan_call, from_none, call_is)
 
-pub ruleset offset_rules = (offset_term, from_none, offset_is)
+pub ruleset element_rules = (from_none, element_is)
 
 pub ruleset macro_rules = (from_none, macro_is)
 
@@ -261,7 +258,7 @@ contents_none braces.Bytes inside place = refl
 contents_none braces.Elements inside place = refl
 contents_none braces.FieldList inside place = refl
 contents_none (braces.Numbers most) inside place = refl
-contents_none braces.Descriptors inside place = refl
+contents_none (braces.Descriptors chosen) inside place = refl
 contents_none braces.Cases inside place = refl
 contents_none braces.CaseMembers inside place = refl
 
@@ -289,9 +286,9 @@ pub contents_numbers : (most : ℕ) (inside : Around) (place : Place) (raws : Li
 unfolding contents_at members_at is_listed_at
 contents_numbers most inside place raws = refl
 
-pub contents_descriptors : (inside : Around) (place : Place) (raws : List Raw) → contents_at braces.Descriptors inside place (Some raws) ≡ members_at slot.Descriptor inside raws
+pub contents_descriptors : (chosen : Bool) (inside : Around) (place : Place) (raws : List Raw) → contents_at (braces.Descriptors chosen) inside place (Some raws) ≡ members_at (slot.Descriptor chosen) inside raws
 unfolding contents_at members_at
-contents_descriptors inside place raws = refl
+contents_descriptors chosen inside place raws = refl
 
 pub contents_cases : (inside : Around) (place : Place) (raws : List Raw) → contents_at braces.Cases inside place (Some raws) ≡ cases_at inside false raws
 unfolding contents_at cases_at

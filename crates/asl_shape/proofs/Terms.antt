@@ -1,5 +1,5 @@
 -- Terms that are made.
-use Rattle.std.proofs.Common.{◌≡◌, ℕ, suc, List, [], ◌∷◌, ◌++◌, length, append-nil, Vec, Global, refl, sym, ap, ◌∙◌, arith, ◌==◌, true, false, Some, None, if◌then◌else◌}
+use Rattle.std.proofs.Common.{◌≡◌, ℕ, suc, List, [], ◌∷◌, ◌++◌, length, append-nil, Vec, Global, refl, sym, ap, ◌∙◌, arith, ◌==◌, true, false, Option, Some, None, if◌then◌else◌}
 use Rattle.iasl_messages.specs.declared.message.Message.{Message}
 use Rattle.asl_tree.specs.declared.path.Path.{Path}
 use Rattle.acpi_values.specs.Paths.{NameSeg}
@@ -9,7 +9,7 @@ use Rattle.asl_tree.specs.declared.term.Node.{Node}
 use Rattle.asl_tree.specs.declared.term.NamedDescriptor.{NamedDescriptor}
 use Rattle.asl_tree.specs.declared.term.Term.{Term}
 use Rattle.asl_tree.specs.declared.term.Term as D
-use Rattle.asl_shape.specs.Plans.{plan_of, an_integer, a_text, a_fill, a_word, a_local, an_arg, debug, omitted, a_name, a_unit, a_skip, an_offset, plans_of, how_many}
+use Rattle.asl_shape.specs.Plans.{plan_of, an_integer, a_text, a_fill, a_word, a_local, an_arg, debug, omitted, a_name, a_unit, a_skip, an_offset, an_access, plans_of, how_many}
 use Rattle.std.proofs.lemmas.Bool.Decides.{nat_tests}
 use Rattle.asl_shape.proofs.Plans.{plan_form, plan_call, no_plans_are, more_plans_are}
 use Rattle.asl_shape.specs.Shapes.{is_package, member_count, are_none, is_case_form, is_case_member}
@@ -62,7 +62,11 @@ pub offset_term : (bytes : ℕ) → plan_of (D.Offset bytes) ≡ an_offset bytes
 unfolding plan_of
 offset_term bytes = refl
 
-pub ruleset term_rules = (omitted_term, integer_term, text_term, word_term, local_term, arg_term, name_term, fill_term, debug_term, unit_term, skip_term, offset_term)
+pub access_term : (access attribute : ℕ) (count : Option ℕ) → plan_of (D.Access access attribute count) ≡ an_access access attribute count
+unfolding plan_of
+access_term access attribute count = refl
+
+pub ruleset term_rules = (omitted_term, integer_term, text_term, word_term, local_term, arg_term, name_term, fill_term, debug_term, unit_term, skip_term, offset_term, access_term)
 
 pub nothing_more : (ms : List Message) → ms ++ [] ≡ ms
 nothing_more ms = append-nil ms

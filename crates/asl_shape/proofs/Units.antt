@@ -20,7 +20,8 @@ use Rattle.asl_shape.specs.AtRaw.{takes_at, inside_at, is_some, terms_at, argume
 use Rattle.asl_shape.specs.Forms.{revision_in, start, is_block_word, block_fault, errors_inside, block_errors, no_block, errors_before, first_errors, block_place, args_of, terms_of, IsBlock, errors_at, IsBlockOf, args_in, terms_in, errors_in, block_errors_at, item_errors_at, IsItemBlock, Forms}
 use Rattle.asl_shape.proofs.Settled.{at_some, at_none}
 use Rattle.asl_shape.proofs.Braces.{given_some}
-use Rattle.asl_shape.proofs.Shapes.{inside_written, arguments_are, from_none, none_left, all_made}
+use Rattle.asl_shape.proofs.ItemLaws.{inside_written}
+use Rattle.asl_shape.proofs.Shapes.{arguments_are, from_none, none_left, all_made}
 use Rattle.asl_parser.proofs.Views.{written_number, written_text, written_item, written_apply, written_list, written_comma, written_semicolon, written_empty}
 
 pub text_some : (nodes : List Node) (i : ℕ) (d : Node) → i < length nodes → d ≡ get_or nodes i d → text_of (plan_of d.term) ≡ text_of (plan_at (plans_of nodes) i)

@@ -14,15 +14,16 @@ use Rattle.asl_words.specs.declared.operator.Slot.TheVariants as slot
 use Rattle.asl_words.specs.declared.operator.Body.{Body}
 use Rattle.asl_words.specs.declared.operator.Body.TheVariants as braces
 use Rattle.resource_layout.specs.declared.descriptor.Descriptor.{Descriptor}
+use Rattle.asl_words.specs.declared.operator.FieldWord.{FieldWord}
 use Rattle.asl_words.specs.declared.operator.TextMacro.{TextMacro}
 use Rattle.asl_words.specs.declared.meaning.Meaning.{Meaning}
 use Rattle.asl_words.specs.declared.meaning.Reading.{Reading}
 use Rattle.asl_shape.specs.declared.fields.Due.{Due}
 use Rattle.asl_shape.specs.declared.fields.UnitName.{UnitName}
 use Rattle.asl_parser.specs.Written.{written, writtens, written_in}
-use Rattle.asl_shape.specs.Shapes.{Shaped, fine, takes, none_empty, has_arguments, is_comma, due_after, is_text, bare, run_after, is_call, is_separator, is_listed, byte_slot, skipped, joined, operands, call_args, arguments, arguments_in, contents, members, terms, read_shape, form_shape, within, place_of, nowhere, checked, item_shape, listed_shape, types_shape, is_type, are_types, is_type_or_list, are_all_types, meaning_in, goes_on, is_field_list, field_slot, unit_behind, field_part, due_behind, offset_shape, macro_shape, template_shape, descriptor_shape, elements, begin, cases, default_after}
-use Rattle.asl_words.specs.Meanings.{item_fault, meaning_of, reading_of, slot_as}
-use Rattle.asl_words.specs.Operators.{parameters_as, body_as, offset_parameters, macro_parameters}
+use Rattle.asl_shape.specs.Shapes.{Shaped, fine, takes, none_empty, has_arguments, is_comma, due_after, is_text, bare, run_after, is_call, is_separator, is_listed, byte_slot, skipped, joined, operands, call_args, arguments, arguments_in, contents, members, terms, read_shape, form_shape, within, place_of, nowhere, checked, item_shape, listed_shape, types_shape, is_type, are_types, is_type_or_list, are_all_types, meaning_in, goes_on, is_field_list, field_slot, unit_behind, field_part, due_behind, element_shape, first_place, inner_place, element_place, macro_shape, template_shape, descriptor_shape, elements, begin, cases, default_after}
+use Rattle.asl_words.specs.Meanings.{item_fault, meaning_of, reading_of, slot_as, is_whole}
+use Rattle.asl_words.specs.Operators.{parameters_as, body_as, element_parameters, macro_parameters}
 use Rattle.asl_words.specs.Resources.{descriptor_parameters, descriptor_body}
 
 unfoldable pub takes_at : List Parameter → List Raw → Bool
@@ -88,9 +89,9 @@ default_after_at before raw = default_after before (written raw)
 unfoldable pub form_at : Slot → Op → Place → Around → Option (List Raw) → Option (List Raw) → Shaped Plan
 form_at s o place inside args body = form_shape inside.width o place (arguments_at (parameters_as o s) place inside args) (contents_at (body_as o s) (within o inside) place body)
 
--- an Offset with its argument
-unfoldable pub offset_at : Place → Around → Option (List Raw) → Shaped Plan
-offset_at place inside args = offset_shape (arguments_at offset_parameters place inside args)
+-- a word of a field's list with its arguments
+unfoldable pub element_at : FieldWord → Place → Around → Option (List Raw) → Shaped Plan
+element_at e place inside args = element_shape e (arguments_at (element_parameters e) place inside args)
 
 -- a macro with its string
 unfoldable pub macro_at : TextMacro → Place → Around → Option (List Raw) → Shaped Plan
@@ -98,7 +99,7 @@ macro_at m place inside args = macro_shape (arguments_at (macro_parameters m) pl
 
 -- a template with its descriptors
 unfoldable pub template_at : Place → Around → Option (List Raw) → Shaped Plan
-template_at place inside body = template_shape place (contents_at braces.Descriptors inside place body)
+template_at place inside body = template_shape place (contents_at (braces.Descriptors false) inside place body)
 
 -- a descriptor with its arguments and its braces
 unfoldable pub descriptor_at : Descriptor → Place → Around → Option (List Raw) → Option (List Raw) → Shaped Plan
@@ -106,7 +107,7 @@ descriptor_at d place inside args body = descriptor_shape d place (arguments_at 
 
 -- an item as it is read
 unfoldable pub read_at : Slot → Place → List ℕ → Reading → Around → Option (List Raw) → Option (List Raw) → Shaped Plan
-read_at s place w reading inside args body = read_shape s place w reading (call_at inside args) (offset_at place inside args) (λ m. macro_at m place inside args) (template_at place inside body) (λ d. descriptor_at d place inside args body) (λ o. form_at s o place inside args body)
+read_at s place w reading inside args body = read_shape s place w reading (call_at inside args) (λ e. element_at e place inside args) (λ m. macro_at m place inside args) (template_at place inside body) (λ d. descriptor_at d place inside args body) (λ o. form_at s o place inside args body)
 
 abbrev pub is_some : Option (List Raw) → Bool
 is_some None = false
@@ -190,19 +191,29 @@ is_field_list_at due raws = is_field_list due (writtens raws)
 unfoldable pub elements_at : Due → Option UnitName → Around → List Raw → Shaped Plans
 elements_at due unit inside raws = elements due unit inside (writtens raws)
 
+unfoldable pub first_place_at : Place → List Raw → Place
+first_place_at place raws = first_place place (writtens raws)
+
+unfoldable pub inner_place_at : Place → Raw → Place
+inner_place_at place raw = inner_place place (written raw)
+
+unfoldable pub element_place_at : Raw → Place
+element_place_at raw = element_place (written raw)
+
 -- what a member comes to where this is due
 unfoldable pub part_at : Due → Option UnitName → Around → Raw → Shaped Plans
-part_at due unit inside raw = field_part due unit (place_at nowhere raw) (is_separator_at raw) (shape_at (field_slot due) inside raw)
+part_at due unit inside raw = field_part due unit (element_place_at raw) (is_whole (meaning_at raw)) (is_separator_at raw) (shape_at (field_slot due (meaning_at raw)) inside raw)
 
 -- the unit of which the number of bits is to come behind it
 unfoldable pub unit_at : Due → Option UnitName → Around → Raw → Option UnitName
-unit_at due unit inside raw = unit_behind due unit (place_at nowhere raw) (is_separator_at raw) (shape_at (field_slot due) inside raw).made
+unit_at due unit inside raw = unit_behind due unit (element_place_at raw) (is_whole (meaning_at raw)) (is_separator_at raw) (shape_at (field_slot due (meaning_at raw)) inside raw).made
 
 unfoldable pub begin_at : Around → Raw → Shaped Plans
-begin_at inside raw = field_part begin None (place_at nowhere raw) (is_separator_at raw) (shape_at slot.FieldElement inside raw)
+begin_at inside raw =
+    field_part begin None (element_place_at raw) (is_whole (meaning_at raw)) (is_separator_at raw) (shape_at (slot_as slot.FieldElement (meaning_at raw)) inside raw)
 
 unfoldable pub comma_at : Option UnitName → Raw → Shaped Plans
-comma_at unit raw = field_part Due.NameComma unit (place_at nowhere raw) (is_separator_at raw) (fine omitted)
+comma_at unit raw = field_part Due.NameComma unit (element_place_at raw) (is_whole (meaning_at raw)) (is_separator_at raw) (fine omitted)
 
 unfoldable pub bits_at : Option UnitName → Around → Raw → Shaped Plans
-bits_at unit inside raw = field_part Due.Bits unit (place_at nowhere raw) (is_separator_at raw) (shape_at slot.Measure inside raw)
+bits_at unit inside raw = field_part Due.Bits unit (element_place_at raw) (is_whole (meaning_at raw)) (is_separator_at raw) (shape_at slot.Measure inside raw)

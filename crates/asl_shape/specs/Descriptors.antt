@@ -23,6 +23,7 @@ node place term = record { place = place; term = term }
 -- a number, which stands for a word where a field is given by words
 abbrev pub number_term : Giver → ℕ → Term
 number_term (g.Word kind) number = R.Word (record { kind = kind; number = number })
+number_term (g.WordBelow kind limit) number = R.Word (record { kind = kind; number = number })
 number_term _ number = R.Integer number
 
 -- an argument; one that is refused counts as left out

@@ -1,5 +1,5 @@
 -- A program's tree as plain data: each term with its place. The numbers of the nodes stand aside.
-use Rattle.std.specs.Prelude.{ℕ, zero, suc, Bool, true, false, List, [], ◌∷◌, Result, Ok, Err, Some, None}
+use Rattle.std.specs.Prelude.{ℕ, zero, suc, Bool, true, false, List, [], ◌∷◌, Result, Ok, Err, Option, Some, None}
 use Rattle.iasl_messages.specs.declared.place.Place.{Place}
 use Rattle.acpi_values.specs.Integers.{wrapped}
 use Rattle.acpi_values.specs.Paths.{NameSeg}
@@ -28,6 +28,7 @@ mutual
     a_unit : (segment : NameSeg) (bits : ℕ) → Plan
     a_skip : (bits : ℕ) → Plan
     an_offset : (bytes : ℕ) → Plan
+    an_access : (access attribute : ℕ) (count : Option ℕ) → Plan
     a_call : (name : Path) (args : Plans) → Plan
     a_form : (op : Op) (args body : Plans) → Plan
 
@@ -50,6 +51,7 @@ unfoldable mutual
   plan_of (D.Unit segment bits) = a_unit segment bits
   plan_of (D.Skip bits) = a_skip bits
   plan_of (D.Offset bytes) = an_offset bytes
+  plan_of (D.Access access attribute count) = an_access access attribute count
   plan_of (D.Call' path shape args) = a_call path (row_plans args)
   plan_of (D.Form' op shape args shape' body) = a_form op (row_plans args) (row_plans body)
 

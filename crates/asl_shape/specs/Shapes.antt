@@ -38,14 +38,15 @@ use Rattle.asl_shape.specs.declared.fields.Due.{Due}
 use Rattle.asl_shape.specs.declared.fields.UnitName.{UnitName}
 use Rattle.asl_parser.specs.Written as piece
 use Rattle.asl_parser.specs.Written.{Written, Writtens, WrittenGroup, item, apply, listed, comma, semicolon, empty, none, more, absent, given}
-use Rattle.asl_words.specs.Operators.{parameters_of, parameters_as, body_as, role_of, offset_parameters, macro_parameters}
+use Rattle.asl_words.specs.declared.operator.FieldWord.{FieldWord}
+use Rattle.asl_words.specs.Operators.{parameters_of, parameters_as, body_as, role_of, element_parameters, macro_parameters}
 use Rattle.asl_words.specs.Resources.{descriptor_parameters, descriptor_body}
-use Rattle.asl_words.specs.Meanings.{meaning_of, may_end, unfit, item_fault, takes_expression, takes_role, takes_known, reading_of, run_behind, slot_as, is_default}
+use Rattle.asl_words.specs.Meanings.{meaning_of, may_end, unfit, item_fault, takes_expression, takes_role, takes_known, reading_of, run_behind, slot_as, is_default, is_whole, is_connection}
 use Rattle.asl_shape.specs.Symbols.{symbol_of}
 use Rattle.asl_words.specs.Texts.{has_form, is_all_text}
 use Rattle.asl_words.specs.Paths.{path_of}
 use Rattle.resource_macros.specs.Identifiers.{eisaid_of, uuid_of, utf16_of}
-use Rattle.asl_shape.specs.Plans.{Plan, an_integer, a_text, a_fill, a_word, a_local, an_arg, debug, omitted, a_name, a_unit, a_skip, an_offset, a_call, a_form, Plans, no_plans, plan, join, number_of, plan_at, first_plans, first_alone, is_omitted, how_many, constant_of}
+use Rattle.asl_shape.specs.Plans.{Plan, an_integer, a_text, a_fill, a_word, a_local, an_arg, debug, omitted, a_name, a_unit, a_skip, an_offset, an_access, a_call, a_form, Plans, no_plans, plan, join, number_of, plan_at, first_plans, first_alone, is_omitted, how_many, constant_of}
 use Rattle.asl_shape.specs.Descriptors.{is_roomy, described, fills_of, names_from}
 
 -- ---- what comes of a part of a source: its errors in order, and its tree, which counts where there are none
@@ -108,7 +109,7 @@ has_arguments (is.Operator o) ws = takes (parameters_of o) ws
 has_arguments (is.Known k) ws = is_none ws
 has_arguments is.Name ws = is_call ws
 has_arguments is.Path ws = is_call ws
-has_arguments is.Offset ws = takes offset_parameters ws
+has_arguments (is.Element e) ws = takes (element_parameters e) ws
 has_arguments (is.Macro m) ws = takes (macro_parameters m) ws
 has_arguments is.Template ws = is_none ws
 has_arguments (is.Descriptor d) ws = takes (descriptor_parameters d) ws
@@ -131,10 +132,9 @@ is_member (a_form (Op.Special Special.Buffer) args body) = true
 is_member (a_form (Op.Special Special.Package) args body) = true
 is_member _ = false
 
--- what an element of a field's list begins with: a single segment, or an Offset
+-- what a unit of a field's list begins with: a single segment
 abbrev pub is_element : Plan → Bool
 is_element (a_name path) = is_searched path
-is_element (an_offset bytes) = true
 is_element _ = false
 
 abbrev pub is_buffer : Op → Bool
@@ -270,7 +270,7 @@ known_plan s (known.Word k n) = an_integer (word_number s n)
 known_plan s (known.Local i) = a_local i
 known_plan s (known.Arg i) = an_arg i
 known_plan s known.Debug = debug
-known_plan s known.Offset = omitted
+known_plan s (known.Element e) = omitted
 known_plan s (known.Macro m) = omitted
 known_plan s known.Template = omitted
 known_plan s (known.Descriptor d) = omitted
@@ -400,9 +400,26 @@ form_shape width o place args body = record { faults = args.faults ++ body.fault
 abbrev pub symbol_shape : Width → Slot → Place → Op → Shaped Plans → Shaped Plan
 symbol_shape width s place o args = if takes_role s (role_of o) then form_shape width o place args (fine no_plans) else refused (unfit s) place
 
--- the place of the next byte
-abbrev pub offset_shape : Shaped Plans → Shaped Plan
-offset_shape args = record { faults = args.faults; made = an_offset (number_of (plan_at args.made 0)) }
+-- ---- the words of a field's list
+
+-- an access with its attribute: a number, or one with a length
+abbrev pub accessed_as : ℕ → Plan → Plan
+accessed_as access (an_access _ attribute count) = an_access access attribute count
+accessed_as access p = an_access access (number_of p % 256) None
+
+-- what units are connected to: a name, or a template of one descriptor
+abbrev pub connected_to : Plan → Plan
+connected_to (a_fill bytes named) = a_fill (bytes ++ 0x79 ∷ 0 ∷ []) named
+connected_to p = p
+
+abbrev pub element_plan : FieldWord → Plans → Plan
+element_plan FieldWord.Offset ps = an_offset (number_of (plan_at ps 0))
+element_plan FieldWord.AccessAs ps = accessed_as (number_of (plan_at ps 0) % 256) (plan_at ps 1)
+element_plan FieldWord.Connection ps = connected_to (plan_at ps 0)
+element_plan FieldWord.AttribBytes ps = an_access 0 0x0B (Some (number_of (plan_at ps 0) % 256))
+
+abbrev pub element_shape : FieldWord → Shaped Plans → Shaped Plan
+element_shape e args = record { faults = args.faults; made = element_plan e args.made }
 
 -- a macro stands as what its one argument comes to
 abbrev pub macro_shape : Shaped Plans → Shaped Plan
@@ -425,16 +442,16 @@ template_plan place ps = buffer_plan place (fills_of ps ++ 0x79 ∷ 0 ∷ []) (n
 abbrev pub template_shape : Place → Shaped Plans → Shaped Plan
 template_shape place body = record { faults = body.faults; made = template_plan place body.made }
 
-abbrev pub read_shape : Slot → Place → List ℕ → Reading → Shaped Plans → Shaped Plan → (TextMacro → Shaped Plan) → Shaped Plan → (Descriptor → Shaped Plan) → (Op → Shaped Plan) → Shaped Plan
-read_shape s place text read.Wrong args offset expanded template described form = refused (unfit s) place
-read_shape s place text read.Path args offset expanded template described form = path_shape place (path_of text)
-read_shape s place text read.Call args offset expanded template described form = call_shape place (path_of text) args
-read_shape s place text read.Offset args offset expanded template described form = offset
-read_shape s place text (read.Macro m) args offset expanded template described form = expanded m
-read_shape s place text read.Template args offset expanded template described form = template
-read_shape s place text (read.Descriptor d) args offset expanded template described form = described d
-read_shape s place text (read.Known k) args offset expanded template described form = fine (known_plan s k)
-read_shape s place text (read.Form o) args offset expanded template described form = form o
+abbrev pub read_shape : Slot → Place → List ℕ → Reading → Shaped Plans → (FieldWord → Shaped Plan) → (TextMacro → Shaped Plan) → Shaped Plan → (Descriptor → Shaped Plan) → (Op → Shaped Plan) → Shaped Plan
+read_shape s place text read.Wrong args element expanded template described form = refused (unfit s) place
+read_shape s place text read.Path args element expanded template described form = path_shape place (path_of text)
+read_shape s place text read.Call args element expanded template described form = call_shape place (path_of text) args
+read_shape s place text (read.Element e) args element expanded template described form = element e
+read_shape s place text (read.Macro m) args element expanded template described form = expanded m
+read_shape s place text read.Template args element expanded template described form = template
+read_shape s place text (read.Descriptor d) args element expanded template described form = described d
+read_shape s place text (read.Known k) args element expanded template described form = fine (known_plan s k)
+read_shape s place text (read.Form o) args element expanded template described form = form o
 
 abbrev pub item_shape : Place → Option ℕ → Shaped Plan → Shaped Plan
 item_shape place (Some number) shape = refused number place
@@ -512,25 +529,21 @@ default_after before _ = before
 
 -- ---- the list of a field
 
-abbrev pub is_offset : Meaning → Bool
-is_offset is.Offset = true
-is_offset _ = false
-
--- an Offset is a whole element; behind a unit's name its comma comes
+-- a word with its arguments is a whole element; behind a unit's name its comma comes
 abbrev pub behind_begin : Bool → Due
 behind_begin true = Due.Comma
 behind_begin false = Due.NameComma
 
--- what may come behind a member, by whether it is a comma, a separator, an Offset: none where it may not stand. The
+-- what may come behind a member, by whether it is a comma, a separator, a whole element: none where it may not stand. The
 -- number of bits may stand without the comma before it, which is told of the unit alone
 abbrev pub next_due : Due → Bool → Bool → Bool → Option Due
-next_due Due.Element at_comma separator offset = if separator then (if at_comma then Some Due.Bits else None) else Some (behind_begin offset)
-next_due Due.NameComma at_comma separator offset = if separator then (if at_comma then Some Due.Bits else None) else Some Due.Comma
-next_due Due.Bits at_comma separator offset = if separator then None else Some Due.Comma
-next_due Due.Comma at_comma separator offset = if at_comma then Some Due.Element else None
+next_due Due.Element at_comma separator whole = if separator then (if at_comma then Some Due.Bits else None) else Some (behind_begin whole)
+next_due Due.NameComma at_comma separator whole = if separator then (if at_comma then Some Due.Bits else None) else Some Due.Comma
+next_due Due.Bits at_comma separator whole = if separator then None else Some Due.Comma
+next_due Due.Comma at_comma separator whole = if at_comma then Some Due.Element else None
 
 abbrev pub goes_on : Due → Written → Option Due
-goes_on due w = next_due due (is_comma w) (is_separator w) (is_offset (meaning_in w))
+goes_on due w = next_due due (is_comma w) (is_separator w) (is_whole (meaning_in w))
 
 abbrev pub may_stop : Due → Bool
 may_stop Due.Element = true
@@ -540,15 +553,28 @@ may_stop _ = false
 abbrev pub begin : Due
 begin = Due.Element
 
--- units, gaps and Offsets with commas between them, and one behind the last perhaps
+-- units, gaps and whole elements with commas between them, and one behind the last perhaps
 abbrev pub is_field_list : Due → Writtens → Bool
 is_field_list due none = may_stop due
 is_field_list due (more w ws) = choose (goes_on due w) false (λ next. is_field_list next ws)
 
--- how a member is read where this is due
-abbrev pub field_slot : Due → Slot
-field_slot Due.Bits = slot.Measure
-field_slot _ = slot.FieldElement
+-- how a member of this word is read where this is due
+abbrev pub field_slot : Due → Meaning → Slot
+field_slot Due.Bits m = slot.Measure
+field_slot _ m = slot_as slot.FieldElement m
+
+-- the place of an item's first argument, or its own where it has none
+abbrev pub first_place : Place → Writtens → Place
+first_place place none = place
+first_place place (more w ws) = place_of place w
+
+abbrev pub inner_place : Place → Written → Place
+inner_place place (item p w args body) = first_place place (inside_of args)
+inner_place place _ = place
+
+-- an element stands at its word, or where it is a connection at what it is connected to
+abbrev pub element_place : Written → Place
+element_place w = if is_connection (meaning_in w) then inner_place (place_of nowhere w) w else place_of nowhere w
 
 -- the unit that a single segment names
 abbrev pub named_by : Place → Path → Option UnitName
@@ -558,18 +584,21 @@ abbrev pub named_unit : Place → Plan → Option UnitName
 named_unit place (a_name path) = named_by place path
 named_unit place _ = None
 
+-- the unit that begins, unless the element is whole
+abbrev pub begun : Bool → Place → Plan → Option UnitName
+begun true place p = None
+begun false place p = named_unit place p
+
 -- the unit of which the number of bits is still to come
-abbrev pub unit_behind : Due → Option UnitName → Place → Bool → Plan → Option UnitName
-unit_behind Due.Element unit place false p = named_unit place p
-unit_behind Due.NameComma unit place separator p = unit
-unit_behind _ unit place separator p = None
+abbrev pub unit_behind : Due → Option UnitName → Place → Bool → Bool → Plan → Option UnitName
+unit_behind Due.Element unit place whole false p = begun whole place p
+unit_behind Due.NameComma unit place whole separator p = unit
+unit_behind _ unit place whole separator p = None
 
-abbrev pub is_offset_plan : Plan → Bool
-is_offset_plan (an_offset bytes) = true
-is_offset_plan _ = false
-
-abbrev pub offset_alone : Place → Plan → Plans
-offset_alone place p = if is_offset_plan p then one_plan place p else no_plans
+-- an element that is whole
+abbrev pub whole_alone : Bool → Place → Plan → Plans
+whole_alone true place p = one_plan place p
+whole_alone false place p = no_plans
 
 -- a unit stands at its name, and a gap at its number of bits
 abbrev pub of_bits : Option UnitName → Place → ℕ → Plans
@@ -582,11 +611,11 @@ no_comma None = []
 no_comma (Some unit) = fault_at 6022 unit.place ∷ []
 
 -- what a member comes to where this is due, read as it is then
-abbrev pub field_part : Due → Option UnitName → Place → Bool → Shaped Plan → Shaped Plans
-field_part Due.Element unit place false shape = record { faults = shape.faults; made = offset_alone place shape.made }
-field_part Due.NameComma unit place false shape = record { faults = no_comma unit; made = no_plans }
-field_part Due.Bits unit place separator shape = record { faults = shape.faults; made = of_bits unit place (number_of shape.made) }
-field_part _ unit place separator shape = fine no_plans
+abbrev pub field_part : Due → Option UnitName → Place → Bool → Bool → Shaped Plan → Shaped Plans
+field_part Due.Element unit place whole false shape = record { faults = shape.faults; made = whole_alone whole place shape.made }
+field_part Due.NameComma unit place whole false shape = record { faults = no_comma unit; made = no_plans }
+field_part Due.Bits unit place whole separator shape = record { faults = shape.faults; made = of_bits unit place (number_of shape.made) }
+field_part _ unit place whole separator shape = fine no_plans
 
 abbrev pub followed : Shaped Plans → Shaped Plans → Shaped Plans
 followed first rest = record { faults = first.faults ++ rest.faults; made = join first.made rest.made }
@@ -606,8 +635,8 @@ abbrev mutual
   bare s inside (item place w args body) =
       item_shape place (item_fault s inside.method (meaning_of w (is_given body)) (has_arguments (meaning_of w (is_given body)) (inside_of args)) (is_given body))
       (read_shape s place w (reading_of s (meaning_of w (is_given body)) (is_given args)) (call_args inside args)
-      (offset_shape (arguments offset_parameters place inside args)) (λ m. macro_shape (arguments (macro_parameters m) place inside args))
-      (template_shape place (contents braces.Descriptors inside place body))
+      (λ e. element_shape e (arguments (element_parameters e) place inside args)) (λ m. macro_shape (arguments (macro_parameters m) place inside args))
+      (template_shape place (contents (braces.Descriptors false) inside place body))
       (λ d. descriptor_shape d place (arguments (descriptor_parameters d) place inside args) (contents (descriptor_body d) inside place body))
       (λ o. form_shape inside.width o place (arguments (parameters_as o s) place inside args) (contents (body_as o s) (within o inside) place body)))
   bare s inside _ = fine omitted
@@ -641,7 +670,7 @@ abbrev mutual
   contents braces.Elements inside place (given ws) = list_shape place (is_listed true ws) (members slot.Element inside ws)
   contents braces.FieldList inside place (given ws) = list_shape place (is_field_list begin ws) (elements begin None inside ws)
   contents (braces.Numbers most) inside place (given ws) = list_shape place (is_listed true ws) (members (slot.Constant 0 most) inside ws)
-  contents braces.Descriptors inside place (given ws) = members slot.Descriptor inside ws
+  contents (braces.Descriptors chosen) inside place (given ws) = members (slot.Descriptor chosen) inside ws
   contents braces.Cases inside place (given ws) = cases inside false ws
   contents braces.CaseMembers inside place (given ws) = list_shape place (is_listed true ws) (members slot.CaseMember inside ws)
 
@@ -653,8 +682,10 @@ abbrev mutual
   pub elements : Due → Option UnitName → Around → Writtens → Shaped Plans
   elements due unit inside none = fine no_plans
   elements due unit inside (more w ws) =
-      followed (field_part due unit (place_of nowhere w) (is_separator w) (checked inside.width (field_slot due) (place_of nowhere w) (bare (field_slot due) inside w)))
-      (elements (due_behind due w) (unit_behind due unit (place_of nowhere w) (is_separator w) (checked inside.width (field_slot due) (place_of nowhere w) (bare (field_slot due) inside w)).made) inside ws)
+      followed (field_part due unit (element_place w) (is_whole (meaning_in w)) (is_separator w)
+      (checked inside.width (field_slot due (meaning_in w)) (place_of nowhere w) (bare (field_slot due (meaning_in w)) inside w)))
+      (elements (due_behind due w) (unit_behind due unit (element_place w) (is_whole (meaning_in w)) (is_separator w)
+      (checked inside.width (field_slot due (meaning_in w)) (place_of nowhere w) (bare (field_slot due (meaning_in w)) inside w)).made) inside ws)
 
   -- the terms of a list; `run` says how many ElseIfs stand directly before, and before them an If
   pub terms : Around → Option ℕ → Writtens → Shaped Plans

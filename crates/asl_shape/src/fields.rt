@@ -4,13 +4,15 @@ ghost use Rattle.asl_shape.specs.Shapes as spec;
 ghost use Rattle.asl_shape.specs.AtRaw as at;
 ghost use Rattle.asl_shape.specs.Plans.{plan_of, plans_of, join};
 
-use crate::item::is_given;
+use crate::item::{inside_of, is_given};
+use crate::leaf::place_in;
 use crate::lists::{is_comma, is_separator};
 use crate::settle::push;
+use crate::work::NOWHERE;
 use asl_parser::Raw;
 use asl_tree::path::{NameSeg, Path};
 use asl_tree::term::{Node, Term};
-use asl_words::meaning::{Meaning, meaning_of};
+use asl_words::meaning::{Meaning, is_connection, is_whole, meaning_of};
 use asl_words::operator::Slot;
 use iasl_messages::place::Place;
 use std::alloc::AllocError;
@@ -52,26 +54,20 @@ pub fn meaning_in(raw: &Raw) -> Meaning
     }
 }
 
-fn is_offset(meaning: Meaning) -> bool
-    ensures { result ≡ spec.is_offset meaning }
+fn behind_begin(whole: bool) -> Due
+    ensures { result ≡ spec.behind_begin whole }
 {
-    matches!(meaning, Meaning::Offset)
-}
-
-fn behind_begin(offset: bool) -> Due
-    ensures { result ≡ spec.behind_begin offset }
-{
-    if offset { Due::Comma } else { Due::NameComma }
+    if whole { Due::Comma } else { Due::NameComma }
 }
 
 // What may come behind a member: none where it may not stand.
-fn next_due(due: Due, comma: bool, separator: bool, offset: bool) -> Option<Due>
-    ensures { result ≡ spec.next_due due comma separator offset }
+fn next_due(due: Due, comma: bool, separator: bool, whole: bool) -> Option<Due>
+    ensures { result ≡ spec.next_due due comma separator whole }
 {
     match due {
         Due::Element => {
             if !separator {
-                Some(behind_begin(offset))
+                Some(behind_begin(whole))
             } else if comma {
                 Some(Due::Bits)
             } else {
@@ -100,7 +96,7 @@ fn goes_on(due: Due, raw: &Raw) -> Option<Due>
         due,
         is_comma(raw),
         is_separator(raw),
-        is_offset(meaning_in(raw)),
+        is_whole(meaning_in(raw)),
     )
 }
 
@@ -124,7 +120,7 @@ fn may_stop(due: Due) -> bool
     }
 }
 
-/// Whether units, gaps and Offsets stand with commas between them.
+/// Whether units, gaps and whole elements stand with commas between them.
 #[tactic(auto, using(crate::proofs::FieldLaws::list_steps))]
 pub fn is_field_list(raws: &[Raw]) -> bool
     ensures { result ≡ at.is_field_list_at spec.begin raws.now }
@@ -168,25 +164,61 @@ pub fn named_unit(place: Place, term: &Term) -> Option<UnitName>
     }
 }
 
-#[tactic(auto, unfolding(crate::specs::Plans::plan_of))]
-fn is_offset_term(term: &Term) -> bool
-    ensures { result ≡ spec.is_offset_plan (plan_of term.now) }
+// The place of the first argument.
+#[tactic(auto, using(crate::proofs::FieldLaws::place_rules))]
+fn first_place(place: Place, args: &[Raw]) -> Place
+    ensures { result ≡ at.first_place_at place args.now }
 {
-    match term {
-        Term::Offset(_) => true,
-        _ => false,
+    match args.first() {
+        Some(raw) => place_in(place, raw),
+        None => place,
     }
 }
 
-/// Adds an Offset, and nothing for the name of a unit.
-#[tactic(auto, using(crate::proofs::FieldLaws::alone_rules))]
-pub fn add_offset(nodes: &mut Vec<Node>, place: Place, term: Term) -> Result<(), AllocError>
-    ensures { OnOk result (plans_of nodes.new.items ≡ join (plans_of nodes.old.items) (spec.offset_alone place (plan_of term))) }
+#[tactic(auto, using(crate::proofs::FieldLaws::place_rules))]
+fn inner_place(place: Place, raw: &Raw) -> Place
+    ensures { result ≡ at.inner_place_at place raw.now }
 {
-    if is_offset_term(&term) {
-        Ok(push(nodes, place, term)?)
+    match raw {
+        Raw::Item { args, .. } => first_place(place, inside_of(args)),
+        Raw::Number { .. } => place,
+        Raw::Text { .. } => place,
+        Raw::Apply { .. } => place,
+        Raw::List { .. } => place,
+        Raw::Comma => place,
+        Raw::Semicolon => place,
+        Raw::Empty => place,
+    }
+}
+
+/// Where an element stands: at its word, or where it is a connection at what it is connected to.
+#[tactic(auto, using(crate::proofs::FieldLaws::place_rules))]
+pub fn element_place(raw: &Raw) -> Place
+    ensures { result ≡ at.element_place_at raw.now }
+{
+    if is_connection(meaning_in(raw)) {
+        inner_place(place_in(NOWHERE, raw), raw)
     } else {
-        Ok(())
+        place_in(NOWHERE, raw)
+    }
+}
+
+/// Adds a whole element, or begins a unit by its name.
+#[tactic(auto, using(crate::proofs::FieldLaws::whole_rules))]
+pub fn begin(
+    nodes: &mut Vec<Node>,
+    whole: bool,
+    place: Place,
+    term: Term,
+) -> Result<Option<UnitName>, AllocError>
+    ensures made { OnOk result (plans_of nodes.new.items ≡ join (plans_of nodes.old.items) (spec.whole_alone whole place (plan_of term))) }
+    ensures unit { IfOk result (λ unit. unit ≡ spec.begun whole place (plan_of term)) }
+{
+    if whole {
+        push(nodes, place, term)?;
+        Ok(None)
+    } else {
+        Ok(named_unit(place, &term))
     }
 }
 

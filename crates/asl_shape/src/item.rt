@@ -9,7 +9,7 @@ use crate::around::Around;
 use asl_parser::{Raw, Raws};
 use asl_words::meaning::{Meaning, is_same, is_unknown, may_be, may_end, wants_braces};
 use asl_words::operator::{Parameter, Slot};
-use asl_words::parameters::{macro_parameters, offset_parameters, parameters_of};
+use asl_words::parameters::{element_parameters, macro_parameters, parameters_of};
 use asl_words::paths::parts;
 use asl_words::resources::descriptor_parameters;
 use iasl_messages::number::{NOT_ALLOWED_HERE, UNKNOWN_OPERATOR, WRONG_ARGUMENT_COUNT, WRONG_BODY};
@@ -79,7 +79,7 @@ fn has_arguments(meaning: Meaning, args: &[Raw]) -> bool
         Meaning::Operator(operator) => takes(parameters_of(operator), args),
         Meaning::Known(_) | Meaning::Template => args.is_empty(),
         Meaning::Name | Meaning::Path => is_call(args),
-        Meaning::Offset => takes(offset_parameters(), args),
+        Meaning::Element(word) => takes(element_parameters(word), args),
         Meaning::Macro(text_macro) => takes(macro_parameters(text_macro), args),
         Meaning::Descriptor(descriptor) => takes(descriptor_parameters(descriptor), args),
         Meaning::Unknown => true,

@@ -137,8 +137,11 @@ pub fn known_term(slot: Slot, known: Known) -> Term
         Known::Local(index) => Term::Local(index),
         Known::Arg(index) => Term::Arg(index),
         Known::Debug => Term::Debug,
-        Known::Offset | Known::Macro(_) | Known::Template | Known::Descriptor(_) | Known::LeftOut =>
-            Term::Omitted,
+        Known::Element(_)
+        | Known::Macro(_)
+        | Known::Template
+        | Known::Descriptor(_)
+        | Known::LeftOut => Term::Omitted,
     }
 }
 

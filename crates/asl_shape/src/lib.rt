@@ -2,6 +2,7 @@
 #![tactic(auto)]
 
 mod around;
+mod elements;
 mod fields;
 mod item;
 mod leaf;

@@ -25,7 +25,7 @@ fn number_term(giver: Giver, number: u64) -> node::Term
     ensures { result ≡ table.number_term giver number }
 {
     match giver {
-        Giver::Word(kind) => node::Term::Word(Word { kind, number }),
+        Giver::Word(kind) | Giver::WordBelow(kind, _) => node::Term::Word(Word { kind, number }),
         _ => node::Term::Integer(number),
     }
 }

@@ -7,22 +7,25 @@ ghost use Rattle.asl_words.specs.Paths;
 ghost use Rattle.asl_shape.specs.Plans.{plan_of, plans_of, join};
 
 use crate::around::Around;
+use crate::elements::element_term;
 use crate::fields::{
-    BITS, Due, UnitName, add_offset, add_unit, due_behind, is_field_list, meaning_in, named_unit,
+    BITS, Due, UnitName, add_unit, begin, due_behind, element_place, is_field_list, meaning_in,
 };
 use crate::item::{inside_of, is_given, item_fault};
 use crate::leaf::{known_term, listed, number, path, place_in, text};
 use crate::lists::{byte_slot, default_after, is_listed, is_separator, run_after, within};
 use crate::macros::first_term;
 use crate::resources;
-use crate::settle::{arrange, number_at, number_in, push, settle};
+use crate::settle::{arrange, number_in, push, settle};
 use crate::symbol::symbol_of;
 use crate::work::{NOWHERE, Work, evaluate, refuse, tell};
 use asl_parser::{Raw, Raws};
 use asl_tree::term::{Node, Op, Term};
-use asl_words::meaning::{Reading, meaning_of, reading_of, slot_as, takes_role, unfit};
-use asl_words::operator::{Body, Parameter, Slot, TextMacro};
-use asl_words::parameters::{body_as, macro_parameters, offset_parameters, parameters_as, role_of};
+use asl_words::meaning::{Reading, is_whole, meaning_of, reading_of, slot_as, takes_role, unfit};
+use asl_words::operator::{Body, FieldWord, Parameter, Slot, TextMacro};
+use asl_words::parameters::{
+    body_as, element_parameters, macro_parameters, parameters_as, role_of,
+};
 use asl_words::paths::path_of;
 use asl_words::resources::{descriptor_body, descriptor_parameters};
 use iasl_messages::message::{Messages, Stage};
@@ -207,7 +210,7 @@ fn read(
         Reading::Wrong => Ok(refuse(alloc, work, unfit(slot), place)?),
         Reading::Path => Ok(path(alloc, work, place, word.as_bytes())?),
         Reading::Call => Ok(call(alloc, work, inside, place, word, args)?),
-        Reading::Offset => Ok(offset(alloc, work, inside, place, args)?),
+        Reading::Element(word) => Ok(element(alloc, work, word, inside, place, args)?),
         Reading::Macro(of) => Ok(text_macro(alloc, work, of, inside, place, args)?),
         Reading::Template => Ok(template(alloc, work, inside, place, body)?),
         Reading::Descriptor(of) => Ok(descriptor(alloc, work, of, inside, place, args, body)?),
@@ -247,30 +250,31 @@ fn call(
     Ok(Term::Call { path, args: nodes })
 }
 
-// An Offset with its argument.
+// A word of a field's list with its arguments.
 #[cycle(shape)]
-#[tactic(auto, using(crate::proofs::Shapes::size_rules, crate::proofs::Shapes::offset_rules, crate::proofs::Settled::at_rules))]
-fn offset(
+#[tactic(auto, using(crate::proofs::Shapes::size_rules, crate::proofs::Shapes::element_rules))]
+fn element(
     alloc: Global,
     work: &mut Work,
+    word: FieldWord,
     inside: Around,
     place: Place,
     args: &Option<Raws>,
 ) -> Result<Term, AllocError>
-    ensures faults { OnOk result (work.new.faults.items ≡ work.old.faults.items ++ (at.offset_at place inside args.now).faults) }
-    ensures made { IfOk result (λ term. plan_of term ≡ (at.offset_at place inside args.now).made) }
+    ensures faults { OnOk result (work.new.faults.items ≡ work.old.faults.items ++ (at.element_at word place inside args.now).faults) }
+    ensures made { IfOk result (λ term. plan_of term ≡ (at.element_at word place inside args.now).made) }
 {
     let mut nodes = Vec::new(alloc);
     arguments(
         alloc,
         work,
         &mut nodes,
-        offset_parameters(),
+        element_parameters(word),
         inside,
         place,
         inside_of(args),
     )?;
-    Ok(Term::Offset(number_at(&nodes, 0)))
+    Ok(element_term(alloc, word, &mut nodes)?)
 }
 
 // A macro with its string.
@@ -318,7 +322,7 @@ fn template(
         alloc,
         work,
         &mut nodes,
-        Body::Descriptors,
+        Body::Descriptors { chosen: false },
         inside,
         place,
         body,
@@ -527,7 +531,16 @@ fn contents(
                 raws,
             )?)
         }
-        Body::Descriptors => Ok(members(alloc, work, nodes, Slot::Descriptor, inside, raws)?),
+        Body::Descriptors { chosen } => {
+            Ok(members(
+                alloc,
+                work,
+                nodes,
+                Slot::Descriptor { chosen },
+                inside,
+                raws,
+            )?)
+        }
         Body::Cases => Ok(cases(alloc, work, nodes, inside, raws)?),
         Body::CaseMembers => {
             Ok(elements(alloc, work, nodes, Slot::CaseMember, inside, place, raws)?)
@@ -606,7 +619,7 @@ fn add_part(
     }
 }
 
-// An Offset, or the name of a unit; a comma begins a gap.
+// A whole element, or the name of a unit; a comma begins a gap.
 #[cycle(shape)]
 #[tactic(auto, using(crate::proofs::Shapes::size_rules, crate::proofs::FieldSteps::begin_rules))]
 fn begin_element(
@@ -623,11 +636,15 @@ fn begin_element(
     if is_separator(raw) {
         return Ok(None);
     }
-    let term = shape(alloc, work, Slot::FieldElement, inside, raw)?;
-    let place = place_in(NOWHERE, raw);
-    let unit = named_unit(place, &term);
-    add_offset(nodes, place, term)?;
-    Ok(unit)
+    let meaning = meaning_in(raw);
+    let term = shape(
+        alloc,
+        work,
+        slot_as(Slot::FieldElement, meaning),
+        inside,
+        raw,
+    )?;
+    Ok(begin(nodes, is_whole(meaning), element_place(raw), term)?)
 }
 
 // Tells of a unit's name that has no comma behind it.
@@ -664,7 +681,7 @@ fn add_bits(
     ensures made { OnOk result (plans_of nodes.new.items ≡ join (plans_of nodes.old.items) (at.bits_at unit inside raw.now).made) }
 {
     let term = shape(alloc, work, BITS, inside, raw)?;
-    Ok(add_unit(nodes, unit, place_in(NOWHERE, raw), number_in(&term))?)
+    Ok(add_unit(nodes, unit, element_place(raw), number_in(&term))?)
 }
 
 // Elements with commas between them.

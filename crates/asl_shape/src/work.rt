@@ -163,6 +163,7 @@ fn member_count(term: &Term) -> Option<usize>
         Term::Unit { .. } => None,
         Term::Skip(_) => None,
         Term::Offset(_) => None,
+        Term::Access { .. } => None,
         Term::Call { .. } => None,
     }
 }
@@ -232,7 +233,6 @@ fn is_element(term: &Term) -> bool
 {
     match term {
         Term::Name(path) => is_single(path),
-        Term::Offset(_) => true,
         _ => false,
     }
 }

@@ -9,7 +9,7 @@ use Rattle.asl_tree.specs.declared.path.Path.{Path}
 use Rattle.asl_tree.specs.Names.{place_of, denoted}
 use Rattle.asl_tree.specs.Tree.{At, Trees}
 use Rattle.asl_meaning.specs.Declarations.{ExternalType, Declarations, nothing_declared, is_named}
-use Rattle.acpi_names.specs.Errors.{NameError, Twice, DeclaredHere, Missing, NoContainer, LeavesRoot, Differs, TooLong, WrongCount, WrongKind, UnbuiltSpace, Asked, Anything, AValue, AMutex, AnEvent, AUnit, ARegion, unless, Whole, whole_of, step_errors, length_errors, is_new, has_parent, agrees_with, final, is_container, takes_none, takes, is_mutex, is_event, is_unit, is_region, is_unbuilt, declared_errors, external_errors, use_errors, call_errors, name_end, asked_types, name_errors, type_errors}
+use Rattle.acpi_names.specs.Errors.{NameError, Twice, DeclaredHere, Missing, NoContainer, LeavesRoot, Differs, TooLong, WrongCount, WrongKind, Asked, Anything, AValue, AMutex, AnEvent, AUnit, ARegion, unless, Whole, whole_of, step_errors, length_errors, is_new, has_parent, agrees_with, final, is_container, takes_none, takes, is_mutex, is_event, is_unit, is_region, declared_errors, external_errors, use_errors, call_errors, name_end, asked_types, name_errors, type_errors}
 use Rattle.acpi_names.specs.Mentions.{Mention, Used', Sought, Called, Declares, Outside, Opens, after, block_mentions, opening_errors, mention_errors, all_errors, mention_types, all_types}
 use Rattle.acpi_names.specs.Terms.{are_terms}
 use Rattle.acpi_names.proofs.MentionErrors.{block_errors}
@@ -98,8 +98,7 @@ module _ (whole : Whole) where
   asked_of AMutex at name scope = unless_of false (is_mutex (name_end whole name scope)) (WrongKind at name) refl
   asked_of AnEvent at name scope = unless_of false (is_event (name_end whole name scope)) (WrongKind at name) refl
   asked_of AUnit at name scope = unless_of false (is_unit (name_end whole name scope)) (WrongKind at name) refl
-  asked_of (ARegion field) at name scope =
-      both false _ _ (unless_of false (is_region (name_end whole name scope)) (WrongKind at name) refl) (unless_of false (not (is_unbuilt (name_end whole name scope))) (UnbuiltSpace field) refl)
+  asked_of (ARegion field) at name scope = unless_of false (is_region (name_end whole name scope)) (WrongKind at name) refl
 
   kind_of : (m : Mention) → AreOf false (mention_types whole m)
   kind_of (Used' asked at name scope) = asked_of asked at name scope

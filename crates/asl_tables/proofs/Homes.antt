@@ -14,7 +14,7 @@ use Rattle.asl_lexer.specs.declared.token.Token.{Token}
 use Rattle.asl_parser.specs.declared.raw.Raw.{Raw}
 use Rattle.asl_parser.specs.Place.{first_place, place_behind, place_at}
 use Rattle.asl_tree.specs.Tree.{Trees as Trees'}
-use Rattle.acpi_names.specs.Errors.{NameError, Twice, DeclaredHere, Missing, NoContainer, LeavesRoot, Differs, TooLong, WrongCount, WrongKind, UnbuiltSpace, name_errors, type_errors}
+use Rattle.acpi_names.specs.Errors.{NameError, Twice, DeclaredHere, Missing, NoContainer, LeavesRoot, Differs, TooLong, WrongCount, WrongKind, name_errors, type_errors}
 use Rattle.name_checks.specs.Messages.{message_of, first_errors, told_errors}
 use Rattle.named_sessions.specs.Places.{at_of, AreWithin as TreesWithin}
 use Rattle.named_sessions.proofs.Places.{errors_within as names_within}
@@ -83,7 +83,6 @@ module _ (files : ℕ) where
       one (TooLong at name) h = h
       one (WrongCount at name) h = h
       one (WrongKind at name) h = h
-      one (UnbuiltSpace at) h = h
 
       each : (es : List NameError) → All (λ e. (at_of e).place.file < files) es → All (λ e. (message_of e).place.file < files) es
       each es h = λ i d lt. one (get_or es i d) (h i d lt)
@@ -122,7 +121,7 @@ module _ (files : ℕ) where
       let plans = plans_within files (writtens items) parts in
       let lists = All-append (λ (m : Message). m.place.file < files) (statements_in items) (layouts_in items) (statement_errors_within files (plans_in items) plans) (list_errors_within files (plans_in items) plans) in
       let accesses = All-append (λ (m : Message). m.place.file < files) (statements_in items ++ layouts_in items) (regions_in items) lists
-      (access_errors_within files (width_in items) (terms_in items) (plans_in items) (source_within files 0 (writtens items) parts)) in
+      (access_errors_within files (width_in items) (terms_in items) (plans_in items) (source_within files 0 (writtens items) parts) plans) in
       let types = All-append (λ (m : Message). m.place.file < files) (statements_in items ++ layouts_in items ++ regions_in items) (types_in items) accesses (types_within files (terms_in items) (plans_in items) plans) in
       let sizes = All-append (λ (m : Message). m.place.file < files) (statements_in items ++ layouts_in items ++ regions_in items ++ types_in items) (sizes_in items) types (sizes_within files (width_in items) (plans_in items) plans) in
       let others = All-append (λ (m : Message). m.place.file < files) (statements_in items ++ layouts_in items ++ regions_in items ++ types_in items ++ sizes_in items) (values_in items) sizes (repeats_within files (width_in items) (plans_in items) plans) in

@@ -12,6 +12,10 @@ use Rattle.asl_words.specs.declared.operator.Role.{Role}
 use Rattle.asl_words.specs.declared.operator.Role.TheVariants as role
 use Rattle.asl_words.specs.declared.operator.Body.{Body}
 use Rattle.asl_words.specs.declared.operator.Body.TheVariants as braces
+use Rattle.resource_layout.specs.declared.descriptor.Descriptor.{Descriptor}
+use Rattle.resource_layout.specs.declared.descriptor.Descriptor.TheVariants as d
+use Rattle.asl_words.specs.declared.operator.FieldWord.{FieldWord}
+use Rattle.asl_words.specs.declared.operator.FieldWord.TheVariants as element
 use Rattle.asl_words.specs.declared.operator.WordKind.{WordKind}
 use Rattle.asl_words.specs.declared.operator.WordKind.TheVariants as kind
 use Rattle.asl_words.specs.declared.operator.Known.{Known}
@@ -30,7 +34,7 @@ name_or_unknown text has_body = if is_path text then is.Path else (if nat_le (le
 
 abbrev pub known_as : Known → Meaning
 known_as known.LeftOut = is.Unknown
-known_as known.Offset = is.Offset
+known_as (known.Element e) = is.Element e
 known_as (known.Macro m) = is.Macro m
 known_as known.Template = is.Template
 known_as (known.Descriptor d) = is.Descriptor d
@@ -89,9 +93,36 @@ abbrev pub is_default : Meaning → Bool
 is_default (is.Operator (Op.Control Control.Default)) = true
 is_default _ = false
 
-abbrev pub is_field_element : Slot → Bool
-is_field_element slot.FieldElement = true
-is_field_element _ = false
+abbrev pub is_attribute : FieldWord → Bool
+is_attribute element.AttribBytes = true
+is_attribute _ = false
+
+-- an element of a field's list by itself
+abbrev pub is_whole : Meaning → Bool
+is_whole (is.Element e) = not (is_attribute e)
+is_whole _ = false
+
+abbrev pub is_connection : Meaning → Bool
+is_connection (is.Element element.Connection) = true
+is_connection _ = false
+
+-- where a word of a field's list may stand
+abbrev pub takes_field_word : Slot → FieldWord → Bool
+takes_field_word slot.WholeElement e = not (is_attribute e)
+takes_field_word slot.Attribute e = is_attribute e
+takes_field_word _ e = false
+
+-- the descriptors of pins and of serial buses
+abbrev pub is_serial : Descriptor → Bool
+is_serial d.GpioInt = true
+is_serial d.GpioIo = true
+is_serial d.I2cSerialBus = true
+is_serial _ = false
+
+-- in a choice of descriptors
+abbrev pub is_chosen : Slot → Bool
+is_chosen (slot.Descriptor chosen) = chosen
+is_chosen _ = false
 
 -- where an operator may stand
 abbrev pub may_stand : Slot → Bool → Role → Bool
@@ -111,16 +142,16 @@ abbrev pub is_declared : Slot → Bool
 is_declared slot.Declared = true
 is_declared _ = false
 
--- inside a method a path that is declared is a single segment; an Offset stands in a field's list alone; a macro, a
--- template and a descriptor are no terms
+-- inside a method a path that is declared is a single segment; a word of a field's list stands there alone; a macro, a
+-- template and a descriptor are no terms; and a descriptor of pins or of a serial bus is none of a choice
 abbrev pub is_allowed : Slot → Bool → Meaning → Bool
 is_allowed s inside (is.Operator o) = may_stand s inside (role_of o)
 is_allowed s inside (is.Known k) = not (is_term s && is_word k)
 is_allowed s inside is.Path = not (is_declared s && inside)
-is_allowed s inside is.Offset = is_field_element s
+is_allowed s inside (is.Element e) = takes_field_word s e
 is_allowed s inside (is.Macro m) = not (is_term s)
 is_allowed s inside is.Template = not (is_term s)
-is_allowed s inside (is.Descriptor d) = not (is_term s)
+is_allowed s inside (is.Descriptor d) = not (is_term s) && not (is_chosen s && is_serial d)
 is_allowed s inside _ = true
 
 abbrev pub is_descriptor : Meaning → Bool
@@ -128,8 +159,14 @@ is_descriptor (is.Descriptor d) = true
 is_descriptor _ = false
 
 abbrev pub takes_descriptor : Slot → Bool
-takes_descriptor slot.Descriptor = true
+takes_descriptor (slot.Descriptor chosen) = true
 takes_descriptor _ = false
+
+-- where a descriptor is read
+abbrev pub takes_resource : Slot → Descriptor → Bool
+takes_resource (slot.Descriptor chosen) d = true
+takes_resource slot.Connected d = is_serial d
+takes_resource _ d = false
 
 abbrev pub is_branch_role : Role → Bool
 is_branch_role role.Case = true
@@ -222,6 +259,7 @@ takes_path slot.Declared = true
 takes_path slot.External = true
 takes_path slot.Used = true
 takes_path slot.FieldElement = true
+takes_path slot.Connected = true
 takes_path s = takes_slot s
 
 -- where a single segment without a prefix may stand: what names a descriptor is nothing else
@@ -237,18 +275,21 @@ is_kind kind.Space kind.Space = true
 is_kind kind.Access kind.Access = true
 is_kind kind.Lock kind.Lock = true
 is_kind kind.Update kind.Update = true
+is_kind kind.Attribute kind.Attribute = true
 is_kind (kind.Resource a) (kind.Resource b) = is_resource_kind a b
 is_kind _ _ = false
 
-abbrev pub takes_word : Slot → WordKind → Bool
-takes_word (slot.Word asked) k = is_kind asked k
-takes_word (slot.Types most) k = is_kind kind.ObjectType k
-takes_word _ k = false
+-- where a word of this kind and number may stand
+abbrev pub takes_word : Slot → WordKind → ℕ → Bool
+takes_word (slot.Word asked) k n = is_kind asked k
+takes_word (slot.WordBelow asked limit) k n = is_kind (kind.Resource asked) k && nat_lt n limit
+takes_word (slot.Types most) k n = is_kind kind.ObjectType k
+takes_word _ k n = false
 
 abbrev pub takes_known : Slot → Known → Bool
-takes_known s (known.Word k n) = takes_word s k
+takes_known s (known.Word k n) = takes_word s k n
 takes_known s known.Debug = takes_place s
-takes_known s known.Offset = false
+takes_known s (known.Element e) = false
 takes_known s (known.Macro m) = false
 takes_known s known.Template = false
 takes_known s (known.Descriptor d) = false
@@ -274,21 +315,32 @@ reading_of s (is.Operator o) called = unless_wrong (takes_role s (role_of o)) (r
 reading_of s (is.Known k) called = unless_wrong (takes_known s k) (read.Known k)
 reading_of s is.Name called = name_reading s (takes_segment s) called
 reading_of s is.Path called = name_reading s (takes_path s) called
-reading_of s is.Offset called = unless_wrong (is_field_element s) read.Offset
+reading_of s (is.Element e) called = unless_wrong (takes_field_word s e) (read.Element e)
 reading_of s (is.Macro m) called = unless_wrong (takes_macro s) (read.Macro m)
 reading_of s is.Template called = unless_wrong (takes_macro s) read.Template
-reading_of s (is.Descriptor d) called = unless_wrong (takes_descriptor s) (read.Descriptor d)
+reading_of s (is.Descriptor d) called = unless_wrong (takes_resource s d) (read.Descriptor d)
 reading_of s is.Unknown called = read.Wrong
 
 abbrev pub is_word_of : WordKind → Meaning → Bool
 is_word_of kind (is.Known k) = takes_known (slot.Word kind) k
 is_word_of kind _ = false
 
--- how an argument is read: a word for a space as a word, and anything else in its stead as a number that a vendor gives
--- a space of its own; of a register as a word for its space, or as a number
+abbrev pub is_long_attribute : Meaning → Bool
+is_long_attribute (is.Element e) = is_attribute e
+is_long_attribute _ = false
+
+-- how a part is read: a word for a space as a word, and anything else in its stead as a number that a vendor gives a space of its own;
+-- of a register as a word for its space, or as a number; and so what else is a word or a number. An element of a field's list is read as a
+-- word with its arguments, or as a name
 abbrev pub slot_as : Slot → Meaning → Slot
 slot_as slot.Space m = if is_word_of kind.Space m then slot.Word kind.Space else slot.Constant 128 255
 slot_as slot.RegisterSpace m =
     if is_word_of kind.Space m then slot.Word kind.Space else (
     if is_word_of (kind.Resource resource.Space) m then slot.Word (kind.Resource resource.Space) else slot.Constant 0 255)
+slot_as (slot.WordOrByte which) m = if is_word_of (kind.Resource which) m then slot.Word (kind.Resource which) else slot.Constant 0 255
+slot_as slot.AccessType m = if is_word_of kind.Access m then slot.Word kind.Access else slot.Constant 0 5
+slot_as slot.Attribute m =
+    if is_long_attribute m then slot.Attribute else (
+    if is_word_of kind.Attribute m then slot.Word kind.Attribute else slot.Constant 0 255)
+slot_as slot.FieldElement m = if is_whole m then slot.WholeElement else slot.FieldElement
 slot_as s m = s

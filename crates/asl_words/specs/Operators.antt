@@ -22,6 +22,8 @@ use Rattle.asl_words.specs.declared.operator.Named.{Named}
 use Rattle.asl_words.specs.declared.operator.Known.{Known}
 use Rattle.asl_words.specs.declared.operator.Known.TheVariants as known
 use Rattle.asl_words.specs.declared.operator.WordKind.TheVariants as kind
+use Rattle.asl_words.specs.declared.operator.FieldWord.{FieldWord}
+use Rattle.asl_words.specs.declared.operator.FieldWord.TheVariants as element
 use Rattle.asl_words.specs.declared.operator.StringForm.TheVariants as form
 use Rattle.asl_words.specs.declared.operator.TextMacro.{TextMacro}
 use Rattle.asl_words.specs.declared.operator.TextMacro.TheVariants as macros
@@ -37,7 +39,7 @@ use Rattle.asl_words.specs.declared.operator.Role.TheVariants as role
 
 -- filled with blanks (32)
 abbrev pub filled : List ℕ → List ℕ
-filled word = word ++ replicate (24 - length word) 32
+filled word = word ++ replicate (28 - length word) 32
 
 -- the bytes are the word with blanks behind it
 abbrev pub is_filled : List ℕ → List ℕ → Bool
@@ -186,12 +188,25 @@ words =
     word (codes "ADDRESSRANGENVS") (known.Word (kind.Resource k.Range) 3) ∷
     word (codes "ACTIVEHIGH") (known.Word (kind.Resource k.Level) 0) ∷
     word (codes "ACTIVELOW") (known.Word (kind.Resource k.Level) 1) ∷
+    word (codes "ACTIVEBOTH") (known.Word (kind.Resource k.Level) 2) ∷
+    word (codes "ADDRESSINGMODE7BIT") (known.Word (kind.Resource k.Addressing) 0) ∷
+    word (codes "ADDRESSINGMODE10BIT") (known.Word (kind.Resource k.Addressing) 1) ∷
+    word (codes "ATTRIBQUICK") (known.Word kind.Attribute 2) ∷
+    word (codes "ATTRIBSENDRECEIVE") (known.Word kind.Attribute 4) ∷
+    word (codes "ATTRIBBYTE") (known.Word kind.Attribute 6) ∷
+    word (codes "ATTRIBWORD") (known.Word kind.Attribute 8) ∷
+    word (codes "ATTRIBBLOCK") (known.Word kind.Attribute 10) ∷
+    word (codes "ATTRIBBYTES") (known.Element element.AttribBytes) ∷
+    word (codes "ACCESSAS") (known.Element element.AccessAs) ∷
     word (codes "BUFFOBJ") (known.Word kind.ObjectType 3) ∷
     word (codes "BUFFFIELDOBJ") (known.Word kind.ObjectType 14) ∷
     word (codes "BYTEACC") (known.Word kind.Access 1) ∷
+    word (codes "BUFFERACC") (known.Word kind.Access 5) ∷
     word (codes "BUSMASTER") (known.Word (kind.Resource k.BusMaster) 1) ∷
     word (codes "CACHEABLE") (known.Word (kind.Resource k.Caching) 1) ∷
     word (codes "COMPATIBILITY") (known.Word (kind.Resource k.DmaType) 0) ∷
+    word (codes "CONTROLLERINITIATED") (known.Word (kind.Resource k.Initiator) 0) ∷
+    word (codes "CONNECTION") (known.Element element.Connection) ∷
     word (codes "DEVICEOBJ") (known.Word kind.ObjectType 6) ∷
     word (codes "DWORDACC") (known.Word kind.Access 3) ∷
     word (codes "DEBUG") known.Debug ∷
@@ -202,6 +217,7 @@ words =
     word (codes "DWORDIO") (known.Descriptor d.DWordIo) ∷
     word (codes "DWORDMEMORY") (known.Descriptor d.DWordMemory) ∷
     word (codes "DWORDSPACE") (known.Descriptor d.DWordSpace) ∷
+    word (codes "DEVICEINITIATED") (known.Word (kind.Resource k.Initiator) 1) ∷
     word (codes "EVENTOBJ") (known.Word kind.ObjectType 7) ∷
     word (codes "EMBEDDEDCONTROL") (known.Word kind.Space 3) ∷
     word (codes "EISAID") (known.Macro macros.EisaId) ∷
@@ -220,6 +236,8 @@ words =
     word (codes "FOR") known.LeftOut ∷
     word (codes "GENERALPURPOSEIO") (known.Word kind.Space 8) ∷
     word (codes "GENERICSERIALBUS") (known.Word kind.Space 9) ∷
+    word (codes "GPIOINT") (known.Descriptor d.GpioInt) ∷
+    word (codes "GPIOIO") (known.Descriptor d.GpioIo) ∷
     word (codes "INTOBJ") (known.Word kind.ObjectType 1) ∷
     word (codes "IPMI") (known.Word kind.Space 7) ∷
     word (codes "ISAONLYRANGES") (known.Word (kind.Resource k.IsaRange) 2) ∷
@@ -227,6 +245,11 @@ words =
     word (codes "IRQNOFLAGS") (known.Descriptor d.IrqNoFlags) ∷
     word (codes "IO") (known.Descriptor d.Io) ∷
     word (codes "INTERRUPT") (known.Descriptor d.Interrupt) ∷
+    word (codes "IORESTRICTIONNONE") (known.Word (kind.Resource k.IoRestriction) 0) ∷
+    word (codes "IORESTRICTIONINPUTONLY") (known.Word (kind.Resource k.IoRestriction) 1) ∷
+    word (codes "IORESTRICTIONOUTPUTONLY") (known.Word (kind.Resource k.IoRestriction) 2) ∷
+    word (codes "IORESTRICTIONNONEANDPRESERVE") (known.Word (kind.Resource k.IoRestriction) 3) ∷
+    word (codes "I2CSERIALBUSV2") (known.Descriptor d.I2cSerialBus) ∷
     word (codes "LOCK") (known.Word kind.Lock 1) ∷
     word (codes "LOCAL0") (known.Local 0) ∷
     word (codes "LOCAL1") (known.Local 1) ∷
@@ -259,7 +282,7 @@ words =
     word (codes "NONISAONLYRANGES") (known.Word (kind.Resource k.IsaRange) 1) ∷
     word (codes "NOTBUSMASTER") (known.Word (kind.Resource k.BusMaster) 0) ∷
     word (codes "OPREGIONOBJ") (known.Word kind.ObjectType 10) ∷
-    word (codes "OFFSET") known.Offset ∷
+    word (codes "OFFSET") (known.Element element.Offset) ∷
     word (codes "PKGOBJ") (known.Word kind.ObjectType 4) ∷
     word (codes "POWERRESOBJ") (known.Word kind.ObjectType 11) ∷
     word (codes "PROCESSOROBJ") (known.Word kind.ObjectType 12) ∷
@@ -269,6 +292,10 @@ words =
     word (codes "PRESERVE") (known.Word kind.Update 0) ∷
     word (codes "POSDECODE") (known.Word (kind.Resource k.Decode) 0) ∷
     word (codes "PREFETCHABLE") (known.Word (kind.Resource k.Caching) 3) ∷
+    word (codes "PULLDEFAULT") (known.Word (kind.Resource k.Pull) 0) ∷
+    word (codes "PULLUP") (known.Word (kind.Resource k.Pull) 1) ∷
+    word (codes "PULLDOWN") (known.Word (kind.Resource k.Pull) 2) ∷
+    word (codes "PULLNONE") (known.Word (kind.Resource k.Pull) 3) ∷
     word (codes "QWORDACC") (known.Word kind.Access 4) ∷
     word (codes "QWORDIO") (known.Descriptor d.QWordIo) ∷
     word (codes "QWORDMEMORY") (known.Descriptor d.QWordMemory) ∷
@@ -459,9 +486,13 @@ parameters_as (Op.Special Special.Buffer) slot.CaseMember = constant_size
 parameters_as (Op.Special Special.Package) slot.CaseValue = constant_size
 parameters_as o s = parameters_of o
 
--- the argument of an Offset
-unfoldable pub offset_parameters : List Parameter
-offset_parameters = asked slot.Measure ∷ []
+-- the arguments of a word of a field's list: the number of a byte; an access, and perhaps an attribute; what units are connected to; the
+-- length of transfers
+unfoldable pub element_parameters : FieldWord → List Parameter
+element_parameters element.Offset = asked slot.Measure ∷ []
+element_parameters element.AccessAs = asked slot.AccessType ∷ optional slot.Attribute ∷ []
+element_parameters element.Connection = asked slot.Connected ∷ []
+element_parameters element.AttribBytes = asked (constant 0 255) ∷ []
 
 -- the argument of a macro: its string
 unfoldable pub macro_parameters : TextMacro → List Parameter

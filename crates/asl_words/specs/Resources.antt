@@ -3,6 +3,7 @@ use Rattle.std.specs.Prelude.{ℕ, ◌-◌, ◌^◌, Bool, true, false, List, ma
 use Rattle.resource_layout.specs.declared.descriptor.Descriptor.{Descriptor}
 use Rattle.resource_layout.specs.declared.descriptor.Giver.{Giver}
 use Rattle.resource_layout.specs.declared.descriptor.Giver.TheVariants as g
+use Rattle.resource_layout.specs.declared.descriptor.Kind.TheVariants as k
 use Rattle.resource_layout.specs.declared.descriptor.Field.{Field}
 use Rattle.resource_layout.specs.declared.descriptor.Body.{Body as ListBody}
 use Rattle.resource_layout.specs.declared.descriptor.Body.TheVariants as b
@@ -24,10 +25,14 @@ number bits = slot.Constant 0 (2 ^ bits - 1)
 abbrev pub given_slot : Giver → ℕ → Slot
 given_slot (g.Between first last) bits = slot.Constant first last
 given_slot (g.Word which) bits = slot.Word (kind.Resource which)
-given_slot (g.WordOrNumber which) bits = slot.RegisterSpace
+given_slot (g.WordBelow which limit) bits = slot.WordBelow which limit
+given_slot (g.WordOrNumber k.Space) bits = slot.RegisterSpace
+given_slot (g.WordOrNumber which) bits = slot.WordOrByte which
 given_slot g.Name bits = slot.DescriptorName
 given_slot g.Index bits = number 8
 given_slot g.Source bits = slot.String form.Any
+given_slot g.Text bits = slot.String form.Any
+given_slot g.Vacant bits = slot.Vacant
 given_slot _ bits = number bits
 
 -- one that has a value where it is left out may be left out
@@ -46,8 +51,8 @@ descriptor_parameters descriptor = map given_parameter (arguments descriptor)
 abbrev pub list_body : ListBody → Body
 list_body b.Nothing = braces.No
 list_body (b.Bits bits) = braces.Numbers (bits - 1)
-list_body (b.Numbers bits least) = braces.Numbers (2 ^ bits - 1)
-list_body b.Descriptors = braces.Descriptors
+list_body (b.Numbers bits least most) = braces.Numbers (2 ^ bits - 1)
+list_body b.Descriptors = braces.Descriptors true
 
 unfoldable pub descriptor_body : Descriptor → Body
 descriptor_body descriptor = list_body (row_of descriptor).body

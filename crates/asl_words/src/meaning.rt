@@ -3,7 +3,7 @@ ghost use Rattle.std.specs.Prelude.{◌≡◌, ◌==◌, ◌||◌, ◌&&◌, ◌
 ghost use Rattle.asl_words.specs.Meanings as spec;
 ghost use Rattle.asl_words.specs.declared.operator.Slot.TheVariants as slot;
 
-use crate::operator::{Body, Known, Parameter, Role, Slot, TextMacro, WordKind};
+use crate::operator::{Body, FieldWord, Known, Parameter, Role, Slot, TextMacro, WordKind};
 use crate::parameters::{body_of, role_of};
 use crate::paths::{is_path, parts};
 use crate::resources::descriptor_body;
@@ -22,8 +22,8 @@ pub enum Meaning {
     Name,
     /// A path with a prefix or several segments.
     Path,
-    /// The place of the next byte, in a field's list.
-    Offset,
+    /// A word with arguments, in a field's list.
+    Element(FieldWord),
     Macro(TextMacro),
     Template,
     Descriptor(Descriptor),
@@ -40,8 +40,8 @@ pub enum Reading {
     Path,
     /// A name with arguments.
     Call,
-    /// The place of the next byte, in a field's list.
-    Offset,
+    /// A word with arguments, in a field's list.
+    Element(FieldWord),
     Macro(TextMacro),
     Template,
     Descriptor(Descriptor),
@@ -67,7 +67,7 @@ fn known_as(known: Known) -> Meaning
 {
     match known {
         Known::LeftOut => Meaning::Unknown,
-        Known::Offset => Meaning::Offset,
+        Known::Element(word) => Meaning::Element(word),
         Known::Macro(text_macro) => Meaning::Macro(text_macro),
         Known::Template => Meaning::Template,
         Known::Descriptor(descriptor) => Meaning::Descriptor(descriptor),
@@ -183,10 +183,63 @@ pub fn is_default(meaning: Meaning) -> bool
     matches!(meaning, Meaning::Operator(Op::Control(Control::Default)))
 }
 
-fn is_field_element(slot: Slot) -> bool
-    ensures { result ≡ spec.is_field_element slot }
+fn is_attribute(word: FieldWord) -> bool
+    ensures { result ≡ spec.is_attribute word }
 {
-    matches!(slot, Slot::FieldElement)
+    matches!(word, FieldWord::AttribBytes)
+}
+
+/// Whether an item is an element of a field's list by itself.
+pub fn is_whole(meaning: Meaning) -> bool
+    ensures { result ≡ spec.is_whole meaning }
+{
+    match meaning {
+        Meaning::Element(word) => !is_attribute(word),
+        _ => false,
+    }
+}
+
+/// Whether an item is a Connection.
+pub fn is_connection(meaning: Meaning) -> bool
+    ensures { result ≡ spec.is_connection meaning }
+{
+    matches!(meaning, Meaning::Element(FieldWord::Connection))
+}
+
+// Where a word of a field's list may stand.
+fn takes_field_word(slot: Slot, word: FieldWord) -> bool
+    ensures { result ≡ spec.takes_field_word slot word }
+{
+    match slot {
+        Slot::WholeElement => !is_attribute(word),
+        Slot::Attribute => is_attribute(word),
+        _ => false,
+    }
+}
+
+fn is_serial(descriptor: Descriptor) -> bool
+    ensures { result ≡ spec.is_serial descriptor }
+{
+    matches!(
+        descriptor,
+        Descriptor::GpioInt | Descriptor::GpioIo | Descriptor::I2cSerialBus
+    )
+}
+
+fn is_chosen(slot: Slot) -> bool
+    ensures { result ≡ spec.is_chosen slot }
+{
+    match slot {
+        Slot::Descriptor { chosen } => chosen,
+        _ => false,
+    }
+}
+
+// Whether a descriptor of pins or of a serial bus stands in a choice of descriptors.
+fn is_chosen_serial(slot: Slot, descriptor: Descriptor) -> bool
+    ensures { result ≡ (spec.is_chosen slot && spec.is_serial descriptor) }
+{
+    is_chosen(slot) && is_serial(descriptor)
 }
 
 fn may_stand(slot: Slot, inside: bool, role: Role) -> bool
@@ -222,8 +275,9 @@ fn is_allowed(slot: Slot, inside: bool, meaning: Meaning) -> bool
         Meaning::Operator(operator) => may_stand(slot, inside, role_of(operator)),
         Meaning::Known(known) => !(is_term(slot) && is_word(known)),
         Meaning::Path => !(is_declared(slot) && inside),
-        Meaning::Offset => is_field_element(slot),
-        Meaning::Macro(_) | Meaning::Template | Meaning::Descriptor(_) => !is_term(slot),
+        Meaning::Element(word) => takes_field_word(slot, word),
+        Meaning::Macro(_) | Meaning::Template => !is_term(slot),
+        Meaning::Descriptor(descriptor) => !is_term(slot) && !is_chosen_serial(slot, descriptor),
         Meaning::Name | Meaning::Unknown => true,
     }
 }
@@ -237,7 +291,18 @@ fn is_descriptor(meaning: Meaning) -> bool
 fn takes_descriptor(slot: Slot) -> bool
     ensures { result ≡ spec.takes_descriptor slot }
 {
-    matches!(slot, Slot::Descriptor)
+    matches!(slot, Slot::Descriptor { .. })
+}
+
+// Where a descriptor is read.
+fn takes_resource(slot: Slot, descriptor: Descriptor) -> bool
+    ensures { result ≡ spec.takes_resource slot descriptor }
+{
+    match slot {
+        Slot::Descriptor { .. } => true,
+        Slot::Connected => is_serial(descriptor),
+        _ => false,
+    }
 }
 
 fn is_branch_role(role: Role) -> bool
@@ -313,7 +378,7 @@ fn has_braces(body: Body) -> bool
         | Body::Elements
         | Body::FieldList
         | Body::Numbers { .. }
-        | Body::Descriptors
+        | Body::Descriptors { .. }
         | Body::Cases
         | Body::CaseMembers => true,
     }
@@ -330,7 +395,7 @@ pub fn wants_braces(meaning: Meaning) -> bool
         Meaning::Known(_)
         | Meaning::Name
         | Meaning::Path
-        | Meaning::Offset
+        | Meaning::Element(_)
         | Meaning::Macro(_)
         | Meaning::Unknown => false,
     }
@@ -346,7 +411,7 @@ pub fn is_unknown(meaning: Meaning) -> bool
         | Meaning::Known(_)
         | Meaning::Name
         | Meaning::Path
-        | Meaning::Offset
+        | Meaning::Element(_)
         | Meaning::Macro(_)
         | Meaning::Template
         | Meaning::Descriptor(_) => false,
@@ -431,7 +496,7 @@ fn takes_path(slot: Slot) -> bool
     ensures { result ≡ spec.takes_path slot }
 {
     match slot {
-        Slot::Declared | Slot::External | Slot::Used | Slot::FieldElement => true,
+        Slot::Declared | Slot::External | Slot::Used | Slot::FieldElement | Slot::Connected => true,
         _ => takes_slot(slot),
     }
 }
@@ -457,16 +522,21 @@ fn is_kind(asked: WordKind, kind: WordKind) -> bool
         (WordKind::Access, WordKind::Access) => true,
         (WordKind::Lock, WordKind::Lock) => true,
         (WordKind::Update, WordKind::Update) => true,
+        (WordKind::Attribute, WordKind::Attribute) => true,
         (WordKind::Resource(asked), WordKind::Resource(kind)) => layout::is_kind(asked, kind),
         _ => false,
     }
 }
 
-fn takes_word(slot: Slot, kind: WordKind) -> bool
-    ensures { result ≡ spec.takes_word slot kind }
+// Where a word of this kind and number may stand.
+fn takes_word(slot: Slot, kind: WordKind, number: u64) -> bool
+    ensures { result ≡ spec.takes_word slot kind number }
 {
     match slot {
         Slot::Word(asked) => is_kind(asked, kind),
+        Slot::WordBelow { kind: asked, limit } => {
+            is_kind(WordKind::Resource(asked), kind) && number < limit
+        }
         Slot::Types { .. } => is_kind(WordKind::ObjectType, kind),
         _ => false,
     }
@@ -477,11 +547,14 @@ pub fn takes_known(slot: Slot, known: Known) -> bool
     ensures { result ≡ spec.takes_known slot known }
 {
     match known {
-        Known::Word { kind, .. } => takes_word(slot, kind),
+        Known::Word { kind, number } => takes_word(slot, kind, number),
         Known::Local(_) | Known::Arg(_) => takes_slot(slot),
         Known::Debug => takes_place(slot),
-        Known::Offset | Known::Macro(_) | Known::Template | Known::Descriptor(_) | Known::LeftOut =>
-            false,
+        Known::Element(_)
+        | Known::Macro(_)
+        | Known::Template
+        | Known::Descriptor(_)
+        | Known::LeftOut => false,
     }
 }
 
@@ -521,13 +594,18 @@ pub fn reading_of(slot: Slot, meaning: Meaning, called: bool) -> Reading
         Meaning::Known(known) => unless_wrong(takes_known(slot, known), Reading::Known(known)),
         Meaning::Name => name_reading(slot, takes_segment(slot), called),
         Meaning::Path => name_reading(slot, takes_path(slot), called),
-        Meaning::Offset => unless_wrong(is_field_element(slot), Reading::Offset),
+        Meaning::Element(word) => {
+            unless_wrong(takes_field_word(slot, word), Reading::Element(word))
+        }
         Meaning::Macro(text_macro) => {
             unless_wrong(takes_macro(slot), Reading::Macro(text_macro))
         }
         Meaning::Template => unless_wrong(takes_macro(slot), Reading::Template),
         Meaning::Descriptor(descriptor) => {
-            unless_wrong(takes_descriptor(slot), Reading::Descriptor(descriptor))
+            unless_wrong(
+                takes_resource(slot, descriptor),
+                Reading::Descriptor(descriptor),
+            )
         }
         Meaning::Unknown => Reading::Wrong,
     }
@@ -572,13 +650,76 @@ fn register_space_as(meaning: Meaning) -> Slot
     }
 }
 
-/// How an argument is read: one for an address space as a word where it is one, and as a number else.
+// A word of a resource, or a number of 8 bits.
+fn resource_as(kind: Kind, meaning: Meaning) -> Slot
+    ensures { result ≡ spec.slot_as (slot.WordOrByte kind) meaning }
+{
+    if is_word_of(WordKind::Resource(kind), meaning) {
+        Slot::Word(WordKind::Resource(kind))
+    } else {
+        Slot::Constant {
+            least: 0,
+            most: 0xFF,
+        }
+    }
+}
+
+// How units are accessed: anything but a word is a constant from 0 to 5.
+fn access_as(meaning: Meaning) -> Slot
+    ensures { result ≡ spec.slot_as slot.AccessType meaning }
+{
+    if is_word_of(WordKind::Access, meaning) {
+        Slot::Word(WordKind::Access)
+    } else {
+        Slot::Constant { least: 0, most: 5 }
+    }
+}
+
+fn is_long_attribute(meaning: Meaning) -> bool
+    ensures { result ≡ spec.is_long_attribute meaning }
+{
+    matches!(meaning, Meaning::Element(FieldWord::AttribBytes))
+}
+
+// The attribute of an access: anything but a word and what has a length is a constant of 8 bits.
+fn attribute_as(meaning: Meaning) -> Slot
+    ensures { result ≡ spec.slot_as slot.Attribute meaning }
+{
+    if is_long_attribute(meaning) {
+        return Slot::Attribute;
+    }
+    if is_word_of(WordKind::Attribute, meaning) {
+        return Slot::Word(WordKind::Attribute);
+    }
+    Slot::Constant {
+        least: 0,
+        most: 0xFF,
+    }
+}
+
+// An element of a field's list: one that is a word with its arguments, or the name of a unit.
+fn element_as(meaning: Meaning) -> Slot
+    ensures { result ≡ spec.slot_as slot.FieldElement meaning }
+{
+    if is_whole(meaning) {
+        Slot::WholeElement
+    } else {
+        Slot::FieldElement
+    }
+}
+
+/// How a part is read: one that a word or a number may be as a word where it is one, and as a number else; and an element of a field's
+/// list as a word with its arguments where it is one, and as a name else.
 pub fn slot_as(slot: Slot, meaning: Meaning) -> Slot
     ensures { result ≡ spec.slot_as slot meaning }
 {
     match slot {
         Slot::Space => space_as(meaning),
         Slot::RegisterSpace => register_space_as(meaning),
+        Slot::WordOrByte(kind) => resource_as(kind, meaning),
+        Slot::AccessType => access_as(meaning),
+        Slot::Attribute => attribute_as(meaning),
+        Slot::FieldElement => element_as(meaning),
         _ => slot,
     }
 }

@@ -19,6 +19,8 @@ pub enum WordKind {
     Lock,
     /// What a write to a field does to the other bits of an access.
     Update,
+    /// What a transfer through a bus carries.
+    Attribute,
     /// An argument of a resource descriptor.
     Resource(Kind),
 }
@@ -32,6 +34,20 @@ pub enum StringForm {
     Signature,
     /// A string of at most so many bytes.
     AtMost(u8),
+}
+
+/// A word with arguments in brackets that stands in a field's list alone: an element of it, or an attribute of an access (ACPI Specification
+/// 6.4, 19.6.48, 19.6.3 and 19.6.16).
+#[derive(Clone, Copy)]
+pub enum FieldWord {
+    /// The place of the next byte.
+    Offset,
+    /// How the units behind it are accessed.
+    AccessAs,
+    /// What the units behind it are connected to.
+    Connection,
+    /// An attribute of an access, with the length of its transfers.
+    AttribBytes,
 }
 
 /// A macro that stands for what is written in its one string.
@@ -66,6 +82,10 @@ pub enum Slot {
     Measure,
     /// A word of this kind.
     Word(WordKind),
+    /// A word of this kind whose number is less than this.
+    WordBelow { kind: Kind, limit: u64 },
+    /// A word of this kind, or a number of 8 bits.
+    WordOrByte(Kind),
     /// A word for an address space, or the number of a space that a vendor defines.
     Space,
     /// A word for an object type, or a list of at most so many of these, or of lists of these.
@@ -80,10 +100,20 @@ pub enum Slot {
     RegisterSpace,
     /// The name of a resource descriptor.
     DescriptorName,
-    /// A member of a resource template.
-    Descriptor,
-    /// What an element of a field's list begins with: the name of a unit, or an Offset.
+    /// What stands empty.
+    Vacant,
+    /// A member of a resource template, and whether it is one of a choice of descriptors.
+    Descriptor { chosen: bool },
+    /// What an element of a field's list begins with: the name of a unit.
     FieldElement,
+    /// An element of a field's list that is a word with its arguments.
+    WholeElement,
+    /// How units are accessed: a word, or its number.
+    AccessType,
+    /// The attribute of an access: a word, its number, or one with a length.
+    Attribute,
+    /// What units are connected to: a name, or a descriptor of pins or of a serial bus.
+    Connected,
     /// A term of a list, directly behind an If and so many ElseIfs, or behind none.
     Term { run: Option<u8> },
     /// A Case or a Default in the braces of a Switch, and whether a Default stands before it there.
@@ -112,12 +142,12 @@ pub enum Body {
     Bytes,
     /// Members of a Package.
     Elements,
-    /// Units, gaps and Offsets.
+    /// Units, gaps, and what is written with words.
     FieldList,
     /// Numbers up to this one.
     Numbers { most: u64 },
-    /// Resource descriptors.
-    Descriptors,
+    /// Resource descriptors, and whether they are those of a choice.
+    Descriptors { chosen: bool },
     /// Cases and at most one Default.
     Cases,
     /// Members of a Package that is the value of a Case.
@@ -151,7 +181,7 @@ pub enum Role {
 #[derive(Clone, Copy)]
 pub struct Operator {
     /// In upper case and filled with blanks.
-    pub word: [u8; 24],
+    pub word: [u8; 28],
     pub op: Op,
 }
 
@@ -163,8 +193,8 @@ pub enum Known {
     Local(u8),
     Arg(u8),
     Debug,
-    /// The place of the next byte, in a field's list.
-    Offset,
+    /// A word with arguments, in a field's list.
+    Element(FieldWord),
     Macro(TextMacro),
     /// A resource template (ACPI Specification 6.4, 6.4).
     Template,
@@ -178,6 +208,6 @@ pub enum Known {
 #[derive(Clone, Copy)]
 pub struct Named {
     /// In upper case and filled with blanks.
-    pub text: [u8; 24],
+    pub text: [u8; 28],
     pub known: Known,
 }

@@ -5,7 +5,7 @@ ghost use Rattle.asl_tree.specs.declared.term.Symbolic.TheVariants as Symbolic;
 ghost use Rattle.acpi_values.specs.declared.operator.Plain.TheVariants as Plain;
 ghost use Rattle.asl_words.specs.Operators as spec;
 
-use crate::operator::{Body, Parameter, Role, Slot, StringForm, TextMacro, WordKind};
+use crate::operator::{Body, FieldWord, Parameter, Role, Slot, StringForm, TextMacro, WordKind};
 use acpi_values::operator::{DataOp, EventOp, IntOp, Plain};
 use asl_tree::term::{Control, Declaration, Op, Special, Symbolic};
 
@@ -299,12 +299,18 @@ pub fn parameters_as(op: Op, slot: Slot) -> &'static [Parameter]
     }
 }
 
-/// The argument of an Offset in a field's list: the number of a byte.
-#[tactic(auto, unfolding(crate::specs::Operators::offset_parameters))]
-pub fn offset_parameters() -> &'static [Parameter]
-    ensures { result.now ≡ spec.offset_parameters }
+/// The arguments of a word of a field's list: of an Offset the number of a byte, of an AccessAs the access and perhaps an attribute, of a
+/// Connection what units are connected to, and of AttribBytes the length of transfers.
+#[tactic(auto, unfolding(crate::specs::Operators::element_parameters))]
+pub fn element_parameters(word: FieldWord) -> &'static [Parameter]
+    ensures { result.now ≡ spec.element_parameters word }
 {
-    &[asked!(Slot::Measure)]
+    match word {
+        FieldWord::Offset => &[asked!(Slot::Measure)],
+        FieldWord::AccessAs => &[asked!(Slot::AccessType), optional!(Slot::Attribute)],
+        FieldWord::Connection => &[asked!(Slot::Connected)],
+        FieldWord::AttribBytes => &[BYTE],
+    }
 }
 
 /// The argument of a macro: its string.

@@ -38,6 +38,15 @@ macro_rules! word {
     };
 }
 
+macro_rules! word_below {
+    ($kind:ident, $limit:expr) => {
+        Slot::WordBelow {
+            kind: Kind::$kind,
+            limit: $limit,
+        }
+    };
+}
+
 macro_rules! word_or {
     ($kind:ident) => {
         optional!(Slot::Word(WordKind::Resource(Kind::$kind)))
@@ -58,7 +67,18 @@ const NAME: Parameter = optional!(Slot::DescriptorName);
 
 const BYTE_OR: Parameter = optional!(numbers!(0xFF));
 
+const SHORT_OR: Parameter = optional!(numbers!(0xFFFF));
+
 const SOURCE: Parameter = optional!(Slot::String(StringForm::Any));
+
+const TEXT: Parameter = asked!(Slot::String(StringForm::Any));
+
+const VACANT: Parameter = optional!(Slot::Vacant);
+
+// `ActiveBoth` is the third of its words.
+const LEVEL: Parameter = asked!(word_below!(Level, 2));
+
+const PULL: Parameter = asked!(Slot::WordOrByte(Kind::Pull));
 
 const USAGE: Parameter = word_or!(Usage);
 
@@ -152,7 +172,7 @@ pub fn descriptor_parameters(descriptor: Descriptor) -> &'static [Parameter]
     ensures { result.now ≡ spec.descriptor_parameters descriptor }
 {
     match descriptor {
-        Descriptor::Irq => &[word!(Mode), word!(Level), SHARING, NAME],
+        Descriptor::Irq => &[word!(Mode), LEVEL, SHARING, NAME],
         Descriptor::IrqNoFlags => &[NAME],
         Descriptor::Dma => &[word!(DmaType), word!(BusMaster), word!(Transfer), NAME],
         Descriptor::FixedDma => &[SHORT, SHORT, word_or!(DmaWidth), NAME],
@@ -167,17 +187,7 @@ pub fn descriptor_parameters(descriptor: Descriptor) -> &'static [Parameter]
         Descriptor::Memory32 => &[ACCESS, DOUBLE, DOUBLE, DOUBLE, DOUBLE, NAME],
         Descriptor::Memory32Fixed => &[ACCESS, DOUBLE, DOUBLE, NAME],
         Descriptor::Register => &[asked!(Slot::RegisterSpace), BYTE, BYTE, QUAD, BYTE_OR, NAME],
-        Descriptor::Interrupt => {
-            &[
-                USAGE,
-                word!(Mode),
-                word!(Level),
-                SHARING,
-                BYTE_OR,
-                SOURCE,
-                NAME,
-            ]
-        }
+        Descriptor::Interrupt => { &[USAGE, word!(Mode), LEVEL, SHARING, BYTE_OR, SOURCE, NAME] }
         Descriptor::WordIo => io!(SHORT, BYTE_OR, SOURCE),
         Descriptor::DWordIo => io!(DOUBLE, BYTE_OR, SOURCE),
         Descriptor::QWordIo => io!(QUAD, BYTE_OR, SOURCE),
@@ -203,6 +213,42 @@ pub fn descriptor_parameters(descriptor: Descriptor) -> &'static [Parameter]
         Descriptor::DWordSpace => space!(DOUBLE, BYTE_OR, SOURCE),
         Descriptor::QWordSpace => space!(QUAD, BYTE_OR, SOURCE),
         Descriptor::ExtendedSpace => space!(QUAD, ATTRIBUTES),
+        Descriptor::GpioInt => &[
+            word!(Mode),
+            word!(Level),
+            SHARING,
+            PULL,
+            SHORT_OR,
+            TEXT,
+            BYTE_OR,
+            USAGE,
+            NAME,
+            VACANT,
+        ],
+        Descriptor::GpioIo => &[
+            SHARING,
+            PULL,
+            SHORT_OR,
+            SHORT_OR,
+            word_or!(IoRestriction),
+            TEXT,
+            BYTE_OR,
+            USAGE,
+            NAME,
+            VACANT,
+        ],
+        Descriptor::I2cSerialBus => &[
+            SHORT,
+            word!(Initiator),
+            DOUBLE,
+            word!(Addressing),
+            TEXT,
+            BYTE_OR,
+            USAGE,
+            NAME,
+            optional!(word_below!(Sharing, 2)),
+            VACANT,
+        ],
     }
 }
 
@@ -216,7 +262,10 @@ pub fn descriptor_body(descriptor: Descriptor) -> Body
         Descriptor::Dma => Body::Numbers { most: 7 },
         Descriptor::VendorShort | Descriptor::VendorLong => Body::Numbers { most: 0xFF },
         Descriptor::Interrupt => Body::Numbers { most: 0xFFFF_FFFF },
-        Descriptor::StartDependentFn | Descriptor::StartDependentFnNoPri => Body::Descriptors,
+        Descriptor::GpioInt | Descriptor::GpioIo => Body::Numbers { most: 0xFFFF },
+        Descriptor::StartDependentFn | Descriptor::StartDependentFnNoPri => {
+            Body::Descriptors { chosen: true }
+        }
         _ => Body::No,
     }
 }

@@ -146,3 +146,4 @@ module _ (has : AbsolutePath → Bool) (scope : AbsolutePath) where
       by_layer (D.Term-F.Unit p n) e = sym (ap (λ t. described_by has (plan_of t) scope) (e ∙ V.rolls-Unit p n))
       by_layer (D.Term-F.Skip n) e = sym (ap (λ t. described_by has (plan_of t) scope) (e ∙ V.rolls-Skip n))
       by_layer (D.Term-F.Offset n) e = sym (ap (λ t. described_by has (plan_of t) scope) (e ∙ V.rolls-Offset n))
+      by_layer (D.Term-F.Access access attribute count) e = sym (ap (λ t. described_by has (plan_of t) scope) (e ∙ V.rolls-Access access attribute count))

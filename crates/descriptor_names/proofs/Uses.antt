@@ -53,6 +53,7 @@ other_flat t not_name not_call not_form = by_layer (D.out-Term t) (sym (D.roll-o
     by_layer (D.Term-F.Unit p n) e = ap (λ t. is_flat (plan_of t)) (e ∙ V.rolls-Unit p n)
     by_layer (D.Term-F.Skip n) e = ap (λ t. is_flat (plan_of t)) (e ∙ V.rolls-Skip n)
     by_layer (D.Term-F.Offset n) e = ap (λ t. is_flat (plan_of t)) (e ∙ V.rolls-Offset n)
+    by_layer (D.Term-F.Access access attribute count) e = ap (λ t. is_flat (plan_of t)) (e ∙ V.rolls-Access access attribute count)
 
 -- ---- a form beside its arguments and its body
 

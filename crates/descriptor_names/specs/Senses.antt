@@ -114,9 +114,12 @@ position (Op.Symbolic (Symbolic.AssignBy op)) n = paths_first Spot 1 n
 position (Op.Special Special.CondRefOf) n = Spot
 position _ n = Value
 
--- what stands in the body of a form: the bytes of a Buffer are numbers
+-- what stands in the body of a form: the bytes of a Buffer are numbers, and a name in the list of a field is what units are connected to
 abbrev pub content_position : Op → Position
 content_position (Op.Special Special.Buffer) = Written
+content_position (Op.Declaration Declaration.Field) = AnyPath
+content_position (Op.Declaration Declaration.IndexField) = AnyPath
+content_position (Op.Declaration Declaration.BankField) = AnyPath
 content_position _ = Value
 
 -- the index and the number of bits of a buffer field that is counted in bits

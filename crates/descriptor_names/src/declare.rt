@@ -55,6 +55,7 @@ fn is_first(term: &Term) -> bool
         Term::Unit { .. } => false,
         Term::Skip(_) => false,
         Term::Offset(_) => false,
+        Term::Access { .. } => false,
         Term::Call { .. } => false,
     }
 }
@@ -80,6 +81,7 @@ fn names_descriptor(term: &Term) -> bool
         Term::Unit { .. } => false,
         Term::Skip(_) => false,
         Term::Offset(_) => false,
+        Term::Access { .. } => false,
     }
 }
 
@@ -127,6 +129,7 @@ fn add_inside(names: &mut Vec<NamedDescriptor>, term: &Term) -> Result<(), Alloc
         Term::Unit { .. } => Ok(()),
         Term::Skip(_) => Ok(()),
         Term::Offset(_) => Ok(()),
+        Term::Access { .. } => Ok(()),
     }
 }
 
@@ -231,6 +234,15 @@ fn open(alloc: Global, term: Term) -> Result<Term, AllocError>
         Term::Unit { segment, bits } => Ok(Term::Unit { segment, bits }),
         Term::Skip(bits) => Ok(Term::Skip(bits)),
         Term::Offset(bytes) => Ok(Term::Offset(bytes)),
+        Term::Access {
+            access,
+            attribute,
+            length,
+        } => Ok(Term::Access {
+            access,
+            attribute,
+            length,
+        }),
         Term::Call { path, args } => Ok(Term::Call { path, args }),
     }
 }

@@ -146,12 +146,15 @@ fn argument_position(op: Op, number: usize) -> Position
     }
 }
 
-// What stands in the body of a form: the bytes of a Buffer are numbers.
+// What stands in the body of a form: the bytes of a Buffer are numbers, and a name in the list of a field is what units are connected to.
 fn content_position(op: Op) -> Position
     ensures { position_as result ≡ spec.content_position op }
 {
     match op {
         Op::Special(Special::Buffer) => Position::Written,
+        Op::Declaration(Declaration::Field | Declaration::IndexField | Declaration::BankField) => {
+            Position::AnyPath
+        }
         _ => Position::Value,
     }
 }

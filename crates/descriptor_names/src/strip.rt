@@ -27,6 +27,7 @@ fn named_of(term: &Term) -> &[NamedDescriptor]
         Term::Unit { .. } => &[],
         Term::Skip(_) => &[],
         Term::Offset(_) => &[],
+        Term::Access { .. } => &[],
         Term::Call { .. } => &[],
     }
 }
@@ -67,6 +68,7 @@ pub(crate) fn declared_by(term: &Term) -> &[NamedDescriptor]
         Term::Unit { .. } => &[],
         Term::Skip(_) => &[],
         Term::Offset(_) => &[],
+        Term::Access { .. } => &[],
         Term::Call { .. } => &[],
     }
 }
@@ -97,6 +99,15 @@ fn close(alloc: Global, term: Term) -> Result<Term, AllocError>
         Term::Unit { segment, bits } => Ok(Term::Unit { segment, bits }),
         Term::Skip(bits) => Ok(Term::Skip(bits)),
         Term::Offset(bytes) => Ok(Term::Offset(bytes)),
+        Term::Access {
+            access,
+            attribute,
+            length,
+        } => Ok(Term::Access {
+            access,
+            attribute,
+            length,
+        }),
         Term::Call { path, args } => Ok(Term::Call { path, args }),
     }
 }

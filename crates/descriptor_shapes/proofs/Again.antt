@@ -6,6 +6,7 @@ use Rattle.acpi_values.specs.Paths.{AbsolutePath}
 use Rattle.asl_tree.specs.declared.path.Path.{Path}
 use Rattle.asl_tree.specs.declared.term.Op.{Op}
 use Rattle.asl_tree.specs.declared.term.Special.TheVariants as Special
+use Rattle.asl_tree.specs.declared.term.Declaration.TheVariants as Declaration
 use Rattle.asl_tree.specs.declared.term.Word.{Word}
 use Rattle.asl_tree.specs.declared.term.NamedDescriptor.{NamedDescriptor}
 use Rattle.asl_shape.specs.Plans.{Plan, a_word, a_name, a_call, a_form, Plans, no_plans, plan, plan_at, join}
@@ -31,6 +32,9 @@ abbrev mutual
 -- terms stand where names are expressions
 terms_are_values : (op : Op) → has_terms op ≡ true → content_position op ≡ Value
 terms_are_values (Op.Special Special.Buffer) e = absurd cc
+terms_are_values (Op.Declaration Declaration.Field) e = absurd cc
+terms_are_values (Op.Declaration Declaration.IndexField) e = absurd cc
+terms_are_values (Op.Declaration Declaration.BankField) e = absurd cc
 terms_are_values _ e = refl
 
 -- a use is a constant or a name

@@ -8,7 +8,7 @@ use Rattle.asl_tree.specs.Tree.{Tree, Trees, count, UnitName}
 use Rattle.aml_sessions.specs.Ready.{is_expression, RawReady, SpotReady}
 use Rattle.named_sessions.specs.Shaped.{UsedShaped, LetterShaped, ElementShaped, IsFormed, IsFormedSpot, IsFormedAlone, AreFormedOperands, AreFormedSpots, AreFormedValues, AreFormedElements, AreFormed, AreFormedCases, IsNumber, IsCaseMember, AreCaseMembers, HaveCaseMembers, IsCaseValue, StartsNoElse, IsFollowed, AreNamed}
 use Rattle.descriptor_names.specs.Senses.{Position, by_letter}
-use Rattle.descriptor_shapes.proofs.Like.{MayCount, Like, LikeInteger, LikeConstant, LikeString, LikeSlot, LikeDebug, LikeOmitted, LikeRaw, LikeMisshapen, Declared, Moved, Counted, LikeCall, LikeApply, LikeOperated, LikeAssigned, LikeAssignedBy, LikeBuffer, LikeBytes, LikePackage, LikeVarPackage, LikeSized, LikeCondRefOf, LikeReturn, LikeName, LikeAlias, LikeMethod, LikeContainer, LikeScope, LikeIf, LikeElseIf, LikeElse, LikeWhile, LikeSwitch, LikeCase, LikeDefault, LikeRegion, LikeField, LikeIndexField, LikeBankField, LikeCreate, LikeBy, NoneBy, FirstBy, TargetBy, LikeAll, NoneAll, MoreAll, SameUnit, SameSkip, SameOffset, LikeUnits, NoUnits, MoreUnits, same_targets}
+use Rattle.descriptor_shapes.proofs.Like.{MayCount, Like, LikeInteger, LikeConstant, LikeString, LikeSlot, LikeDebug, LikeOmitted, LikeRaw, LikeMisshapen, Declared, Moved, Counted, LikeCall, LikeApply, LikeOperated, LikeAssigned, LikeAssignedBy, LikeBuffer, LikeBytes, LikePackage, LikeVarPackage, LikeSized, LikeCondRefOf, LikeReturn, LikeName, LikeAlias, LikeMethod, LikeContainer, LikeScope, LikeIf, LikeElseIf, LikeElse, LikeWhile, LikeSwitch, LikeCase, LikeDefault, LikeRegion, LikeField, LikeIndexField, LikeBankField, LikeCreate, LikeBy, NoneBy, FirstBy, TargetBy, LikeAll, NoneAll, MoreAll, SameUnit, SameSkip, SameOffset, SameAccess, LikeConnected, SameResource, LikeUnits, NoUnits, MoreUnits, same_targets}
 
 never : {A : Type 0} → false ≡ true → A
 never e = absurd cc
@@ -98,6 +98,9 @@ module _ (Symbols Switches : Type 0) where
   units_named (MoreUnits (SameUnit at to segment bits) rest) h = (h.0, units_named rest h.1)
   units_named (MoreUnits (SameSkip bits) rest) h = units_named rest h
   units_named (MoreUnits (SameOffset bytes) rest) h = units_named rest h
+  units_named (MoreUnits (SameAccess access attribute count) rest) h = (h.0, units_named rest h.1)
+  units_named (MoreUnits (LikeConnected at to name other stays) rest) h = (stays h.0, units_named rest h.1)
+  units_named (MoreUnits (SameResource bytes) rest) h = (tt, units_named rest h.1)
 
   letter_shaped : (letter : Letter) {t u : Tree} → Like (by_letter letter) t u → (Formed t → Formed u) → ((MayCount (by_letter letter) → ⊥) → Spot t → Spot u) → LetterShaped letter t (Value t) (Spot t) → LetterShaped letter u (Value u) (Spot u)
   letter_shaped Valued like value spot h = (expression like h.0, value h.1)

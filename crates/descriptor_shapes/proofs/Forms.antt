@@ -20,8 +20,8 @@ use Rattle.asl_tree.specs.declared.term.Literal.{Literal}
 use Rattle.asl_tree.specs.declared.term.Literal.TheVariants as literals
 use Rattle.asl_tree.specs.Tree.{At, Tree, Integer, Package, VarPackage, Field, IndexField, BankField, Misshapen, UnitName, Trees, tree, count}
 use Rattle.asl_tree.specs.View.{operands_as, targets_of, plain_of, not_of, apply_of, fits, operated, symbol_of, buffer, body_bytes, counted, packaged, items_in, form}
-use Rattle.descriptor_names.specs.Senses.{Position, Value, Spot, Written, by_letter, operand_position, position, content_position}
-use Rattle.descriptor_shapes.proofs.Like.{Like, LikeInteger, LikeConstant, LikeOmitted, LikeRaw, LikeItem, LikeExternal, LikeMutex, LikeEvent, LikeBreak, LikeContinue, LikeMisshapen, Declared, Moved, Counted, LikeApply, LikeOperated, LikeAssigned, LikeAssignedBy, LikeBuffer, LikeBytes, LikePackage, LikeVarPackage, LikeSized, LikeCondRefOf, LikeReturn, LikeName, LikeAlias, LikeMethod, LikeContainer, LikeScope, LikeIf, LikeElseIf, LikeElse, LikeWhile, LikeSwitch, LikeCase, LikeDefault, LikeRegion, LikeField, LikeIndexField, LikeBankField, LikeCreate, LikeBy, NoneBy, FirstBy, TargetBy, LikeAll, NoneAll, MoreAll, LikeUnit, LikeUnits, NoUnits, MoreUnits, LikeFrom, NoneFrom, MoreFrom, same_count}
+use Rattle.descriptor_names.specs.Senses.{Position, Value, Spot, AnyPath, Written, by_letter, operand_position, position, content_position}
+use Rattle.descriptor_shapes.proofs.Like.{Like, LikeInteger, LikeConstant, LikeOmitted, LikeRaw, LikeItem, LikeExternal, LikeMutex, LikeEvent, LikeBreak, LikeContinue, LikeMisshapen, Declared, Moved, Counted, LikeApply, LikeOperated, LikeAssigned, LikeAssignedBy, LikeBuffer, LikeBytes, LikePackage, LikeVarPackage, LikeSized, LikeCondRefOf, LikeReturn, LikeName, LikeAlias, LikeMethod, LikeContainer, LikeScope, LikeIf, LikeElseIf, LikeElse, LikeWhile, LikeSwitch, LikeCase, LikeDefault, LikeRegion, LikeField, LikeIndexField, LikeBankField, LikeCreate, LikeBy, NoneBy, FirstBy, TargetBy, LikeAll, NoneAll, MoreAll, LikeUnit, LikeUnits, NoUnits, MoreUnits, LikeFrom, NoneFrom, MoreFrom, same_count, LikeFill, LikeConnected, SameResource}
 
 -- ---- operands
 
@@ -129,10 +129,20 @@ next_item : {item other : FieldItem UnitName} {o q : Option (List (FieldItem Uni
 next_item like NoItems = NoItems
 next_item like (TheItems items) = TheItems (MoreUnits like items)
 
-items_like : {ts us : Trees} → LikeAll ts us → SameItems (items_in ts) (items_in us)
-items_like NoneAll = TheItems NoUnits
-items_like (MoreAll (LikeItem unit) rest) = next_item unit (items_like rest)
-items_like (MoreAll _ rest) = NoItems
+-- what stands in the list of a field, where names are those of connections
+abbrev Listed : Trees → Trees → Type 0
+Listed ts us = LikeFrom (λ n. AnyPath) 0 ts us
+
+items_from : {n : ℕ} {ts us : Trees} → LikeFrom (λ n. AnyPath) n ts us → SameItems (items_in ts) (items_in us)
+items_from NoneFrom = TheItems NoUnits
+items_from (MoreFrom (LikeItem unit) rest) = next_item unit (items_from rest)
+items_from (MoreFrom (Moved name other may stays) rest) = next_item (LikeConnected _ _ name other stays) (items_from rest)
+items_from (MoreFrom (LikeFill bytes) rest) = next_item (SameResource bytes) (items_from rest)
+items_from (MoreFrom (Counted name n may) rest) = absurd may
+items_from (MoreFrom _ rest) = NoItems
+
+items_like : {ts us : Trees} → Listed ts us → SameItems (items_in ts) (items_in us)
+items_like like = items_from like
 
 made_like : {p : Position} (make remake : List (FieldItem UnitName) → Tree) {o q : Option (List (FieldItem UnitName))} → ((items others : List (FieldItem UnitName)) → LikeUnits items others → Like p (make items) (remake others)) → SameItems o q
     → Like p (choose o Misshapen make) (choose q Misshapen remake)
@@ -246,14 +256,14 @@ region_like here there (MoreFrom (Counted name n may) rest) body = absurd may
 region_like here there (MoreFrom (Declared name) (MoreFrom (Counted other k wrong) rest)) body = absurd wrong
 region_like here there _ _ = LikeMisshapen
 
-field_like : {p : Position} (here there : At) {ts us bs cs : Trees} → Args (Op.Declaration Declaration.Field) ts us → LikeAll bs cs → Like p (form here (Op.Declaration Declaration.Field) ts bs) (form there (Op.Declaration Declaration.Field) us cs)
+field_like : {p : Position} (here there : At) {ts us bs cs : Trees} → Args (Op.Declaration Declaration.Field) ts us → Listed bs cs → Like p (form here (Op.Declaration Declaration.Field) ts bs) (form there (Op.Declaration Declaration.Field) us cs)
 field_like here there (MoreFrom (Moved region other may stays) (MoreFrom (LikeInteger flags) NoneFrom)) body =
     made_like (λ items. Field here _ region flags items) (λ items. Field there _ other flags items) (λ items others units. LikeField region other flags stays units) (items_like body)
 field_like here there (MoreFrom (Counted name n may) rest) body = absurd may
 field_like here there (MoreFrom (Moved region another may stays) (MoreFrom (Counted other k wrong) rest)) body = absurd wrong
 field_like here there _ _ = LikeMisshapen
 
-index_like : {p : Position} (here there : At) {ts us bs cs : Trees} → Args (Op.Declaration Declaration.IndexField) ts us → LikeAll bs cs → Like p (form here (Op.Declaration Declaration.IndexField) ts bs) (form there (Op.Declaration Declaration.IndexField) us cs)
+index_like : {p : Position} (here there : At) {ts us bs cs : Trees} → Args (Op.Declaration Declaration.IndexField) ts us → Listed bs cs → Like p (form here (Op.Declaration Declaration.IndexField) ts bs) (form there (Op.Declaration Declaration.IndexField) us cs)
 index_like here there (MoreFrom (Moved index other may stays) (MoreFrom (Moved register another moves keeps) (MoreFrom (LikeInteger flags) NoneFrom))) body =
     made_like (λ items. IndexField here _ index _ register flags items) (λ items. IndexField there _ other _ another flags items) (λ items others units. LikeIndexField index other register another flags stays keeps units) (items_like body)
 index_like here there (MoreFrom (Counted name n may) rest) body = absurd may
@@ -261,7 +271,7 @@ index_like here there (MoreFrom (Moved index other may stays) (MoreFrom (Counted
 index_like here there (MoreFrom (Moved index another may stays) (MoreFrom (Moved register more moves keeps) (MoreFrom (Counted other k wrong) rest))) body = absurd wrong
 index_like here there _ _ = LikeMisshapen
 
-bank_like : {p : Position} (here there : At) {ts us bs cs : Trees} → Args (Op.Declaration Declaration.BankField) ts us → LikeAll bs cs → Like p (form here (Op.Declaration Declaration.BankField) ts bs) (form there (Op.Declaration Declaration.BankField) us cs)
+bank_like : {p : Position} (here there : At) {ts us bs cs : Trees} → Args (Op.Declaration Declaration.BankField) ts us → Listed bs cs → Like p (form here (Op.Declaration Declaration.BankField) ts bs) (form there (Op.Declaration Declaration.BankField) us cs)
 bank_like here there (MoreFrom (Moved region other may stays) (MoreFrom (Moved bank another moves keeps) (MoreFrom value (MoreFrom (LikeInteger flags) NoneFrom)))) body =
     made_like (λ items. BankField here _ region _ bank _ flags items) (λ items. BankField there _ other _ another _ flags items) (λ items others units. LikeBankField region other bank another flags stays keeps value units) (items_like body)
 bank_like here there (MoreFrom (Counted name n may) rest) body = absurd may
@@ -397,9 +407,9 @@ form_like here there (Op.Declaration Declaration.PowerResource) args body = powe
 form_like here there (Op.Declaration Declaration.Processor) args body = processor_like here there args (values_by (λ n. refl) body)
 form_like here there (Op.Declaration Declaration.Scope) args body = scope_like here there args (values_by (λ n. refl) body)
 form_like here there (Op.Declaration Declaration.OperationRegion) args body = region_like here there args (values_by (λ n. refl) body)
-form_like here there (Op.Declaration Declaration.Field) args body = field_like here there args (values_by (λ n. refl) body)
-form_like here there (Op.Declaration Declaration.IndexField) args body = index_like here there args (values_by (λ n. refl) body)
-form_like here there (Op.Declaration Declaration.BankField) args body = bank_like here there args (values_by (λ n. refl) body)
+form_like here there (Op.Declaration Declaration.Field) args body = field_like here there args body
+form_like here there (Op.Declaration Declaration.IndexField) args body = index_like here there args body
+form_like here there (Op.Declaration Declaration.BankField) args body = bank_like here there args body
 form_like here there (Op.Declaration Declaration.CreateField) args body = create_like here there args (values_by (λ n. refl) body)
 form_like here there (Op.Declaration Declaration.CreateBitField) args body = bit_like here there args (values_by (λ n. refl) body)
 form_like here there (Op.Declaration Declaration.CreateByteField) args body = byte_like here there args (values_by (λ n. refl) body)

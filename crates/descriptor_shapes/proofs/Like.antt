@@ -7,7 +7,7 @@ use Rattle.acpi_state.specs.FieldActs.{FieldForm, region_letters, field_letters}
 use Rattle.acpi_state.specs.Forms.{Slot}
 use Rattle.acpi_state.specs.Objects.{Container}
 use Rattle.acpi_values.specs.Paths.{NameSeg}
-use Rattle.asl_tree.specs.FieldItems.{FieldItem, UnitItem, SkipItem, OffsetItem}
+use Rattle.asl_tree.specs.FieldItems.{FieldItem, UnitItem, SkipItem, OffsetItem, AccessItem, ConnectionItem, ToName, ToBytes}
 use Rattle.asl_tree.specs.declared.path.Path.{Path}
 use Rattle.asl_tree.specs.declared.term.Compound.{Compound}
 use Rattle.asl_tree.specs.declared.term.Literal.{Literal}
@@ -34,6 +34,9 @@ pub data LikeUnit : FieldItem UnitName → FieldItem UnitName → Type 0 where
   SameUnit : (at to : At) (segment : NameSeg) (bits : ℕ) → LikeUnit (UnitItem (record { at = at; segment = segment }) bits) (UnitItem (record { at = to; segment = segment }) bits)
   SameSkip : (bits : ℕ) → LikeUnit (SkipItem bits) (SkipItem bits)
   SameOffset : (bytes : ℕ) → LikeUnit (OffsetItem bytes) (OffsetItem bytes)
+  SameAccess : (access attribute : ℕ) (count : Option ℕ) → LikeUnit (AccessItem access attribute count) (AccessItem access attribute count)
+  LikeConnected : (at to : At) (name other : Path) → StaysUsed name other → LikeUnit (ConnectionItem (ToName at name)) (ConnectionItem (ToName to other))
+  SameResource : (bytes : List ℕ) → LikeUnit (ConnectionItem (ToBytes bytes)) (ConnectionItem (ToBytes bytes))
 
 pub data LikeUnits : List (FieldItem UnitName) → List (FieldItem UnitName) → Type 0 where
   NoUnits : LikeUnits [] []

@@ -4,7 +4,7 @@ use Rattle.std.specs.Prelude.{not, ◌&&◌}
 use Rattle.acpi_values.specs.Paths.{AbsolutePath}
 use Rattle.acpi_values.specs.Operators.{Letter, Used, row_of}
 use Rattle.acpi_state.specs.FieldActs.{region_letters, field_letters}
-use Rattle.asl_tree.specs.FieldItems.{FieldItem, UnitItem, SkipItem, OffsetItem}
+use Rattle.asl_tree.specs.FieldItems.{FieldItem, UnitItem, SkipItem, OffsetItem, AccessItem, ConnectionItem, ToName, ToBytes}
 use Rattle.asl_tree.specs.Names.{place_of}
 use Rattle.asl_tree.specs.Tree.{Tree, Use, Call, Apply, Buffer, Package, VarPackage, CondRefOf, Return, Name, Alias, External, Method, Mutex, Event, Container', Scope, Trees, no_trees, tree, OperationRegion, Field, IndexField, BankField, CreateField, UnitName, If, ElseIf, Else, While, Operated, Assigned, AssignedBy, Switch, Case, Default}
 use Rattle.asl_meaning.specs.Declarations.{Declarations, scope_path, declare}
@@ -78,6 +78,9 @@ module _ (files : ℕ) where
   units_in (UnitItem name bits ∷ items) scope h = (h.0, units_in items scope h.1)
   units_in (SkipItem bits ∷ items) scope h = units_in items scope h.1
   units_in (OffsetItem bytes ∷ items) scope h = units_in items scope h.1
+  units_in (AccessItem access attribute count ∷ items) scope h = units_in items scope h.1
+  units_in (ConnectionItem (ToName at name) ∷ items) scope h = (tt, units_in items scope h.1)
+  units_in (ConnectionItem (ToBytes bytes) ∷ items) scope h = units_in items scope h.1
 
   mutual
     term_in : (t : Tree) (scope : AbsolutePath) (d : Declarations) → IsWithin files t → AreMentionedIn (term_mentions t scope d)

@@ -13,7 +13,7 @@ use Rattle.asl_tree.specs.declared.path.Path.{Path}
 use Rattle.asl_tree.specs.declared.term.Op.{Op}
 use Rattle.asl_tree.specs.declared.term.NamedDescriptor.{NamedDescriptor}
 use Rattle.asl_meaning.specs.Declarations.{nothing_declared}
-use Rattle.acpi_names.specs.Errors.{NameError, Twice, DeclaredHere, Missing, NoContainer, LeavesRoot, Differs, TooLong, WrongCount, WrongKind, UnbuiltSpace, unless, name_errors, type_errors}
+use Rattle.acpi_names.specs.Errors.{NameError, Twice, DeclaredHere, Missing, NoContainer, LeavesRoot, Differs, TooLong, WrongCount, WrongKind, unless, name_errors, type_errors}
 use Rattle.acpi_names.specs.Mentions.{Mention, Declares, block_mentions}
 use Rattle.name_checks.specs.Messages.{name_text, message_of}
 use Rattle.named_sessions.specs.Places.{at_of, AreWithin}
@@ -246,7 +246,6 @@ module _ (files : ℕ) where
   message_in (TooLong at name) h = h
   message_in (WrongCount at name) h = h
   message_in (WrongKind at name) h = h
-  message_in (UnbuiltSpace at) h = h
 
   messages_in : (es : List NameError) → All (λ e. (at_of e).place.file < files) es → All (λ (m : Message). m.place.file < files) (map message_of es)
   messages_in es h = All-map (λ (m : Message). m.place.file < files) message_of es (λ i d lt. message_in (get_or es i d) (h i d lt))

@@ -6,15 +6,15 @@ use Rattle.acpi_values.specs.declared.operator.Plain.{Plain}
 use Rattle.acpi_values.specs.Operators.{Letter, Valued, Kept, Placed, Used, Row, row_of}
 use Rattle.acpi_values.specs.Operators as L
 use Rattle.acpi_state.specs.Outcomes.{choose}
-use Rattle.asl_tree.specs.FieldItems.{FieldItem}
+use Rattle.asl_tree.specs.FieldItems.{FieldItem, ConnectionItem, ToName, ToBytes}
 use Rattle.asl_tree.specs.declared.term.Op.{Op}
 use Rattle.asl_tree.specs.declared.term.Declaration.TheVariants as Declaration
 use Rattle.asl_tree.specs.declared.term.Control.TheVariants as Control
 use Rattle.asl_tree.specs.declared.term.Special.TheVariants as Special
 use Rattle.asl_tree.specs.declared.term.Symbolic.TheVariants as Symbolic
-use Rattle.asl_tree.specs.Tree.{At, Tree, Integer, Omitted, Use, Package, VarPackage, Field, IndexField, BankField, Item, Misshapen, UnitName, Trees, no_trees, tree, count}
+use Rattle.asl_tree.specs.Tree.{At, Tree, Integer, Omitted, Use, Package, VarPackage, Field, IndexField, BankField, Item, Fill, Misshapen, UnitName, Trees, no_trees, tree, count}
 use Rattle.asl_tree.specs.View.{fits, operated, symbol_of, form, operands_as, targets_of, plain_of, not_of, apply_of, buffer, body_bytes, counted, packaged, items_in}
-use Rattle.asl_shape.specs.Plans.{Plan, an_integer, a_text, a_fill, a_word, a_local, an_arg, debug, omitted, a_name, a_unit, a_skip, an_offset, a_call, a_form, Plans, no_plans, plan}
+use Rattle.asl_shape.specs.Plans.{Plan, an_integer, a_text, a_fill, a_word, a_local, an_arg, debug, omitted, a_name, a_unit, a_skip, an_offset, an_access, a_call, a_form, Plans, no_plans, plan}
 use Rattle.asl_numbers.specs.Numbers.{inside, nodes, numbered, numbered_all}
 use Rattle.named_sessions.specs.Places.{IsIn, IsWithin, AreWithin, AreItemsWithin}
 use Rattle.descriptor_shapes.specs.Places.{PlanWithin, PlansWithin}
@@ -84,6 +84,16 @@ module _ (files : ℕ) where
 
   items_within : (ts : Trees) → AreWithin files ts → SomeWithin (items_in ts)
   items_within no_trees h = tt
+  items_within (tree (Use at name) ts) h = by_rest (items_in ts) (items_within ts h.1)
+    where
+      by_rest : (o : Option (List (FieldItem UnitName))) → SomeWithin o → SomeWithin (choose o None (λ items. Some (ConnectionItem (ToName at name) ∷ items)))
+      by_rest None k = tt
+      by_rest (Some items) k = (h.0, k)
+  items_within (tree (Fill bytes) ts) h = by_rest (items_in ts) (items_within ts h.1)
+    where
+      by_rest : (o : Option (List (FieldItem UnitName))) → SomeWithin o → SomeWithin (choose o None (λ items. Some (ConnectionItem (ToBytes bytes) ∷ items)))
+      by_rest None k = tt
+      by_rest (Some items) k = (tt, k)
   items_within (tree (Item item) ts) h = by_rest (items_in ts) (items_within ts h.1)
     where
       by_rest : (o : Option (List (FieldItem UnitName))) → SomeWithin o → SomeWithin (choose o None (λ items. Some (item ∷ items)))
@@ -162,6 +172,7 @@ module _ (files : ℕ) where
     numbered_in at next (a_unit segment bits) h k = h
     numbered_in at next (a_skip bits) h k = tt
     numbered_in at next (an_offset bytes) h k = tt
+    numbered_in at next (an_access access attribute count) h k = tt
     numbered_in at next (a_call name args) h k = (h, all_in next args k)
     numbered_in at next (a_form op args body) h k = form_within at op (numbered_all next args) (numbered_all (next + nodes args) body) h (all_in next args k.0) (all_in (next + nodes args) body k.1)
 

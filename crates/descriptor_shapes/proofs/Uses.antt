@@ -8,12 +8,12 @@ use Rattle.asl_tree.specs.Names.{is_searched, single_in, denoted}
 use Rattle.asl_tree.specs.declared.path.Path.{Path}
 use Rattle.asl_tree.specs.declared.term.NamedDescriptor.{NamedDescriptor}
 use Rattle.asl_tree.specs.Tree.{At, Use}
-use Rattle.asl_shape.specs.Plans.{Plan, an_integer, a_text, a_fill, a_word, a_local, an_arg, debug, omitted, a_name, a_unit, a_skip, an_offset, a_call, a_form, Plans, no_plans, plan}
+use Rattle.asl_shape.specs.Plans.{Plan, an_integer, a_text, a_fill, a_word, a_local, an_arg, debug, omitted, a_name, a_unit, a_skip, an_offset, an_access, a_call, a_form, Plans, no_plans, plan}
 use Rattle.asl_numbers.specs.Numbers.{inside, nodes, numbered, numbered_all}
 use Rattle.aml_code.specs.Fronts.{AreSegments, HasStart}
 use Rattle.descriptor_names.specs.Senses.{Sense, Nothing, ADescriptor, AField, descriptor_sense, field_sense, outer_segments, outer_path, sense_of, Position, Value, Spot, AnyPath, APath, Written}
 use Rattle.descriptor_names.specs.Resolved.{Among, Arguments, Contents, OfCall, resolved_use, resolved_call, inner, position_in, is_in_bits, resolved, resolved_from}
-use Rattle.descriptor_shapes.proofs.Like.{Like, LikeInteger, LikeString, LikeSlot, LikeDebug, LikeOmitted, LikeFill, LikeItem, Declared, Moved, Counted, LikeCall, LikeAll, SameUnit, SameSkip, SameOffset, LikeFrom, NoneFrom, MoreFrom, StaysUsed}
+use Rattle.descriptor_shapes.proofs.Like.{Like, LikeInteger, LikeString, LikeSlot, LikeDebug, LikeOmitted, LikeFill, LikeItem, Declared, Moved, Counted, LikeCall, LikeAll, SameUnit, SameSkip, SameOffset, SameAccess, LikeFrom, NoneFrom, MoreFrom, StaysUsed}
 use Rattle.descriptor_shapes.proofs.Forms.{values_by, form_like}
 
 -- ---- a path without its last segment
@@ -113,6 +113,7 @@ module _ (has : AbsolutePath → Bool) (look : AbsolutePath → Option NamedDesc
     term_like bits p (a_unit segment n) scope at to next more = LikeItem (SameUnit at to segment n)
     term_like bits p (a_skip n) scope at to next more = LikeItem (SameSkip n)
     term_like bits p (an_offset n) scope at to next more = LikeItem (SameOffset n)
+    term_like bits p (an_access access attribute count) scope at to next more = LikeItem (SameAccess access attribute count)
     term_like bits p (a_call name args) scope at to next more =
         LikeCall name (resolved_call name (sense_of has look name scope)) (call_stays name (sense_of has look name scope) (sense_stays name scope)) (values_by (λ n. refl) (from_like OfCall 0 bits args scope next more))
     term_like bits p (a_form op args body) scope at to next more =

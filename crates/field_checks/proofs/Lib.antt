@@ -1,2 +1,3 @@
+pub mod UnitFaults
 pub mod Terms
 pub mod Walk

@@ -9,13 +9,13 @@ use Rattle.asl_shape.specs.Shapes.{fault_at}
 use Rattle.field_layout.specs.Layout.{item_fault}
 use Rattle.field_checks.specs.Lists.{item_in, list_errors, term_errors, all_errors}
 
-plans_at : (nodes : List Node) (i : ℕ) (node : Node) → i < length nodes → node ≡ get_or nodes i node → plans_of (drop i nodes) ≡ plan node.place (plan_of node.term) (plans_of (drop (suc i) nodes))
+pub plans_at : (nodes : List Node) (i : ℕ) (node : Node) → i < length nodes → node ≡ get_or nodes i node → plans_of (drop i nodes) ≡ plan node.place (plan_of node.term) (plans_of (drop (suc i) nodes))
 unfolding plans_of
 plans_at [] i node lt e = absurd (omega (arith, lt))
 plans_at (n ∷ nodes) zero node lt e = ap (λ (m : Node). plan m.place (plan_of m.term) (plans_of nodes)) (sym e)
 plans_at (n ∷ nodes) (suc i) node lt e = plans_at nodes i node (omega (arith, lt)) e
 
-no_more : (nodes : List Node) (i : ℕ) → length nodes ≤ i → plans_of (drop i nodes) ≡ no_plans
+pub no_more : (nodes : List Node) (i : ℕ) → length nodes ≤ i → plans_of (drop i nodes) ≡ no_plans
 unfolding plans_of
 no_more [] zero le = refl
 no_more [] (suc i) le = refl

@@ -18,6 +18,7 @@ use Rattle.acpi_state.specs.Acts.{Operand, OfValue, OfKept, number_of}
 use Rattle.acpi_state.specs.FieldActs.{region_extent, FieldForm, SomeBits, form_at, form_bits, new_field}
 use Rattle.acpi_state.specs.Forms.{buffer_of, largest_size, element_count, all_uninitialized, followed, package_of, innermost_of, here, Slot, LocalSlot, ArgSlot, slot_of, slot_here, object_value, spot_in, reference_to, cond_ref_of}
 use Rattle.acpi_state.specs.Registers.{register_of}
+use Rattle.asl_meaning.specs.FieldTerms.{resource_of}
 use Rattle.hidden_locals.specs.Worlds.{World, shown_at, shown_for, shown_here, hide_frames, hide, Clear, AreClear, ClearPlace, ClearHeld, ClearOption, ClearSpot, ClearOperands, numbers, ClearStore, ClearSource}
 use Rattle.hidden_locals.specs.Blind.{GivenOk, BlindAt, Blind}
 use Rattle.hidden_locals.specs.Terms.{IsShownSlot}
@@ -102,6 +103,9 @@ module _ (w : World) where
   blind_extent width (OfValue v ∷ OfValue u ∷ []) h =
       blind_then w (Fine w) (number_of width v) _ (blind_number w width v h.0) (λ a p. blind_then w (Fine w) (number_of width u) _ (blind_number w width u h.1.0) (λ b q. blind_give w (Fine w) (a, b) tt))
   blind_extent width os h = blind_fail w (Fine w) WrongType
+
+  pub blind_resource : (size : ℕ) (bytes : List ℕ) → Sees w (resource_of size bytes)
+  blind_resource size bytes = blind_if w (Fine w) (nat_lt largest_size (max size (length bytes))) _ _ (blind_fail w (Fine w) Size) (blind_give w (Fine w) _ tt)
 
   pub blind_register : (entry : AbsolutePath × Object) → Sees w (register_of entry)
   blind_register (path, UnitObject unit) = blind_give w (Fine w) unit tt

@@ -23,12 +23,13 @@ use Rattle.acpi_state.specs.FieldActs.{region_letters, region_extent, field_lett
 use Rattle.acpi_state.specs.Forms.{buffer_of, package_of, slot_here, object_value, cond_ref_of}
 use Rattle.acpi_state.specs.Loops.{is_true, after_turn, loop}
 use Rattle.acpi_state.specs.Uses.{use_object}
-use Rattle.asl_tree.specs.FieldItems.{Placed as PlacedUnit, placed_from}
+use Rattle.asl_tree.specs.FieldItems.{FieldItem, UnitItem, SkipItem, OffsetItem, AccessItem, ConnectionItem}
+use Rattle.asl_tree.specs.declared.path.Path.{Path}
 use Rattle.asl_tree.specs.Names.{Known, place_of}
 use Rattle.asl_tree.specs.Symbols.{compound_operator}
 use Rattle.asl_tree.specs.Tree.{Tree, Integer, Constant, String, InSlot, Debug, Omitted, Raw, Use, Call, Apply, Buffer, Package, VarPackage, CondRefOf, Name, Alias, External, Method, Mutex, Event, Container', Scope, Fill, Misshapen, Trees, no_trees, tree, OperationRegion, Field, IndexField, BankField, CreateField, If, ElseIf, Else, While, Switch, Case, Default, Continue, Item, Operated, Assigned, AssignedBy, UnitName}
 use Rattle.asl_tree.specs.Tree as T
-use Rattle.asl_meaning.specs.FieldTerms.{create_unit, create_units}
+use Rattle.asl_meaning.specs.FieldTerms.{Cursor, first_unit, behind_bits, at_byte, accessed, length_or_none, connected_to, create_unit, connect, create_units}
 use Rattle.asl_meaning.specs.Meaning as S
 use Rattle.asl_meaning.specs.Meaning.{store_last, two_values, call_method, target_operator, leave_switch}
 use Rattle.hidden_locals.specs.Crossing.{NoContinue, Lasts, Lasting, has_continue, have_continue}
@@ -90,9 +91,13 @@ lasting_left {m = m} h = record { by = λ s. by_result (m s).result (m s).state 
     by_result (Done Break) t p = tt
     by_result (Stopped x) t p = tt
 
-lasting_units : (unit : Extent → FieldUnit) (flags : ℕ) (scope : AbsolutePath) (units : List (PlacedUnit UnitName)) → Lasting (create_units unit flags scope units)
-lasting_units unit flags scope [] = lasting_done (Normal false) tt
-lasting_units unit flags scope (placed ∷ rest) = lasting_then (create_unit unit flags scope placed.name.segment placed.at placed.bits) (λ u. lasting_units unit flags scope rest)
+lasting_units : (leads : Path → Run Trees AbsolutePath) (unit : Extent → FieldUnit) (scope : AbsolutePath) (c : Cursor) (items : List (FieldItem UnitName)) → Lasting (create_units leads unit scope c items)
+lasting_units leads unit scope c [] = lasting_done (Normal false) tt
+lasting_units leads unit scope c (UnitItem name bits ∷ items) = lasting_then (create_unit unit scope c name.segment bits) (λ u. lasting_units leads unit scope (behind_bits c bits) items)
+lasting_units leads unit scope c (SkipItem bits ∷ items) = lasting_units leads unit scope (behind_bits c bits) items
+lasting_units leads unit scope c (OffsetItem bytes ∷ items) = lasting_units leads unit scope (at_byte c bytes) items
+lasting_units leads unit scope c (AccessItem access attribute count ∷ items) = lasting_units leads unit scope (accessed c access attribute (length_or_none count)) items
+lasting_units leads unit scope c (ConnectionItem to ∷ items) = lasting_then (connect leads to) (λ x. lasting_units leads unit scope (connected_to c x) items)
 
 first_false : (a b : Bool) → (a || b) ≡ false → a ≡ false
 first_false true b h = h
@@ -199,9 +204,9 @@ module _ (width : Width) (known : Known) (turns : ℕ) (call : AbsolutePath → 
     lasting T.Break h scope due = lasting_done Break tt
     lasting Continue h scope due = absurd (grind arith)
     lasting (OperationRegion at name space args) h scope due = lasting_then (Ops region_letters args scope) (λ os. lasting_then (act (region_extent width os)) (λ e. lasting_normal (create (place_of name scope) (RegionObject space e.0 e.1))))
-    lasting (Field here from region flags items) h scope due = lasting_then (S.region_at known region scope) (λ r. lasting_units (InRegion r) flags scope (placed_from 0 items))
-    lasting (IndexField here from index to register flags items) h scope due = lasting_then (S.register_at known index scope) (λ i. lasting_then (S.register_at known register scope) (λ r. lasting_units (BehindIndex i r) flags scope (placed_from 0 items)))
-    lasting (BankField here from region to bank value flags items) h scope due = lasting_then (S.region_at known region scope) (λ r. lasting_then (S.register_at known bank scope) (λ b. lasting_then (N value scope) (λ n. lasting_units (InBank r b n) flags scope (placed_from 0 items))))
+    lasting (Field here from region flags items) h scope due = lasting_then (S.region_at known region scope) (λ r. lasting_units (λ name. S.region_at known name scope) (InRegion r) scope (first_unit flags) items)
+    lasting (IndexField here from index to register flags items) h scope due = lasting_then (S.register_at known index scope) (λ i. lasting_then (S.register_at known register scope) (λ r. lasting_units (λ name. S.region_at known name scope) (BehindIndex i r) scope (first_unit flags) items))
+    lasting (BankField here from region to bank value flags items) h scope due = lasting_then (S.region_at known region scope) (λ r. lasting_then (S.register_at known bank scope) (λ b. lasting_then (N value scope) (λ n. lasting_units (λ name. S.region_at known name scope) (InBank r b n) scope (first_unit flags) items)))
     lasting (CreateField form args at name) h scope due = lasting_then (Ops (field_letters form) args scope) (λ os. lasting_then (act (new_field width form os)) (λ made. lasting_then (create (place_of name scope) (BufferFieldObject made.0)) (λ u. lasting_normal (act (keep_own (place_of name scope) made.0.source made.1)))))
     lasting Debug h scope due = lasting_stop (Faulted WrongType)
     lasting Omitted h scope due = lasting_stop Broken

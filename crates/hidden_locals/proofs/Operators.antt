@@ -17,13 +17,13 @@ use Rattle.acpi_state.specs.Objects.{Object, DataObject, MethodObject, Container
 use Rattle.acpi_state.specs.Outcomes.{Action}
 use Rattle.acpi_state.specs.Actions.{give, fail, computed, and_then, emit, ask_number}
 use Rattle.acpi_state.specs.Places.{put}
-use Rattle.acpi_state.specs.Stores.{Spot, Nowhere, DebugObject, At, held, read, direct, store}
+use Rattle.acpi_state.specs.Stores.{Spot, Nowhere, DebugObject, At, held, read, direct, store, store_to}
 use Rattle.acpi_state.specs.Acts as A
 use Rattle.acpi_state.specs.Acts.{Operand, OfValue, OfKept, OfSpot, OfNumber, Order, act_of, data_of, datum_of, number_of}
 use Rattle.hidden_locals.specs.Worlds.{World, Clear, ClearPlace, ClearHeld, ClearAll, ClearOption, ClearSpot, ClearOperands}
 use Rattle.hidden_locals.specs.Blind.{GivenOk, Blind}
 use Rattle.hidden_locals.proofs.Places.{Fine, blind_give, blind_fail, blind_then, blind_computed, blind_emit, blind_ask_number, blind_at, blind_put}
-use Rattle.hidden_locals.proofs.Stores.{Sees, blind_if, blind_read, blind_held, blind_direct, blind_store}
+use Rattle.hidden_locals.proofs.Stores.{Sees, blind_if, blind_read, blind_held, blind_direct, blind_store, blind_store_to}
 
 module _ (w : World) where
   abbrev pub Results : Action (List Value) → Type 0
@@ -104,7 +104,12 @@ module _ (w : World) where
   blind_step next width os h = wrong
 
   blind_store_value : (width : Width) (os : List Operand) → ClearOperands w os → Results (A.store_value width os)
-  blind_store_value width (OfValue v ∷ OfSpot spot ∷ []) h = blind_then w (ClearAll w) (store width spot v) (λ u. A.give_one v) (blind_store w width spot v h.1.0 h.0) (λ u p. one v h.0)
+  blind_store_value width (OfValue v ∷ OfSpot spot ∷ []) h =
+      blind_then w (ClearAll w) (store_to width spot v) (λ answer. A.give_one (A.answer_or answer v)) (blind_store_to w width spot v h.1.0 h.0) (λ answer p. given answer p)
+    where
+      given : (answer : Option Value) → ClearHeld w answer → Results (A.give_one (A.answer_or answer v))
+      given None p = one v h.0
+      given (Some answer) p = one answer p
   blind_store_value width os h = wrong
 
   blind_copy : (width : Width) (os : List Operand) → ClearOperands w os → Results (A.copy_object width os)

@@ -10,7 +10,7 @@ use Rattle.acpi_values.specs.Values.{Value, Reference, Named}
 use Rattle.acpi_values.specs.Operators.{Letter, Valued, Kept, Placed, Used, Row, row_of}
 use Rattle.acpi_values.specs.Operators as L
 use Rattle.acpi_state.specs.Objects.{Object, DataObject, MethodObject, RegionObject, UnitObject, BufferFieldObject, ExternalObject, ExternalMethod, ExternalData, ExternalOther, Names, operand_count, is_method}
-use Rattle.acpi_state.specs.FieldUnits.{Extent, FieldUnit}
+use Rattle.acpi_state.specs.FieldUnits.{ToObject, ToResource, Extent, FieldUnit}
 use Rattle.acpi_state.specs.Finds.{first_there, reached, existing}
 use Rattle.acpi_state.specs.Outcomes.{Flow, Normal, Gives, NoValue, Break, Continue, Return, Unfinished, Broken, Run, done, stop, then_run, act, choose, value_of, on_flow}
 use Rattle.acpi_state.specs.Loops.{is_true, after_turn, loop}
@@ -22,11 +22,11 @@ use Rattle.acpi_state.specs.FieldActs.{region_extent, make_region, FieldForm, ne
 use Rattle.acpi_state.specs.Forms.{Slot, LocalSlot, ArgSlot, slot_here, if_data, object_value, spot_in}
 use Rattle.acpi_state.specs.Registers.{register_of}
 use Rattle.acpi_state.specs.Uses.{use_object, call_written}
-use Rattle.asl_tree.specs.FieldItems.{Placed as PlacedUnit}
+use Rattle.asl_tree.specs.FieldItems.{FieldItem, UnitItem, SkipItem, OffsetItem, AccessItem, ConnectionItem, Connected, ToName, ToBytes}
 use Rattle.asl_tree.specs.Names.{Known, is_known, denoted, element_path}
 use Rattle.asl_tree.specs.declared.path.Path.{Path}
 use Rattle.asl_tree.specs.Tree.{Tree, InSlot, Use, Call, Raw, Trees, UnitName}
-use Rattle.asl_meaning.specs.FieldTerms.{create_units}
+use Rattle.asl_meaning.specs.FieldTerms.{Cursor, behind_bits, at_byte, accessed, length_or_none, connected_to, resource_of, connect, create_units}
 use Rattle.asl_meaning.specs.Meaning as S
 use Rattle.asl_meaning.specs.Meaning.{SourceRun, SpotForm, OfResult, OfInside, NoSpot, store_last}
 use Rattle.hidden_locals.specs.Worlds.{World, shown_here, Clear, ClearPlace, ClearAll, ClearOption, ClearSpot, ClearOperand, ClearOperands, ClearFlow, ClearObject, Later}
@@ -140,10 +140,22 @@ module _ (convert : Trees → Trees) (IsKept : Trees → Type 0) (reach : Reach)
   pub from_created : (w : World) (path : AbsolutePath) (object : Object) → ((w' : World) → ClearObject w' object) → Same w ClearFlow (then_run (create path object) (λ u. done (Normal false))) (then_run (create path object) (λ u. done (Normal false)))
   from_created w path object h = from_then convert IsKept reach w ClearFlow (λ f. f) _ (from_create convert IsKept reach w path object (λ w' later. h w')) (λ w' later u p. same_flow w' (Normal false) (λ w'. tt))
 
-  pub from_units : (w : World) (unit : Extent → FieldUnit) (flags : ℕ) (scope : AbsolutePath) (units : List (PlacedUnit UnitName)) → Same w ClearFlow (create_units unit flags scope units) (create_units unit flags scope units)
-  from_units w unit flags scope [] = same_flow w (Normal false) (λ w'. tt)
-  from_units w unit flags scope (placed ∷ rest) =
-      from_then convert IsKept reach w ClearFlow (λ f. f) _ (from_create convert IsKept reach w (placed.name.segment ∷ scope) (UnitObject (unit (record { at = placed.at; bits = placed.bits; flags = flags }))) (λ w' later. tt)) (λ w' later u p. from_units w' unit flags scope rest)
+  -- what the units of a field are connected to, and the units
+  from_connect : (w : World) (known : Known) (scope : AbsolutePath) (to : Connected) → Same w Any (connect (λ name. S.region_at known name scope) to) (connect (λ name. S.region_at known name scope) to)
+  from_connect w known scope (ToName at name) = from_then convert IsKept reach w Any (λ x. x) _ (from_region_at w known name scope) (λ w' later path p. same_any w' (ToObject path))
+  from_connect w known scope (ToBytes bytes) =
+      from_then convert IsKept reach w Any (λ x. x) _ (from_act convert IsKept reach w Any (resource_of (length bytes) bytes) (λ w' later. F.blind_resource w' (length bytes) bytes)) (λ w' later bytes p. same_any w' (ToResource bytes))
+
+  pub from_units : (w : World) (known : Known) (unit : Extent → FieldUnit) (scope : AbsolutePath) (c : Cursor) (items : List (FieldItem UnitName)) →
+      Same w ClearFlow (create_units (λ name. S.region_at known name scope) unit scope c items) (create_units (λ name. S.region_at known name scope) unit scope c items)
+  from_units w known unit scope c [] = same_flow w (Normal false) (λ w'. tt)
+  from_units w known unit scope c (UnitItem name bits ∷ items) =
+      from_then convert IsKept reach w ClearFlow (λ f. f) _ (from_create convert IsKept reach w (name.segment ∷ scope) (UnitObject (unit (record { at = c.at; bits = bits; flags = c.flags; link = c.link }))) (λ w' later. tt)) (λ w' later u p. from_units w' known unit scope (behind_bits c bits) items)
+  from_units w known unit scope c (SkipItem bits ∷ items) = from_units w known unit scope (behind_bits c bits) items
+  from_units w known unit scope c (OffsetItem bytes ∷ items) = from_units w known unit scope (at_byte c bytes) items
+  from_units w known unit scope c (AccessItem access attribute count ∷ items) = from_units w known unit scope (accessed c access attribute (length_or_none count)) items
+  from_units w known unit scope c (ConnectionItem to ∷ items) =
+      from_then convert IsKept reach w ClearFlow (λ f. f) _ (from_connect w known scope to) (λ w' later x p. from_units w' known unit scope (connected_to c x) items)
 
   -- regions and buffer fields
   pub from_region : (w : World) (width : Width) (path : AbsolutePath) (space : ℕ) (os : List Operand) → ClearOperands w os → Same w ClearFlow (make_region width path space os) (make_region width path space os)

@@ -17,7 +17,7 @@ use Rattle.acpi_state.specs.Actions.{change, give, and_then, go_on, needed}
 use Rattle.acpi_state.specs.Activations.{outer_of}
 use Rattle.acpi_state.specs.Places.{slot, frame_of, with_frame, put}
 use Rattle.acpi_state.specs.Stores.{read}
-use Rattle.acpi_state.specs.Acts.{OfValue, act_of, last_of}
+use Rattle.acpi_state.specs.Acts.{OfValue, give_one, answer_or, act_of, last_of}
 use Rattle.asl_tree.specs.Names.{Known}
 use Rattle.asl_tree.specs.Tree.{Tree, Trees, no_trees, tree}
 use Rattle.asl_meaning.specs.Meaning as S
@@ -153,7 +153,9 @@ module _ (width : Width) (known : Known) (turns : ℕ) (call : AbsolutePath → 
       after_value i scope (record { result = Done v; state = with_frames s (f ∷ fs) }) ≡ record { result = Done (Gives v); state = with_frames s (set_first i v (f ∷ fs)) }
   stored_first f fs i v s scope =
       let t = with_frames s (f ∷ fs) in
-      ap (λ (r : Step (Unit {0}) × Store). let q = go_on r.0 (λ u. give (v ∷ [])) t.names r.1 in next (step_result q.0) (record t { store = q.1 }) (λ rs. done (last_of rs))) (put_first f fs i v width t.names t.store refl)
+      let unanswered : Step (Unit {0}) × Store → Step (Option Value) × Store = λ r. go_on r.0 (λ u. give {A = Option Value} None) t.names r.1 in
+      let given : Step (Option Value) × Store → Step (List Value) × Store = λ r. go_on r.0 (λ answer. give_one (answer_or answer v)) t.names r.1 in
+      ap (λ (r : Step (Unit {0}) × Store). let q = given (unanswered r) in next (step_result q.0) (record t { store = q.1 }) (λ rs. done (last_of rs))) (put_first f fs i v width t.names t.store refl)
 
   pub stored_runs : (value : Tree) (i : ℕ) (scope : AbsolutePath) (due : Bool) (s t : State Trees) (v : Value) → then_run (R value scope false) value_of s ≡ record { result = Done v; state = t } → (f : Frame) (fs : List Frame) → t.store.frames ≡ f ∷ fs →
       R (stored value (local i)) scope due s ≡ record { result = Done (Gives v); state = with_frames t (set_first i v t.store.frames) }

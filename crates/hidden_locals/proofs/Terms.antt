@@ -20,7 +20,7 @@ use Rattle.acpi_state.specs.Stores.{Spot, Nowhere, DebugObject, At, read, store}
 use Rattle.acpi_state.specs.Acts.{Operand, OfValue, OfSpot}
 use Rattle.acpi_state.specs.FieldActs.{region_letters, field_letters}
 use Rattle.acpi_state.specs.Forms.{buffer_of, package_of, cond_ref_of}
-use Rattle.asl_tree.specs.FieldItems.{placed_from}
+use Rattle.asl_meaning.specs.FieldTerms.{first_unit}
 use Rattle.asl_tree.specs.Literals.{literal_number}
 use Rattle.asl_tree.specs.Names.{Known, place_of}
 use Rattle.asl_tree.specs.Symbols.{compound_operator}
@@ -174,14 +174,14 @@ module _ (convert : Trees → Trees) (IsKept : Trees → Type 0) (reach : Reach)
     runs Continue h w f scope due = P.same_flow convert IsKept reach w O.Continue (λ u. tt)
     runs (OperationRegion at name space args) h w f scope due =
         then_flow w (operands_of region_letters args h w f scope) (λ w' later os p. P.from_region convert IsKept reach w' width (place_of name scope) space os p)
-    runs (Field here from region flags items) h w f scope due = then_flow w (P.from_region_at convert IsKept reach w known region scope) (λ w' later r p. P.from_units convert IsKept reach w' (InRegion r) flags scope (placed_from 0 items))
+    runs (Field here from region flags items) h w f scope due = then_flow w (P.from_region_at convert IsKept reach w known region scope) (λ w' later r p. P.from_units convert IsKept reach w' known (InRegion r) scope (first_unit flags) items)
     runs (IndexField here from index to register flags items) h w f scope due =
         then_flow w (P.from_register_at convert IsKept reach w known index scope)
-        (λ w' later i p. then_flow w' (P.from_register_at convert IsKept reach w' known register scope) (λ u after r q. P.from_units convert IsKept reach u (BehindIndex i r) flags scope (placed_from 0 items)))
+        (λ w' later i p. then_flow w' (P.from_register_at convert IsKept reach w' known register scope) (λ u after r q. P.from_units convert IsKept reach u known (BehindIndex i r) scope (first_unit flags) items))
     runs (BankField here from region to bank value flags items) h w f scope due =
         then_flow w (P.from_region_at convert IsKept reach w known region scope)
         (λ w' later r p. then_flow w' (P.from_register_at convert IsKept reach w' known bank scope)
-        (λ u after b q. then_flow u (P.from_size convert IsKept reach u width known (runs value h u (are_shown_later shown w u (later_then w w' u later after) f) scope false)) (λ z last n s. P.from_units convert IsKept reach z (InBank r b n) flags scope (placed_from 0 items))))
+        (λ u after b q. then_flow u (P.from_size convert IsKept reach u width known (runs value h u (are_shown_later shown w u (later_then w w' u later after) f) scope false)) (λ z last n s. P.from_units convert IsKept reach z known (InBank r b n) scope (first_unit flags) items)))
     runs (CreateField form args at name) h w f scope due =
         then_flow w (operands_of (field_letters form) args h w f scope) (λ w' later os p. P.from_buffer_field convert IsKept reach w' width form (place_of name scope) os p)
     runs (Item item) h w f scope due = P.same_broken convert IsKept reach w ClearFlow

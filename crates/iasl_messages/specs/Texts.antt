@@ -53,6 +53,9 @@ text_of number =
     if number == 6070 then codes "offset goes back" else (
     if number == 6071 then codes "bad width" else (
     if number == 6072 then codes "access is wider than the region" else (
+    if number == 6073 then codes "space needs buffer access" else (
+    if number == 6074 then codes "buffer access is not allowed" else (
+    if number == 6075 then codes "connection is missing" else (
     if number == 6080 then codes "table is too long" else (
     if number == 6090 then codes "unknown table" else (
     if number == 6091 then codes "field is missing" else (
@@ -68,4 +71,4 @@ text_of number =
     if number == 6103 then codes "length disagrees with the header" else (
     if number == 6110 then codes "unknown data type" else (
     if number == 6111 then codes "label is declared twice" else (
-    if number == 6112 then codes "label is not found" else []))))))))))))))))))))))))))))))))))))))))))))))))))))))))))))))))
+    if number == 6112 then codes "label is not found" else [])))))))))))))))))))))))))))))))))))))))))))))))))))))))))))))))))))

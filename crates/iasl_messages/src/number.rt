@@ -148,6 +148,15 @@ pub const BAD_WIDTH: u16 = 6071;
 /// Access is wider than the region.
 pub const ACCESS_WIDER_THAN_REGION: u16 = 6072;
 
+/// Space needs buffer access.
+pub const SPACE_NEEDS_BUFFER_ACCESS: u16 = 6073;
+
+/// Buffer access is not allowed.
+pub const BUFFER_ACCESS_NOT_ALLOWED: u16 = 6074;
+
+/// Connection is missing.
+pub const CONNECTION_IS_MISSING: u16 = 6075;
+
 /// Table is too long.
 pub const TABLE_IS_TOO_LONG: u16 = 6080;
 

@@ -1,6 +1,7 @@
 pub mod Rows
 mod ValueRows
 mod FieldRows
+mod SerialRows
 mod SessionRows
 mod ControlRows
 pub mod SwitchRows

@@ -3,7 +3,7 @@ use Rattle.std.specs.Prelude.{◌≡◌, ◌++◌, Bool, List, [], get_or, map}
 use Rattle.acpi_values.specs.Paths.{AbsolutePath}
 use Rattle.asl_meaning.specs.Declarations.{Declarations, declared_kinds}
 use Rattle.acpi_state.specs.Objects.{lookup}
-use Rattle.acpi_names.specs.Errors.{NameError, Twice, DeclaredHere, Missing, NoContainer, LeavesRoot, Differs, TooLong, WrongCount, WrongKind, UnbuiltSpace}
+use Rattle.acpi_names.specs.Errors.{NameError, Twice, DeclaredHere, Missing, NoContainer, LeavesRoot, Differs, TooLong, WrongCount, WrongKind}
 use Rattle.acpi_names.specs.Shown.{spot_as, written_as}
 use Rattle.name_kinds.specs.Kinds.{kind_as, type_as}
 use Rattle.name_kinds.specs.Tables.{TabledBy}
@@ -21,7 +21,6 @@ fault_as paths (F.Differs at name) = Differs (spot_as at) (written_as name)
 fault_as paths (F.TooLong at name) = TooLong (spot_as at) (written_as name)
 fault_as paths (F.WrongCount at name) = WrongCount (spot_as at) (written_as name)
 fault_as paths (F.WrongKind at name) = WrongKind (spot_as at) (written_as name)
-fault_as paths (F.UnbuiltSpace at) = UnbuiltSpace (spot_as at)
 
 -- these errors more
 abbrev pub Finds : List AbsolutePath → List Fault → List Fault → List NameError → Type 0

@@ -5,7 +5,7 @@ use Rattle.iasl_messages.specs.declared.message.Message.{Message}
 use Rattle.iasl_messages.specs.declared.place.Place.{Place}
 use Rattle.asl_tree.specs.declared.path.Path.{Path}
 use Rattle.asl_tree.specs.Tree.{Trees}
-use Rattle.acpi_names.specs.Errors.{NameError, Twice, DeclaredHere, Missing, NoContainer, LeavesRoot, Differs, TooLong, WrongCount, WrongKind, UnbuiltSpace, name_errors, type_errors}
+use Rattle.acpi_names.specs.Errors.{NameError, Twice, DeclaredHere, Missing, NoContainer, LeavesRoot, Differs, TooLong, WrongCount, WrongKind, name_errors, type_errors}
 
 -- each segment behind a dot
 abbrev pub dotted : List NameSeg → List ℕ
@@ -42,7 +42,6 @@ message_of (Differs at name) = message 6045 at.place (name_text name)
 message_of (TooLong at name) = message 6046 at.place (name_text name)
 message_of (WrongCount at name) = message 6051 at.place (name_text name)
 message_of (WrongKind at name) = message 6054 at.place (name_text name)
-message_of (UnbuiltSpace at) = message 6020 at.place []
 
 -- the errors of names, or where there are none those of kinds and counts
 abbrev pub first_errors : List NameError → List NameError → List NameError

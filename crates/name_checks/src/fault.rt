@@ -35,8 +35,6 @@ pub enum Fault<'a> {
     WrongCount { at: Spot, name: WrittenName<'a> },
     /// An object that is not of the kind that is asked for.
     WrongKind { at: Spot, name: WrittenName<'a> },
-    /// A field over a space that is not built.
-    UnbuiltSpace { at: Spot },
 }
 
 // Segments, each behind a dot.
@@ -198,11 +196,6 @@ pub fn message(alloc: Global, paths: &Paths, fault: Fault) -> Result<Message, Al
             name,
         )?),
         Fault::WrongKind { at, name } => Ok(named(alloc, number::WRONG_OBJECT_KIND, at, name)?),
-        Fault::UnbuiltSpace { at } => Ok(Message {
-            number: number::UNKNOWN_OPERATOR,
-            place: at.place,
-            name: Text::new(alloc),
-        }),
     }
 }
 

@@ -24,8 +24,7 @@ use acpi_names::place::scope_in;
 use asl_tree::path::Path;
 use name_kinds::facts::{Facts, end, is_named_at};
 use name_kinds::kind::{
-    End, External, is_container, is_event, is_method, is_mutex, is_region, is_unbuilt, is_unit,
-    operand_count,
+    End, External, is_container, is_event, is_method, is_mutex, is_region, is_unit, operand_count,
 };
 use name_kinds::tables::{Tables, is_in_root, place};
 use std::alloc::AllocError;
@@ -461,15 +460,6 @@ fn ends_at_region(end: Option<End>) -> bool
     }
 }
 
-fn ends_at_unbuilt(end: Option<End>) -> bool
-    ensures { (paths : List AbsolutePath) → result ≡ spec.is_unbuilt (ended paths end) }
-{
-    match end {
-        None => false,
-        Some(end) => is_unbuilt(end.object),
-    }
-}
-
 /// The errors of the kind of a used name, of which something is asked.
 pub fn asked_types<'a>(
     out: &mut Vec<Fault<'a>>,
@@ -506,13 +496,8 @@ pub fn asked_types<'a>(
             unless(out, ends_at_unit(end), Fault::WrongKind { at, name })?;
             Ok(())
         }
-        Asked::Region(field) => {
+        Asked::Region(_) => {
             unless(out, ends_at_region(end), Fault::WrongKind { at, name })?;
-            unless(
-                out,
-                !ends_at_unbuilt(end),
-                Fault::UnbuiltSpace { at: field },
-            )?;
             Ok(())
         }
     }

@@ -359,11 +359,11 @@ static OBJECTS: [(&str, &str); 19] = [
     ),
     ("E5:A___ I:A___=A___=C___", ""),
     ("E0:A___ F:A___=C___", "6054 2.2 A___; "),
-    // Spaces that no field can lie in.
-    ("G4:R___ F:R___=A___", "6020 2.1 ; "),
+    // The space of a region is not asked here.
+    ("G4:R___ F:R___=A___", ""),
     (
         "G8:R___ A:R___=S___ G1:T___ F:T___=A___ B:S___=A___=B___",
-        "6020 5.1 ; ",
+        "",
     ),
 ];
 

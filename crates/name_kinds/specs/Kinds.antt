@@ -39,6 +39,11 @@ abbrev pub at_root : AbsolutePath → Option S.Object
 at_root [] = Some (ContainerObject OfRoot)
 at_root (seg ∷ scope) = lookup root_objects (seg ∷ scope)
 
+-- the address space of a region of this source
+abbrev pub space_of : Option (AbsolutePath × S.Object) → Option ℕ
+space_of (Some (path, S.RegionObject space offset length)) = Some space
+space_of _ = None
+
 -- what a path other than the root is: as it is declared last, as of another table, or of the root
 abbrev pub kind_from : Option N.Kind → Option ExternalType → Option ℕ → Option S.Object → Option N.Kind
 kind_from (Some kind) external first object = Some kind

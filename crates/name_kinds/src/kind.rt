@@ -4,8 +4,8 @@ ghost use Rattle.std.specs.Option.{option_map};
 ghost use Rattle.acpi_values.specs.Paths.{AbsolutePath};
 ghost use Rattle.acpi_state.specs.Objects.{root_objects, lookup, operand_count as count_of, is_method as method_is};
 ghost use Rattle.asl_meaning.specs.Declarations.{external_object, arity_from as arity_is};
-ghost use Rattle.acpi_names.specs.Errors.{is_container as container_is, is_mutex as mutex_is, is_event as event_is, is_region as region_is, is_unit as unit_is, is_unbuilt as unbuilt_is};
-ghost use Rattle.name_kinds.specs.Kinds.{object_as, outside_as, type_as};
+ghost use Rattle.acpi_names.specs.Errors.{is_container as container_is, is_mutex as mutex_is, is_event as event_is, is_region as region_is, is_unit as unit_is};
+ghost use Rattle.name_kinds.specs.Kinds.{object_as, outside_as, type_as, space_of};
 ghost use Rattle.name_kinds.specs.declared.kind.Object.TheVariants as O;
 
 use acpi_names::part::What;
@@ -166,16 +166,13 @@ pub fn is_unit(object: Object) -> bool
     }
 }
 
-/// Whether an object is a region of this source that no field can lie in, as its space is SMBus, IPMI,
-/// GeneralPurposeIO or GenericSerialBus.
-pub fn is_unbuilt(object: Object) -> bool
-    ensures { (path : AbsolutePath) → result ≡ unbuilt_is (Some (path, object_as object)) }
+/// The address space of a region of this source (ACPI Specification 6.4, 19.6.100).
+pub fn space_in(object: Object) -> Option<u64>
+    ensures { (path : AbsolutePath) → result ≡ space_of (Some (path, object_as object)) }
 {
     match object {
-        Object::Declared(What::Region(space)) => {
-            space == 4 || space == 7 || space == 8 || space == 9
-        }
-        _ => false,
+        Object::Declared(What::Region(space)) => Some(space),
+        _ => None,
     }
 }
 

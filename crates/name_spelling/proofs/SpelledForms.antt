@@ -16,11 +16,11 @@ use Rattle.asl_tree.specs.declared.term.Special.TheVariants as Special
 use Rattle.asl_tree.specs.declared.term.Symbolic.TheVariants as Symbolic
 use Rattle.asl_tree.specs.Names.{place_of}
 use Rattle.acpi_names.specs.Shortest.{spelled_use}
-use Rattle.asl_tree.specs.Tree.{At, Tree, Apply, Integer, Constant, Raw, Omitted, Use, External, Package, VarPackage, Misshapen, Trees, no_trees, tree, count, Field, IndexField, BankField, UnitName}
-use Rattle.asl_tree.specs.View.{fits, operated, symbol_of, form, operands_as, targets_of, plain_of, apply_of, buffer, body_bytes, packaged, counted, items_in}
+use Rattle.asl_tree.specs.Tree.{At, Tree, Apply, Integer, Constant, Raw, Omitted, Use, External, Package, VarPackage, Misshapen, Trees, no_trees, tree, count, Field, IndexField, BankField, UnitName, Item, Fill}
+use Rattle.asl_tree.specs.View.{fits, operated, symbol_of, form, operands_as, targets_of, plain_of, apply_of, buffer, body_bytes, packaged, counted, item_in, items_in}
 use Rattle.asl_meaning.specs.Declarations.{ExternalType}
 use Rattle.acpi_names.specs.Parts.{part_of}
-use Rattle.acpi_names.specs.Spelled.{spelled, spelled_all, spelled_elements}
+use Rattle.acpi_names.specs.Spelled.{item_spelled, items_spelled, spelled, spelled_all, spelled_elements}
 use Rattle.name_spelling.specs.Spelling.{external_type, number_or_zero, part_args, part_body, value_args, value_body}
 use Rattle.acpi_names.specs.Walked.{value_form_of, fitting_value}
 use Rattle.acpi_names.specs.declared.part.ValueForm.TheVariants as V
@@ -132,9 +132,35 @@ module _ (shorten : Bool) (has : AbsolutePath → Bool) (says : AbsolutePath →
   spelled_packaged (Integer n) elements = spelled_counted n elements
   spelled_packaged size elements = refl
 
-  by_items : (o : Option (List (FieldItem UnitName))) (made more : List (FieldItem UnitName) → Tree) → ((items : List (FieldItem UnitName)) → spells (made items) ≡ more items) → spells (choose o Misshapen made) ≡ choose o Misshapen more
-  by_items None made more h = refl
-  by_items (Some items) made more h = h items
+  -- the items of a field's body are spelled where its trees are
+  abbrev spelled_list : Option (List (FieldItem UnitName)) → Option (List (FieldItem UnitName))
+  spelled_list o = choose o None (λ items. Some (items_spelled shorten has items scope))
+
+  item_spelled_in : (t : Tree) → item_in (spells t) ≡ choose (item_in t) None (λ item. Some (item_spelled shorten has item scope))
+  item_spelled_in (Item item) = refl
+  item_spelled_in (Use at name) = refl
+  item_spelled_in (Fill bytes) = refl
+  item_spelled_in t = refl
+
+  items_spelled_in : (ts : Trees) → items_in (spells_all ts) ≡ spelled_list (items_in ts)
+  items_spelled_in no_trees = refl
+  items_spelled_in (tree t ts) =
+      ap (λ o. choose o None (λ item. choose (items_in (spells_all ts)) None (λ items. Some (item ∷ items)))) (item_spelled_in t)
+      ∙ ap (λ o. choose (choose (item_in t) None (λ item. Some (item_spelled shorten has item scope))) None (λ item. choose o None (λ items. Some (item ∷ items)))) (items_spelled_in ts)
+      ∙ joined (item_in t) (items_in ts)
+    where
+      joined : (o : Option (FieldItem UnitName)) (p : Option (List (FieldItem UnitName))) →
+          choose (choose o None (λ item. Some (item_spelled shorten has item scope))) None (λ item. choose (spelled_list p) None (λ items. Some (item ∷ items))) ≡ spelled_list (choose o None (λ item. choose p None (λ items. Some (item ∷ items))))
+      joined None p = refl
+      joined (Some item) None = refl
+      joined (Some item) (Some items) = refl
+
+  by_items : (body : Trees) (made more : List (FieldItem UnitName) → Tree) → ((items : List (FieldItem UnitName)) → spells (made items) ≡ more (items_spelled shorten has items scope)) → spells (choose (items_in body) Misshapen made) ≡ choose (items_in (spells_all body)) Misshapen more
+  by_items body made more h = by_option (items_in body) ∙ ap (λ o. choose o Misshapen more) (sym (items_spelled_in body))
+    where
+      by_option : (o : Option (List (FieldItem UnitName))) → spells (choose o Misshapen made) ≡ choose (spelled_list o) Misshapen more
+      by_option None = refl
+      by_option (Some items) = h items
 
   pub spelled_form : ((path : AbsolutePath) (e : ExternalType) → (says path e).parameters ≡ Some (number_or_zero (says path e).parameters)) → (at : At) (op : Op) (args body : Trees) → spells (form at op args body) ≡ form at op (part_args shorten has says (part_of op args body) (value_form_of op args body) args scope) (part_body shorten has says (part_of op args body) (value_form_of op args body) args body scope)
   spelled_form told here (Op.Declaration Declaration.Name) (tree (Use at name) (tree value no_trees)) no_trees = refl
@@ -150,9 +176,9 @@ module _ (shorten : Bool) (has : AbsolutePath → Bool) (says : AbsolutePath →
   spelled_form told here (Op.Declaration Declaration.Processor) (tree (Use at name) (tree (Integer number) (tree (Integer address) (tree (Integer size) no_trees)))) body = refl
   spelled_form told here (Op.Declaration Declaration.Scope) (tree (Use at name) no_trees) body = refl
   spelled_form told here (Op.Declaration Declaration.OperationRegion) (tree (Use at name) (tree (Integer space) (tree offset (tree size no_trees)))) no_trees = refl
-  spelled_form told here (Op.Declaration Declaration.Field) (tree (Use from region) (tree (Integer flags) no_trees)) body = by_items (items_in body) (λ items. Field here from region flags items) (λ items. Field here from (spelled_use has shorten region scope) flags items) (λ items. refl)
-  spelled_form told here (Op.Declaration Declaration.IndexField) (tree (Use from index) (tree (Use to register) (tree (Integer flags) no_trees))) body = by_items (items_in body) (λ items. IndexField here from index to register flags items) (λ items. IndexField here from (spelled_use has shorten index scope) to (spelled_use has shorten register scope) flags items) (λ items. refl)
-  spelled_form told here (Op.Declaration Declaration.BankField) (tree (Use from region) (tree (Use to bank) (tree value (tree (Integer flags) no_trees)))) body = by_items (items_in body) (λ items. BankField here from region to bank value flags items) (λ items. BankField here from (spelled_use has shorten region scope) to (spelled_use has shorten bank scope) (spells value) flags items) (λ items. refl)
+  spelled_form told here (Op.Declaration Declaration.Field) (tree (Use from region) (tree (Integer flags) no_trees)) body = by_items body (λ items. Field here from region flags items) (λ items. Field here from (spelled_use has shorten region scope) flags items) (λ items. refl)
+  spelled_form told here (Op.Declaration Declaration.IndexField) (tree (Use from index) (tree (Use to register) (tree (Integer flags) no_trees))) body = by_items body (λ items. IndexField here from index to register flags items) (λ items. IndexField here from (spelled_use has shorten index scope) to (spelled_use has shorten register scope) flags items) (λ items. refl)
+  spelled_form told here (Op.Declaration Declaration.BankField) (tree (Use from region) (tree (Use to bank) (tree value (tree (Integer flags) no_trees)))) body = by_items body (λ items. BankField here from region to bank value flags items) (λ items. BankField here from (spelled_use has shorten region scope) to (spelled_use has shorten bank scope) (spells value) flags items) (λ items. refl)
   spelled_form told here (Op.Declaration Declaration.CreateField) (tree source (tree index (tree bits (tree (Use at name) no_trees)))) no_trees = refl
   spelled_form told here (Op.Declaration Declaration.CreateBitField) (tree source (tree index (tree (Use at name) no_trees))) no_trees = refl
   spelled_form told here (Op.Declaration Declaration.CreateByteField) (tree source (tree index (tree (Use at name) no_trees))) no_trees = refl

@@ -53,6 +53,7 @@ another t unnamed not_call not_form = by_layer (D.out-Term t) (sym (D.roll-out-T
     by_layer (D.Term-F.Unit p n) e = ap term_shape (e ∙ V.rolls-Unit p n)
     by_layer (D.Term-F.Skip n) e = ap term_shape (e ∙ V.rolls-Skip n)
     by_layer (D.Term-F.Offset n) e = ap term_shape (e ∙ V.rolls-Offset n)
+    by_layer (D.Term-F.Access access attribute count) e = ap term_shape (e ∙ V.rolls-Access access attribute count)
 
 module _ (shorten : Bool) (has : AbsolutePath → Bool) (says : AbsolutePath → ExternalType → ExternalType) (at : At) (scope : AbsolutePath) where
   pub name_spelled : (t : Term) (path new : Path) → t ≡ D.Name path → new ≡ spelled_use has shorten path scope → tree_of at (D.Name new) ≡ spelled shorten has says (tree_of at t) scope

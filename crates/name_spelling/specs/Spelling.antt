@@ -87,6 +87,7 @@ module _ (shorten : Bool) (has : AbsolutePath → Bool) (says : AbsolutePath →
   part_body (P.Declares n what opens) form args body scope = opened_body opens body (place_at n args scope)
   part_body P.Scope form args body scope = spelled_all shorten has says body (opened_at has args scope)
   part_body P.Within form args body scope = spelled_all shorten has says body scope
+  part_body (P.Units over) form args body scope = spelled_all shorten has says body scope
   part_body part form args body scope = body
 
 -- more paths with numbers, of which the same are named and the same are in a table

@@ -272,6 +272,7 @@ fn spell_form(
         }
         Part::Units(_) => {
             spell_all(alloc, index, calls, shorten, args, scope)?;
+            spell_all(alloc, index, calls, shorten, body, scope)?;
             Ok(())
         }
     }

@@ -12,12 +12,12 @@ use Rattle.acpi_state.specs.Outcomes.{choose}
 use Rattle.asl_tree.specs.declared.path.Path.{Path}
 use Rattle.acpi_values.specs.declared.operator.EventOp.TheVariants as EventOp
 use Rattle.acpi_values.specs.declared.operator.Plain.{Plain}
-use Rattle.asl_tree.specs.FieldItems.{FieldItem, UnitItem, SkipItem, OffsetItem}
+use Rattle.asl_tree.specs.FieldItems.{FieldItem, UnitItem, SkipItem, OffsetItem, AccessItem, ConnectionItem, ToName, ToBytes}
 use Rattle.asl_tree.specs.Names.{place_of, denoted}
 use Rattle.asl_tree.specs.Tree.{At, Tree, Use, Call, Apply, Buffer, Package, VarPackage, CondRefOf, Return, Name, Alias, External, Method, Mutex, Event, Container', Scope, Trees, no_trees, tree, count, OperationRegion, Field, IndexField, BankField, CreateField, UnitName, If, ElseIf, Else, While, Operated, Assigned, AssignedBy, Switch, Case, Default}
 use Rattle.asl_meaning.specs.Declarations.{As, ExternalType, Declarations, nothing_declared, is_named, scope_path, with_declared, declare, declare_item}
 use Rattle.asl_meaning.specs.Meaning.{SpotForm, OfResult, OfInside, NoSpot, spot_form}
-use Rattle.acpi_names.specs.Errors.{NameError, Twice, DeclaredHere, Missing, NoContainer, LeavesRoot, Differs, TooLong, WrongCount, WrongKind, UnbuiltSpace, Asked, Anything, AValue, AMutex, AnEvent, AUnit, ARegion, asked_by, unless, Whole, whole_of, step_errors, length_errors, is_new, has_parent, agrees_with, final, is_container, takes_none, takes, is_mutex, is_event, is_unit, is_region, is_unbuilt, unit_path, declared_errors, external_errors, use_errors, call_errors, scope_errors, item_errors, items_errors, cond_errors, names, names_all, name_end, asked_types, used_types, letter_types, spot_form_types, element_types, types, spot_types, first_types, operand_types, spot_types_all, element_types_all, types_all, name_errors, type_errors}
+use Rattle.acpi_names.specs.Errors.{NameError, Twice, DeclaredHere, Missing, NoContainer, LeavesRoot, Differs, TooLong, WrongCount, WrongKind, Asked, Anything, AValue, AMutex, AnEvent, AUnit, ARegion, asked_by, unless, Whole, whole_of, step_errors, length_errors, is_new, has_parent, agrees_with, final, is_container, takes_none, takes, is_mutex, is_event, is_unit, is_region, unit_path, declared_errors, external_errors, use_errors, call_errors, scope_errors, item_errors, items_errors, cond_errors, names, names_all, name_end, asked_types, used_types, letter_types, spot_form_types, element_types, types, spot_types, first_types, operand_types, spot_types_all, element_types_all, types_all, name_errors, type_errors}
 use Rattle.named_sessions.specs.Places.{IsIn, IsItemWithin, AreItemsWithin, IsWithin, AreWithin, at_of}
 
 -- an External that may be called and does not say how many arguments it takes
@@ -92,6 +92,9 @@ module _ (files : ℕ) where
     item_told (UnitItem name bits) scope d h = declared_told name.at (unit_path name.segment) scope d h
     item_told (SkipItem bits) scope d h = tt
     item_told (OffsetItem bytes) scope d h = tt
+    item_told (AccessItem access attribute length) scope d h = tt
+    item_told (ConnectionItem (ToName at name)) scope d h = use_told at name scope h
+    item_told (ConnectionItem (ToBytes bytes)) scope d h = tt
 
     items_told : (items : List (FieldItem UnitName)) (scope : AbsolutePath) (d : Declarations) → AreItemsWithin files items → AreTold (items_errors whole items scope d)
     items_told [] scope d h = tt
@@ -149,8 +152,7 @@ module _ (files : ℕ) where
     asked_told AMutex at name scope h k = unless_told (is_mutex (name_end whole name scope)) (WrongKind at name) h
     asked_told AnEvent at name scope h k = unless_told (is_event (name_end whole name scope)) (WrongKind at name) h
     asked_told AUnit at name scope h k = unless_told (is_unit (name_end whole name scope)) (WrongKind at name) h
-    asked_told (ARegion field) at name scope h k =
-        both _ _ (unless_told (is_region (name_end whole name scope)) (WrongKind at name) h) (unless_told (not (is_unbuilt (name_end whole name scope))) (UnbuiltSpace field) k)
+    asked_told (ARegion field) at name scope h k = unless_told (is_region (name_end whole name scope)) (WrongKind at name) h
 
     operator_asks : (op : Plain) → IsAskedIn (asked_by op)
     operator_asks (Plain.Event EventOp.Acquire) = tt

@@ -16,7 +16,7 @@ use Rattle.asl_tree.specs.Names.{AliasTo, Known, is_known, kind_at, end_of, belo
 use Rattle.asl_meaning.specs.Declarations.{Declared, As, AliasOf, ExternalType, Declarations, in_root, is_named, scope_path, with_declared, with_external, declare, declare_all, kind_of, as_unit, as_buffer_field, declare_items}
 use Rattle.asl_meaning.specs.Meaning.{SpotForm, OfResult, OfInside, NoSpot, spot_form}
 use Rattle.acpi_state.specs.FieldActs.{region_letters, field_letters}
-use Rattle.asl_tree.specs.FieldItems.{FieldItem, UnitItem, SkipItem, OffsetItem}
+use Rattle.asl_tree.specs.FieldItems.{FieldItem, UnitItem, SkipItem, OffsetItem, AccessItem, ConnectionItem, ToName, ToBytes}
 use Rattle.asl_tree.specs.Tree.{At, Tree, Integer, Constant, String, InSlot, Debug, Omitted, Raw, Use, Call, Apply, Buffer, Package, VarPackage, CondRefOf, Return, Name, Alias, External, Method, Mutex, Event, Container', Scope, Fill, Misshapen, Operated, Assigned, AssignedBy, Trees, no_trees, tree, count, OperationRegion, Field, IndexField, BankField, CreateField, UnitName, If, ElseIf, Else, While, Break, Continue, Item, Switch, Case, Default}
 use Rattle.asl_meaning.proofs.Searches.{first_is_known, absolute_candidates}
 use Rattle.aml_code.specs.Fronts.{is_segment, AreSegments, IsName, HasStart, IsUsedName}
@@ -24,7 +24,7 @@ use Rattle.aml_sessions.specs.Ready.{is_expression, AtMostOne, Denotes, IsSought
 use Rattle.acpi_names.specs.Errors.{NameError, Twice, Missing, NoContainer, WrongCount, Asked, Anything, AUnit, ARegion, asked_by, unless, Whole, step_errors, is_new, final, is_container, takes_none, takes, declared_errors, use_errors, call_errors, scope_errors, names, names_all, name_end, types, types_all, cond_errors, asked_types, used_types, letter_types, spot_form_types, element_types, spot_types, first_types, operand_types, spot_types_all, element_types_all, unit_path, items_errors}
 use Rattle.acpi_names.specs.Shortest.{shortest, last_alone, upward, unsearched, leads_to, short_use, short_element, spelled_use, spelled_item}
 use Rattle.acpi_names.proofs.Shortest.{Each, each_kept, shortest_keeps, short_leads, short_element_placed}
-use Rattle.acpi_names.specs.Spelled.{spelled, spelled_all, element_spelled, spelled_elements}
+use Rattle.acpi_names.specs.Spelled.{spelled, spelled_all, element_spelled, items_spelled, spelled_elements}
 use Rattle.named_sessions.specs.Shaped.{LetterShaped, ElementShaped, IsShaped, IsShapedSpot, IsShapedAlone, AreShapedOperands, AreShapedSpots, AreShapedValues, AreShapedElements, AreShaped}
 
 pub left_none : {A : Type 0} (xs ys : List A) → xs ++ ys ≡ [] → xs ≡ []
@@ -155,6 +155,9 @@ module _ (whole : Whole) where
       within_then d d' (declare_items items scope d') (within_new d (name.segment ∷ scope) as_unit (new_of name.at (unit_path name.segment) scope d (left_none _ (items_errors whole items scope d') e))) (within_items items scope d' (right_none (declared_errors whole name.at (unit_path name.segment) scope d) _ e))
   within_items (SkipItem bits ∷ items) scope d e = within_items items scope d e
   within_items (OffsetItem bytes ∷ items) scope d e = within_items items scope d e
+  within_items (AccessItem access attribute length ∷ items) scope d e = within_items items scope d e
+  within_items (ConnectionItem (ToName at name) ∷ items) scope d e = within_items items scope d (right_none (use_errors whole at name scope) _ e)
+  within_items (ConnectionItem (ToBytes bytes) ∷ items) scope d e = within_items items scope d e
 
   -- a term without errors declares nothing twice
   mutual
@@ -489,21 +492,35 @@ module _ (shorten : Bool) (whole : Whole) (says : AbsolutePath → ExternalType 
         let e0 = left_none _ (names_all whole ts scope (declare t scope d)) e in
         (ready_element t scope d shaped.0 valid e0 (left_none _ (element_types_all whole ts scope) y) (λ x h y. ready_value t scope d x h valid e0 y), ready_elements ts scope (declare t scope d) shaped.1 valid (right_none (names whole t scope d) _ e) (right_none (element_types whole t (types whole t scope)) _ y))
 
-  -- the units of a field are known
-  ready_units : (items : List (FieldItem UnitName)) (scope : AbsolutePath) (d : Declarations) (at : ℕ) → AreItems at items → items_errors whole items scope d ≡ [] → Within (declare_items items scope d) whole.all → AreUnits known items scope
-  ready_units [] scope d at shaped e w = tt
-  ready_units (UnitItem name bits ∷ items) scope d at shaped e w =
+  -- a used name without errors is found
+  is_found : (at : At) (name : Path) (scope : AbsolutePath) → IsUsedName name → AreSegments scope → use_errors whole at name scope ≡ [] → IsFound known (spelled_use has shorten name scope) scope
+  is_found at name scope used valid e = let f = found shorten at name scope used valid e in (f.path, f.spells)
+
+  -- the units of a field are known, and its connections are found
+  ready_units : (items : List (FieldItem UnitName)) (scope : AbsolutePath) (d : Declarations) (at : ℕ) → AreItems at items → AreSegments scope → items_errors whole items scope d ≡ [] → Within (declare_items items scope d) whole.all → AreUnits known (items_spelled shorten has items scope) scope
+  ready_units [] scope d at shaped valid e w = tt
+  ready_units (UnitItem name bits ∷ items) scope d at shaped valid e w =
       let d' = with_declared (name.segment ∷ scope) as_unit d in
       let e' = right_none (declared_errors whole name.at (unit_path name.segment) scope d) _ e in
       let w' = within_then d' (declare_items items scope d') whole.all (within_items whole items scope d' e') w in
       let written : IsName (unit_path name.segment) = record { segments = (shaped.0.0, tt); count = omega arith; rooted = λ root. refl } in
-      ((declared_known name.at (unit_path name.segment) scope d as_unit (left_none _ (items_errors whole items scope d') e) w' written).is, ready_units items scope d' (at + bits) shaped.1 e' w)
-  ready_units (SkipItem bits ∷ items) scope d at shaped e w = ready_units items scope d (at + bits) shaped.1 e w
-  ready_units (OffsetItem bytes ∷ items) scope d at shaped e w = ready_units items scope d (8 * bytes) shaped.1 e w
+      ((declared_known name.at (unit_path name.segment) scope d as_unit (left_none _ (items_errors whole items scope d') e) w' written).is, ready_units items scope d' (at + bits) shaped.1 valid e' w)
+  ready_units (SkipItem bits ∷ items) scope d at shaped valid e w = ready_units items scope d (at + bits) shaped.1 valid e w
+  ready_units (OffsetItem bytes ∷ items) scope d at shaped valid e w = ready_units items scope d (8 * bytes) shaped.1 valid e w
+  ready_units (AccessItem access attribute length ∷ items) scope d at shaped valid e w = ready_units items scope d at shaped.1 valid e w
+  ready_units (ConnectionItem (ToName to name) ∷ items) scope d at shaped valid e w =
+      (is_found to name scope shaped.0 valid (left_none _ (items_errors whole items scope d) e), ready_units items scope d at shaped.1 valid (right_none (use_errors whole to name scope) _ e) w)
+  ready_units (ConnectionItem (ToBytes bytes) ∷ items) scope d at shaped valid e w = (tt, ready_units items scope d at shaped.1 valid e w)
 
-  -- a used name without errors is found
-  is_found : (at : At) (name : Path) (scope : AbsolutePath) → IsUsedName name → AreSegments scope → use_errors whole at name scope ≡ [] → IsFound known (spelled_use has shorten name scope) scope
-  is_found at name scope used valid e = let f = found shorten at name scope used valid e in (f.path, f.spells)
+  -- the items of a field can be written once their names are spelled
+  ready_items : (items : List (FieldItem UnitName)) (scope : AbsolutePath) (at : ℕ) → AreItems at items → AreUnits known (items_spelled shorten has items scope) scope → AreItems at (items_spelled shorten has items scope)
+  ready_items [] scope at shaped units = tt
+  ready_items (UnitItem name bits ∷ items) scope at shaped units = (shaped.0, ready_items items scope (at + bits) shaped.1 units.1)
+  ready_items (SkipItem bits ∷ items) scope at shaped units = (shaped.0, ready_items items scope (at + bits) shaped.1 units)
+  ready_items (OffsetItem bytes ∷ items) scope at shaped units = (shaped.0, ready_items items scope (8 * bytes) shaped.1 units)
+  ready_items (AccessItem access attribute length ∷ items) scope at shaped units = (shaped.0, ready_items items scope at shaped.1 units)
+  ready_items (ConnectionItem (ToName to name) ∷ items) scope at shaped units = (units.0.1.used, ready_items items scope at shaped.1 units.1)
+  ready_items (ConnectionItem (ToBytes bytes) ∷ items) scope at shaped units = (tt, ready_items items scope at shaped.1 units.1)
 
   mutual
     ready : (t : Tree) (scope : AbsolutePath) (d : Declarations) → IsShaped t → AreSegments scope → names whole t scope d ≡ [] → types whole t scope ≡ [] → Within (declare t scope d) whole.all → IsReady known (spelled shorten has says t scope) scope
@@ -565,15 +582,18 @@ module _ (shorten : Bool) (whole : Whole) (says : AbsolutePath → ExternalType 
     ready (OperationRegion at name space args) scope d shaped valid e y w =
         (declared_known at name scope d (As (RegionObject space 0 0)) (left_none _ (names_all whole args scope d) e) w shaped.0, shaped.1, ready_operands Anything region_letters args scope d shaped.2 valid (right_none (declared_errors whole at name scope d) _ e) y)
     ready (Field here from region flags items) scope d shaped valid e y w =
-        (is_found from region scope shaped.0 valid (left_none _ (items_errors whole items scope d) e), shaped.1, shaped.2, ready_units items scope d 0 shaped.2 (right_none (use_errors whole from region scope) _ e) w)
+        let units = ready_units items scope d 0 shaped.2 valid (right_none (use_errors whole from region scope) _ e) w in
+        (is_found from region scope shaped.0 valid (left_none _ (items_errors whole items scope d) e), shaped.1, ready_items items scope 0 shaped.2 units, units)
     ready (IndexField here from index to register flags items) scope d shaped valid e y w =
         let e' = right_none (use_errors whole from index scope) _ e in
-        (is_found from index scope shaped.0 valid (left_none _ (use_errors whole to register scope ++ items_errors whole items scope d) e), is_found to register scope shaped.1 valid (left_none _ (items_errors whole items scope d) e'), shaped.2, shaped.3, ready_units items scope d 0 shaped.3 (right_none (use_errors whole to register scope) _ e') w)
+        let units = ready_units items scope d 0 shaped.3 valid (right_none (use_errors whole to register scope) _ e') w in
+        (is_found from index scope shaped.0 valid (left_none _ (use_errors whole to register scope ++ items_errors whole items scope d) e), is_found to register scope shaped.1 valid (left_none _ (items_errors whole items scope d) e'), shaped.2, ready_items items scope 0 shaped.3 units, units)
     ready (BankField here from region to bank value flags items) scope d shaped valid e y w =
         let e' = right_none (use_errors whole from region scope) _ e in
         let e'' = right_none (use_errors whole to bank scope) _ e' in
         let y' = right_none (asked_types whole AUnit to bank scope) (types whole value scope) (right_none (asked_types whole (ARegion here) from region scope) _ y) in
-        (is_found from region scope shaped.0 valid (left_none _ (use_errors whole to bank scope ++ (names whole value scope d ++ items_errors whole items scope d)) e), is_found to bank scope shaped.1 valid (left_none _ (names whole value scope d ++ items_errors whole items scope d) e'), same_expression shorten has says value scope ∙ shaped.2, ready_value value scope d shaped.2 shaped.3 valid (left_none _ (items_errors whole items scope d) e'') y', shaped.4, shaped.5, ready_units items scope d 0 shaped.5 (right_none (names whole value scope d) _ e'') w)
+        let units = ready_units items scope d 0 shaped.5 valid (right_none (names whole value scope d) _ e'') w in
+        (is_found from region scope shaped.0 valid (left_none _ (use_errors whole to bank scope ++ (names whole value scope d ++ items_errors whole items scope d)) e), is_found to bank scope shaped.1 valid (left_none _ (names whole value scope d ++ items_errors whole items scope d) e'), same_expression shorten has says value scope ∙ shaped.2, ready_value value scope d shaped.2 shaped.3 valid (left_none _ (items_errors whole items scope d) e'') y', shaped.4, ready_items items scope 0 shaped.5 units, units)
     ready (CreateField form args at name) scope d shaped valid e y w =
         (ready_operands Anything (field_letters form) args scope d shaped.0 valid (left_none _ (declared_errors whole at name scope d) e) y, declared_known at name scope d as_buffer_field (right_none (names_all whole args scope d) _ e) w shaped.1)
     ready (Item item) scope d shaped valid e y w = absurd shaped

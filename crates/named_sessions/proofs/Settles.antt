@@ -10,7 +10,7 @@ use Rattle.acpi_state.proofs.Lookups.{is_same_path-true}
 use Rattle.asl_tree.specs.declared.path.Path.{Path}
 use Rattle.asl_tree.specs.Names.{Is, Known, is_known, kind_at, place_of}
 use Rattle.asl_meaning.specs.Declarations.{Declared, As, AliasOf, ExternalType, Declarations, nothing_declared, in_root, is_named, scope_path, with_declared, with_external, declare, declare_all, declarations, calls_all, called, external_object, kind_of, declared_kinds, external_names, as_known, externals, known_of, as_unit, as_buffer_field, declare_items}
-use Rattle.asl_tree.specs.FieldItems.{FieldItem, UnitItem, SkipItem, OffsetItem}
+use Rattle.asl_tree.specs.FieldItems.{FieldItem, UnitItem, SkipItem, OffsetItem, AccessItem, ConnectionItem, ToName, ToBytes}
 use Rattle.asl_tree.specs.Tree.{At, Tree, Name, Alias, External, Method, Container', Scope, Trees, no_trees, tree, Mutex, Event, OperationRegion, Field, IndexField, BankField, CreateField, UnitName, If, ElseIf, Else, While, Switch, Case, Default}
 use Rattle.asl_meaning.proofs.Agreements.{AreKnownAs}
 use Rattle.asl_meaning.proofs.SameSessions.{IsKnownStart}
@@ -205,6 +205,9 @@ module _ (whole : Whole) where
       good_items items scope d' (right_none (declared_errors whole name.at (unit_path name.segment) scope d) _ e) (declared_good name.at (unit_path name.segment) scope d as_unit (left_none _ (items_errors whole items scope d') e) g)
   good_items (SkipItem bits ∷ items) scope d e g = good_items items scope d e g
   good_items (OffsetItem bytes ∷ items) scope d e g = good_items items scope d e g
+  good_items (AccessItem access attribute length ∷ items) scope d e g = good_items items scope d e g
+  good_items (ConnectionItem (ToName at name) ∷ items) scope d e g = good_items items scope d (right_none (use_errors whole at name scope) _ e) g
+  good_items (ConnectionItem (ToBytes bytes) ∷ items) scope d e g = good_items items scope d e g
 
   mutual
     good : (t : Tree) (scope : AbsolutePath) (d : Declarations) → names whole t scope d ≡ [] → AreGood whole.all d → AreGood whole.all (declare t scope d)

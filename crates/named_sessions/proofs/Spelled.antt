@@ -21,11 +21,11 @@ use Rattle.acpi_state.specs.Actions.{computed, write_named}
 use Rattle.acpi_state.specs.Activations.{create}
 use Rattle.acpi_state.specs.Stores.{Spot, Nowhere, DebugObject, At, read, store}
 use Rattle.acpi_state.specs.Acts.{Operand, OfValue, OfKept, OfSpot, OfNumber, number_of, act_of, last_of}
-use Rattle.acpi_state.specs.FieldUnits.{Extent, FieldUnit, InRegion, InBank, BehindIndex}
+use Rattle.acpi_state.specs.FieldUnits.{ToObject, ToResource, Extent, FieldUnit, InRegion, InBank, BehindIndex}
 use Rattle.acpi_state.specs.Registers.{register_of}
 use Rattle.acpi_state.specs.FieldActs.{region_letters, field_letters}
-use Rattle.asl_tree.specs.FieldItems.{Placed as PlacedUnit, placed_from}
-use Rattle.asl_meaning.specs.FieldTerms.{create_units}
+use Rattle.asl_tree.specs.FieldItems.{FieldItem, UnitItem, SkipItem, OffsetItem, AccessItem, ConnectionItem, Connected, ToName, ToBytes}
+use Rattle.asl_meaning.specs.FieldTerms.{Cursor, first_unit, behind_bits, at_byte, accessed, length_or_none, connected_to, resource_of, connect, create_units}
 use Rattle.acpi_state.specs.Forms.{buffer_of, package_of, slot_here, if_data, spot_in, cond_ref_of}
 use Rattle.acpi_state.proofs.Readings.{Any, EndsExpression, same_stop}
 use Rattle.asl_tree.specs.declared.path.Path.{Path}
@@ -42,7 +42,7 @@ use Rattle.aml_sessions.specs.Ready.{is_expression, SpotReady}
 use Rattle.aml_sessions.proofs.Steps.{EndsAs, as_expression, last_ends}
 use Rattle.acpi_names.specs.Shortest.{spelled_use}
 use Rattle.acpi_names.proofs.Shortest.{use_denotes, element_same}
-use Rattle.acpi_names.specs.Spelled.{inner_scope, element_spelled, spelled, spelled_all, spelled_elements}
+use Rattle.acpi_names.specs.Spelled.{inner_scope, element_spelled, connected_spelled, items_spelled, spelled, spelled_all, spelled_elements}
 use Rattle.named_sessions.specs.Shaped.{LetterShaped, ElementShaped, IsShaped, IsShapedSpot, IsShapedAlone, AreShapedOperands, AreShapedSpots, AreShapedValues, AreShapedElements, AreShaped}
 
 module _ (shorten : Bool) (width : Width) (says : AbsolutePath → ExternalType → ExternalType) (known : Known) where
@@ -172,10 +172,22 @@ module _ (shorten : Bool) (width : Width) (says : AbsolutePath → ExternalType 
   alike_register_at : (name : Path) (scope : AbsolutePath) → Alike Any (λ u. u) (S.register_at known name scope) (S.register_at known (spelled_use (is_known known) shorten name scope) scope)
   alike_register_at name scope = agree_then with_spelled Any (λ u. u) _ (alike_found name scope) (λ e any. agree_act with_spelled (register_of e))
 
-  alike_units : (unit : Extent → FieldUnit) (flags : ℕ) (scope : AbsolutePath) (units : List (PlacedUnit UnitName)) → Alike Any (λ f. f) (create_units unit flags scope units) (create_units unit flags scope units)
-  alike_units unit flags scope [] = agree_done with_spelled Any (λ f. f) (Normal false) tt
-  alike_units unit flags scope (placed ∷ later) =
-      agree_then with_spelled Any (λ f. f) _ (agree_create with_spelled (placed.name.segment ∷ scope) (UnitObject (unit (record { at = placed.at; bits = placed.bits; flags = flags }))) tt) (λ u any. alike_units unit flags scope later)
+  abbrev leads : AbsolutePath → Path → SourceRun AbsolutePath
+  leads scope name = S.region_at known name scope
+
+  alike_connect : (to : Connected) (scope : AbsolutePath) → Alike Any (λ x. x) (connect (leads scope) to) (connect (leads scope) (connected_spelled shorten (is_known known) to scope))
+  alike_connect (ToName at name) scope = agree_then with_spelled Any (λ x. x) _ (alike_region_at name scope) (λ path any. agree_done with_spelled Any (λ x. x) (ToObject path) tt)
+  alike_connect (ToBytes bytes) scope = agree_then with_spelled Any (λ x. x) _ (agree_act with_spelled (resource_of (length bytes) bytes)) (λ bytes any. agree_done with_spelled Any (λ x. x) (ToResource bytes) tt)
+
+  alike_units : (unit : Extent → FieldUnit) (scope : AbsolutePath) (c : Cursor) (items : List (FieldItem UnitName)) →
+      Alike Any (λ f. f) (create_units (leads scope) unit scope c items) (create_units (leads scope) unit scope c (items_spelled shorten (is_known known) items scope))
+  alike_units unit scope c [] = agree_done with_spelled Any (λ f. f) (Normal false) tt
+  alike_units unit scope c (UnitItem name bits ∷ items) =
+      agree_then with_spelled Any (λ f. f) _ (agree_create with_spelled (name.segment ∷ scope) (UnitObject (unit (record { at = c.at; bits = bits; flags = c.flags; link = c.link }))) tt) (λ u any. alike_units unit scope (behind_bits c bits) items)
+  alike_units unit scope c (SkipItem bits ∷ items) = alike_units unit scope (behind_bits c bits) items
+  alike_units unit scope c (OffsetItem bytes ∷ items) = alike_units unit scope (at_byte c bytes) items
+  alike_units unit scope c (AccessItem access attribute length ∷ items) = alike_units unit scope (accessed c access attribute (length_or_none length)) items
+  alike_units unit scope c (ConnectionItem to ∷ items) = agree_then with_spelled Any (λ f. f) _ (alike_connect to scope) (λ x any. alike_units unit scope (connected_to c x) items)
 
 module _ (shorten : Bool) (width : Width) (says : AbsolutePath → ExternalType → ExternalType) (known : Known) (turns : ℕ) (call call' : AbsolutePath → List Value → Run Trees Flow) (calls : (path : AbsolutePath) (args : List Value) → Alike shorten width says known EndsExpression (λ f. f) (call path args) (call' path args)) where
   abbrev G : Reading Trees
@@ -256,15 +268,15 @@ module _ (shorten : Bool) (width : Width) (says : AbsolutePath → ExternalType 
     alike (OperationRegion at name space args) scope due h =
         agree_then G Any (λ f. f) _ (alike_operands region_letters args scope h.2) (λ os any. agree_region G width (place_of name scope) space os (λ offset size. tt))
     alike (Field here from region flags items) scope due h =
-        agree_then G Any (λ f. f) _ (alike_region_at shorten width says known region scope) (λ r any. alike_units shorten width says known (InRegion r) flags scope (placed_from 0 items))
+        agree_then G Any (λ f. f) _ (alike_region_at shorten width says known region scope) (λ r any. alike_units shorten width says known (InRegion r) scope (first_unit flags) items)
     alike (IndexField here from index to register flags items) scope due h =
         agree_then G Any (λ f. f) _ (alike_register_at shorten width says known index scope)
-        (λ i any. agree_then G Any (λ f. f) _ (alike_register_at shorten width says known register scope) (λ r any. alike_units shorten width says known (BehindIndex i r) flags scope (placed_from 0 items)))
+        (λ i any. agree_then G Any (λ f. f) _ (alike_register_at shorten width says known register scope) (λ r any. alike_units shorten width says known (BehindIndex i r) scope (first_unit flags) items))
     alike (BankField here from region to bank value flags items) scope due h =
         agree_then G Any (λ f. f) _ (alike_region_at shorten width says known region scope)
         (λ r any. agree_then G Any (λ f. f) _ (alike_register_at shorten width says known bank scope)
         (λ b any. agree_then G Any (λ f. f) _ (alike_size shorten width says known _ _ (alike_value shorten width says known (is_expression value) _ _ h.2 (alike value scope false h.3)))
-        (λ k any. alike_units shorten width says known (InBank r b k) flags scope (placed_from 0 items))))
+        (λ k any. alike_units shorten width says known (InBank r b k) scope (first_unit flags) items)))
     alike (CreateField form args at name) scope due h =
         agree_then G Any (λ f. f) _ (alike_operands (field_letters form) args scope h.0) (λ os any. agree_buffer_field G width form (place_of name scope) os (λ field. tt))
     alike (Item item) scope due h = absurd h

@@ -1,17 +1,23 @@
 -- Where the nodes of trees and the errors of names stand.
 use Rattle.std.specs.Prelude.{ℕ, ◌<◌, List, [], ◌∷◌}
-use Rattle.asl_tree.specs.FieldItems.{FieldItem, UnitItem, SkipItem, OffsetItem}
+use Rattle.asl_tree.specs.FieldItems.{FieldItem, UnitItem, SkipItem, OffsetItem, AccessItem, ConnectionItem, Connected, ToName, ToBytes}
 use Rattle.asl_tree.specs.Tree.{At, Tree, Use, Call, Apply, Buffer, Package, VarPackage, CondRefOf, Return, Name, Alias, External, Method, Mutex, Event, Container', Scope, Trees, no_trees, tree, OperationRegion, Field, IndexField, BankField, CreateField, UnitName, If, Else, While, Item, ElseIf, Operated, Assigned, AssignedBy, Switch, Case, Default}
-use Rattle.acpi_names.specs.Errors.{NameError, Twice, DeclaredHere, Missing, NoContainer, LeavesRoot, Differs, TooLong, WrongCount, WrongKind, UnbuiltSpace}
+use Rattle.acpi_names.specs.Errors.{NameError, Twice, DeclaredHere, Missing, NoContainer, LeavesRoot, Differs, TooLong, WrongCount, WrongKind}
 
 -- a node in one of so many files
 abbrev pub IsIn : ℕ → At → Type 0
 IsIn files at = at.place.file < files
 
+abbrev pub IsConnectedWithin : ℕ → Connected → Type 0
+IsConnectedWithin files (ToName at name) = IsIn files at
+IsConnectedWithin files (ToBytes bytes) = Unit {0}
+
 abbrev pub IsItemWithin : ℕ → FieldItem UnitName → Type 0
 IsItemWithin files (UnitItem name bits) = IsIn files name.at
 IsItemWithin files (SkipItem bits) = Unit {0}
 IsItemWithin files (OffsetItem bytes) = Unit {0}
+IsItemWithin files (AccessItem access attribute length) = Unit {0}
+IsItemWithin files (ConnectionItem to) = IsConnectedWithin files to
 
 abbrev pub AreItemsWithin : ℕ → List (FieldItem UnitName) → Type 0
 AreItemsWithin files [] = Unit {0}
@@ -69,4 +75,3 @@ at_of (Differs at name) = at
 at_of (TooLong at name) = at
 at_of (WrongCount at name) = at
 at_of (WrongKind at name) = at
-at_of (UnbuiltSpace at) = at

@@ -5,10 +5,10 @@ use Rattle.acpi_values.specs.Operators as L
 use Rattle.acpi_state.specs.FieldActs.{region_letters, field_letters}
 use Rattle.asl_meaning.specs.Meaning.{spot_form}
 use Rattle.asl_tree.specs.Tree.{Tree, Integer, Constant, String, InSlot, Debug, Omitted, Raw, Use, Call, Apply, Buffer, Package, VarPackage, CondRefOf, Return, Name, Alias, External, Method, Mutex, Event, Container', Scope, Fill, Misshapen, Operated, Assigned, AssignedBy, Trees, no_trees, tree, count, OperationRegion, Field, IndexField, BankField, CreateField, UnitName, If, ElseIf, Else, While, Break, Continue, Item, Switch, Case, Default}
-use Rattle.asl_tree.specs.FieldItems.{FieldItem, UnitItem, SkipItem, OffsetItem}
+use Rattle.asl_tree.specs.FieldItems.{FieldItem, UnitItem, SkipItem, OffsetItem, AccessItem, ConnectionItem}
 use Rattle.aml_code.specs.Fronts.{IsName, IsUsedName, is_segment}
 use Rattle.aml_meaning.specs.Codes.{HasOwnCode, IsSlot}
-use Rattle.aml_sessions.specs.Ready.{IsText, is_expression, is_constant, FitsContainer, RawReady, SpotReady, AreItems}
+use Rattle.aml_sessions.specs.Ready.{IsText, is_expression, is_constant, FitsContainer, RawReady, SpotReady, IsConnection, IsItem, AreItems}
 
 abbrev pub UsedShaped : Tree → Type 0
 UsedShaped (Use at name) = IsUsedName name
@@ -25,12 +25,14 @@ abbrev pub ElementShaped : Tree → Type 0 → Type 0
 ElementShaped (Use at name) shaped = IsUsedName name
 ElementShaped t shaped = (is_constant t ≡ true) × shaped
 
--- each unit of a field's list has a segment as its name
+-- each unit of a field's list has a segment as its name, each access has bytes, and each connection that is a name one that can be written
 abbrev pub AreNamed : List (FieldItem UnitName) → Type 0
 AreNamed [] = Unit {0}
 AreNamed (UnitItem name bits ∷ items) = (is_segment name.segment ≡ true) × AreNamed items
 AreNamed (SkipItem bits ∷ items) = AreNamed items
 AreNamed (OffsetItem bytes ∷ items) = AreNamed items
+AreNamed (AccessItem access attribute length ∷ items) = IsItem 0 (AccessItem access attribute length) × AreNamed items
+AreNamed (ConnectionItem to ∷ items) = IsConnection to × AreNamed items
 
 -- the size of what a Case compares with is a number
 abbrev pub IsNumber : Tree → Type 0

@@ -4,11 +4,11 @@ use Rattle.std.specs.Prelude.{replicate}
 use Rattle.std.proofs.Math.Nat.{one-le-pow}
 use Rattle.acpi_values.specs.Operators.{Letter, Valued, Kept, Placed, Used, Row}
 use Rattle.acpi_values.specs.Operators as L
-use Rattle.asl_tree.specs.FieldItems.{OffsetItem}
+use Rattle.asl_tree.specs.FieldItems.{AccessItem}
 use Rattle.asl_tree.specs.Tree.{Tree, Integer, String, Omitted, Use, Fill, Item, Case, Default, Trees, no_trees, tree, count}
 use Rattle.asl_tree.specs.View.{fits, operands_as, targets_of}
 use Rattle.aml_code.specs.Fronts.{IsName, IsUsedName}
-use Rattle.aml_sessions.specs.Ready.{is_expression, IsText}
+use Rattle.aml_sessions.specs.Ready.{is_expression, IsText, IsItem}
 use Rattle.named_sessions.specs.Shaped.{UsedShaped, ElementShaped, IsFormed, IsFormedSpot, AreFormedOperands, AreFormedSpots, AreFormedValues, AreFormedElements, AreFormed, AreNamed, IsFormedAlone, AreFormedCases, IsNumber, IsCaseMember, IsCaseValue}
 use Rattle.asl_words.specs.declared.operator.Parameter.{Parameter}
 use Rattle.asl_words.specs.declared.operator.Slot.{Slot}
@@ -81,11 +81,23 @@ abbrev pub IsString : Tree → Type 0
 IsString (String text) = IsText text
 IsString _ = ⊥
 
--- what an element of a field's list begins with: the name of a unit, or an Offset
+-- an element of a field's list, or the name that one begins with
 abbrev pub IsElement : Tree → Type 0
 IsElement (Use at name) = IsUsedName name
-IsElement (Item (OffsetItem bytes)) = Unit {0}
+IsElement (Fill bytes) = Unit {0}
+IsElement (Item item) = AreNamed (item ∷ [])
 IsElement _ = ⊥
+
+-- an attribute that has a length has bytes; any other is a number
+abbrev pub IsAttribute : Tree → Type 0
+IsAttribute (Item (AccessItem access attribute count)) = IsItem 0 (AccessItem access attribute count)
+IsAttribute _ = Unit {0}
+
+-- what units are connected to: a name, or the bytes of a descriptor
+abbrev pub IsConnected : Tree → Type 0
+IsConnected (Use at name) = IsUsedName name
+IsConnected (Fill bytes) = Unit {0}
+IsConnected _ = ⊥
 
 -- the bytes of a descriptor
 abbrev pub IsFill : Tree → Type 0
@@ -103,6 +115,8 @@ Fits slot.Used t = UsedShaped t
 Fits (slot.Constant least most) t = IsAtMost most t
 Fits slot.Measure t = IsAtMost 18446744073709551615 t
 Fits (slot.Word kind) t = IsAtMost 255 t
+Fits (slot.WordBelow kind limit) t = IsAtMost 255 t
+Fits (slot.WordOrByte kind) t = IsAtMost 255 t
 Fits slot.Space t = IsAtMost 255 t
 Fits (slot.Types most) t = IsNumber t
 Fits (slot.String form) t = IsString t
@@ -110,8 +124,13 @@ Fits (slot.MacroText m) t = (is_expression t ≡ true) × Formed t
 Fits slot.Element t = ElementShaped t (Formed t)
 Fits slot.RegisterSpace t = IsAtMost 255 t
 Fits slot.DescriptorName t = IsElement t
-Fits slot.Descriptor t = IsFill t
+Fits slot.Vacant t = ⊥
+Fits (slot.Descriptor chosen) t = IsFill t
 Fits slot.FieldElement t = IsElement t
+Fits slot.WholeElement t = IsElement t
+Fits slot.AccessType t = Unit {0}
+Fits slot.Attribute t = IsAttribute t
+Fits slot.Connected t = IsConnected t
 Fits (slot.Term run) t = Formed t
 Fits (slot.Branch defaulted) t = IsBranch t
 Fits slot.CaseValue t = IsCaseValue t

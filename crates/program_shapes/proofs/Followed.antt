@@ -27,7 +27,8 @@ use Rattle.asl_words.specs.declared.operator.TextMacro.{TextMacro}
 use Rattle.asl_words.specs.declared.meaning.Meaning.{Meaning}
 use Rattle.asl_words.specs.declared.meaning.Meaning.TheVariants as is
 use Rattle.asl_words.specs.declared.meaning.Reading.TheVariants as read
-use Rattle.asl_words.specs.Operators.{parameters_of, parameters_as, body_as, role_of, offset_parameters, macro_parameters}
+use Rattle.asl_words.specs.declared.operator.FieldWord.{FieldWord}
+use Rattle.asl_words.specs.Operators.{parameters_of, parameters_as, body_as, role_of, element_parameters, macro_parameters}
 use Rattle.asl_words.specs.Resources.{descriptor_parameters, descriptor_body}
 use Rattle.asl_words.specs.Meanings.{meaning_of, item_fault, may_be, may_stand, is_of_kind, is_branch_role, is_default, reading_of, run_behind, takes_known, unless_wrong, unfit}
 use Rattle.asl_words.specs.Paths.{path_of}
@@ -38,7 +39,7 @@ use Rattle.asl_shape.specs.declared.around.Around.{Around}
 use Rattle.asl_shape.specs.Plans.{Plan, a_form, a_name, a_call, omitted, Plans, no_plans, plan}
 use Rattle.asl_shape.specs.Symbols.{symbol_of}
 use Rattle.asl_shape.specs.Shapes as shapes
-use Rattle.asl_shape.specs.Shapes.{Shaped, fine, refused, nowhere, after, checked, place_of, is_given, is_empty, is_separator, inside_of, has_arguments, skipped, run_after, default_after, is_default_op, is_default_plan, settled, arranged, form_shape, known_plan, path_shape, call_shape, read_shape, item_shape, offset_shape, macro_shape, template_shape, descriptor_shape, bare, call_args, arguments, arguments_in, contents, terms, within}
+use Rattle.asl_shape.specs.Shapes.{Shaped, fine, refused, nowhere, after, checked, place_of, is_given, is_empty, is_separator, inside_of, has_arguments, skipped, run_after, default_after, is_default_op, is_default_plan, settled, arranged, form_shape, known_plan, path_shape, call_shape, read_shape, item_shape, element_shape, macro_shape, template_shape, descriptor_shape, bare, call_args, arguments, arguments_in, contents, terms, within}
 use Rattle.asl_numbers.specs.Numbers.{numbered, numbered_all}
 use Rattle.program_shapes.proofs.Fits.{Formed, FormedTerms}
 use Rattle.program_shapes.proofs.Plans.{PlanAs, PlansAs, none_as, more_as, form_as, omitted_as}
@@ -167,36 +168,36 @@ call_so : (place : Place) (o : Option Path) (args : Shaped Plans) → PlanAs NoE
 call_so place None args = leaf_so omitted refl
 call_so place (Some path) args = leaf_so (a_call path args.made) refl
 
-known_so : (s : Slot) (place : Place) (text : List ℕ) (k : Known) (calls : Shaped Plans) (offset : Shaped Plan) (expanded : TextMacro → Shaped Plan) (template : Shaped Plan) (described : Descriptor → Shaped Plan) (form : Op → Shaped Plan)
-    → PlanAs NoElse (read_shape s place text (read.Known k) calls offset expanded template described form).made
-known_so s place text (known.Word kind n) calls offset expanded template described form = leaf_so (known_plan s (known.Word kind n)) refl
-known_so s place text (known.Local i) calls offset expanded template described form = leaf_so (known_plan s (known.Local i)) refl
-known_so s place text (known.Arg i) calls offset expanded template described form = leaf_so (known_plan s (known.Arg i)) refl
-known_so s place text known.Debug calls offset expanded template described form = leaf_so (known_plan s known.Debug) refl
-known_so s place text known.Offset calls offset expanded template described form = leaf_so (known_plan s known.Offset) refl
-known_so s place text (known.Macro m) calls offset expanded template described form = leaf_so (known_plan s (known.Macro m)) refl
-known_so s place text known.Template calls offset expanded template described form = leaf_so (known_plan s known.Template) refl
-known_so s place text (known.Descriptor d) calls offset expanded template described form = leaf_so (known_plan s (known.Descriptor d)) refl
-known_so s place text known.LeftOut calls offset expanded template described form = leaf_so (known_plan s known.LeftOut) refl
+known_so : (s : Slot) (place : Place) (text : List ℕ) (k : Known) (calls : Shaped Plans) (element : FieldWord → Shaped Plan) (expanded : TextMacro → Shaped Plan) (template : Shaped Plan) (described : Descriptor → Shaped Plan) (form : Op → Shaped Plan)
+    → PlanAs NoElse (read_shape s place text (read.Known k) calls element expanded template described form).made
+known_so s place text (known.Word kind n) calls element expanded template described form = leaf_so (known_plan s (known.Word kind n)) refl
+known_so s place text (known.Local i) calls element expanded template described form = leaf_so (known_plan s (known.Local i)) refl
+known_so s place text (known.Arg i) calls element expanded template described form = leaf_so (known_plan s (known.Arg i)) refl
+known_so s place text known.Debug calls element expanded template described form = leaf_so (known_plan s known.Debug) refl
+known_so s place text (known.Element w) calls element expanded template described form = leaf_so (known_plan s (known.Element w)) refl
+known_so s place text (known.Macro m) calls element expanded template described form = leaf_so (known_plan s (known.Macro m)) refl
+known_so s place text known.Template calls element expanded template described form = leaf_so (known_plan s known.Template) refl
+known_so s place text (known.Descriptor d) calls element expanded template described form = leaf_so (known_plan s (known.Descriptor d)) refl
+known_so s place text known.LeftOut calls element expanded template described form = leaf_so (known_plan s known.LeftOut) refl
 
-read_so : (place : Place) (text : List ℕ) (inside : Bool) (m : Meaning) (called : Bool) (calls : Shaped Plans) (offset : Shaped Plan) (expanded : TextMacro → Shaped Plan) (template : Shaped Plan) (described : Descriptor → Shaped Plan) (form : Op → Shaped Plan) → may_be (slot.Term None) inside m ≡ true
+read_so : (place : Place) (text : List ℕ) (inside : Bool) (m : Meaning) (called : Bool) (calls : Shaped Plans) (element : FieldWord → Shaped Plan) (expanded : TextMacro → Shaped Plan) (template : Shaped Plan) (described : Descriptor → Shaped Plan) (form : Op → Shaped Plan) → may_be (slot.Term None) inside m ≡ true
     → ((op : Op) → may_stand (slot.Term None) inside (role_of op) ≡ true → PlanAs NoElse (form op).made)
-    → PlanAs NoElse (read_shape (slot.Term None) place text (reading_of (slot.Term None) m called) calls offset expanded template described form).made
-read_so place text inside (is.Operator op) called calls offset expanded template described form m h = h op (both_true (is_of_kind (slot.Term None) (is.Operator op)) (may_stand (slot.Term None) inside (role_of op)) m).1
-read_so place text inside (is.Known k) called calls offset expanded template described form m h = by (takes_known (slot.Term None) k)
+    → PlanAs NoElse (read_shape (slot.Term None) place text (reading_of (slot.Term None) m called) calls element expanded template described form).made
+read_so place text inside (is.Operator op) called calls element expanded template described form m h = h op (both_true (is_of_kind (slot.Term None) (is.Operator op)) (may_stand (slot.Term None) inside (role_of op)) m).1
+read_so place text inside (is.Known k) called calls element expanded template described form m h = by (takes_known (slot.Term None) k)
   where
-    by : (b : Bool) → PlanAs NoElse (read_shape (slot.Term None) place text (unless_wrong b (read.Known k)) calls offset expanded template described form).made
-    by true = known_so (slot.Term None) place text k calls offset expanded template described form
+    by : (b : Bool) → PlanAs NoElse (read_shape (slot.Term None) place text (unless_wrong b (read.Known k)) calls element expanded template described form).made
+    by true = known_so (slot.Term None) place text k calls element expanded template described form
     by false = leaf_so omitted refl
-read_so place text inside is.Name true calls offset expanded template described form m h = call_so place (path_of text) calls
-read_so place text inside is.Name false calls offset expanded template described form m h = path_so place (path_of text)
-read_so place text inside is.Path true calls offset expanded template described form m h = call_so place (path_of text) calls
-read_so place text inside is.Path false calls offset expanded template described form m h = path_so place (path_of text)
-read_so place text inside is.Offset called calls offset expanded template described form m h = leaf_so omitted refl
-read_so place text inside (is.Macro x) called calls offset expanded template described form m h = leaf_so omitted refl
-read_so place text inside is.Template called calls offset expanded template described form m h = leaf_so omitted refl
-read_so place text inside (is.Descriptor d) called calls offset expanded template described form m h = leaf_so omitted refl
-read_so place text inside is.Unknown called calls offset expanded template described form m h = leaf_so omitted refl
+read_so place text inside is.Name true calls element expanded template described form m h = call_so place (path_of text) calls
+read_so place text inside is.Name false calls element expanded template described form m h = path_so place (path_of text)
+read_so place text inside is.Path true calls element expanded template described form m h = call_so place (path_of text) calls
+read_so place text inside is.Path false calls element expanded template described form m h = path_so place (path_of text)
+read_so place text inside (is.Element w) called calls element expanded template described form m h = leaf_so omitted refl
+read_so place text inside (is.Macro x) called calls element expanded template described form m h = leaf_so omitted refl
+read_so place text inside is.Template called calls element expanded template described form m h = leaf_so omitted refl
+read_so place text inside (is.Descriptor d) called calls element expanded template described form m h = leaf_so omitted refl
+read_so place text inside is.Unknown called calls element expanded template described form m h = leaf_so omitted refl
 
 -- a term has nothing to evaluate
 checked_term : (P : Plan → Type 0) (width : Width) (run : Option ℕ) (place : Place) (shape : Shaped Plan) → P shape.made → P (checked width (slot.Term run) place shape).made
@@ -217,12 +218,12 @@ term_so inside (item at w args body) sep e =
     let s : Slot = slot.Term None in
     let m : Meaning = meaning_of w (is_given body) in
     let form : Op → Shaped Plan = λ o. form_shape inside.width o at (arguments (parameters_as o s) at inside args) (contents (body_as o s) (within o inside) at body) in
-    let offset : Shaped Plan = offset_shape (arguments offset_parameters at inside args) in
+    let element : FieldWord → Shaped Plan = λ e. element_shape e (arguments (element_parameters e) at inside args) in
     let expanded : TextMacro → Shaped Plan = λ x. macro_shape (arguments (macro_parameters x) at inside args) in
-    let template : Shaped Plan = template_shape at (contents braces.Descriptors inside at body) in
+    let template : Shaped Plan = template_shape at (contents (braces.Descriptors false) inside at body) in
     let described : Descriptor → Shaped Plan = λ d. descriptor_shape d at (arguments (descriptor_parameters d) at inside args) (contents (descriptor_body d) inside at body) in
-    item_fit (PlanAs NoElse) s inside.method m (has_arguments m (inside_of args)) (is_given body) at (read_shape s at w (reading_of s m (is_given args)) (call_args inside args) offset expanded template described form)
-    (λ may has f. read_so at w inside.method m (is_given args) (call_args inside args) offset expanded template described form may
+    item_fit (PlanAs NoElse) s inside.method m (has_arguments m (inside_of args)) (is_given body) at (read_shape s at w (reading_of s m (is_given args)) (call_args inside args) element expanded template described form)
+    (λ may has f. read_so at w inside.method m (is_given args) (call_args inside args) element expanded template described form may
     (λ op stands. form_plan_so inside.method op (settled inside.width op at (arguments (parameters_as op s) at inside args).made) (arranged op (contents (body_as op s) (within op inside) at body).made) stands)) e
 term_so inside comma sep e = absurd cc
 term_so inside semicolon sep e = absurd cc
@@ -272,16 +273,16 @@ else_if_form here (tree t no_trees) body = tt
 else_if_form here (tree t (tree u us)) body = tt
 
 -- behind a Switch no If goes on
-turn : (place : Place) (text : List ℕ) (run : Option ℕ) (m : Meaning) (called : Bool) (calls : Shaped Plans) (offset : Shaped Plan) (expanded : TextMacro → Shaped Plan) (template : Shaped Plan) (described : Descriptor → Shaped Plan) (form : Op → Shaped Plan) (args body : Op → Plans)
+turn : (place : Place) (text : List ℕ) (run : Option ℕ) (m : Meaning) (called : Bool) (calls : Shaped Plans) (element : FieldWord → Shaped Plan) (expanded : TextMacro → Shaped Plan) (template : Shaped Plan) (described : Descriptor → Shaped Plan) (form : Op → Shaped Plan) (args body : Op → Plans)
     → ((op : Op) → (form op).made ≡ a_form op (args op) (body op))
-    → PlanAs NoSwitch (read_shape (slot.Term run) place text (reading_of (slot.Term run) m called) calls offset expanded template described form).made ⊎ (run_behind run m ≡ None)
-turn place text run (is.Operator (Op.Control Control.If)) called calls offset expanded template described form args body h =
+    → PlanAs NoSwitch (read_shape (slot.Term run) place text (reading_of (slot.Term run) m called) calls element expanded template described form).made ⊎ (run_behind run m ≡ None)
+turn place text run (is.Operator (Op.Control Control.If)) called calls element expanded template described form args body h =
     inl (subst (PlanAs NoSwitch) (sym (h (Op.Control Control.If))) (form_as NoSwitch (Op.Control Control.If) (args (Op.Control Control.If)) (body (Op.Control Control.If)) (λ at m n. if_form at (numbered_all m (args (Op.Control Control.If))) (numbered_all n (body (Op.Control Control.If))))))
-turn place text run (is.Operator (Op.Control Control.ElseIf)) called calls offset expanded template described form args body h =
+turn place text run (is.Operator (Op.Control Control.ElseIf)) called calls element expanded template described form args body h =
     inl (subst (PlanAs NoSwitch) (sym (h (Op.Control Control.ElseIf))) (form_as NoSwitch (Op.Control Control.ElseIf) (args (Op.Control Control.ElseIf)) (body (Op.Control Control.ElseIf)) (λ at m n. else_if_form at (numbered_all m (args (Op.Control Control.ElseIf))) (numbered_all n (body (Op.Control Control.ElseIf))))))
-turn place text run (is.Operator (Op.Control _)) called calls offset expanded template described form args body h = inr refl
-turn place text run (is.Operator _) called calls offset expanded template described form args body h = inr refl
-turn place text run _ called calls offset expanded template described form args body h = inr refl
+turn place text run (is.Operator (Op.Control _)) called calls element expanded template described form args body h = inr refl
+turn place text run (is.Operator _) called calls element expanded template described form args body h = inr refl
+turn place text run _ called calls element expanded template described form args body h = inr refl
 
 left_out_so : (place : Place) (fault : Option ℕ) (shape : Shaped Plan) → PlanAs NoSwitch shape.made → PlanAs NoSwitch (item_shape place fault shape).made
 left_out_so place None shape h = h
@@ -292,12 +293,12 @@ term_turn inside run (item at w args body) sep =
     let s : Slot = slot.Term run in
     let m : Meaning = meaning_of w (is_given body) in
     let form : Op → Shaped Plan = λ o. form_shape inside.width o at (arguments (parameters_as o s) at inside args) (contents (body_as o s) (within o inside) at body) in
-    let offset : Shaped Plan = offset_shape (arguments offset_parameters at inside args) in
+    let element : FieldWord → Shaped Plan = λ e. element_shape e (arguments (element_parameters e) at inside args) in
     let expanded : TextMacro → Shaped Plan = λ x. macro_shape (arguments (macro_parameters x) at inside args) in
-    let template : Shaped Plan = template_shape at (contents braces.Descriptors inside at body) in
+    let template : Shaped Plan = template_shape at (contents (braces.Descriptors false) inside at body) in
     let described : Descriptor → Shaped Plan = λ d. descriptor_shape d at (arguments (descriptor_parameters d) at inside args) (contents (descriptor_body d) inside at body) in
-    by (item_fault s inside.method m (has_arguments m (inside_of args)) (is_given body)) (read_shape s at w (reading_of s m (is_given args)) (call_args inside args) offset expanded template described form)
-    (turn at w run m (is_given args) (call_args inside args) offset expanded template described form (λ op. settled inside.width op at (arguments (parameters_as op s) at inside args).made) (λ op. arranged op (contents (body_as op s) (within op inside) at body).made) (λ op. refl))
+    by (item_fault s inside.method m (has_arguments m (inside_of args)) (is_given body)) (read_shape s at w (reading_of s m (is_given args)) (call_args inside args) element expanded template described form)
+    (turn at w run m (is_given args) (call_args inside args) element expanded template described form (λ op. settled inside.width op at (arguments (parameters_as op s) at inside args).made) (λ op. arranged op (contents (body_as op s) (within op inside) at body).made) (λ op. refl))
   where
     by : (fault : Option ℕ) (shape : Shaped Plan) → PlanAs NoSwitch shape.made ⊎ (run_behind run (meaning_of w (is_given body)) ≡ None) → PlanAs NoSwitch (item_shape at fault shape).made ⊎ (run_behind run (meaning_of w (is_given body)) ≡ None)
     by fault shape (inl h) = inl (left_out_so at fault shape h)
@@ -340,25 +341,25 @@ same_default (Op.Control Control.Default) = refl
 same_default (Op.Control _) = refl
 same_default _ = refl
 
-branch_read : (defaulted : Bool) (place : Place) (text : List ℕ) (m : Meaning) (called : Bool) (calls : Shaped Plans) (offset : Shaped Plan) (expanded : TextMacro → Shaped Plan) (template : Shaped Plan) (described : Descriptor → Shaped Plan) (form : Op → Shaped Plan)
+branch_read : (defaulted : Bool) (place : Place) (text : List ℕ) (m : Meaning) (called : Bool) (calls : Shaped Plans) (element : FieldWord → Shaped Plan) (expanded : TextMacro → Shaped Plan) (template : Shaped Plan) (described : Descriptor → Shaped Plan) (form : Op → Shaped Plan)
     → ((op : Op) → is_default_plan (form op).made ≡ is_default_op op)
-    → (read_shape (slot.Branch defaulted) place text (reading_of (slot.Branch defaulted) m called) calls offset expanded template described form).faults ≡ []
-    → is_default_plan (read_shape (slot.Branch defaulted) place text (reading_of (slot.Branch defaulted) m called) calls offset expanded template described form).made ≡ is_default m
-branch_read defaulted place text (is.Operator op) called calls offset expanded template described form h e = by (is_branch_role (role_of op)) e
+    → (read_shape (slot.Branch defaulted) place text (reading_of (slot.Branch defaulted) m called) calls element expanded template described form).faults ≡ []
+    → is_default_plan (read_shape (slot.Branch defaulted) place text (reading_of (slot.Branch defaulted) m called) calls element expanded template described form).made ≡ is_default m
+branch_read defaulted place text (is.Operator op) called calls element expanded template described form h e = by (is_branch_role (role_of op)) e
   where
-    by : (b : Bool) → (read_shape (slot.Branch defaulted) place text (unless_wrong b (read.Form op)) calls offset expanded template described form).faults ≡ []
-        → is_default_plan (read_shape (slot.Branch defaulted) place text (unless_wrong b (read.Form op)) calls offset expanded template described form).made ≡ is_default (is.Operator op)
+    by : (b : Bool) → (read_shape (slot.Branch defaulted) place text (unless_wrong b (read.Form op)) calls element expanded template described form).faults ≡ []
+        → is_default_plan (read_shape (slot.Branch defaulted) place text (unless_wrong b (read.Form op)) calls element expanded template described form).made ≡ is_default (is.Operator op)
     by true e = h op ∙ same_default op
     by false e = absurd cc
-branch_read defaulted place text (is.Known (known.Word kind n)) called calls offset expanded template described form h e = absurd cc
-branch_read defaulted place text (is.Known known.Debug) called calls offset expanded template described form h e = absurd cc
-branch_read defaulted place text (is.Known (known.Local i)) called calls offset expanded template described form h e = absurd cc
-branch_read defaulted place text (is.Known _) called calls offset expanded template described form h e = absurd cc
-branch_read defaulted place text is.Name true calls offset expanded template described form h e = absurd cc
-branch_read defaulted place text is.Name false calls offset expanded template described form h e = absurd cc
-branch_read defaulted place text is.Path true calls offset expanded template described form h e = absurd cc
-branch_read defaulted place text is.Path false calls offset expanded template described form h e = absurd cc
-branch_read defaulted place text _ called calls offset expanded template described form h e = absurd cc
+branch_read defaulted place text (is.Known (known.Word kind n)) called calls element expanded template described form h e = absurd cc
+branch_read defaulted place text (is.Known known.Debug) called calls element expanded template described form h e = absurd cc
+branch_read defaulted place text (is.Known (known.Local i)) called calls element expanded template described form h e = absurd cc
+branch_read defaulted place text (is.Known _) called calls element expanded template described form h e = absurd cc
+branch_read defaulted place text is.Name true calls element expanded template described form h e = absurd cc
+branch_read defaulted place text is.Name false calls element expanded template described form h e = absurd cc
+branch_read defaulted place text is.Path true calls element expanded template described form h e = absurd cc
+branch_read defaulted place text is.Path false calls element expanded template described form h e = absurd cc
+branch_read defaulted place text _ called calls element expanded template described form h e = absurd cc
 
 -- whether what is written is a Default
 abbrev is_written_default : Written → Bool
@@ -379,12 +380,12 @@ branch_kind inside defaulted (item at w args body) sep emp e =
     let s : Slot = slot.Branch defaulted in
     let m : Meaning = meaning_of w (is_given body) in
     let form : Op → Shaped Plan = λ o. form_shape inside.width o at (arguments (parameters_as o s) at inside args) (contents (body_as o s) (within o inside) at body) in
-    let offset : Shaped Plan = offset_shape (arguments offset_parameters at inside args) in
+    let element : FieldWord → Shaped Plan = λ e. element_shape e (arguments (element_parameters e) at inside args) in
     let expanded : TextMacro → Shaped Plan = λ x. macro_shape (arguments (macro_parameters x) at inside args) in
-    let template : Shaped Plan = template_shape at (contents braces.Descriptors inside at body) in
+    let template : Shaped Plan = template_shape at (contents (braces.Descriptors false) inside at body) in
     let described : Descriptor → Shaped Plan = λ d. descriptor_shape d at (arguments (descriptor_parameters d) at inside args) (contents (descriptor_body d) inside at body) in
-    item_fit (λ p. is_default_plan p ≡ is_default m) s inside.method m (has_arguments m (inside_of args)) (is_given body) at (read_shape s at w (reading_of s m (is_given args)) (call_args inside args) offset expanded template described form)
-    (λ may has f. branch_read defaulted at w m (is_given args) (call_args inside args) offset expanded template described form (λ op. refl) f) e
+    item_fit (λ p. is_default_plan p ≡ is_default m) s inside.method m (has_arguments m (inside_of args)) (is_given body) at (read_shape s at w (reading_of s m (is_given args)) (call_args inside args) element expanded template described form)
+    (λ may has f. branch_read defaulted at w m (is_given args) (call_args inside args) element expanded template described form (λ op. refl) f) e
 branch_kind inside defaulted comma sep emp e = absurd cc
 branch_kind inside defaulted semicolon sep emp e = absurd cc
 branch_kind inside defaulted empty sep emp e = absurd cc

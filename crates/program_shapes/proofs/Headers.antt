@@ -17,13 +17,14 @@ use Rattle.asl_words.specs.declared.meaning.Meaning.{Meaning}
 use Rattle.asl_words.specs.declared.meaning.Meaning.TheVariants as is
 use Rattle.asl_parser.specs.Written as piece
 use Rattle.asl_parser.specs.Written.{Written, Writtens, WrittenGroup, item, apply, listed, comma, semicolon, empty, none, more, absent, given}
-use Rattle.asl_words.specs.Operators.{parameters_as, body_as, block_parameters, offset_parameters, macro_parameters}
+use Rattle.asl_words.specs.declared.operator.FieldWord.{FieldWord}
+use Rattle.asl_words.specs.Operators.{parameters_as, body_as, block_parameters, element_parameters, macro_parameters}
 use Rattle.acpi_values.specs.declared.width.Width.{Width}
 use Rattle.asl_shape.specs.declared.around.Around.{Around}
 use Rattle.asl_words.specs.Resources.{descriptor_parameters, descriptor_body}
 use Rattle.asl_words.specs.declared.operator.Body.TheVariants as braces
 use Rattle.asl_shape.specs.Plans.{Plan, a_text, omitted, Plans, no_plans, plan, text_of, plan_at}
-use Rattle.asl_shape.specs.Shapes.{Shaped, fine, nowhere, is_given, is_empty, is_separator, inside_of, has_arguments, takes, left_out, checked, place_of, bare, call_args, arguments, arguments_in, contents, within, form_shape, read_shape, after, offset_shape, macro_shape, template_shape, descriptor_shape, meaning_in}
+use Rattle.asl_shape.specs.Shapes.{Shaped, fine, nowhere, is_given, is_empty, is_separator, inside_of, has_arguments, takes, left_out, checked, place_of, bare, call_args, arguments, arguments_in, contents, within, form_shape, read_shape, after, element_shape, macro_shape, template_shape, descriptor_shape, meaning_in}
 use Rattle.asl_words.specs.Meanings.{meaning_of, may_end, reading_of, slot_as}
 use Rattle.asl_words.specs.Texts.{has_form, is_all_text, is_signature, is_oem_signature}
 use Rattle.program_shapes.proofs.Words.{both_true}
@@ -46,26 +47,26 @@ HaveForms (q ∷ qs) (plan place p ps) = HasForm q.omittable q.slot p × HaveFor
 HaveForms _ _ = ⊥
 
 -- nothing but a string is read where a string is asked for
-no_string : (f : StringForm) (at : Place) (word : List ℕ) (m : Meaning) (called : Bool) (calls : Shaped Plans) (offset : Shaped Plan) (expanded : TextMacro → Shaped Plan) (template : Shaped Plan) (described : Descriptor → Shaped Plan) (form : Op → Shaped Plan) → (read_shape (slot.String f) at word (reading_of (slot.String f) m called) calls offset expanded template described form).faults ≡ [] → ⊥
-no_string f at word (is.Operator op) called calls offset expanded template described form e = absurd cc
-no_string f at word (is.Known (known.Word kind n)) called calls offset expanded template described form e = absurd cc
-no_string f at word (is.Known known.Debug) called calls offset expanded template described form e = absurd cc
-no_string f at word (is.Known known.Offset) called calls offset expanded template described form e = absurd cc
-no_string f at word (is.Known known.LeftOut) called calls offset expanded template described form e = absurd cc
-no_string f at word (is.Known (known.Local i)) called calls offset expanded template described form e = absurd cc
-no_string f at word (is.Known (known.Arg i)) called calls offset expanded template described form e = absurd cc
-no_string f at word is.Name true calls offset expanded template described form e = absurd cc
-no_string f at word is.Name false calls offset expanded template described form e = absurd cc
-no_string f at word is.Path true calls offset expanded template described form e = absurd cc
-no_string f at word is.Path false calls offset expanded template described form e = absurd cc
-no_string f at word (is.Macro m) called calls offset expanded template described form e = absurd cc
-no_string f at word (is.Known known.Template) called calls offset expanded template described form e = absurd cc
-no_string f at word (is.Known (known.Descriptor d)) called calls offset expanded template described form e = absurd cc
-no_string f at word is.Template called calls offset expanded template described form e = absurd cc
-no_string f at word (is.Descriptor d) called calls offset expanded template described form e = absurd cc
-no_string f at word (is.Known (known.Macro m)) called calls offset expanded template described form e = absurd cc
-no_string f at word is.Offset called calls offset expanded template described form e = absurd cc
-no_string f at word is.Unknown called calls offset expanded template described form e = absurd cc
+no_string : (f : StringForm) (at : Place) (word : List ℕ) (m : Meaning) (called : Bool) (calls : Shaped Plans) (element : FieldWord → Shaped Plan) (expanded : TextMacro → Shaped Plan) (template : Shaped Plan) (described : Descriptor → Shaped Plan) (form : Op → Shaped Plan) → (read_shape (slot.String f) at word (reading_of (slot.String f) m called) calls element expanded template described form).faults ≡ [] → ⊥
+no_string f at word (is.Operator op) called calls element expanded template described form e = absurd cc
+no_string f at word (is.Known (known.Word kind n)) called calls element expanded template described form e = absurd cc
+no_string f at word (is.Known known.Debug) called calls element expanded template described form e = absurd cc
+no_string f at word (is.Known (known.Element w)) called calls element expanded template described form e = absurd cc
+no_string f at word (is.Known known.LeftOut) called calls element expanded template described form e = absurd cc
+no_string f at word (is.Known (known.Local i)) called calls element expanded template described form e = absurd cc
+no_string f at word (is.Known (known.Arg i)) called calls element expanded template described form e = absurd cc
+no_string f at word is.Name true calls element expanded template described form e = absurd cc
+no_string f at word is.Name false calls element expanded template described form e = absurd cc
+no_string f at word is.Path true calls element expanded template described form e = absurd cc
+no_string f at word is.Path false calls element expanded template described form e = absurd cc
+no_string f at word (is.Macro m) called calls element expanded template described form e = absurd cc
+no_string f at word (is.Known known.Template) called calls element expanded template described form e = absurd cc
+no_string f at word (is.Known (known.Descriptor d)) called calls element expanded template described form e = absurd cc
+no_string f at word is.Template called calls element expanded template described form e = absurd cc
+no_string f at word (is.Descriptor d) called calls element expanded template described form e = absurd cc
+no_string f at word (is.Known (known.Macro m)) called calls element expanded template described form e = absurd cc
+no_string f at word (is.Element w) called calls element expanded template described form e = absurd cc
+no_string f at word is.Unknown called calls element expanded template described form e = absurd cc
 
 string_form : (f : StringForm) (inside : Around) (w : Written) → is_separator w ≡ false → is_empty w ≡ false → (bare (slot.String f) inside w).faults ≡ [] → IsTextOf f (text_of (bare (slot.String f) inside w).made)
 string_form f inside (piece.text at bytes) sep emp e =
@@ -74,12 +75,12 @@ string_form f inside (piece.text at bytes) sep emp e =
 string_form f inside (item at w args body) sep emp e =
     let m : Meaning = meaning_of w (is_given body) in
     let form : Op → Shaped Plan = λ o. form_shape inside.width o at (arguments (parameters_as o (slot.String f)) at inside args) (contents (body_as o (slot.String f)) (within o inside) at body) in
-    let offset : Shaped Plan = offset_shape (arguments offset_parameters at inside args) in
+    let element : FieldWord → Shaped Plan = λ e. element_shape e (arguments (element_parameters e) at inside args) in
     let expanded : TextMacro → Shaped Plan = λ m. macro_shape (arguments (macro_parameters m) at inside args) in
-    let template : Shaped Plan = template_shape at (contents braces.Descriptors inside at body) in
+    let template : Shaped Plan = template_shape at (contents (braces.Descriptors false) inside at body) in
     let described : Descriptor → Shaped Plan = λ d. descriptor_shape d at (arguments (descriptor_parameters d) at inside args) (contents (descriptor_body d) inside at body) in
-    item_fit (λ p. IsTextOf f (text_of p)) (slot.String f) inside.method m (has_arguments m (inside_of args)) (is_given body) at (read_shape (slot.String f) at w (reading_of (slot.String f) m (is_given args)) (call_args inside args) offset expanded template described form)
-    (λ may has g. absurd (no_string f at w m (is_given args) (call_args inside args) offset expanded template described form g)) e
+    item_fit (λ p. IsTextOf f (text_of p)) (slot.String f) inside.method m (has_arguments m (inside_of args)) (is_given body) at (read_shape (slot.String f) at w (reading_of (slot.String f) m (is_given args)) (call_args inside args) element expanded template described form)
+    (λ may has g. absurd (no_string f at w m (is_given args) (call_args inside args) element expanded template described form g)) e
 string_form f inside (piece.number at n) sep emp e = absurd cc
 string_form f inside (listed at ws) sep emp e = absurd cc
 string_form f inside (apply at o ws) sep emp e = absurd cc
@@ -110,6 +111,14 @@ form_asked true slot.Space m p h = tt
 form_asked false slot.Space m p h = tt
 form_asked true slot.RegisterSpace m p h = tt
 form_asked false slot.RegisterSpace m p h = tt
+form_asked true (slot.WordOrByte which) m p h = tt
+form_asked false (slot.WordOrByte which) m p h = tt
+form_asked true slot.AccessType m p h = tt
+form_asked false slot.AccessType m p h = tt
+form_asked true slot.Attribute m p h = tt
+form_asked false slot.Attribute m p h = tt
+form_asked true slot.FieldElement m p h = tt
+form_asked false slot.FieldElement m p h = tt
 form_asked b _ m p h = h
 
 left_form : (b : Bool) (s : Slot) → b ≡ true → HasForm b s omitted

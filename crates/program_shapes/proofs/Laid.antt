@@ -6,7 +6,7 @@ use Rattle.acpi_state.specs.Outcomes.{choose}
 use Rattle.acpi_values.specs.Operators.{Letter, Valued, Kept, Placed, Used, Row, row_of}
 use Rattle.acpi_values.specs.Operators as L
 use Rattle.asl_meaning.specs.Meaning.{SpotForm, OfResult, OfInside, NoSpot, spot_form}
-use Rattle.asl_tree.specs.FieldItems.{FieldItem, UnitItem, SkipItem, OffsetItem, behind_item}
+use Rattle.asl_tree.specs.FieldItems.{FieldItem, UnitItem, SkipItem, OffsetItem, AccessItem, ConnectionItem, behind_item}
 use Rattle.asl_tree.specs.Tree.{Tree, Integer, Constant, String, InSlot, Debug, Omitted, Raw, Use, Call, Apply, Buffer, Package, VarPackage, CondRefOf, Return, Name, Alias, External, Method, Mutex, Event, Container', Scope, Fill, Misshapen, Operated, Assigned, AssignedBy, Trees, no_trees, tree, count, OperationRegion, Field, IndexField, BankField, CreateField, UnitName, If, ElseIf, Else, While, Break, Continue, Item, Switch, Case, Default}
 use Rattle.acpi_state.specs.FieldActs.{field_letters}
 use Rattle.field_layout.specs.Layout.{bits_fault, item_fault, first_fault}
@@ -33,6 +33,8 @@ item_laid at (UnitItem name bits) h e = by (nat_eq bits 0) e
     by true e = absurd cc
     by false e = (h.0, few_bits bits e)
 item_laid at (SkipItem bits) h e = few_bits bits e
+item_laid at (AccessItem access attribute count) h e = h.0
+item_laid at (ConnectionItem to) h e = h.0
 item_laid at (OffsetItem bytes) h e = by (nat_lt (8 * bytes) at) refl e
   where
     by : (b : Bool) → nat_lt (8 * bytes) at ≡ b → fault_if b 6070 (bits_fault (8 * bytes - at)) ≡ None → IsItem at (OffsetItem bytes)
@@ -43,6 +45,8 @@ named_parts : (item : FieldItem UnitName) (items : List (FieldItem UnitName)) �
 named_parts (UnitItem name bits) items h = ((h.0, tt), h.1)
 named_parts (SkipItem bits) items h = (tt, h)
 named_parts (OffsetItem bytes) items h = (tt, h)
+named_parts (AccessItem access attribute count) items h = ((h.0, tt), h.1)
+named_parts (ConnectionItem to) items h = ((h.0, tt), h.1)
 
 items_laid : (at i : ℕ) (items : List (FieldItem UnitName)) → AreNamed items → first_fault at i items ≡ None → AreItems at items
 items_laid at i [] h e = tt

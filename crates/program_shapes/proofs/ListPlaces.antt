@@ -1,5 +1,5 @@
 -- The messages on the lists of fields stand where the items of the lists stand.
-use Rattle.std.proofs.Common.{ℕ, ◌<◌, List, [], ◌∷◌, ◌++◌, Option, Some, None, arith}
+use Rattle.std.proofs.Common.{ℕ, ◌%◌, ◌<◌, List, [], ◌∷◌, ◌++◌, Option, Some, None, arith}
 use Rattle.std.specs.List.{All}
 use Rattle.std.proofs.lemmas.List.Elements.{All-cons}
 use Rattle.acpi_state.specs.Outcomes.{choose}
@@ -7,10 +7,13 @@ use Rattle.iasl_messages.specs.declared.message.Message.{Message}
 use Rattle.asl_tree.specs.FieldItems.{FieldItem, behind_item}
 use Rattle.asl_tree.specs.declared.term.Op.{Op}
 use Rattle.asl_tree.specs.declared.term.Declaration.{Declaration}
-use Rattle.asl_shape.specs.Plans.{Plan, a_form, Plans, no_plans, plan}
+use Rattle.asl_shape.specs.Plans.{Plan, a_form, Plans, no_plans, plan, plan_at, number_of}
 use Rattle.asl_shape.specs.Shapes.{fault_at}
 use Rattle.asl_shape.specs.Places.{AreTold}
 use Rattle.field_layout.specs.Layout.{item_fault}
+use Rattle.field_layout.specs.declared.segments.Said.{Said}
+use Rattle.field_layout.specs.Segments.{first_said, said_behind, item_fault as item_fault'}
+use Rattle.field_checks.specs.Units.{serial_item, unit_fault, unit_told, index_fault}
 use Rattle.field_checks.specs.Lists.{item_in, list_errors, field_errors, term_errors, all_errors}
 use Rattle.descriptor_shapes.specs.Places.{PlanWithin, PlansWithin}
 
@@ -31,15 +34,25 @@ module _ (files : ℕ) where
       by_item None k = tt
       by_item (Some item) k = by_fault (item_fault at item) (list_errors (behind_item at item) ps) (k (behind_item at item))
 
-  field_within : (op : Op) (body : Plans) → PlansWithin files body → AreTold files (field_errors op body)
-  field_within (Op.Declaration Declaration.Field) body h = list_within 0 body h
-  field_within (Op.Declaration Declaration.IndexField) body h = list_within 0 body h
-  field_within (Op.Declaration Declaration.BankField) body h = list_within 0 body h
-  field_within _ body h = tt
+  unit_within : (space : ℕ) (said : Said) (ps : Plans) → PlansWithin files ps → AreTold files (unit_told (unit_fault space said ps))
+  unit_within space said no_plans h = tt
+  unit_within space said (plan place p ps) h = by (item_fault' space said (serial_item p)) (unit_within space (said_behind said (serial_item p)) ps h.2)
+    where
+      by : (o : Option ℕ) → AreTold files (unit_told (unit_fault space (said_behind said (serial_item p)) ps))
+          → AreTold files (unit_told (choose o (unit_fault space (said_behind said (serial_item p)) ps) (λ number. Some (record { place = place; number = number }))))
+      by None k = k
+      by (Some number) k = (h.0, tt)
+
+  field_within : (op : Op) (args body : Plans) → PlansWithin files body → AreTold files (field_errors op args body)
+  field_within (Op.Declaration Declaration.Field) args body h = list_within 0 body h
+  field_within (Op.Declaration Declaration.IndexField) args body h =
+      both (list_errors 0 body) (unit_told (index_fault args body)) (list_within 0 body h) (unit_within 0 (first_said (number_of (plan_at args 2) % 16)) body h)
+  field_within (Op.Declaration Declaration.BankField) args body h = list_within 0 body h
+  field_within _ args body h = tt
 
   mutual
     term_within : (p : Plan) → PlanWithin files p → AreTold files (term_errors p)
-    term_within (a_form op args body) h = both (field_errors op body) (all_errors body) (field_within op body h.1) (all_within body h.1)
+    term_within (a_form op args body) h = both (field_errors op args body) (all_errors body) (field_within op args body h.1) (all_within body h.1)
     term_within _ h = tt
 
     all_within : (ps : Plans) → PlansWithin files ps → AreTold files (all_errors ps)

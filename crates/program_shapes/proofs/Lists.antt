@@ -1,5 +1,5 @@
 -- The faults in the lists of fields of trees, and those of the trees of plans.
-use Rattle.std.proofs.Common.{◌≡◌, ℕ, suc, ◌+◌, Bool, true, false, List, [], ◌∷◌, ◌++◌, Option, Some, None, refl, ap, ◌∙◌}
+use Rattle.std.proofs.Common.{◌≡◌, ℕ, suc, ◌+◌, Bool, true, false, List, [], ◌∷◌, ◌++◌, Option, Some, None, refl, sym, ap, ◌∙◌, arith}
 use Rattle.std.specs.Prelude.{nat_le, if◌then◌else◌}
 use Rattle.acpi_state.specs.Outcomes.{choose}
 use Rattle.iasl_messages.specs.declared.place.Place.{Place}
@@ -10,15 +10,16 @@ use Rattle.asl_tree.specs.declared.term.Op.{Op}
 use Rattle.asl_tree.specs.declared.term.Declaration.TheVariants as Declaration
 use Rattle.asl_tree.specs.declared.term.Control.TheVariants as Control
 use Rattle.asl_tree.specs.declared.term.Special.TheVariants as Special
-use Rattle.asl_tree.specs.FieldItems.{FieldItem, UnitItem, SkipItem, OffsetItem, behind_item}
-use Rattle.asl_tree.specs.Tree.{At, Tree, Integer, Omitted, Use, Package, VarPackage, Method, Container', Scope, If, ElseIf, Else, While, Field, IndexField, BankField, Item, Misshapen, UnitName, Trees, no_trees, tree, count, Switch, Case, Default}
+use Rattle.asl_tree.specs.FieldItems.{FieldItem, UnitItem, SkipItem, OffsetItem, AccessItem, ConnectionItem, ToName, ToBytes, behind_item}
+use Rattle.asl_tree.specs.Tree.{At, Tree, Integer, Omitted, Use, Package, VarPackage, Method, Container', Scope, If, ElseIf, Else, While, Field, IndexField, BankField, Item, Fill, Misshapen, UnitName, Trees, no_trees, tree, count, Switch, Case, Default}
 use Rattle.asl_tree.specs.declared.term.Symbolic.TheVariants as Symbolic
 use Rattle.acpi_values.specs.Operators.{row_of}
 use Rattle.asl_tree.specs.View.{form, apply_of, fits, operands_as, operated, symbol_of, buffer, body_bytes, counted, packaged, items_in}
 use Rattle.field_layout.specs.Layout.{item_fault, first_fault}
-use Rattle.asl_shape.specs.Plans.{Plan, a_unit, a_skip, an_offset, a_form, Plans, no_plans, plan}
+use Rattle.asl_shape.specs.Plans.{Plan, a_unit, a_skip, an_offset, an_access, a_name, a_fill, a_form, Plans, no_plans, plan}
 use Rattle.asl_shape.specs.Shapes.{fault_at}
 use Rattle.asl_numbers.specs.Numbers.{inside, nodes, numbered, numbered_all}
+use Rattle.field_checks.specs.Units.{unit_told, index_fault}
 use Rattle.field_checks.specs.Lists.{list_errors, field_errors, term_errors, all_errors}
 
 -- the number of the first fault of a list, if it has one
@@ -53,6 +54,8 @@ none_before (n ∷ ns) b e = absurd cc
 
 abbrev is_item : Tree → Bool
 is_item (Item item) = true
+is_item (Use at name) = true
+is_item (Fill bytes) = true
 is_item _ = false
 
 -- ---- a list of items
@@ -72,6 +75,8 @@ joined at i item (Some items) e h = ap (λ o. choose o (first_fault (behind_item
 
 no_item : (at i : ℕ) (t : Tree) (ts : Trees) → is_item t ≡ false → ListLaid at i (items_in (tree t ts))
 no_item at i (Item item) ts e = absurd cc
+no_item at i (Use at' name) ts e = absurd cc
+no_item at i (Fill bytes) ts e = absurd cc
 no_item at i _ ts e = tt
 
 -- ---- forms
@@ -217,6 +222,9 @@ form_faults here _ _ _ h k = refl
 
 -- ---- plans
 
+no_bits : (at : ℕ) (ps : Plans) → list_errors (at + 0) ps ≡ [] → list_errors at ps ≡ []
+no_bits at ps e = let same : at + 0 ≡ at = omega arith in ap (λ n. list_errors n ps) (sym same) ∙ e
+
 list_laid : (at i next : ℕ) (ps : Plans) → list_errors at ps ≡ [] → ListLaid at i (items_in (numbered_all next ps))
 unfolding numbered numbered_all
 list_laid at i next no_plans e = refl
@@ -232,22 +240,27 @@ list_laid at i next (plan place (an_offset bytes) ps) e =
     let item : FieldItem UnitName = OffsetItem bytes in
     let none = none_first place (item_fault at item) (list_errors (behind_item at item) ps) e in
     joined at i item (items_in (numbered_all _ ps)) none.0 (list_laid (behind_item at item) (suc i) _ ps none.1)
+list_laid at i next (plan place (an_access access attribute count) ps) e =
+    joined at i (AccessItem access attribute count) (items_in (numbered_all _ ps)) refl (list_laid at (suc i) _ ps (no_bits at ps e))
+list_laid at i next (plan place (a_name name) ps) e =
+    joined at i (ConnectionItem (ToName (record { id = next; place = place }) name)) (items_in (numbered_all _ ps)) refl (list_laid at (suc i) _ ps (no_bits at ps e))
+list_laid at i next (plan place (a_fill bytes named) ps) e = joined at i (ConnectionItem (ToBytes bytes)) (items_in (numbered_all _ ps)) refl (list_laid at (suc i) _ ps (no_bits at ps e))
 list_laid at i next (plan place (a_form op args body) ps) e = no_item at i (form _ op (numbered_all _ args) (numbered_all _ body)) (numbered_all _ ps) (form_item _ op (numbered_all _ args) (numbered_all _ body))
 list_laid at i next (plan place _ ps) e = tt
 
-field_laid : (op : Op) (next : ℕ) (body : Plans) → field_errors op body ≡ [] → FieldLaid op (items_in (numbered_all next body))
-field_laid (Op.Declaration Declaration.Field) next body e = list_laid 0 0 next body e
-field_laid (Op.Declaration Declaration.IndexField) next body e = list_laid 0 0 next body e
-field_laid (Op.Declaration Declaration.BankField) next body e = list_laid 0 0 next body e
-field_laid _ next body e = tt
+field_laid : (op : Op) (next : ℕ) (args body : Plans) → field_errors op args body ≡ [] → FieldLaid op (items_in (numbered_all next body))
+field_laid (Op.Declaration Declaration.Field) next args body e = list_laid 0 0 next body e
+field_laid (Op.Declaration Declaration.IndexField) next args body e = list_laid 0 0 next body (none_before (list_errors 0 body) (unit_told (index_fault args body)) e).0
+field_laid (Op.Declaration Declaration.BankField) next args body e = list_laid 0 0 next body e
+field_laid _ next args body e = tt
 
 mutual
   unfolding numbered numbered_all
 
   plan_laid : (at : At) (next : ℕ) (p : Plan) → term_errors p ≡ [] → term_faults (numbered at next p) ≡ []
   plan_laid at next (a_form op args body) e =
-      let none = none_before (field_errors op body) (all_errors body) e in
-      form_faults at op (numbered_all next args) (numbered_all (next + nodes args) body) (plans_laid (next + nodes args) body none.1) (field_laid op (next + nodes args) body none.0)
+      let none = none_before (field_errors op args body) (all_errors body) e in
+      form_faults at op (numbered_all next args) (numbered_all (next + nodes args) body) (plans_laid (next + nodes args) body none.1) (field_laid op (next + nodes args) args body none.0)
   plan_laid at next _ e = refl
 
   -- the trees of plans without errors in their lists have no faults in theirs

@@ -44,7 +44,7 @@ BodyFit braces.Bytes body = length (body_bytes body) ≤ ones_of W64
 BodyFit braces.FieldList body = ListFit (items_in body)
 BodyFit braces.Elements body = FormedElements body × (count body ≤ ones_of W64)
 BodyFit (braces.Numbers most) body = Unit {0}
-BodyFit braces.Descriptors body = Unit {0}
+BodyFit (braces.Descriptors chosen) body = Unit {0}
 BodyFit braces.Cases body = FormedCases body
 BodyFit braces.CaseMembers body = AreCaseMembers body
 

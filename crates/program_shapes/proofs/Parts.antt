@@ -18,7 +18,7 @@ use Rattle.asl_tree.specs.declared.term.Declaration.{Declaration}
 use Rattle.asl_tree.specs.declared.term.Special.TheVariants as Special
 use Rattle.asl_tree.specs.declared.term.Symbolic.{Symbolic}
 use Rattle.asl_tree.specs.declared.term.Compound.{Compound}
-use Rattle.asl_tree.specs.Tree.{At, Tree, Integer, String, Omitted, Package, VarPackage, Trees, no_trees, tree, count}
+use Rattle.asl_tree.specs.Tree.{At, Tree, Integer, String, Omitted, Fill, Package, VarPackage, Trees, no_trees, tree, count}
 use Rattle.asl_tree.specs.View.{form, counted}
 use Rattle.aml_code.specs.Fronts.{IsUsedName}
 use Rattle.aml_sessions.specs.Ready.{is_expression, IsText}
@@ -36,16 +36,17 @@ use Rattle.asl_words.specs.declared.operator.Known.TheVariants as known
 use Rattle.asl_words.specs.declared.meaning.Meaning.{Meaning}
 use Rattle.asl_words.specs.declared.meaning.Meaning.TheVariants as is
 use Rattle.asl_words.specs.declared.meaning.Reading.TheVariants as read
+use Rattle.asl_words.specs.declared.operator.FieldWord.{FieldWord}
 use Rattle.asl_words.specs.Paths.{path_of}
 use Rattle.asl_words.specs.Operators.{parameters_of, parameters_as, constant_size, body_of, body_as, role_of, plain_role, data_role, event_role, optional, place, target, expression}
 use Rattle.asl_parser.specs.Written.{Writtens}
 use Rattle.acpi_values.specs.declared.width.Width.{Width}
 use Rattle.asl_shape.specs.Plans.{Plan, an_integer, a_text, a_form, Plans, no_plans, how_many}
 use Rattle.asl_shape.specs.Shapes.{Shaped, fine, refused, number_shape, text_shape, string_shape, listed_shape, types_shape, are_all_types, known_plan, path_shape, call_shape, form_shape, symbol_shape, settled, package_settled, arranged, item_shape, read_shape}
-use Rattle.asl_words.specs.Meanings.{takes_role, takes_known, takes_expression, takes_path, takes_segment, is_value, is_place, item_fault, reading_of, name_reading, unless_wrong, may_be, is_unknown, wants_braces, is_same, is_field_element, takes_macro, takes_descriptor, unfit, default_before, takes_branch, is_branch_role, is_of_kind, may_stand}
+use Rattle.asl_words.specs.Meanings.{takes_role, takes_known, takes_expression, takes_path, takes_segment, is_value, is_place, item_fault, reading_of, name_reading, unless_wrong, may_be, is_unknown, wants_braces, is_same, takes_field_word, takes_macro, takes_resource, unfit, default_before, takes_branch, is_branch_role, is_of_kind, may_stand}
 use Rattle.asl_words.specs.Texts.{has_form, is_all_text, is_text_byte}
 use Rattle.asl_shape.specs.Shapes as shapes
-use Rattle.program_shapes.proofs.Fits.{IsThere, Fits, IsAtMost, IsElement, IsFill, Formed, FormedValues}
+use Rattle.program_shapes.proofs.Fits.{IsThere, Fits, IsAtMost, IsElement, IsAttribute, IsConnected, IsFill, Formed, FormedValues}
 use Rattle.program_shapes.proofs.Plains.{plain_made, symbol_made, index_spot, deref_spot, symbol_spot}
 use Rattle.program_shapes.proofs.Forms.{one_of, Two, two, two_of, case_buffer_made, case_package_made, IsPackageOf}
 use Rattle.program_shapes.proofs.Operators.{SettledFit, BodyFit, Made, form_made}
@@ -124,6 +125,7 @@ path_fit slot.Declared at (Some path) h t e = name_as (Fits slot.Declared) path 
 path_fit slot.External at (Some path) h t e = name_as (Fits slot.External) path (λ at. h.is_name)
 path_fit slot.Used at (Some path) h t e = name_as (Fits slot.Used) path (λ at. h)
 path_fit slot.FieldElement at (Some path) h t e = name_as (Fits slot.FieldElement) path (λ at. h)
+path_fit slot.Connected at (Some path) h t e = name_as (Fits slot.Connected) path (λ at. h)
 path_fit slot.DescriptorName at (Some path) h t e = name_as (Fits slot.DescriptorName) path (λ at. h)
 path_fit (slot.Term run) at (Some path) h t e = name_as Formed path (λ at. h)
 path_fit _ at (Some path) h t e = absurd cc
@@ -142,6 +144,7 @@ call_fit _ at (Some path) args h t k e = absurd cc
 
 pub known_fit : (s : Slot) (k : Known) → IsRightKnown k → takes_known s k ≡ true → Loosely s (known_plan s k)
 known_fit (slot.Word asked) (known.Word kind n) h t = integer_as (IsAtMost 255) n h
+known_fit (slot.WordBelow asked limit) (known.Word kind n) h t = integer_as (IsAtMost 255) n h
 known_fit (slot.Types most) (known.Word kind n) h t = integer_as IsNumber 1 tt
 known_fit _ (known.Word kind n) h t = absurd cc
 known_fit slot.Expression (known.Local i) h t = local_as (Fits slot.Expression) i (refl, h)
@@ -174,7 +177,7 @@ known_fit slot.Place known.Debug h t = debug_as (Fits slot.Place) (tt, refl)
 known_fit (slot.Term run) known.Debug h t = debug_as Formed tt
 known_fit _ known.Debug h t = absurd cc
 known_fit _ known.LeftOut h t = absurd cc
-known_fit _ known.Offset h t = absurd cc
+known_fit _ (known.Element w) h t = absurd cc
 known_fit _ (known.Macro m) h t = absurd cc
 known_fit _ known.Template h t = absurd cc
 known_fit _ (known.Descriptor d) h t = absurd cc
@@ -462,25 +465,37 @@ segment_path : (s : Slot) → takes_path s ≡ true → takes_segment s ≡ true
 segment_path slot.DescriptorName e = refl
 segment_path s e = e
 
-named_fit : (s : Slot) (at : Place) (text : List ℕ) (fits called : Bool) → (fits ≡ true → takes_segment s ≡ true) → (calls : Shaped Plans) (offset : Shaped Plan) (expanded : TextMacro → Shaped Plan) (template : Shaped Plan) (described : Descriptor → Shaped Plan) (form : Op → Shaped Plan) → IfSome (path_of text) IsUsedName → (calls.faults ≡ [] → PlansAs FormedValues calls.made)
-    → (read_shape s at text (name_reading s fits called) calls offset expanded template described form).faults ≡ [] → Loosely s (read_shape s at text (name_reading s fits called) calls offset expanded template described form).made
-named_fit s at text fits true whole calls offset expanded template described form path h e = by (takes_expression s) refl e
+named_fit : (s : Slot) (at : Place) (text : List ℕ) (fits called : Bool) → (fits ≡ true → takes_segment s ≡ true) → (calls : Shaped Plans) (element : FieldWord → Shaped Plan) (expanded : TextMacro → Shaped Plan) (template : Shaped Plan) (described : Descriptor → Shaped Plan) (form : Op → Shaped Plan) → IfSome (path_of text) IsUsedName → (calls.faults ≡ [] → PlansAs FormedValues calls.made)
+    → (read_shape s at text (name_reading s fits called) calls element expanded template described form).faults ≡ [] → Loosely s (read_shape s at text (name_reading s fits called) calls element expanded template described form).made
+named_fit s at text fits true whole calls element expanded template described form path h e = by (takes_expression s) refl e
   where
-    by : (b : Bool) → takes_expression s ≡ b → (read_shape s at text (unless_wrong b read.Call) calls offset expanded template described form).faults ≡ [] → Loosely s (read_shape s at text (unless_wrong b read.Call) calls offset expanded template described form).made
+    by : (b : Bool) → takes_expression s ≡ b → (read_shape s at text (unless_wrong b read.Call) calls element expanded template described form).faults ≡ [] → Loosely s (read_shape s at text (unless_wrong b read.Call) calls element expanded template described form).made
     by true t e = call_fit s at (path_of text) calls path t h e
     by false t e = absurd cc
-named_fit s at text fits false whole calls offset expanded template described form path h e = by fits refl e
+named_fit s at text fits false whole calls element expanded template described form path h e = by fits refl e
   where
-    by : (b : Bool) → fits ≡ b → (read_shape s at text (unless_wrong b read.Path) calls offset expanded template described form).faults ≡ [] → Loosely s (read_shape s at text (unless_wrong b read.Path) calls offset expanded template described form).made
+    by : (b : Bool) → fits ≡ b → (read_shape s at text (unless_wrong b read.Path) calls element expanded template described form).faults ≡ [] → Loosely s (read_shape s at text (unless_wrong b read.Path) calls element expanded template described form).made
     by true t e = path_fit s at (path_of text) path (whole t) e
     by false t e = absurd cc
 
 -- ---- an item as it is read
 
--- an Offset stands where elements begin
-begun : (s : Slot) (p : Plan) → is_field_element s ≡ true → PlanAs IsElement p → Loosely s p
-begun slot.FieldElement p e h = h
-begun _ p e h = absurd cc
+-- what a word of a field's list comes to: an element, or an attribute
+abbrev pub WordFits : FieldWord → Tree → Type 0
+WordFits FieldWord.AttribBytes t = IsAttribute t
+WordFits _ t = IsElement t
+
+-- it stands in the list, or in an access
+begun : (s : Slot) (w : FieldWord) (p : Plan) → takes_field_word s w ≡ true → PlanAs (WordFits w) p → Loosely s p
+begun slot.WholeElement FieldWord.Offset p e h = h
+begun slot.WholeElement FieldWord.AccessAs p e h = h
+begun slot.WholeElement FieldWord.Connection p e h = h
+begun slot.WholeElement FieldWord.AttribBytes p e h = absurd cc
+begun slot.Attribute FieldWord.Offset p e h = absurd cc
+begun slot.Attribute FieldWord.AccessAs p e h = absurd cc
+begun slot.Attribute FieldWord.Connection p e h = absurd cc
+begun slot.Attribute FieldWord.AttribBytes p e h = h
+begun _ w p e h = absurd cc
 
 -- a macro or a template stands where an expression does
 evaluated_macro : (s : Slot) (p : Plan) → takes_macro s ≡ true → PlanAs (Fits slot.Expression) p → Loosely s p
@@ -488,53 +503,59 @@ evaluated_macro slot.Expression p t h = h
 evaluated_macro slot.Element p t h = h
 evaluated_macro _ p t h = absurd cc
 
--- a descriptor stands in a template
-in_template : (s : Slot) (p : Plan) → takes_descriptor s ≡ true → PlanAs IsFill p → Loosely s p
-in_template slot.Descriptor p t h = h
-in_template _ p t h = absurd cc
+fill_connected : (t : Tree) → IsFill t → IsConnected t
+fill_connected (Fill bytes) h = tt
+fill_connected _ h = absurd h
 
-pub read_fit : (s : Slot) (at : Place) (text : List ℕ) (m : Meaning) (called : Bool) (calls : Shaped Plans) (offset : Shaped Plan) (expanded : TextMacro → Shaped Plan) (template : Shaped Plan) (described : Descriptor → Shaped Plan) (form : Op → Shaped Plan) → IsRightMeaning m → IfSome (path_of text) IsUsedName
+-- a descriptor stands in a template, or is what units are connected to
+in_template : (s : Slot) (d : Descriptor) (p : Plan) → takes_resource s d ≡ true → PlanAs IsFill p → Loosely s p
+in_template (slot.Descriptor chosen) d p t h = h
+in_template slot.Connected d p t h = λ at next. fill_connected (numbered at next p) (h at next)
+in_template _ d p t h = absurd cc
+
+pub read_fit : (s : Slot) (at : Place) (text : List ℕ) (m : Meaning) (called : Bool) (calls : Shaped Plans) (element : FieldWord → Shaped Plan) (expanded : TextMacro → Shaped Plan) (template : Shaped Plan) (described : Descriptor → Shaped Plan) (form : Op → Shaped Plan) → IsRightMeaning m → IfSome (path_of text) IsUsedName
     → (has_call m ≡ true → calls.faults ≡ [] → PlansAs FormedValues calls.made)
     → ((op : Op) → m ≡ is.Operator op → takes_role s (role_of op) ≡ true → (form op).faults ≡ [] → Loosely s (form op).made)
-    → (offset.faults ≡ [] → PlanAs IsElement offset.made)
+    → ((w : FieldWord) → m ≡ is.Element w → (element w).faults ≡ [] → PlanAs (WordFits w) (element w).made)
     → ((x : TextMacro) → m ≡ is.Macro x → (expanded x).faults ≡ [] → PlanAs (Fits slot.Expression) (expanded x).made)
     → (m ≡ is.Template → template.faults ≡ [] → PlanAs (Fits slot.Expression) template.made)
     → ((d : Descriptor) → m ≡ is.Descriptor d → (described d).faults ≡ [] → PlanAs IsFill (described d).made)
-    → (read_shape s at text (reading_of s m called) calls offset expanded template described form).faults ≡ []
-    → Loosely s (read_shape s at text (reading_of s m called) calls offset expanded template described form).made
-read_fit s at text (is.Operator op) called calls offset expanded template described form right path h k o g v w e = by (takes_role s (role_of op)) refl e
+    → (read_shape s at text (reading_of s m called) calls element expanded template described form).faults ≡ []
+    → Loosely s (read_shape s at text (reading_of s m called) calls element expanded template described form).made
+read_fit s at text (is.Operator op) called calls element expanded template described form right path h k o g v w e = by (takes_role s (role_of op)) refl e
   where
-    by : (b : Bool) → takes_role s (role_of op) ≡ b → (read_shape s at text (unless_wrong b (read.Form op)) calls offset expanded template described form).faults ≡ [] → Loosely s (read_shape s at text (unless_wrong b (read.Form op)) calls offset expanded template described form).made
+    by : (b : Bool) → takes_role s (role_of op) ≡ b → (read_shape s at text (unless_wrong b (read.Form op)) calls element expanded template described form).faults ≡ [] → Loosely s (read_shape s at text (unless_wrong b (read.Form op)) calls element expanded template described form).made
     by true t e = k op refl t e
     by false t e = absurd cc
-read_fit s at text (is.Known known) called calls offset expanded template described form right path h k o g v w e = by (takes_known s known) refl e
+read_fit s at text (is.Known known) called calls element expanded template described form right path h k o g v w e = by (takes_known s known) refl e
   where
-    by : (b : Bool) → takes_known s known ≡ b → (read_shape s at text (unless_wrong b (read.Known known)) calls offset expanded template described form).faults ≡ [] → Loosely s (read_shape s at text (unless_wrong b (read.Known known)) calls offset expanded template described form).made
+    by : (b : Bool) → takes_known s known ≡ b → (read_shape s at text (unless_wrong b (read.Known known)) calls element expanded template described form).faults ≡ [] → Loosely s (read_shape s at text (unless_wrong b (read.Known known)) calls element expanded template described form).made
     by true t e = known_fit s known right t
     by false t e = absurd cc
-read_fit s at text is.Name called calls offset expanded template described form right path h k o g v w e = named_fit s at text (takes_segment s) called (λ t. t) calls offset expanded template described form path (h refl) e
-read_fit s at text is.Path called calls offset expanded template described form right path h k o g v w e = named_fit s at text (takes_path s) called (segment_path s) calls offset expanded template described form path (h refl) e
-read_fit s at text is.Offset called calls offset expanded template described form right path h k o g v w e = by (is_field_element s) refl e
+read_fit s at text is.Name called calls element expanded template described form right path h k o g v w e = named_fit s at text (takes_segment s) called (λ t. t) calls element expanded template described form path (h refl) e
+read_fit s at text is.Path called calls element expanded template described form right path h k o g v w e = named_fit s at text (takes_path s) called (segment_path s) calls element expanded template described form path (h refl) e
+read_fit s at text (is.Element x) called calls element expanded template described form right path h k o g v w e = by (takes_field_word s x) refl e
   where
-    by : (b : Bool) → is_field_element s ≡ b → (read_shape s at text (unless_wrong b read.Offset) calls offset expanded template described form).faults ≡ [] → Loosely s (read_shape s at text (unless_wrong b read.Offset) calls offset expanded template described form).made
-    by true t e = begun s offset.made t (o e)
+    by : (b : Bool) → takes_field_word s x ≡ b → (read_shape s at text (unless_wrong b (read.Element x)) calls element expanded template described form).faults ≡ []
+        → Loosely s (read_shape s at text (unless_wrong b (read.Element x)) calls element expanded template described form).made
+    by true t e = begun s x (element x).made t (o x refl e)
     by false t e = absurd cc
-read_fit s at text (is.Macro x) called calls offset expanded template described form right path h k o g v w e = by (takes_macro s) refl e
+read_fit s at text (is.Macro x) called calls element expanded template described form right path h k o g v w e = by (takes_macro s) refl e
   where
-    by : (b : Bool) → takes_macro s ≡ b → (read_shape s at text (unless_wrong b (read.Macro x)) calls offset expanded template described form).faults ≡ [] → Loosely s (read_shape s at text (unless_wrong b (read.Macro x)) calls offset expanded template described form).made
+    by : (b : Bool) → takes_macro s ≡ b → (read_shape s at text (unless_wrong b (read.Macro x)) calls element expanded template described form).faults ≡ [] → Loosely s (read_shape s at text (unless_wrong b (read.Macro x)) calls element expanded template described form).made
     by true t e = evaluated_macro s (expanded x).made t (g x refl e)
     by false t e = absurd cc
-read_fit s at text is.Template called calls offset expanded template described form right path h k o g v w e = by (takes_macro s) refl e
+read_fit s at text is.Template called calls element expanded template described form right path h k o g v w e = by (takes_macro s) refl e
   where
-    by : (b : Bool) → takes_macro s ≡ b → (read_shape s at text (unless_wrong b read.Template) calls offset expanded template described form).faults ≡ [] → Loosely s (read_shape s at text (unless_wrong b read.Template) calls offset expanded template described form).made
+    by : (b : Bool) → takes_macro s ≡ b → (read_shape s at text (unless_wrong b read.Template) calls element expanded template described form).faults ≡ [] → Loosely s (read_shape s at text (unless_wrong b read.Template) calls element expanded template described form).made
     by true t e = evaluated_macro s template.made t (v refl e)
     by false t e = absurd cc
-read_fit s at text (is.Descriptor d) called calls offset expanded template described form right path h k o g v w e = by (takes_descriptor s) refl e
+read_fit s at text (is.Descriptor d) called calls element expanded template described form right path h k o g v w e = by (takes_resource s d) refl e
   where
-    by : (b : Bool) → takes_descriptor s ≡ b → (read_shape s at text (unless_wrong b (read.Descriptor d)) calls offset expanded template described form).faults ≡ [] → Loosely s (read_shape s at text (unless_wrong b (read.Descriptor d)) calls offset expanded template described form).made
-    by true t e = in_template s (described d).made t (w d refl e)
+    by : (b : Bool) → takes_resource s d ≡ b → (read_shape s at text (unless_wrong b (read.Descriptor d)) calls element expanded template described form).faults ≡ [] → Loosely s (read_shape s at text (unless_wrong b (read.Descriptor d)) calls element expanded template described form).made
+    by true t e = in_template s d (described d).made t (w d refl e)
     by false t e = absurd cc
-read_fit s at text is.Unknown called calls offset expanded template described form right path h k o g v w e = absurd cc
+read_fit s at text is.Unknown called calls element expanded template described form right path h k o g v w e = absurd cc
 
 pub item_fit : (P : Plan → Type 0) (s : Slot) (inside : Bool) (m : Meaning) (has has_body : Bool) (at : Place) (shape : Shaped Plan) → (may_be s inside m ≡ true → has ≡ true → shape.faults ≡ [] → P shape.made)
     → (item_shape at (item_fault s inside m has has_body) shape).faults ≡ [] → P (item_shape at (item_fault s inside m has has_body) shape).made

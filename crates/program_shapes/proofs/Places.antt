@@ -41,13 +41,15 @@ use Rattle.asl_shape.specs.declared.around.Around.{Around}
 use Rattle.asl_shape.specs.Around.{outside}
 use Rattle.asl_shape.specs.declared.fields.Due.{Due}
 use Rattle.asl_shape.specs.declared.fields.UnitName.{UnitName}
-use Rattle.asl_shape.specs.Plans.{Plan, an_integer, a_text, a_fill, a_name, Plans, no_plans, plan, plan_at, join, first_plans, first_alone, number_of, is_omitted, constant_of, plans_of}
+use Rattle.asl_shape.specs.Plans.{Plan, an_integer, a_text, a_fill, a_name, an_access, Plans, no_plans, plan, plan_at, join, first_plans, first_alone, number_of, is_omitted, constant_of, plans_of}
 use Rattle.asl_words.specs.Paths.{path_of}
-use Rattle.asl_words.specs.Operators.{parameters_of, parameters_as, body_as, role_of, offset_parameters, macro_parameters}
+use Rattle.asl_words.specs.declared.operator.FieldWord.{FieldWord}
+use Rattle.asl_words.specs.declared.meaning.Meaning.{Meaning}
+use Rattle.asl_words.specs.Operators.{parameters_of, parameters_as, body_as, role_of, element_parameters, macro_parameters}
 use Rattle.asl_words.specs.Resources.{descriptor_parameters, descriptor_body}
 use Rattle.asl_shape.specs.Symbols.{symbol_of}
-use Rattle.asl_shape.specs.Shapes.{Shaped, fine, refused, nowhere, valued, evaluated, after, checked, is_member, is_given, count, has_arguments, are_all_types, number_shape, string_shape, text_shape, path_shape, call_shape, known_plan, listed_shape, read_shape, item_shape, form_shape, method_flags, one_plan, zero_plan, is_stated, stated_parameters, few_elements, settled, within, place_of, left_out, is_separator, is_listed, byte_slot, list_shape, skipped, run_after, bare, operands, call_args, arguments, arguments_in, contents, members, terms, inside_of, is_element, field_flags, field_settled, offset_shape, macro_shape, template_shape, descriptor_shape, macro_text, eisa_shape, uuid_shape, buffer_plan, meaning_in, is_field_list, begin, field_slot, named_unit, unit_behind, is_offset_plan, offset_alone, of_bits, field_part, due_behind, elements, is_case_member, case_member, member_count, is_case_package, case_value, is_default_plan, default_last, arranged, cases, default_after}
-use Rattle.asl_words.specs.Meanings.{item_fault, meaning_of, reading_of, takes_expression, takes_role, slot_as, unfit}
+use Rattle.asl_shape.specs.Shapes.{Shaped, fine, refused, nowhere, valued, evaluated, after, checked, is_member, is_given, count, has_arguments, are_all_types, number_shape, string_shape, text_shape, path_shape, call_shape, known_plan, listed_shape, read_shape, item_shape, form_shape, method_flags, one_plan, zero_plan, is_stated, stated_parameters, few_elements, settled, within, place_of, left_out, is_separator, is_listed, byte_slot, list_shape, skipped, run_after, bare, operands, call_args, arguments, arguments_in, contents, members, terms, inside_of, is_element, field_flags, field_settled, element_shape, macro_shape, template_shape, descriptor_shape, macro_text, eisa_shape, uuid_shape, buffer_plan, meaning_in, is_field_list, begin, field_slot, named_unit, unit_behind, whole_alone, of_bits, field_part, due_behind, elements, is_case_member, case_member, member_count, is_case_package, case_value, is_default_plan, default_last, arranged, cases, default_after, accessed_as, connected_to, element_plan, element_place, first_place, inner_place, begun}
+use Rattle.asl_words.specs.Meanings.{item_fault, meaning_of, reading_of, takes_expression, takes_role, slot_as, unfit, is_whole, is_connection}
 use Rattle.asl_words.specs.Texts.{is_all_text, has_form}
 use Rattle.resource_macros.specs.Identifiers.{eisaid_of, uuid_of, utf16_of}
 use Rattle.asl_shape.specs.Forms.{terms_of, IsBlockOf, block_args, revision_in}
@@ -138,7 +140,7 @@ module _ (files : ℕ) where
   known_in s (known.Local i) = tt
   known_in s (known.Arg i) = tt
   known_in s known.Debug = tt
-  known_in s known.Offset = tt
+  known_in s (known.Element w) = tt
   known_in s (known.Macro m) = tt
   known_in s known.Template = tt
   known_in s (known.Descriptor d) = tt
@@ -148,17 +150,31 @@ module _ (files : ℕ) where
   head_in no_plans h = tt
   head_in (plan place p ps) h = h.1
 
-  read_in : (s : Slot) (place : Place) (text : List ℕ) (reading : Reading) (args : Shaped Plans) (offset : Shaped Plan) (expanded : TextMacro → Shaped Plan) (template : Shaped Plan) (described : Descriptor → Shaped Plan) (form : Op → Shaped Plan) → PlansWithin files args.made → PlanWithin files offset.made → ((m : TextMacro) → PlanWithin files (expanded m).made)
-      → PlanWithin files template.made → ((d : Descriptor) → PlanWithin files (described d).made) → ((o : Op) → PlanWithin files (form o).made) → PlanWithin files (read_shape s place text reading args offset expanded template described form).made
-  read_in s place text read.Wrong args offset expanded template described form h k l v w go = tt
-  read_in s place text read.Path args offset expanded template described form h k l v w go = path_in place (path_of text)
-  read_in s place text read.Offset args offset expanded template described form h k l v w go = k
-  read_in s place text (read.Macro m) args offset expanded template described form h k l v w go = l m
-  read_in s place text read.Template args offset expanded template described form h k l v w go = v
-  read_in s place text (read.Descriptor d) args offset expanded template described form h k l v w go = w d
-  read_in s place text read.Call args offset expanded template described form h k l v w go = call_in place (path_of text) args h
-  read_in s place text (read.Known known) args offset expanded template described form h k l v w go = known_in s known
-  read_in s place text (read.Form o) args offset expanded template described form h k l v w go = go o
+  connected_in : (p : Plan) → PlanWithin files p → PlanWithin files (connected_to p)
+  connected_in (a_fill bytes named) h = h
+  connected_in _ h = h
+
+  accessed_in : (access : ℕ) (p : Plan) → PlanWithin files (accessed_as access p)
+  accessed_in access (an_access other attribute count) = tt
+  accessed_in access _ = tt
+
+  element_in : (x : FieldWord) (ps : Plans) → PlansWithin files ps → PlanWithin files (element_plan x ps)
+  element_in FieldWord.Offset ps h = tt
+  element_in FieldWord.AccessAs ps h = accessed_in (number_of (plan_at ps 0) % 256) (plan_at ps 1)
+  element_in FieldWord.Connection ps h = connected_in (plan_at ps 0) (head_in ps h)
+  element_in FieldWord.AttribBytes ps h = tt
+
+  read_in : (s : Slot) (place : Place) (text : List ℕ) (reading : Reading) (args : Shaped Plans) (element : FieldWord → Shaped Plan) (expanded : TextMacro → Shaped Plan) (template : Shaped Plan) (described : Descriptor → Shaped Plan) (form : Op → Shaped Plan) → PlansWithin files args.made → ((x : FieldWord) → PlanWithin files (element x).made) → ((m : TextMacro) → PlanWithin files (expanded m).made)
+      → PlanWithin files template.made → ((d : Descriptor) → PlanWithin files (described d).made) → ((o : Op) → PlanWithin files (form o).made) → PlanWithin files (read_shape s place text reading args element expanded template described form).made
+  read_in s place text read.Wrong args element expanded template described form h k l v w go = tt
+  read_in s place text read.Path args element expanded template described form h k l v w go = path_in place (path_of text)
+  read_in s place text (read.Element x) args element expanded template described form h k l v w go = k x
+  read_in s place text (read.Macro m) args element expanded template described form h k l v w go = l m
+  read_in s place text read.Template args element expanded template described form h k l v w go = v
+  read_in s place text (read.Descriptor d) args element expanded template described form h k l v w go = w d
+  read_in s place text read.Call args element expanded template described form h k l v w go = call_in place (path_of text) args h
+  read_in s place text (read.Known known) args element expanded template described form h k l v w go = known_in s known
+  read_in s place text (read.Form o) args element expanded template described form h k l v w go = go o
 
   item_in : (place : Place) (fault : Option ℕ) (shape : Shaped Plan) → PlanWithin files shape.made → PlanWithin files (item_shape place fault shape).made
   item_in place (Some n) shape h = tt
@@ -288,31 +304,55 @@ module _ (files : ℕ) where
       by (Some segment) = h
   named_in place _ h = tt
 
-  unit_in : (due : Due) (unit : Option UnitName) (place : Place) (separator : Bool) (p : Plan) → UnitIn unit → IsIn files place → UnitIn (unit_behind due unit place separator p)
-  unit_in Due.Element unit place true p u h = tt
-  unit_in Due.Element unit place false p u h = named_in place p h
-  unit_in Due.NameComma unit place separator p u h = u
-  unit_in Due.Bits unit place separator p u h = tt
-  unit_in Due.Comma unit place separator p u h = tt
+  begun_in : (whole : Bool) (place : Place) (p : Plan) → IsIn files place → UnitIn (begun whole place p)
+  begun_in true place p h = tt
+  begun_in false place p h = named_in place p h
 
-  alone_in : (place : Place) (p : Plan) → IsIn files place → PlanWithin files p → PlansWithin files (offset_alone place p)
-  alone_in place p h k = by (is_offset_plan p)
+  unit_in : (due : Due) (unit : Option UnitName) (place : Place) (whole separator : Bool) (p : Plan) → UnitIn unit → IsIn files place → UnitIn (unit_behind due unit place whole separator p)
+  unit_in Due.Element unit place whole true p u h = tt
+  unit_in Due.Element unit place whole false p u h = begun_in whole place p h
+  unit_in Due.NameComma unit place whole separator p u h = u
+  unit_in Due.Bits unit place whole separator p u h = tt
+  unit_in Due.Comma unit place whole separator p u h = tt
+
+  alone_in : (whole : Bool) (place : Place) (p : Plan) → IsIn files place → PlanWithin files p → PlansWithin files (whole_alone whole place p)
+  alone_in true place p h k = (h, k, tt)
+  alone_in false place p h k = tt
+
+  -- where an element stands
+  first_place_in : (place : Place) (ws : Writtens) → IsIn files place → AreWithin files ws → IsIn files (first_place place ws)
+  first_place_in place none h k = h
+  first_place_in place (more w ws) h k = place_in place w h k.0
+
+  inner_place_in : (place : Place) (w : Written) → IsIn files place → IsWithin files w → IsIn files (inner_place place w)
+  inner_place_in place (item p w absent body) h k = h
+  inner_place_in place (item p w (given ws) body) h k = first_place_in place ws h k.1
+  inner_place_in place (piece.number p n) h k = h
+  inner_place_in place (piece.text p t) h k = h
+  inner_place_in place (apply p o args) h k = h
+  inner_place_in place (listed p ws) h k = h
+  inner_place_in place comma h k = h
+  inner_place_in place semicolon h k = h
+  inner_place_in place empty h k = h
+
+  element_place_in : (w : Written) → IsIn files nowhere → IsWithin files w → IsIn files (element_place w)
+  element_place_in w h k = by (is_connection (meaning_in w))
     where
-      by : (c : Bool) → PlansWithin files (if c then one_plan place p else no_plans)
-      by true = (h, k, tt)
-      by false = tt
+      by : (b : Bool) → IsIn files (if b then inner_place (place_of nowhere w) w else place_of nowhere w)
+      by true = inner_place_in (place_of nowhere w) w (place_in nowhere w h k) k
+      by false = place_in nowhere w h k
 
   bits_in : (unit : Option UnitName) (place : Place) (n : ℕ) → UnitIn unit → IsIn files place → PlansWithin files (of_bits unit place n)
   bits_in None place n u h = (h, tt, tt)
   bits_in (Some unit) place n u h = (u, tt, tt)
 
-  part_in : (due : Due) (unit : Option UnitName) (place : Place) (separator : Bool) (shape : Shaped Plan) → UnitIn unit → IsIn files place → PlanWithin files shape.made → PlansWithin files (field_part due unit place separator shape).made
-  part_in Due.Element unit place true shape u h k = tt
-  part_in Due.Element unit place false shape u h k = alone_in place shape.made h k
-  part_in Due.NameComma unit place true shape u h k = tt
-  part_in Due.NameComma unit place false shape u h k = tt
-  part_in Due.Bits unit place separator shape u h k = bits_in unit place (number_of shape.made) u h
-  part_in Due.Comma unit place separator shape u h k = tt
+  part_in : (due : Due) (unit : Option UnitName) (place : Place) (whole separator : Bool) (shape : Shaped Plan) → UnitIn unit → IsIn files place → PlanWithin files shape.made → PlansWithin files (field_part due unit place whole separator shape).made
+  part_in Due.Element unit place whole true shape u h k = tt
+  part_in Due.Element unit place whole false shape u h k = alone_in whole place shape.made h k
+  part_in Due.NameComma unit place whole true shape u h k = tt
+  part_in Due.NameComma unit place whole false shape u h k = tt
+  part_in Due.Bits unit place whole separator shape u h k = bits_in unit place (number_of shape.made) u h
+  part_in Due.Comma unit place whole separator shape u h k = tt
 
   -- ---- the tree
 
@@ -329,14 +369,15 @@ module _ (files : ℕ) where
       bare_in s inside (item place w args body) h =
           let meaning = meaning_of w (is_given body) in
           let form : Op → Shaped Plan = λ o. form_shape inside.width o place (arguments (parameters_as o s) place inside args) (contents (body_as o s) (within o inside) place body) in
-          let offset : Shaped Plan = offset_shape (arguments offset_parameters place inside args) in
+          let element : FieldWord → Shaped Plan = λ e. element_shape e (arguments (element_parameters e) place inside args) in
           let expanded : TextMacro → Shaped Plan = λ m. macro_shape (arguments (macro_parameters m) place inside args) in
-          let template : Shaped Plan = template_shape place (contents braces.Descriptors inside place body) in
+          let template : Shaped Plan = template_shape place (contents (braces.Descriptors false) inside place body) in
           let described : Descriptor → Shaped Plan = λ d. descriptor_shape d place (arguments (descriptor_parameters d) place inside args) (contents (descriptor_body d) inside place body) in
-          item_in place (item_fault s inside.method meaning (has_arguments meaning (inside_of args)) (is_given body)) (read_shape s place w (reading_of s meaning (is_given args)) (call_args inside args) offset expanded template described form)
-          (read_in s place w (reading_of s meaning (is_given args)) (call_args inside args) offset expanded template described form (call_args_in inside args h.1) tt
+          item_in place (item_fault s inside.method meaning (has_arguments meaning (inside_of args)) (is_given body)) (read_shape s place w (reading_of s meaning (is_given args)) (call_args inside args) element expanded template described form)
+          (read_in s place w (reading_of s meaning (is_given args)) (call_args inside args) element expanded template described form (call_args_in inside args h.1)
+          (λ x. element_in x (arguments (element_parameters x) place inside args).made (arguments_within (element_parameters x) place inside args h.0 h.1))
           (λ m. head_in (arguments (macro_parameters m) place inside args).made (arguments_within (macro_parameters m) place inside args h.0 h.1))
-          ((h.0, tt, tt), (h.0, names_from_in 0 (contents braces.Descriptors inside place body).made (contents_in braces.Descriptors inside place body h.2), tt))
+          ((h.0, tt, tt), (h.0, names_from_in 0 (contents (braces.Descriptors false) inside place body).made (contents_in (braces.Descriptors false) inside place body h.2), tt))
           (λ d. both_in (own_name d (fields_of d) (arguments (descriptor_parameters d) place inside args).made) (names_from (length (own_bytes d (arguments (descriptor_parameters d) place inside args).made (contents (descriptor_body d) inside place body).made)) (contents (descriptor_body d) inside place body).made)
           (own_name_in d (fields_of d) (arguments (descriptor_parameters d) place inside args).made (arguments_within (descriptor_parameters d) place inside args h.0 h.1))
           (names_from_in (length (own_bytes d (arguments (descriptor_parameters d) place inside args).made (contents (descriptor_body d) inside place body).made)) (contents (descriptor_body d) inside place body).made (contents_in (descriptor_body d) inside place body h.2)))
@@ -375,20 +416,22 @@ module _ (files : ℕ) where
       contents_in braces.Elements inside place (given ws) h = list_in place (is_listed true ws) (members slot.Element inside ws) (members_in slot.Element inside ws h)
       contents_in braces.FieldList inside place (given ws) h = list_in place (is_field_list begin ws) (elements begin None inside ws) (elements_in begin None inside ws tt h)
       contents_in (braces.Numbers most) inside place (given ws) h = list_in place (is_listed true ws) (members (slot.Constant 0 most) inside ws) (members_in (slot.Constant 0 most) inside ws h)
-      contents_in braces.Descriptors inside place (given ws) h = members_in slot.Descriptor inside ws h
+      contents_in (braces.Descriptors chosen) inside place (given ws) h = members_in (slot.Descriptor chosen) inside ws h
       contents_in braces.Cases inside place (given ws) h = cases_in inside false ws h
       contents_in braces.CaseMembers inside place (given ws) h = list_in place (is_listed true ws) (members slot.CaseMember inside ws) (members_in slot.CaseMember inside ws h)
 
       elements_in : (due : Due) (unit : Option UnitName) (inside : Around) (ws : Writtens) → UnitIn unit → AreWithin files ws → PlansWithin files (elements due unit inside ws).made
       elements_in due unit inside none u h = tt
       elements_in due unit inside (more w ws) u h =
-          let place : Place = place_of nowhere w in
-          let shape : Shaped Plan = checked inside.width (field_slot due) place (bare (field_slot due) inside w) in
-          let next : Option UnitName = unit_behind due unit place (is_separator w) shape.made in
-          let at : IsIn files place = place_in nowhere w main h.0 in
-          join_in (field_part due unit place (is_separator w) shape).made (elements (due_behind due w) next inside ws).made
-          (part_in due unit place (is_separator w) shape u at (checked_in inside.width (field_slot due) place (bare (field_slot due) inside w) (bare_in (field_slot due) inside w h.0)))
-          (elements_in (due_behind due w) next inside ws (unit_in due unit place (is_separator w) shape.made u at) h.1)
+          let m : Meaning = meaning_in w in
+          let s : Slot = field_slot due m in
+          let place : Place = element_place w in
+          let shape : Shaped Plan = checked inside.width s (place_of nowhere w) (bare s inside w) in
+          let next : Option UnitName = unit_behind due unit place (is_whole m) (is_separator w) shape.made in
+          let at : IsIn files place = element_place_in w main h.0 in
+          join_in (field_part due unit place (is_whole m) (is_separator w) shape).made (elements (due_behind due w) next inside ws).made
+          (part_in due unit place (is_whole m) (is_separator w) shape u at (checked_in inside.width s (place_of nowhere w) (bare s inside w) (bare_in s inside w h.0)))
+          (elements_in (due_behind due w) next inside ws (unit_in due unit place (is_whole m) (is_separator w) shape.made u at) h.1)
 
       members_in : (s : Slot) (inside : Around) (ws : Writtens) → AreWithin files ws → PlansWithin files (members s inside ws).made
       members_in s inside none h = tt

@@ -1,5 +1,5 @@
 -- A source without errors has a shape: each part of it fits where it stands.
-use Rattle.std.proofs.Common.{◌≡◌, inl, inr, ℕ, suc, ◌+◌, ◌<◌, ◌≤◌, Bool, true, false, List, [], ◌∷◌, ◌++◌, length, zero, Option, Some, None, refl, ap, subst, arith}
+use Rattle.std.proofs.Common.{◌≡◌, inl, inr, ℕ, suc, ◌+◌, ◌<◌, ◌≤◌, Bool, true, false, List, [], ◌∷◌, ◌++◌, length, zero, Option, Some, None, ◌%◌, refl, ap, subst, arith}
 use Rattle.std.specs.Prelude.{nat_le, not, ◌||◌, if◌then◌else◌}
 use Rattle.std.proofs.lemmas.List.{length-append}
 use Rattle.iasl_messages.specs.declared.place.Place.{Place}
@@ -9,9 +9,11 @@ use Rattle.asl_tree.specs.declared.term.Op.{Op}
 use Rattle.asl_tree.specs.declared.term.Special.TheVariants as Special
 use Rattle.acpi_state.specs.Outcomes.{choose}
 use Rattle.acpi_values.specs.Paths.{NameSeg}
-use Rattle.asl_tree.specs.FieldItems.{FieldItem, UnitItem, SkipItem, OffsetItem}
+use Rattle.asl_tree.specs.FieldItems.{FieldItem, UnitItem, SkipItem, OffsetItem, AccessItem, ConnectionItem, ToName, ToBytes}
+use Rattle.aml_sessions.specs.Ready.{IsItem}
+use Rattle.std.proofs.Math.Nat.{mod-lt}
 use Rattle.asl_tree.specs.Names.{single_in}
-use Rattle.asl_tree.specs.Tree.{Tree, Integer, String, Item, UnitName as FieldName, Trees, no_trees, tree, count}
+use Rattle.asl_tree.specs.Tree.{Tree, Integer, String, Use, Fill, Item, UnitName as FieldName, Trees, no_trees, tree, count}
 use Rattle.asl_tree.specs.View.{body_bytes, items_in, listed as bytes_listed}
 use Rattle.aml_code.specs.Fronts.{IsUsedName, AreSegments, is_segment}
 use Rattle.named_sessions.specs.Shaped.{AreNamed, IsNumber, IsCaseMember, AreCaseMembers}
@@ -26,7 +28,8 @@ use Rattle.asl_words.specs.declared.operator.Body.{Body}
 use Rattle.asl_words.specs.declared.operator.Body.TheVariants as braces
 use Rattle.asl_words.specs.declared.meaning.Meaning.{Meaning}
 use Rattle.asl_words.specs.declared.meaning.Meaning.TheVariants as is
-use Rattle.asl_words.specs.Operators.{parameters_of, parameters_as, body_of, body_as, role_of, offset_parameters, macro_parameters}
+use Rattle.asl_words.specs.declared.operator.FieldWord.{FieldWord}
+use Rattle.asl_words.specs.Operators.{parameters_of, parameters_as, body_of, body_as, role_of, element_parameters, macro_parameters}
 use Rattle.asl_words.specs.Resources.{descriptor_parameters, descriptor_body}
 use Rattle.asl_words.specs.declared.operator.WordKind.TheVariants as kind
 use Rattle.acpi_values.specs.declared.width.Width.{Width}
@@ -35,14 +38,14 @@ use Rattle.asl_shape.specs.declared.fields.Due.{Due}
 use Rattle.asl_shape.specs.declared.fields.UnitName.{UnitName}
 use Rattle.asl_parser.specs.Written as piece
 use Rattle.asl_parser.specs.Written.{Written, Writtens, WrittenGroup, item, apply, listed, comma, semicolon, empty, none, more, absent, given}
-use Rattle.asl_shape.specs.Plans.{Plan, omitted, a_name, a_unit, a_skip, an_offset, Plans, no_plans, plan, join, number_of, how_many}
-use Rattle.asl_shape.specs.Shapes.{Shaped, fine, refused, nowhere, is_given, is_empty, is_separator, inside_of, has_arguments, takes, none_empty, is_call, left_out, evaluated, checked, place_of, joined, skipped, list_shape, is_listed, byte_slot, run_after, within, form_shape, bare, operands, call_args, arguments, arguments_in, contents, members, terms, read_shape, string_shape, fault_at, offset_shape, macro_shape, template_shape, descriptor_shape, meaning_in, is_field_list, begin, field_slot, named_unit, unit_behind, offset_alone, of_bits, field_part, due_behind, elements, arranged, cases, default_after}
-use Rattle.asl_words.specs.Meanings.{meaning_of, may_end, may_be, is_branch_role, reading_of, slot_as, is_word_of}
+use Rattle.asl_shape.specs.Plans.{Plan, omitted, a_name, a_fill, a_unit, a_skip, an_access, Plans, no_plans, plan, plan_at, join, number_of, how_many}
+use Rattle.asl_shape.specs.Shapes.{Shaped, fine, refused, nowhere, is_given, is_empty, is_separator, inside_of, has_arguments, takes, none_empty, is_call, left_out, evaluated, checked, place_of, joined, skipped, list_shape, is_listed, byte_slot, run_after, within, form_shape, bare, operands, call_args, arguments, arguments_in, contents, members, terms, read_shape, string_shape, fault_at, element_shape, macro_shape, template_shape, descriptor_shape, meaning_in, is_field_list, begin, field_slot, named_unit, unit_behind, of_bits, field_part, due_behind, elements, arranged, cases, default_after, accessed_as, connected_to, element_plan, element_place, begun}
+use Rattle.asl_words.specs.Meanings.{meaning_of, may_end, may_be, is_branch_role, reading_of, slot_as, is_word_of, is_whole, is_long_attribute}
 use Rattle.asl_shape.specs.Shapes as shapes
 use Rattle.asl_shape.specs.Symbols.{symbol_of}
 use Rattle.asl_parser.specs.declared.raw.Infix.{Infix}
 use Rattle.program_shapes.specs.Kept.{IsKept, AreArguments, EachArgument, AreMembers, EachMember}
-use Rattle.program_shapes.proofs.Fits.{Fits, IsAtMost, IsElement, FormedValues, FormedElements, FormedTerms}
+use Rattle.program_shapes.proofs.Fits.{Fits, IsAtMost, IsElement, IsAttribute, IsConnected, FormedValues, FormedElements, FormedTerms}
 use Rattle.program_shapes.proofs.Forms.{ListFit}
 use Rattle.program_shapes.proofs.Operators.{BodyFit}
 use Rattle.program_shapes.proofs.Words.{path_ok, meaning_ok, symbol_spelled, both_true, IsRightMeaning}
@@ -53,7 +56,7 @@ use Rattle.program_shapes.proofs.Branches.{AreBranches, ContentsFit}
 use Rattle.program_shapes.proofs.Followed.{branches_fit, terms_more}
 use Rattle.program_shapes.proofs.Macros.{macro_made}
 use Rattle.program_shapes.proofs.Macros.{template_fit, descriptor_fit}
-use Rattle.program_shapes.proofs.Parts.{none_in, number_fit, text_fit, string_fit, listed_fit, IsSymbolic, form_in, symbol_fit, read_fit, item_fit, has_call}
+use Rattle.program_shapes.proofs.Parts.{none_in, number_fit, text_fit, string_fit, listed_fit, WordFits, IsSymbolic, form_in, symbol_fit, read_fit, item_fit, has_call}
 
 not_true : (b : Bool) → not b ≡ true → b ≡ false
 not_true true e = absurd cc
@@ -190,6 +193,16 @@ takes_of m op ws e h = subst (λ m. has_arguments m ws ≡ true) e h
 takes_text : (m : Meaning) (x : TextMacro) (ws : Writtens) → m ≡ is.Macro x → has_arguments m ws ≡ true → takes (macro_parameters x) ws ≡ true
 takes_text m x ws e h = subst (λ m. has_arguments m ws ≡ true) e h
 
+-- what fits in one slot fits in another
+takes_as_well : (b : Bool) (s r : Slot) (p : Plan) → ((t : Tree) → Fits s t → Fits r t) → PlanTakes b s p → PlanTakes b r p
+takes_as_well true s r p f (inl h) = inl (λ at next. f (numbered at next p) (h at next))
+takes_as_well true s r p f (inr e) = inr e
+takes_as_well false s r p f h = λ at next. f (numbered at next p) (h at next)
+
+number_attribute : (most : ℕ) (t : Tree) → IsAtMost most t → IsAttribute t
+number_attribute most (Integer n) h = tt
+number_attribute most _ h = absurd h
+
 -- an argument fits as it is asked for, however it is read
 as_asked : (b : Bool) (s : Slot) (m : Meaning) (p : Plan) → PlanTakes b (slot_as s m) p → PlanTakes b s p
 as_asked b slot.Space m p h = by (is_word_of kind.Space m) b h
@@ -208,11 +221,28 @@ as_asked b slot.RegisterSpace m p h = by (is_word_of kind.Space m) (is_word_of (
     by false true false h = h
     by false false true h = h
     by false false false h = h
+as_asked b (slot.WordOrByte which) m p h = by (is_word_of (kind.Resource which) m) b h
+  where
+    by : (t b : Bool) → PlanTakes b (if t then slot.Word (kind.Resource which) else slot.Constant 0 255) p → PlanTakes b (slot.WordOrByte which) p
+    by true true h = h
+    by true false h = h
+    by false true h = h
+    by false false h = h
+as_asked b slot.AccessType m p h = takes_as_well b (slot_as slot.AccessType m) slot.AccessType p (λ t h. tt) h
+as_asked b slot.Attribute m p h = by (is_long_attribute m) (is_word_of kind.Attribute m) h
+  where
+    by : (t u : Bool) → PlanTakes b (if t then slot.Attribute else (if u then slot.Word kind.Attribute else slot.Constant 0 255)) p → PlanTakes b slot.Attribute p
+    by true u h = h
+    by false true h = takes_as_well b (slot.Word kind.Attribute) slot.Attribute p (λ t h. number_attribute 255 t h) h
+    by false false h = takes_as_well b (slot.Constant 0 255) slot.Attribute p (λ t h. number_attribute 255 t h) h
+as_asked b slot.FieldElement m p h = by (is_whole m) b h
+  where
+    by : (t b : Bool) → PlanTakes b (if t then slot.WholeElement else slot.FieldElement) p → PlanTakes b slot.FieldElement p
+    by true true h = h
+    by true false h = h
+    by false true h = h
+    by false false h = h
 as_asked b _ m p h = h
-
-offset_fit : (args : Shaped Plans) → PlanAs IsElement (offset_shape args).made
-unfolding numbered
-offset_fit args = λ at next. tt
 
 -- ---- the list of a field
 
@@ -223,53 +253,96 @@ abbrev UnitFits : Option UnitName → Type 0
 UnitFits None = Unit {0}
 UnitFits (Some unit) = is_segment unit.segment ≡ true
 
-abbrev IsNamedItem : Tree → Type 0
-IsNamedItem (Item part) = AreNamed (part ∷ [])
-IsNamedItem _ = ⊥
-
-item_listed : (t : Tree) (ts : Trees) → IsNamedItem t → AreListed ts → AreListed (tree t ts)
+item_listed : (t : Tree) (ts : Trees) → IsElement t → AreListed ts → AreListed (tree t ts)
+item_listed (Use at name) ts h k = by (items_in ts) k
+  where
+    by : (o : Option (List (FieldItem FieldName))) → ListFit o → ListFit (choose o None (λ items. Some (ConnectionItem (ToName at name) ∷ items)))
+    by None k = absurd k
+    by (Some items) k = (h, k)
+item_listed (Fill bytes) ts h k = by (items_in ts) k
+  where
+    by : (o : Option (List (FieldItem FieldName))) → ListFit o → ListFit (choose o None (λ items. Some (ConnectionItem (ToBytes bytes) ∷ items)))
+    by None k = absurd k
+    by (Some items) k = (tt, k)
 item_listed (Item part) ts h k = by (items_in ts) k
   where
     both : (part : FieldItem FieldName) (items : List (FieldItem FieldName)) → AreNamed (part ∷ []) → AreNamed items → AreNamed (part ∷ items)
     both (UnitItem name bits) items h k = (h.0, k)
     both (SkipItem bits) items h k = k
     both (OffsetItem bytes) items h k = k
+    both (AccessItem access attribute count) items h k = (h.0, k)
+    both (ConnectionItem to) items h k = (h.0, k)
 
     by : (o : Option (List (FieldItem FieldName))) → ListFit o → ListFit (choose o None (λ items. Some (part ∷ items)))
     by None k = absurd k
     by (Some items) k = both part items h k
 item_listed _ ts h k = absurd h
 
-item_more : (place : Place) (p : Plan) (rest : Plans) → PlanAs IsNamedItem p → PlansAs AreListed rest → PlansAs AreListed (plan place p rest)
-item_more place p rest h k = more_as AreListed AreListed IsNamedItem place p rest item_listed h k
+item_more : (place : Place) (p : Plan) (rest : Plans) → PlanAs IsElement p → PlansAs AreListed rest → PlansAs AreListed (plan place p rest)
+item_more place p rest h k = more_as AreListed AreListed IsElement place p rest item_listed h k
 
-unit_as : (segment : NameSeg) (bits : ℕ) → is_segment segment ≡ true → PlanAs IsNamedItem (a_unit segment bits)
+unit_as : (segment : NameSeg) (bits : ℕ) → is_segment segment ≡ true → PlanAs IsElement (a_unit segment bits)
 unfolding numbered
 unit_as segment bits h = λ at next. (h, tt)
 
-skip_as : (bits : ℕ) → PlanAs IsNamedItem (a_skip bits)
+skip_as : (bits : ℕ) → PlanAs IsElement (a_skip bits)
 unfolding numbered
 skip_as bits = λ at next. tt
 
-offset_as : (bytes : ℕ) → PlanAs IsNamedItem (an_offset bytes)
+-- a word of a field's list comes to an element, or to an attribute
+access_as : (access : ℕ) (p : Plan) → PlanTakes true slot.Attribute p → PlanAs IsElement (accessed_as (access % 256) p)
 unfolding numbered
-offset_as bytes = λ at next. tt
+access_as access (an_access other attribute length) (inl h) =
+    let bytes : IsItem 0 (AccessItem other attribute length) = h (record { id = 0; place = nowhere }) 0 in
+    λ at next. ((mod-lt access (omega arith), bytes.1, bytes.2), tt)
+access_as access (an_access other attribute length) (inr e) = absurd cc
+access_as access p h = λ at next. ((mod-lt access (omega arith), mod-lt (number_of p) (omega arith), tt), tt)
 
-alone_fit : (place : Place) (p : Plan) (rest : Plans) → PlansAs AreListed rest → PlansAs AreListed (join (offset_alone place p) rest)
-alone_fit place (an_offset bytes) rest k = item_more place (an_offset bytes) rest (offset_as bytes) k
-alone_fit place _ rest k = k
+connected_element : (t : Tree) → IsConnected t → IsElement t
+connected_element (Use at name) h = h
+connected_element (Fill bytes) h = tt
+connected_element _ h = absurd h
+
+connection_as : (p : Plan) → PlanAs IsConnected p → PlanAs IsElement (connected_to p)
+unfolding numbered
+connection_as (a_fill bytes named) h = λ at next. tt
+connection_as p h = λ at next. connected_element (numbered at next p) (h at next)
+
+element_fit : (w : FieldWord) (ps : Plans) → PlansFit (element_parameters w) ps → PlanAs (WordFits w) (element_plan w ps)
+unfolding numbered element_parameters
+element_fit FieldWord.Offset ps h = λ at next. tt
+element_fit FieldWord.AccessAs no_plans h = absurd h
+element_fit FieldWord.AccessAs (plan place p no_plans) h = absurd h.1
+element_fit FieldWord.AccessAs (plan place p (plan other q rest)) h = access_as (number_of p) q h.1.0
+element_fit FieldWord.Connection no_plans h = absurd h
+element_fit FieldWord.Connection (plan place p rest) h = connection_as p h.0
+element_fit FieldWord.AttribBytes ps h = λ at next. (omega arith, omega arith, mod-lt (number_of (plan_at ps 0)) (omega arith))
+
+takes_word_of : (m : Meaning) (w : FieldWord) (ws : Writtens) → m ≡ is.Element w → has_arguments m ws ≡ true → takes (element_parameters w) ws ≡ true
+takes_word_of m w ws e h = subst (λ m. has_arguments m ws ≡ true) e h
 
 bits_fit : (unit : Option UnitName) (place : Place) (n : ℕ) (rest : Plans) → UnitFits unit → PlansAs AreListed rest → PlansAs AreListed (join (of_bits unit place n) rest)
 bits_fit None place n rest u k = item_more place (a_skip n) rest (skip_as n) k
 bits_fit (Some unit) place n rest u k = item_more unit.place (a_unit unit.segment n) rest (unit_as unit.segment n u) k
 
-part_fit : (due : Due) (unit : Option UnitName) (place : Place) (separator : Bool) (shape : Shaped Plan) (rest : Plans) → UnitFits unit → PlansAs AreListed rest → PlansAs AreListed (join (field_part due unit place separator shape).made rest)
-part_fit Due.Element unit place true shape rest u k = k
-part_fit Due.Element unit place false shape rest u k = alone_fit place shape.made rest k
-part_fit Due.NameComma unit place true shape rest u k = k
-part_fit Due.NameComma unit place false shape rest u k = k
-part_fit Due.Bits unit place separator shape rest u k = bits_fit unit place (number_of shape.made) rest u k
-part_fit Due.Comma unit place separator shape rest u k = k
+-- what begins an element, however it is read
+begun_as : (m : Meaning) (p : Plan) → PlanAs (Fits (slot_as slot.FieldElement m)) p → PlanAs IsElement p
+begun_as m p h = by (is_whole m) h
+  where
+    by : (b : Bool) → PlanAs (Fits (if b then slot.WholeElement else slot.FieldElement)) p → PlanAs IsElement p
+    by true h = h
+    by false h = h
+
+part_fit : (due : Due) (unit : Option UnitName) (place : Place) (m : Meaning) (whole separator : Bool) (shape : Shaped Plan) (rest : Plans) → UnitFits unit
+    → (separator ≡ false → shape.faults ≡ [] → PlanAs (Fits (field_slot due m)) shape.made) → (field_part due unit place whole separator shape).faults ≡ []
+    → PlansAs AreListed rest → PlansAs AreListed (join (field_part due unit place whole separator shape).made rest)
+part_fit Due.Element unit place m whole true shape rest u h e k = k
+part_fit Due.Element unit place m true false shape rest u h e k = item_more place shape.made rest (begun_as m shape.made (h refl e)) k
+part_fit Due.Element unit place m false false shape rest u h e k = k
+part_fit Due.NameComma unit place m whole true shape rest u h e k = k
+part_fit Due.NameComma unit place m whole false shape rest u h e k = k
+part_fit Due.Bits unit place m whole separator shape rest u h e k = bits_fit unit place (number_of shape.made) rest u k
+part_fit Due.Comma unit place m whole separator shape rest u h e k = k
 
 single_fits : (place : Place) (root : Bool) (up : ℕ) (segs : List NameSeg) → AreSegments segs → UnitFits (choose (single_in root up segs) None (λ segment. Some (record { place = place; segment = segment })))
 single_fits place false zero (seg ∷ []) h = h.0
@@ -280,13 +353,18 @@ unfolding numbered
 named_fits place (a_name path) h = let used : IsUsedName path = h (record { id = 0; place = place }) 0 in single_fits place path.root path.up path.segs used.is_name.segments
 named_fits place _ h = tt
 
-next_fits : (due : Due) (unit : Option UnitName) (place : Place) (separator : Bool) (shape : Shaped Plan) → UnitFits unit → (separator ≡ false → shape.faults ≡ [] → PlanAs (Fits (field_slot due)) shape.made)
-    → (field_part due unit place separator shape).faults ≡ [] → UnitFits (unit_behind due unit place separator shape.made)
-next_fits Due.Element unit place true shape u h e = tt
-next_fits Due.Element unit place false shape u h e = named_fits place shape.made (h refl e)
-next_fits Due.NameComma unit place separator shape u h e = u
-next_fits Due.Bits unit place separator shape u h e = tt
-next_fits Due.Comma unit place separator shape u h e = tt
+begun_fits : (whole : Bool) (place : Place) (p : Plan) → PlanAs IsElement p → UnitFits (begun whole place p)
+begun_fits true place p h = tt
+begun_fits false place p h = named_fits place p h
+
+next_fits : (due : Due) (unit : Option UnitName) (place : Place) (m : Meaning) (whole separator : Bool) (shape : Shaped Plan) → UnitFits unit
+    → (separator ≡ false → shape.faults ≡ [] → PlanAs (Fits (field_slot due m)) shape.made)
+    → (field_part due unit place whole separator shape).faults ≡ [] → UnitFits (unit_behind due unit place whole separator shape.made)
+next_fits Due.Element unit place m whole true shape u h e = tt
+next_fits Due.Element unit place m whole false shape u h e = begun_fits whole place shape.made (begun_as m shape.made (h refl e))
+next_fits Due.NameComma unit place m whole separator shape u h e = u
+next_fits Due.Bits unit place m whole separator shape u h e = tt
+next_fits Due.Comma unit place m whole separator shape u h e = tt
 
 right_of : (m : Meaning) (op : Op) → m ≡ is.Operator op → IsRightMeaning m → IsRightMeaning (is.Operator op)
 right_of m op e h = subst IsRightMeaning e h
@@ -332,19 +410,19 @@ mutual
   bare_fit s inside (item at w args body) k sep emp e =
       let m : Meaning = meaning_of w (is_given body) in
       let form : Op → Shaped Plan = λ o. form_shape inside.width o at (arguments (parameters_as o s) at inside args) (contents (body_as o s) (within o inside) at body) in
-      let offset : Shaped Plan = offset_shape (arguments offset_parameters at inside args) in
+      let element : FieldWord → Shaped Plan = λ e. element_shape e (arguments (element_parameters e) at inside args) in
       let expanded : TextMacro → Shaped Plan = λ x. macro_shape (arguments (macro_parameters x) at inside args) in
-      let template : Shaped Plan = template_shape at (contents braces.Descriptors inside at body) in
+      let template : Shaped Plan = template_shape at (contents (braces.Descriptors false) inside at body) in
       let described : Descriptor → Shaped Plan = λ d. descriptor_shape d at (arguments (descriptor_parameters d) at inside args) (contents (descriptor_body d) inside at body) in
-      item_fit (Loosely s) s inside.method m (has_arguments m (inside_of args)) (is_given body) at (read_shape s at w (reading_of s m (is_given args)) (call_args inside args) offset expanded template described form)
-      (λ may has f. read_fit s at w m (is_given args) (call_args inside args) offset expanded template described form (meaning_ok w (is_given body)) (path_ok w)
+      item_fit (Loosely s) s inside.method m (has_arguments m (inside_of args)) (is_given body) at (read_shape s at w (reading_of s m (is_given args)) (call_args inside args) element expanded template described form)
+      (λ may has f. read_fit s at w m (is_given args) (call_args inside args) element expanded template described form (meaning_ok w (is_given body)) (path_ok w)
       (λ c g. calls_fit inside args k.0 (is_called m (inside_of args) has c) g)
       (λ op is t g. form_in s inside.method inside.width op at (arguments (parameters_as op s) at inside args) (contents (body_as op s) (within op inside) at body) (right_of m op is (meaning_ok w (is_given body))) (may_of s inside.method m op is may) t
       (λ f. arguments_fit (parameters_as op s) at inside args k.0 (takes_as op s (inside_of args) (takes_of m op (inside_of args) is has)) f)
       (λ f. contents_fit (body_as op s) (within op inside) at body k.1 f) g)
-      (λ g. offset_fit (arguments offset_parameters at inside args))
+      (λ x is g. element_fit x (arguments (element_parameters x) at inside args).made (arguments_fit (element_parameters x) at inside args k.0 (takes_word_of m x (inside_of args) is has) g))
       (λ x is g. macro_made x (arguments (macro_parameters x) at inside args).made (arguments_fit (macro_parameters x) at inside args k.0 (takes_text m x (inside_of args) is has) g))
-      (λ is g. template_fit at (contents braces.Descriptors inside at body).made)
+      (λ is g. template_fit at (contents (braces.Descriptors false) inside at body).made)
       (λ d is g. descriptor_fit d (arguments (descriptor_parameters d) at inside args).made (contents (descriptor_body d) inside at body).made)
       f)
       e
@@ -387,11 +465,11 @@ mutual
   contents_fit braces.FieldList inside at absent k e = none_as AreListed tt
   contents_fit braces.Elements inside at absent k e = none_as (BodyFit braces.Elements) (tt, omega arith)
   contents_fit (braces.Numbers most) inside at absent k e = none_as (BodyFit (braces.Numbers most)) tt
-  contents_fit braces.Descriptors inside at absent k e = none_as (BodyFit braces.Descriptors) tt
+  contents_fit (braces.Descriptors chosen) inside at absent k e = none_as (BodyFit (braces.Descriptors chosen)) tt
   contents_fit braces.Cases inside at absent k e = tt
   contents_fit braces.CaseMembers inside at absent k e = none_as AreCaseMembers tt
   contents_fit (braces.Numbers most) inside at (given ws) k e = λ m. tt
-  contents_fit braces.Descriptors inside at (given ws) k e = λ m. tt
+  contents_fit (braces.Descriptors chosen) inside at (given ws) k e = λ m. tt
   contents_fit braces.No inside at (given ws) k e = none_as (BodyFit braces.No) refl
   contents_fit braces.Terms inside at (given ws) k e = terms_fit inside None ws k.0 e
   contents_fit braces.Bytes inside at (given ws) k e = list_fit (BodyFit braces.Bytes) (is_listed true ws) at (members (byte_slot ws) inside ws) (λ f. bytes_fit inside ws k.0 k.1 (λ g. octets_fit inside ws k.0 g) f) e
@@ -411,14 +489,18 @@ mutual
   parts_fit : (due : Due) (unit : Option UnitName) (inside : Around) (ws : Writtens) → UnitFits unit → EachMember ws → (elements due unit inside ws).faults ≡ [] → PlansAs AreListed (elements due unit inside ws).made
   parts_fit due unit inside none u k e = none_as AreListed tt
   parts_fit due unit inside (more w ws) u k e =
-      let at : Place = place_of nowhere w in
-      let shape : Shaped Plan = checked inside.width (field_slot due) at (bare (field_slot due) inside w) in
-      let part : Shaped Plans = field_part due unit at (is_separator w) shape in
-      let next : Option UnitName = unit_behind due unit at (is_separator w) shape.made in
+      let m : Meaning = meaning_in w in
+      let s : Slot = field_slot due m in
+      let at : Place = element_place w in
+      let shape : Shaped Plan = checked inside.width s (place_of nowhere w) (bare s inside w) in
+      let part : Shaped Plans = field_part due unit at (is_whole m) (is_separator w) shape in
+      let next : Option UnitName = unit_behind due unit at (is_whole m) (is_separator w) shape.made in
       let rest : Shaped Plans = elements (due_behind due w) next inside ws in
       let f = none_in part.faults rest.faults e in
-      let fits : UnitFits next = next_fits due unit at (is_separator w) shape u (λ sep g. checked_fit inside.width (field_slot due) at (bare (field_slot due) inside w) (λ h. bare_fit (field_slot due) inside w k.0 sep k.1 h) g) f.0 in
-      part_fit due unit at (is_separator w) shape rest.made u (parts_fit (due_behind due w) next inside ws fits k.2 f.1)
+      let good : is_separator w ≡ false → shape.faults ≡ [] → PlanAs (Fits s) shape.made =
+      λ sep g. checked_fit inside.width s (place_of nowhere w) (bare s inside w) (λ h. bare_fit s inside w k.0 sep k.1 h) g in
+      let fits : UnitFits next = next_fits due unit at m (is_whole m) (is_separator w) shape u good f.0 in
+      part_fit due unit at m (is_whole m) (is_separator w) shape rest.made u good f.0 (parts_fit (due_behind due w) next inside ws fits k.2 f.1)
 
   elements_fit : (inside : Around) (ws : Writtens) → EachMember ws → (members slot.Element inside ws).faults ≡ [] → PlansAs FormedElements (members slot.Element inside ws).made
   elements_fit inside none k e = none_as FormedElements tt

@@ -172,7 +172,7 @@ right (known.Local i) e = leb-true (suc i) 8 e
 right (known.Arg i) e = leb-true (suc i) 7 e
 right (known.Word kind n) e = leb-true n 255 e
 right known.Debug e = tt
-right known.Offset e = tt
+right (known.Element w) e = tt
 right (known.Macro m) e = tt
 right known.Template e = tt
 right (known.Descriptor d) e = tt
@@ -204,7 +204,7 @@ words_ok text = known_ok (named_in words text) (found_ok (λ row. is_right row.k
 
 known_means : (k : Known) → IsRightKnown k → IsRightMeaning (known_as k)
 known_means known.LeftOut h = tt
-known_means known.Offset h = tt
+known_means (known.Element w) h = tt
 known_means (known.Macro m) h = tt
 known_means known.Template h = tt
 known_means (known.Descriptor d) h = tt

@@ -8,7 +8,7 @@ use Rattle.acpi_values.specs.declared.operator.EventOp.TheVariants as EventOp
 use Rattle.acpi_state.specs.FieldActs.{region_letters, field_letters}
 use Rattle.acpi_values.specs.declared.width.Width.{Width}
 use Rattle.asl_tree.specs.declared.path.Path.{Path}
-use Rattle.asl_tree.specs.FieldItems.{FieldItem, UnitItem, SkipItem, OffsetItem}
+use Rattle.asl_tree.specs.FieldItems.{FieldItem, UnitItem, SkipItem, OffsetItem, AccessItem, ConnectionItem, ToName, ToBytes}
 use Rattle.asl_tree.specs.Names.{place_of}
 use Rattle.asl_tree.specs.Tree.{At, Tree, Use, Call, Apply, Buffer, Package, VarPackage, CondRefOf, Return, Name, Alias, External, Method, Mutex, Event, Container', Scope, Trees, no_trees, tree, OperationRegion, Field, IndexField, BankField, CreateField, UnitName, If, ElseIf, Else, While, Operated, Assigned, AssignedBy, Switch, Case, Default}
 use Rattle.asl_meaning.specs.Declarations.{Declarations, scope_path, declare}
@@ -16,8 +16,9 @@ use Rattle.acpi_names.specs.Errors.{Asked, Anything, AValue, AMutex, AnEvent, AU
 use Rattle.acpi_names.specs.Mentions.{Mention, Used', is_spot, is_use, asks, asked_value, asked_use, letter_mention, cond_place, mentions, mentions_all, operand_mentions, target_mentions, element_mentions, item_mentions, term_mentions, block_mentions}
 use Rattle.asl_shape.specs.Plans.{Plan, Plans, plan_at}
 use Rattle.region_checks.specs.declared.measure.Measure.{Measure}
-use Rattle.region_checks.specs.Sites.{Site, RegionAt, FieldIn, body_of, rest_of, region_size, field_access, sites, sites_all}
+use Rattle.region_checks.specs.Sites.{Site, RegionAt, FieldIn, body_of, rest_of, region_size, field_access, field_units, sites, sites_all}
 use Rattle.region_checks.specs.Measures.{measures, measures_all, joined}
+use Rattle.region_checks.proofs.Units.{same_units}
 
 -- whatever comes behind
 abbrev Joins : List Mention → List Measure → List Site → Type 0
@@ -111,6 +112,9 @@ quiet_items [] scope = λ more mores. refl
 quiet_items (UnitItem name bits ∷ items) scope = quiet_items items scope
 quiet_items (SkipItem bits ∷ items) scope = quiet_items items scope
 quiet_items (OffsetItem bytes ∷ items) scope = quiet_items items scope
+quiet_items (AccessItem access attribute length ∷ items) scope = quiet_items items scope
+quiet_items (ConnectionItem (ToName at name) ∷ items) scope = both (Used' Anything at name scope ∷ []) (item_mentions items scope) (plain_use Anything at name scope refl) (quiet_items items scope)
+quiet_items (ConnectionItem (ToBytes bytes) ∷ items) scope = quiet_items items scope
 
 pub right_nil : {A : Type 0} (xs : List A) → xs ++ [] ≡ xs
 right_nil [] = refl
@@ -150,10 +154,13 @@ module _ (width : Width) where
     join_term (Default body) p scope d = join_block body (body_of p) scope d
     join_term (OperationRegion at name space args) p scope d =
         λ more mores. ap (λ ss. RegionAt (place_of name scope) (region_size width p) ∷ ss) (quiet_operands true Anything region_letters args scope refl more mores)
-    join_term (Field here from region flags items) p scope d = λ more mores. ap (λ ss. FieldIn here region scope (field_access flags p) ∷ ss) (quiet_items items scope more mores)
+    join_term (Field here from region flags items) p scope d =
+        λ more mores. ap (λ u. FieldIn here region scope (field_access flags p) u ∷ joined (item_mentions items scope ++ more) mores) (same_units flags p)
+        ∙ ap (λ ss. FieldIn here region scope (field_access flags p) (field_units flags p) ∷ ss) (quiet_items items scope more mores)
     join_term (IndexField here from index to register flags items) p scope d = quiet_items items scope
     join_term (BankField here from region to bank value flags items) p scope d =
-        λ more mores. ap (λ ss. FieldIn here region scope (field_access flags p) ∷ ss) (both (mentions true value scope) (item_mentions items scope) (quiet true value scope) (quiet_items items scope) more mores)
+        λ more mores. ap (λ u. FieldIn here region scope (field_access flags p) u ∷ joined ((mentions true value scope ++ item_mentions items scope) ++ more) mores) (same_units flags p)
+        ∙ ap (λ ss. FieldIn here region scope (field_access flags p) (field_units flags p) ∷ ss) (both (mentions true value scope) (item_mentions items scope) (quiet true value scope) (quiet_items items scope) more mores)
     join_term (CreateField form args at name) p scope d =
         both (operand_mentions true Anything (field_letters form) args scope) _ (quiet_operands true Anything (field_letters form) args scope refl) (λ more mores. refl)
     join_term t p scope d = quiet true t scope

@@ -1,3 +1,4 @@
+pub mod Units
 pub mod Joins
 pub mod Forms
 pub mod Nodes

@@ -160,6 +160,7 @@ module _ (width : Width) where
       by_layer (D.Term-F.Unit s n) e = ap said (e ∙ V.rolls-Unit s n)
       by_layer (D.Term-F.Skip n) e = ap said (e ∙ V.rolls-Skip n)
       by_layer (D.Term-F.Offset n) e = ap said (e ∙ V.rolls-Offset n)
+      by_layer (D.Term-F.Access access attribute count) e = ap said (e ∙ V.rolls-Access access attribute count)
       by_layer (D.Term-F.Call name v) e = ap said (e ∙ V.rolls-Call name v) ∙ ap (λ u. measures width u p) (call_tree at name v)
       by_layer (D.Term-F.Form o v w) e = absurd (not_form o v w (e ∙ V.rolls-Form o v w))
 
@@ -219,7 +220,7 @@ sizes_append : (xs ys : List Site) → sizes (xs ++ ys) ≡ sizes xs ++ sizes ys
 sizes_append [] ys = refl
 sizes_append (RegionAt path (Some size) ∷ xs) ys = ap (λ zs. (path, size) ∷ zs) (sizes_append xs ys)
 sizes_append (RegionAt path None ∷ xs) ys = sizes_append xs ys
-sizes_append (FieldIn here region scope access ∷ xs) ys = sizes_append xs ys
+sizes_append (FieldIn here region scope access units ∷ xs) ys = sizes_append xs ys
 
 next_taken : {A : Type 0} (xs : List A) (i : ℕ) (x : A) → i < length xs → x ≡ get_or xs i x → take (suc i) xs ≡ take i xs ++ x ∷ []
 next_taken [] i x lt e = absurd (omega (arith, lt))
@@ -249,11 +250,17 @@ pub errors_end : (whole : Whole) (regions : List (AbsolutePath × ℕ)) (f : Cod
 errors_end whole regions f sites i found r le h =
     sym (ap (λ xs. found ++ all_site_errors whole regions (map f xs)) (drop_all i sites le) ∙ right_nil found) ∙ h
 
--- what a table says of the end of a name
-pub size_found : (whole : Whole) (paths : List AbsolutePath) (table : List (Option ℕ)) (regions : List (AbsolutePath × ℕ)) (name : Path) (scope : AbsolutePath) (target n m : ℕ) (object : Object) → AreDistinct paths → n < length paths → Some (get_or paths target []) ≡ denoted (is_named whole.all) name scope → Some (get_or paths m [], object) ≡ final whole.known (get_or paths target []) → get_or paths n [] ≡ get_or paths m [] → Tabled paths table (lookup regions) → get_or table n None ≡ size_at regions (name_end whole name scope)
-size_found whole paths table regions name scope target n m object distinct lt path end at tabled =
-    sym (entry_here paths table n distinct lt) ∙ tabled (get_or paths n []) ∙ ap (lookup regions) at ∙ ap (size_at regions) end
-    ∙ ap (λ o. size_at regions (choose o None (final whole.known))) path
+-- what a table says of an end
+pub size_found : (paths : List AbsolutePath) (table : List (Option ℕ)) (regions : List (AbsolutePath × ℕ)) (n m : ℕ) (object : Object) → AreDistinct paths → n < length paths
+    → get_or paths n [] ≡ get_or paths m [] → Tabled paths table (lookup regions) → get_or table n None ≡ size_at regions (Some (get_or paths m [], object))
+size_found paths table regions n m object distinct lt at tabled = sym (entry_here paths table n distinct lt) ∙ tabled (get_or paths n []) ∙ ap (lookup regions) at
+
+-- where a name ends
+pub end_found : (whole : Whole) (name : Path) (scope : AbsolutePath) (path : AbsolutePath) (end : Option (AbsolutePath × Object)) → Some path ≡ denoted (is_named whole.all) name scope → end ≡ final whole.known path → end ≡ name_end whole name scope
+end_found whole name scope path end is e = e ∙ ap (λ o. choose o None (final whole.known)) is
+
+pub no_end : (whole : Whole) (name : Path) (scope : AbsolutePath) → None ≡ denoted (is_named whole.all) name scope → None ≡ name_end whole name scope
+no_end whole name scope is = ap (λ o. choose o None (final whole.known)) is
 
 -- a site is found
 pub site_put : (paths : List AbsolutePath) (mentions : List CodeMention) (ps : List Measure) (i n next : ℕ) (m : CodeMention) (o : Option Measure) (site : CodeSite) (old new out : List CodeSite) (r : List Site) → i < length mentions → m ≡ get_or mentions i m → o ≡ slice_get ps n → site_as paths site ∷ [] ≡ site_with (shown paths m) o → is_site (shown paths m) ≡ true → new ≡ old ++ site ∷ [] → out ≡ new → next ≡ n + 1 → map (site_as paths) old ++ joined (drop i (all_shown paths mentions)) (drop n ps) ≡ r → map (site_as paths) out ++ joined (drop (i + 1) (all_shown paths mentions)) (drop next ps) ≡ r

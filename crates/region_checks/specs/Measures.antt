@@ -1,7 +1,7 @@
 -- What the regions and fields of a block say beside their names, in the order of its terms, and how this goes with the
 -- mentions of names. These are the steps of the code between the nodes of a block and its sites.
-use Rattle.std.specs.Prelude.{ℕ, Bool, true, false, List, [], ◌∷◌, ◌++◌, Option, Some, None}
-use Rattle.acpi_state.specs.Access.{access_bytes}
+use Rattle.std.specs.Prelude.{ℕ, ◌%◌, nat_eq, if◌then◌else◌, Bool, true, false, List, [], ◌∷◌, ◌++◌, Option, Some, None}
+use Rattle.acpi_state.specs.Access.{access_bytes, is_buffer_space}
 use Rattle.acpi_state.specs.Objects.{RegionObject}
 use Rattle.iasl_messages.specs.declared.message.Message.{Message}
 use Rattle.std.specs.Result.{result_ok}
@@ -20,22 +20,42 @@ use Rattle.acpi_names.specs.declared.part.What.TheVariants as W
 use Rattle.acpi_names.specs.declared.part.Over.TheVariants as O
 use Rattle.acpi_values.specs.declared.width.Width.{Width}
 use Rattle.asl_shape.specs.Plans.{Plan, Plans, plan_at, constant_of}
+use Rattle.field_layout.specs.declared.segments.Said.{Said}
+use Rattle.field_layout.specs.Segments.{first_said}
+use Rattle.field_checks.specs.declared.units.UnitFault.{UnitFault}
+use Rattle.field_checks.specs.Units.{unit_fault}
+use Rattle.region_checks.specs.declared.measure.UnitFaults.{UnitFaults}
 use Rattle.region_checks.specs.declared.measure.Measure.{Measure}
 use Rattle.region_checks.specs.declared.measure.Measure.TheVariants as M
 use Rattle.region_checks.specs.Sites.{Site, RegionAt, FieldIn, body_of, rest_of, region_size, if_none, field_access}
 
+-- the first faults of units by the kinds of spaces, of each of which one space is asked
+abbrev pub faults_from : Said → Plans → UnitFaults
+faults_from said body = record { serial = unit_fault 9 said body; bus = unit_fault 4 said body; pins = unit_fault 8 said body; other = unit_fault 0 said body }
+
+abbrev pub unit_faults : ℕ → Plans → UnitFaults
+unit_faults flags body = faults_from (first_said (flags % 16)) body
+
+-- that of one space
+abbrev pub fault_in : ℕ → UnitFaults → Option UnitFault
+fault_in space faults =
+    if nat_eq space 9 then faults.serial else (if nat_eq space 8 then faults.pins else (if is_buffer_space space then faults.bus else faults.other))
+
+abbrev pub no_faults : UnitFaults
+no_faults = record { serial = None; bus = None; pins = None; other = None }
+
 -- what a field says with these flags, by its items and the errors of its list
-abbrev pub list_measures : Option ℕ → Trees → List Message → List Measure
-list_measures None body errors = []
-list_measures (Some flags) body errors = choose (items_in body) [] (λ items. M.Access (if_none errors (access_bytes flags)) ∷ [])
+abbrev pub list_measures : Option ℕ → Trees → Plans → List Message → List Measure
+list_measures None body plans errors = []
+list_measures (Some flags) body plans errors = choose (items_in body) [] (λ items. M.Access (if_none errors (access_bytes flags)) (unit_faults flags plans) ∷ [])
 
 -- constants are taken at this width
 module _ (width : Width) where
   abbrev mutual
     pub measures : Tree → Plan → List Measure
     measures (OperationRegion at name space args) p = M.Size (region_size width p) ∷ []
-    measures (Field here from region flags items) p = M.Access (field_access flags p) ∷ []
-    measures (BankField here from region to bank value flags items) p = M.Access (field_access flags p) ∷ []
+    measures (Field here from region flags items) p = M.Access (field_access flags p) (unit_faults flags (body_of p)) ∷ []
+    measures (BankField here from region to bank value flags items) p = M.Access (field_access flags p) (unit_faults flags (body_of p)) ∷ []
     measures (Method at name flags body) p = measures_all body (body_of p)
     measures (Container' kind at name body) p = measures_all body (body_of p)
     measures (Scope here at name body) p = measures_all body (body_of p)
@@ -65,8 +85,8 @@ module _ (width : Width) where
   part_measures (P.Declares n what opens) args body given plans errors = declared_measures what opens body given plans
   part_measures P.Scope args body given plans errors = measures_all body plans
   part_measures P.Within args body given plans errors = measures_all body plans
-  part_measures (P.Units O.Region) args body given plans errors = list_measures (number_at 1 args) body errors
-  part_measures (P.Units O.Bank) args body given plans errors = list_measures (number_at 3 args) body errors
+  part_measures (P.Units O.Region) args body given plans errors = list_measures (number_at 1 args) body plans errors
+  part_measures (P.Units O.Bank) args body given plans errors = list_measures (number_at 3 args) body plans errors
   part_measures _ args body given plans errors = []
 
 -- a mention of a region that is declared, or of one that a field uses
@@ -80,13 +100,17 @@ size_in (Some (M.Size size)) = size
 size_in _ = None
 
 abbrev pub access_in : Option Measure → Option ℕ
-access_in (Some (M.Access access)) = access
+access_in (Some (M.Access access units)) = access
 access_in _ = None
+
+abbrev pub units_in : Option Measure → UnitFaults
+units_in (Some (M.Access access units)) = units
+units_in _ = no_faults
 
 -- the site that a mention is, with its measure
 abbrev pub site_with : Mention → Option Measure → List Site
 site_with (Declares at name (As (RegionObject space offset size)) scope) o = RegionAt (place_of name scope) (size_in o) ∷ []
-site_with (Used' (ARegion here) at name scope) o = FieldIn here name scope (access_in o) ∷ []
+site_with (Used' (ARegion here) at name scope) o = FieldIn here name scope (access_in o) (λ space. fault_in space (units_in o)) ∷ []
 site_with m o = []
 
 abbrev pub first_measure : List Measure → Option Measure

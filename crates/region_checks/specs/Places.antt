@@ -1,6 +1,7 @@
 -- Where the fields of a block stand.
 use Rattle.std.specs.Prelude.{ℕ}
 use Rattle.asl_parser.specs.Within.{IsIn}
+use Rattle.asl_shape.specs.Plans.{Plan, a_form, Plans, no_plans, plan}
 use Rattle.asl_tree.specs.Tree.{Tree, Method, Container', Scope, Trees, no_trees, tree, Field, BankField, If, ElseIf, Else, While, Switch, Case, Default}
 
 -- the node of each field of a region, at any depth, stands in one of so many files
@@ -23,3 +24,13 @@ abbrev mutual
   pub AreFieldsWithin : ℕ → Trees → Type 0
   AreFieldsWithin files no_trees = Unit {0}
   AreFieldsWithin files (tree t ts) = IsFieldWithin files t × AreFieldsWithin files ts
+
+-- each part of a body, at any depth, stands in one of so many files
+abbrev mutual
+  pub IsBodyWithin : ℕ → Plan → Type 0
+  IsBodyWithin files (a_form op args body) = ArePartsWithin files body
+  IsBodyWithin files p = Unit {0}
+
+  pub ArePartsWithin : ℕ → Plans → Type 0
+  ArePartsWithin files no_plans = Unit {0}
+  ArePartsWithin files (plan place p ps) = IsIn files place × IsBodyWithin files p × ArePartsWithin files ps

@@ -1,4 +1,4 @@
--- The fields whose accesses are wider than their regions.
+-- The fields whose accesses are wider than their regions, and the units that do not fit the spaces of theirs.
 use Rattle.std.specs.Prelude.{ℕ, List, [], ◌∷◌, ◌++◌, Option, Some, None}
 use Rattle.acpi_values.specs.Paths.{AbsolutePath}
 use Rattle.acpi_values.specs.declared.width.Width.{Width}
@@ -11,6 +11,10 @@ use Rattle.acpi_names.specs.Errors.{Whole, whole_of, name_end}
 use Rattle.asl_shape.specs.Plans.{Plans}
 use Rattle.asl_shape.specs.Shapes.{fault_at}
 use Rattle.field_layout.specs.Layout.{region_fault}
+use Rattle.acpi_state.specs.Outcomes.{choose}
+use Rattle.name_kinds.specs.Kinds.{space_of}
+use Rattle.field_checks.specs.declared.units.UnitFault.{UnitFault}
+use Rattle.field_checks.specs.Units.{unit_told}
 use Rattle.region_checks.specs.Sites.{Site, RegionAt, FieldIn, sites_all}
 
 -- the regions whose lengths are constant
@@ -34,10 +38,18 @@ abbrev pub access_errors : Place → Option ℕ → Option ℕ → List Message
 access_errors place None size = []
 access_errors place (Some access) size = fault_told place (region_fault access size 0)
 
+-- what is told of the units of a field in a region that ends so: nothing, unless it is declared in this source
+abbrev pub unit_errors : (ℕ → Option UnitFault) → Option (AbsolutePath × Object) → List Message
+unit_errors units end = unit_told (choose (space_of end) None units)
+
+-- what is told of a field, by where the name of its region ends
+abbrev pub field_told : List (AbsolutePath × ℕ) → Place → Option ℕ → (ℕ → Option UnitFault) → Option (AbsolutePath × Object) → List Message
+field_told regions place access units end = access_errors place access (size_at regions end) ++ unit_errors units end
+
 module _ (whole : Whole) (regions : List (AbsolutePath × ℕ)) where
   abbrev pub site_errors : Site → List Message
   site_errors (RegionAt path size) = []
-  site_errors (FieldIn here region scope access) = access_errors here.place access (size_at regions (name_end whole region scope))
+  site_errors (FieldIn here region scope access units) = field_told regions here.place access units (name_end whole region scope)
 
   abbrev pub all_site_errors : List Site → List Message
   all_site_errors [] = []

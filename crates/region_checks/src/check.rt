@@ -1,4 +1,4 @@
-//! Fields whose accesses are wider than their regions.
+//! Fields whose accesses are wider than their regions, and units that do not fit the spaces of theirs.
 ghost use Rattle.std.specs.Prelude.{◌≡◌, ◌++◌, ℕ, List, [], length, get_or, IfOk, OnOk, Some, None, true, if◌then◌else◌};
 ghost use Rattle.acpi_values.specs.Paths.{AbsolutePath};
 ghost use Rattle.acpi_state.specs.Objects.{lookup};
@@ -13,13 +13,17 @@ ghost use Rattle.acpi_names.specs.Tables.{Tabled};
 ghost use Rattle.acpi_names.specs.Terms.{are_terms};
 ghost use Rattle.name_kinds.specs.Facts.{Knows};
 ghost use Rattle.name_kinds.specs.Seen.{seen};
-ghost use Rattle.region_checks.specs.Places.{AreFieldsWithin};
-ghost use Rattle.region_checks.specs.Regions.{size_at, access_errors, fault_told, site_errors as errors_of, sited_errors, region_errors};
-ghost use Rattle.region_checks.specs.Measures.{joined};
+ghost use Rattle.region_checks.specs.Places.{AreFieldsWithin, ArePartsWithin};
+ghost use Rattle.region_checks.specs.Regions.{size_at, access_errors, fault_told, unit_errors, site_errors as errors_of, sited_errors, region_errors};
+ghost use Rattle.region_checks.specs.Measures.{joined, fault_in as fault_of};
+ghost use Rattle.acpi_state.specs.Access.{is_buffer_space as needs_buffers};
+ghost use Rattle.field_checks.specs.Units.{unit_told};
+ghost use Rattle.name_kinds.specs.Ends.{ended};
+ghost use Rattle.name_kinds.specs.Kinds.{space_of};
 ghost use Rattle.region_checks.specs.Shown.{site_as};
 ghost use Rattle.region_checks.specs.Sites.{sites_all};
 
-use crate::measure::{Measure, all_measures};
+use crate::measure::{Measure, UnitFaults, all_measures};
 use crate::site::{Site, sites, sizes};
 use acpi_names::index::names_of;
 use acpi_names::mention::Mention;
@@ -27,28 +31,79 @@ use acpi_names::place::scope_in;
 use acpi_values::width::Width;
 use asl_tree::path::Path;
 use asl_tree::term::Node;
+use field_checks::units::{UnitFault, tell};
 use iasl_messages::message::{Message, Messages};
 use iasl_messages::number::ACCESS_WIDER_THAN_REGION;
 use iasl_messages::place::Place;
 use iasl_ports::list::Text;
 use name_kinds::facts::{Facts, end, facts_of};
+use name_kinds::kind::{End, space_in};
 use name_kinds::tables::denoted;
 use std::alloc::{AllocError, Global};
 
-// The constant length of the region at which a name ends.
-fn size_of(facts: &Facts, table: &[Option<u64>], region: &Path, scope: usize) -> Option<u64>
+// Where the name of a region ends.
+fn region_end(facts: &Facts, region: &Path, scope: usize) -> Option<End>
+    ghost whole: { Whole }
+    requires told { Knows facts.now whole }
+    ensures { ended facts.now.index.paths result ≡ name_end whole region.now (get_or facts.now.index.paths scope []) }
+{
+    match denoted(&facts.index, region, scope) {
+        None => None,
+        Some(target) => end(facts, target),
+    }
+}
+
+// The constant length of the region at an end.
+fn size_of(facts: &Facts, table: &[Option<u64>], end: Option<End>) -> Option<u64>
     ghost whole: { Whole }
     requires told { Knows facts.now whole }
     requires sized { length table.now ≡ length facts.now.index.paths }
-    ensures { (regions : List (AbsolutePath × ℕ)) → Tabled facts.now.index.paths table.now (lookup regions) → result ≡ size_at regions (name_end whole region.now (get_or facts.now.index.paths scope [])) }
+    ensures { (regions : List (AbsolutePath × ℕ)) → Tabled facts.now.index.paths table.now (lookup regions) → result ≡ size_at regions (ended facts.now.index.paths end) }
 {
     let count = facts.index.paths.len();
-    match denoted(&facts.index, region, scope) {
+    match end {
         None => None,
-        Some(target) => match end(facts, target) {
-            None => None,
-            Some(end) => table[scope_in(&facts.index.paths, end.path)],
-        },
+        Some(end) => table[scope_in(&facts.index.paths, end.path)],
+    }
+}
+
+// The space of the region at an end, where it is declared in this source.
+fn space_at(end: Option<End>) -> Option<u64>
+    ensures { (paths : List AbsolutePath) → result ≡ space_of (ended paths end) }
+{
+    match end {
+        None => None,
+        Some(end) => space_in(end.object),
+    }
+}
+
+fn is_buffer_space(space: u64) -> bool
+    ensures { result ≡ needs_buffers space }
+{
+    space == 4 || space == 7 || space == 9
+}
+
+fn fault_in(space: u64, faults: UnitFaults) -> Option<UnitFault>
+    ensures { result ≡ fault_of space faults }
+{
+    if space == 9 {
+        faults.serial
+    } else if space == 8 {
+        faults.pins
+    } else if is_buffer_space(space) {
+        faults.bus
+    } else {
+        faults.other
+    }
+}
+
+// The first fault of the units of a field in the region at an end.
+fn fault_at_end(end: Option<End>, faults: UnitFaults) -> Option<UnitFault>
+    ensures { (paths : List AbsolutePath) → unit_told result ≡ unit_errors (λ space. fault_of space faults) (ended paths end) }
+{
+    match space_at(end) {
+        None => None,
+        Some(space) => fault_in(space, faults),
     }
 }
 
@@ -104,9 +159,12 @@ fn site_errors(
             region,
             scope,
             access,
+            units,
         } => {
-            let size = size_of(facts, table, region, scope);
+            let end = region_end(facts, region, scope);
+            let size = size_of(facts, table, end);
             field_errors(alloc, out, here.place, access, size)?;
+            tell(alloc, out, fault_at_end(end, units))?;
             Ok(())
         }
         Site::Region { .. } => Ok(()),
@@ -153,15 +211,16 @@ pub(crate) fn seen_faults(
     Ok(out)
 }
 
-/// The fields of a block whose accesses are wider than their regions (ACPI Specification 6.4, 19.6.7, 19.6.48 and
+/// The fields of a block that do not fit their regions (ACPI Specification 6.4, 5.5.2.4, 19.6.7, 19.6.48 and
 /// 19.6.100), in the order of the source: 6072 at each Field and BankField whose list has no error of its own, and whose
-/// access has more bytes than the constant length of the region at which its name ends, through aliases too. A region
-/// of another table, and one whose length is no constant, has no such length. A length is taken at the width of the table. The only error
-/// is want of memory, as which a list is answered that reaches behind 2^62 bits.
+/// access has more bytes than the constant length of the region at which its name ends, through aliases too; and of each the first unit that is
+/// not accessed as the space of this region asks (6073, 6074) or lacks the connection that it asks for (6075). A region
+/// of another table has no length and no space, and one whose length is no constant has no length. A length is taken at the width of the table.
+/// The only error is want of memory, as which a list is answered that reaches behind 2^62 bits.
 pub fn region_faults(alloc: Global, width: Width, terms: &[Node]) -> Result<Messages, AllocError>
     requires terms { are_terms (trees_of terms.now) ≡ true }
     ensures told { IfOk result (λ ms. ms ≡ region_errors width (trees_of terms.now) (plans_of terms.now)) }
-    ensures places { (files : ℕ) → AreFieldsWithin files (trees_of terms.now) → IfOk result (AreTold files) }
+    ensures places { (files : ℕ) → AreFieldsWithin files (trees_of terms.now) → ArePartsWithin files (plans_of terms.now) → IfOk result (AreTold files) }
 {
     let out = seen_faults(alloc, width, terms)?;
     Ok(out)

@@ -15,14 +15,41 @@ use acpi_values::width::Width;
 use asl_tree::constant::constant;
 use asl_tree::term::{Node, Op, Term};
 use field_checks::check::list_faults;
+use field_checks::units::{UnitFault, unit_fault};
 use std::alloc::{AllocError, Global};
 
+/// The first fault of the units of a list, if any, by the space of the region in which they lie.
+#[derive(Clone, Copy, PartialEq, Eq, Debug)]
+pub struct UnitFaults {
+    /// In GenericSerialBus.
+    pub serial: Option<UnitFault>,
+    /// In SMBus and in IPMI.
+    pub bus: Option<UnitFault>,
+    /// In GeneralPurposeIO.
+    pub pins: Option<UnitFault>,
+    /// In any other space.
+    pub other: Option<UnitFault>,
+}
+
 /// What a region or a field says beside its names: the constant length of a region in bytes, or the bytes of a field's
-/// accesses, where its list has no error.
+/// accesses, where its list has no error, and the faults of its units.
 #[derive(Clone, Copy, PartialEq, Eq, Debug)]
 pub enum Measure {
     Size(Option<u64>),
-    Access(Option<u64>),
+    Access(Option<u64>, UnitFaults),
+}
+
+// The faults of the units of a field with these flags, where one space is asked of each kind.
+fn unit_faults(flags: u64, body: &[Node]) -> UnitFaults
+    ensures { result ≡ spec.unit_faults flags (plans_of body.now) }
+{
+    let access = (flags % 16) as u8;
+    UnitFaults {
+        serial: unit_fault(9, access, body),
+        bus: unit_fault(4, access, body),
+        pins: unit_fault(8, access, body),
+        other: unit_fault(0, access, body),
+    }
 }
 
 // The bytes of an access by a field's flags.
@@ -65,7 +92,15 @@ fn region_size(width: Width, args: &[Node]) -> Option<u64>
 fn is_item(term: &Term) -> bool
     ensures { result ≡ is_item_term term.now }
 {
-    matches!(term, Term::Unit { .. } | Term::Skip(_) | Term::Offset(_))
+    matches!(
+        term,
+        Term::Unit { .. }
+            | Term::Skip(_)
+            | Term::Offset(_)
+            | Term::Access { .. }
+            | Term::Name(_)
+            | Term::Fill { .. }
+    )
 }
 
 // Whether a body lists items of a field, and nothing else.
@@ -100,7 +135,7 @@ fn list_measures(
     flags: Option<u64>,
     body: &[Node],
 ) -> Result<(), AllocError>
-    ensures { OnOk result (out.new.items ≡ out.old.items ++ spec.list_measures flags (trees_of body.now) (all_errors (plans_of alone.now))) }
+    ensures { OnOk result (out.new.items ≡ out.old.items ++ spec.list_measures flags (trees_of body.now) (plans_of body.now) (all_errors (plans_of alone.now))) }
 {
     let Some(flags) = flags else {
         return Ok(());
@@ -109,7 +144,7 @@ fn list_measures(
         return Ok(());
     }
     let access = field_access(alloc, alone, flags)?;
-    out.push(Measure::Access(access))?;
+    out.push(Measure::Access(access, unit_faults(flags, body)))?;
     Ok(())
 }
 

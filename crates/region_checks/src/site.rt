@@ -15,7 +15,7 @@ ghost use Rattle.region_checks.specs.Regions.{sizes as sizes_of};
 ghost use Rattle.region_checks.specs.Sites.{RegionAt};
 ghost use Rattle.region_checks.specs.Shown.{site_as, optional_site, IsWithin};
 
-use crate::measure::Measure;
+use crate::measure::{Measure, UnitFaults};
 use acpi_names::index::Index;
 use acpi_names::mention::{Asked, Declared, Mention, Spot};
 use acpi_names::part::What;
@@ -24,7 +24,7 @@ use name_kinds::tables::place;
 use std::alloc::{AllocError, Global};
 
 /// A region that is declared, by the number of its path, with its constant length in bytes; or a field in the region that
-/// a name denotes in the scope with a number, with the bytes of its accesses where its list has no error.
+/// a name denotes in the scope with a number, with the bytes of its accesses where its list has no error, and the faults of its units.
 #[derive(Clone, Copy)]
 pub enum Site<'a> {
     Region {
@@ -36,6 +36,7 @@ pub enum Site<'a> {
         region: &'a Path,
         scope: usize,
         access: Option<u64>,
+        units: UnitFaults,
     },
 }
 
@@ -52,8 +53,24 @@ fn access_in(measure: Option<Measure>) -> Option<u64>
     ensures { result ≡ spec.access_in measure }
 {
     match measure {
-        Some(Measure::Access(access)) => access,
+        Some(Measure::Access(access, _)) => access,
         _ => None,
+    }
+}
+
+const NO_FAULTS: UnitFaults = UnitFaults {
+    serial: None,
+    bus: None,
+    pins: None,
+    other: None,
+};
+
+fn units_in(measure: Option<Measure>) -> UnitFaults
+    ensures { result ≡ spec.units_in measure }
+{
+    match measure {
+        Some(Measure::Access(_, units)) => units,
+        _ => NO_FAULTS,
     }
 }
 
@@ -86,6 +103,7 @@ fn site_with<'a>(index: &Index, mention: Mention<'a>, measure: Option<Measure>) 
             region: name,
             scope,
             access: access_in(measure),
+            units: units_in(measure),
         }),
         _ => None,
     }

@@ -5,6 +5,7 @@ use asl_tree::path::{Path, Segs};
 use asl_tree::term::{Declaration, Node, Op, Symbolic, Term};
 use iasl_messages::message::Messages;
 use iasl_messages::place::Place;
+use iasl_ports::list::{List, Text};
 use std::alloc::{AllocError, Global};
 use std::test::Fail;
 
@@ -18,10 +19,23 @@ enum Size {
     Local,
 }
 
-// A term; what a field lists is one unit of so many bits.
+// What stands before the one unit of a list: an access, or a name or bytes to which the unit is connected.
+#[derive(Clone, Copy)]
+enum Before {
+    Access(u8),
+    Name,
+    Bytes,
+}
+
+// A term; what a field lists is one gap of so many bits.
 #[derive(Clone, Copy)]
 enum Item {
     Region(&'static str, Size),
+    // A region in this space.
+    In(&'static str, u64),
+    // A field of one unit in a region, and one in a bank of a region.
+    Unit(&'static str, u64, &'static [Before]),
+    BankUnit(&'static str, u64, &'static [Before]),
     Field(&'static str, u64, u64),
     // A field with an Offset that goes back.
     Back(&'static str, u64),
@@ -126,6 +140,41 @@ fn size_term(alloc: Global, size: Size) -> Result<Term, AllocError> {
     }
 }
 
+fn before_term(alloc: Global, before: Before) -> Result<Term, AllocError> {
+    match before {
+        Before::Access(access) => Ok(Term::Access {
+            access,
+            attribute: 0,
+            length: None,
+        }),
+        Before::Name => Ok(Term::Name(path(alloc, "C___")?)),
+        Before::Bytes => Ok(Term::Fill {
+            bytes: Text::from_bytes(alloc, b"\x79\0")?,
+            named: List::new(alloc),
+        }),
+    }
+}
+
+// A list with a unit on this line behind what stands before it.
+fn add_unit(
+    alloc: Global,
+    body: &mut Vec<Node>,
+    line: u32,
+    befores: &[Before],
+) -> Result<(), AllocError> {
+    for before in befores {
+        add(body, 0, before_term(alloc, *before)?)?;
+    }
+    add(
+        body,
+        line,
+        Term::Unit {
+            segment: *b"U___",
+            bits: 8,
+        },
+    )
+}
+
 fn declaration(
     nodes: &mut Vec<Node>,
     line: u32,
@@ -154,6 +203,27 @@ fn add_item(alloc: Global, nodes: &mut Vec<Node>, line: u32, item: Item) -> Resu
             add_number(&mut args, 0x80)?;
             add(&mut args, 0, size_term(alloc, size)?)?;
             Declaration::OperationRegion
+        }
+        Item::In(name, space) => {
+            add_name(alloc, &mut args, name)?;
+            add_number(&mut args, space)?;
+            add_number(&mut args, 0)?;
+            add_number(&mut args, 0x100)?;
+            Declaration::OperationRegion
+        }
+        Item::Unit(region, flags, befores) => {
+            add_name(alloc, &mut args, region)?;
+            add_number(&mut args, flags)?;
+            add_unit(alloc, &mut body, line, befores)?;
+            Declaration::Field
+        }
+        Item::BankUnit(region, flags, befores) => {
+            add_name(alloc, &mut args, region)?;
+            add_name(alloc, &mut args, "B___")?;
+            add_number(&mut args, 1)?;
+            add_number(&mut args, flags)?;
+            add_unit(alloc, &mut body, line, befores)?;
+            Declaration::BankField
         }
         Item::Field(region, flags, bits) => {
             add_name(alloc, &mut args, region)?;
@@ -403,6 +473,121 @@ static NEAREST: [(&[Item], &[Item], &[u32]); 4] = [
 fn a_region_is_the_nearest(rt: HostRuntime) -> Result<(), Fail> {
     for (outer, inner, lines) in &NEAREST {
         assert!(rt; tells(rt.alloc(), Width::W64, outer, inner, lines)?);
+    }
+    Ok(())
+}
+
+const BUFFER: u64 = 5;
+
+// A space, the flags of a field in a region of it, what stands before the one unit of the field, and the message on this unit, or 0.
+static UNITS: [(u64, u64, &[Before], u16); 19] = [
+    (9, BUFFER, &[Before::Name], 0),
+    (9, BUFFER, &[], 6075),
+    (9, BYTE, &[Before::Name], 6073),
+    (9, BYTE, &[], 6073),
+    (9, BYTE, &[Before::Access(5), Before::Bytes], 0),
+    (9, BUFFER, &[Before::Bytes, Before::Access(1)], 6073),
+    (4, 0x35, &[], 0),
+    (4, BYTE, &[Before::Name], 6073),
+    (7, BUFFER, &[], 0),
+    (7, ANY, &[], 6073),
+    (8, BYTE, &[], 6075),
+    (8, BYTE, &[Before::Bytes], 0),
+    (8, BUFFER, &[], 6074),
+    (8, BUFFER, &[Before::Name], 6074),
+    (0, BUFFER, &[], 6074),
+    (0, BUFFER, &[Before::Access(1)], 0),
+    (1, BYTE, &[], 0),
+    (10, BYTE, &[Before::Access(5)], 6074),
+    (0x80, BUFFER, &[Before::Name], 6074),
+];
+
+// The number and the line of the one message, or zeros.
+fn told(messages: &Messages) -> (u16, u32) {
+    match messages.get(0) {
+        Some(message) if messages.len() == 1 => (message.number, message.place.line),
+        _ => (0, 0),
+    }
+}
+
+#[test]
+fn units_fit_the_spaces_of_their_regions(rt: HostRuntime) -> Result<(), Fail> {
+    for (space, flags, befores, number) in &UNITS {
+        let items = [
+            Item::In("R___", *space),
+            Item::Unit("R___", *flags, *befores),
+        ];
+        let nodes = block(rt.alloc(), &items, &[])?;
+        let messages = seen_faults(rt.alloc(), Width::W64, &nodes)?;
+        let line: u32 = if *number == 0 { 0 } else { 2 };
+        assert!(rt; told(&messages) == (*number, line));
+    }
+    Ok(())
+}
+
+// Items, and the number and the line of their one message.
+static SPACES: [(&[Item], (u16, u32)); 5] = [
+    // A region that another table declares has no space.
+    (
+        &[
+            Item::External("R___", 10),
+            Item::Unit("R___", BUFFER, &[]),
+            Item::Unit("R___", BYTE, &[]),
+        ],
+        (0, 0),
+    ),
+    (
+        &[
+            Item::In("R___", 9),
+            Item::Alias("R___", "S___"),
+            Item::Unit("S___", BYTE, &[Before::Name]),
+        ],
+        (6073, 3),
+    ),
+    (
+        &[
+            Item::In("R___", 8),
+            Item::BankUnit("R___", BYTE, &[]),
+            Item::BankUnit("R___", BYTE, &[Before::Bytes]),
+        ],
+        (6075, 2),
+    ),
+    // What is said in one list is not said in another.
+    (
+        &[
+            Item::In("R___", 8),
+            Item::Unit("R___", BYTE, &[Before::Name]),
+            Item::Unit("R___", BYTE, &[]),
+        ],
+        (6075, 3),
+    ),
+    // The region may stand behind the field.
+    (
+        &[Item::Unit("R___", BUFFER, &[]), Item::In("R___", 0)],
+        (6074, 1),
+    ),
+];
+
+#[test]
+fn a_unit_is_asked_the_space_of_its_region(rt: HostRuntime) -> Result<(), Fail> {
+    for (items, want) in &SPACES {
+        let nodes = block(rt.alloc(), items, &[])?;
+        let messages = seen_faults(rt.alloc(), Width::W64, &nodes)?;
+        assert!(rt; told(&messages) == *want);
+    }
+    Ok(())
+}
+
+// The access of a field that is wider than its region is told beside the fault of a unit.
+#[test]
+fn accesses_and_units_are_both_told_of(rt: HostRuntime) -> Result<(), Fail> {
+    let items = [NONE, Item::Unit("R___", BUFFER, &[])];
+    let nodes = block(rt.alloc(), &items, &[])?;
+    let messages = seen_faults(rt.alloc(), Width::W64, &nodes)?;
+    assert_eq!(rt; messages.len(), 2);
+    match messages.get(1) {
+        Some(message) => assert!(rt; message.number == 6074 && message.place.line == 2),
+        None => assert!(rt; false),
     }
     Ok(())
 }

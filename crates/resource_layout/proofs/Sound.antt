@@ -35,3 +35,6 @@ row_sound d.WordSpace = refl
 row_sound d.DWordSpace = refl
 row_sound d.QWordSpace = refl
 row_sound d.ExtendedSpace = refl
+row_sound d.GpioInt = refl
+row_sound d.GpioIo = refl
+row_sound d.I2cSerialBus = refl

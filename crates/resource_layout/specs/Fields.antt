@@ -35,6 +35,10 @@ word name byte bit bits kind = field name (8 * byte + bit) bits (g.Word kind) No
 abbrev pub optional_word : List ℕ → ℕ → ℕ → ℕ → Kind → ℕ → Field
 optional_word name byte bit bits kind default = field name (8 * byte + bit) bits (g.Word kind) (Some default)
 
+-- a word of the kind's first ones, so many; it may be left out where it has a value then
+abbrev pub word_below : List ℕ → ℕ → ℕ → ℕ → Kind → ℕ → Option ℕ → Field
+word_below name byte bit bits kind limit default = field name (8 * byte + bit) bits (g.WordBelow kind limit) default
+
 -- a number from the first to the last
 abbrev pub between : ℕ → ℕ → ℕ → ℕ → ℕ → Field
 between byte bit bits first last = field blank (8 * byte + bit) bits (g.Between first last) None
@@ -52,6 +56,18 @@ source_index = field blank 0 0 g.Index (Some 0)
 
 abbrev pub source : Field
 source = field blank 0 0 g.Source (Some 0)
+
+-- the text of a source that has no index of its own, and may not be left out
+abbrev pub text : Field
+text = field blank 0 0 g.Text None
+
+-- an argument that stands empty
+abbrev pub vacant : Field
+vacant = field blank 0 0 g.Vacant (Some 0)
+
+-- so many bits from a byte on that no argument gives
+abbrev pub fixed : ℕ → ℕ → ℕ → Field
+fixed byte bits number = field blank (8 * byte) bits (g.Fixed number) None
 
 -- ---- fields that several descriptors have
 
@@ -132,11 +148,27 @@ bus_number_type = always 3 2
 abbrev pub revision : Field
 revision = always 6 1
 
+-- ---- pins (6.4.3.8.1): the pull, the debounce time, and what stands behind these in both
+
+abbrev pub pull : Field
+pull = field (codes "_PPI") (8 * 9) 8 (g.WordOrNumber k.Pull) None
+
+abbrev pub debounce : Field
+debounce = optional_number (codes "_DBT") 12 16
+
+abbrev pub pin_source : List Field
+pin_source = text ∷ optional_number blank 16 8 ∷ usage 5 ∷ descriptor_name ∷ vacant ∷ []
+
+-- the revision, the kind, where the pins stand, and where the text of the source stands and ends
+abbrev pub pin_places : ℕ → List Field
+pin_places kind =
+    fixed 3 8 1 ∷ fixed 4 8 kind ∷ fixed 14 16 0x17 ∷ field blank (8 * 17) 16 g.TextPlace None ∷ field blank (8 * 19) 16 g.TextEnd None ∷ []
+
 -- ---- each descriptor
 
 -- what its arguments give, in their order
 abbrev pub arguments : Descriptor → List Field
-arguments d.Irq = word (codes "_HE_") 3 0 1 k.Mode ∷ word (codes "_LL_") 3 3 1 k.Level ∷ sharing 3 4 ∷ descriptor_name ∷ []
+arguments d.Irq = word (codes "_HE_") 3 0 1 k.Mode ∷ word_below (codes "_LL_") 3 3 1 k.Level 2 None ∷ sharing 3 4 ∷ descriptor_name ∷ []
 arguments d.IrqNoFlags = descriptor_name ∷ []
 arguments d.Dma = word (codes "_TYP") 2 5 2 k.DmaType ∷ word (codes "_BM_") 2 2 1 k.BusMaster ∷ word (codes "_SIZ") 2 0 2 k.Transfer ∷ descriptor_name ∷ []
 arguments d.FixedDma = number (codes "_DMA") 1 16 ∷ number (codes "_TYP") 3 16 ∷ optional_word (codes "_SIZ") 5 0 8 k.DmaWidth 2 ∷ descriptor_name ∷ []
@@ -155,7 +187,7 @@ arguments d.Register =
     field (codes "_ASI") (8 * 3) 8 (g.WordOrNumber k.Space) None ∷ number (codes "_RBW") 4 8 ∷ number (codes "_RBO") 5 8 ∷ number (codes "_ADR") 7 64
     ∷ optional_number (codes "_ASZ") 6 8 ∷ descriptor_name ∷ []
 arguments d.Interrupt =
-    usage 3 ∷ word (codes "_HE_") 3 1 1 k.Mode ∷ word (codes "_LL_") 3 2 1 k.Level ∷ sharing 3 3 ∷ source_index ∷ source ∷ descriptor_name ∷ []
+    usage 3 ∷ word (codes "_HE_") 3 1 1 k.Mode ∷ word_below (codes "_LL_") 3 2 1 k.Level 2 None ∷ sharing 3 3 ∷ source_index ∷ source ∷ descriptor_name ∷ []
 arguments d.WordIo = io (with_source 2)
 arguments d.DWordIo = io (with_source 4)
 arguments d.QWordIo = io (with_source 8)
@@ -168,6 +200,12 @@ arguments d.WordSpace = space (with_source 2)
 arguments d.DWordSpace = space (with_source 4)
 arguments d.QWordSpace = space (with_source 8)
 arguments d.ExtendedSpace = space extended
+arguments d.GpioInt = (word blank 7 0 1 k.Mode ∷ word (codes "_POL") 7 1 2 k.Level ∷ sharing 7 3 ∷ pull ∷ debounce ∷ []) ++ pin_source
+arguments d.GpioIo =
+    (sharing 7 3 ∷ pull ∷ debounce ∷ optional_number (codes "_DRS") 10 16 ∷ optional_word (codes "_IOR") 7 0 2 k.IoRestriction 0 ∷ []) ++ pin_source
+arguments d.I2cSerialBus =
+    number (codes "_ADR") 16 16 ∷ word blank 6 0 1 k.Initiator ∷ number (codes "_SPE") 12 32 ∷ word blank 7 0 1 k.Addressing ∷ text ∷ optional_number blank 4 8
+    ∷ optional_word blank 6 1 1 k.Usage 1 ∷ descriptor_name ∷ word_below (codes "_SHR") 6 2 1 k.Sharing 2 (Some 0) ∷ vacant ∷ []
 
 -- what no argument gives: the list, or nothing
 abbrev pub other_fields : Descriptor → List Field
@@ -184,6 +222,9 @@ other_fields d.QWordMemory = memory_type ∷ []
 other_fields d.ExtendedMemory = memory_type ∷ revision ∷ []
 other_fields d.WordBusNumber = bus_number_type ∷ []
 other_fields d.ExtendedSpace = revision ∷ []
+other_fields d.GpioInt = pin_places 0
+other_fields d.GpioIo = pin_places 1
+other_fields d.I2cSerialBus = fixed 3 8 2 ∷ fixed 5 8 1 ∷ fixed 9 8 1 ∷ fixed 10 16 6 ∷ []
 other_fields _ = []
 
 -- fields with the places of their arguments, the first of which is this one

@@ -36,6 +36,10 @@ kind_number k.BusMaster = 15
 kind_number k.Transfer = 16
 kind_number k.DmaWidth = 17
 kind_number k.Space = 18
+kind_number k.Pull = 19
+kind_number k.IoRestriction = 20
+kind_number k.Initiator = 21
+kind_number k.Addressing = 22
 
 abbrev pub is_kind : Kind → Kind → Bool
 is_kind a b = kind_number a == kind_number b
@@ -64,13 +68,13 @@ row_of d.StartDependentFnNoPri = small d.StartDependentFnNoPri 0x30 b.Descriptor
 row_of d.EndDependentFn = small d.EndDependentFn 0x38 b.Nothing
 row_of d.Io = small d.Io 0x47 b.Nothing
 row_of d.FixedIo = small d.FixedIo 0x4B b.Nothing
-row_of d.VendorShort = small d.VendorShort 0x70 (b.Numbers 8 1)
-row_of d.VendorLong = large d.VendorLong 0x84 0x00 (b.Numbers 8 0)
+row_of d.VendorShort = small d.VendorShort 0x70 (b.Numbers 8 1 7)
+row_of d.VendorLong = large d.VendorLong 0x84 0x00 (b.Numbers 8 0 0xFFFF)
 row_of d.Memory24 = large d.Memory24 0x81 0x09 b.Nothing
 row_of d.Memory32 = large d.Memory32 0x85 0x11 b.Nothing
 row_of d.Memory32Fixed = large d.Memory32Fixed 0x86 0x09 b.Nothing
 row_of d.Register = large d.Register 0x82 0x0C b.Nothing
-row_of d.Interrupt = large d.Interrupt 0x89 0x02 (b.Numbers 32 1)
+row_of d.Interrupt = large d.Interrupt 0x89 0x02 (b.Numbers 32 1 0xFF)
 row_of d.WordIo = large d.WordIo 0x88 0x0D b.Nothing
 row_of d.DWordIo = large d.DWordIo 0x87 0x17 b.Nothing
 row_of d.QWordIo = large d.QWordIo 0x8A 0x2B b.Nothing
@@ -83,6 +87,9 @@ row_of d.WordSpace = large d.WordSpace 0x88 0x0D b.Nothing
 row_of d.DWordSpace = large d.DWordSpace 0x87 0x17 b.Nothing
 row_of d.QWordSpace = large d.QWordSpace 0x8A 0x2B b.Nothing
 row_of d.ExtendedSpace = large d.ExtendedSpace 0x8B 0x35 b.Nothing
+row_of d.GpioInt = large d.GpioInt 0x8C 0x14 (b.Numbers 16 1 0xFF)
+row_of d.GpioIo = large d.GpioIo 0x8C 0x14 (b.Numbers 16 1 0xFF)
+row_of d.I2cSerialBus = large d.I2cSerialBus 0x8E 0x0F b.Nothing
 
 -- ---- its fields
 

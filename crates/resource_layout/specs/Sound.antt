@@ -46,7 +46,7 @@ is_within bits w = nat_le (w.at + w.bits) bits
 
 -- the numbers of a list have whole bytes
 abbrev pub has_whole_bytes : Body → Bool
-has_whole_bytes (b.Numbers bits least) = bits == 8 * (bits / 8)
+has_whole_bytes (b.Numbers bits least most) = bits == 8 * (bits / 8)
 has_whole_bytes _ = true
 
 abbrev pub is_sound : Row → Bool

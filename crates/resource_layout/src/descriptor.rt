@@ -27,7 +27,7 @@ pub enum Kind {
     IoDecode,
     /// `Level` 0, `Edge` 1.
     Mode,
-    /// `ActiveHigh` 0, `ActiveLow` 1.
+    /// `ActiveHigh` 0, `ActiveLow` 1, `ActiveBoth` 2.
     Level,
     /// `Exclusive` 0, `Shared` 1, `ExclusiveAndWake` 2, `SharedAndWake` 3.
     Sharing,
@@ -41,6 +41,14 @@ pub enum Kind {
     DmaWidth,
     /// The spaces of a region, as `SystemIO` 1, and `FFixedHW` 0x7F.
     Space,
+    /// `PullDefault` 0, `PullUp` 1, `PullDown` 2, `PullNone` 3.
+    Pull,
+    /// `IoRestrictionNone` 0, `IoRestrictionInputOnly` 1, `IoRestrictionOutputOnly` 2, `IoRestrictionNoneAndPreserve` 3.
+    IoRestriction,
+    /// `ControllerInitiated` 0, `DeviceInitiated` 1.
+    Initiator,
+    /// `AddressingMode7Bit` 0, `AddressingMode10Bit` 1.
+    Addressing,
 }
 
 /// A word that an argument may be: its kind and its number.
@@ -81,6 +89,9 @@ pub enum Descriptor {
     DWordSpace,
     QWordSpace,
     ExtendedSpace,
+    GpioInt,
+    GpioIo,
+    I2cSerialBus,
 }
 
 /// How a descriptor begins.
@@ -99,8 +110,8 @@ pub enum Body {
     Nothing,
     /// Numbers of bits, of so many.
     Bits(u64),
-    /// Numbers that stand behind the fields, each of so many bits; at least so many.
-    Numbers { bits: u32, least: u64 },
+    /// Numbers that stand behind the fields, each of so many bits; at least so many, and at most so many.
+    Numbers { bits: u32, least: u64, most: u64 },
     /// Descriptors.
     Descriptors,
 }
@@ -124,6 +135,8 @@ pub enum Giver {
     Between(u64, u64),
     /// An argument: a word.
     Word(Kind),
+    /// An argument: a word whose number is less than this.
+    WordBelow(Kind, u64),
     /// An argument: a word or a number.
     WordOrNumber(Kind),
     /// The argument that names the descriptor; it has no bits.
@@ -132,8 +145,16 @@ pub enum Giver {
     Index,
     /// The argument with a source's text, which stands behind the fields.
     Source,
+    /// The argument with the text of a source without index, which stands behind the fields.
+    Text,
+    /// An argument that stands empty; it has no bits.
+    Vacant,
     /// Always this number.
     Fixed(u64),
+    /// How many bytes stand before the text of the source.
+    TextPlace,
+    /// How many bytes the whole has, of which the text of the source is the last part.
+    TextEnd,
     /// The list: the bits of its members.
     Mask,
     /// The list: how many members it has.

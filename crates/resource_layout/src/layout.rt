@@ -7,9 +7,10 @@ ghost use Rattle.resource_layout.specs.declared.descriptor.Head.TheVariants as h
 use crate::descriptor::{Body, Descriptor, Field, Head, Kind, Row};
 use crate::rows::{
     DMA, DWORD_IO, DWORD_MEMORY, DWORD_SPACE, END_DEPENDENT_FN, EXTENDED_IO, EXTENDED_MEMORY,
-    EXTENDED_SPACE, FIXED_DMA, FIXED_IO, INTERRUPT, IO, IRQ, IRQ_NO_FLAGS, MEMORY24, MEMORY32,
-    MEMORY32_FIXED, QWORD_IO, QWORD_MEMORY, QWORD_SPACE, REGISTER, START_DEPENDENT_FN,
-    START_DEPENDENT_FN_NO_PRI, VENDOR_LONG, VENDOR_SHORT, WORD_BUS_NUMBER, WORD_IO, WORD_SPACE,
+    EXTENDED_SPACE, FIXED_DMA, FIXED_IO, GPIO_INT, GPIO_IO, I2C_SERIAL_BUS, INTERRUPT, IO, IRQ,
+    IRQ_NO_FLAGS, MEMORY24, MEMORY32, MEMORY32_FIXED, QWORD_IO, QWORD_MEMORY, QWORD_SPACE,
+    REGISTER, START_DEPENDENT_FN, START_DEPENDENT_FN_NO_PRI, VENDOR_LONG, VENDOR_SHORT,
+    WORD_BUS_NUMBER, WORD_IO, WORD_SPACE,
 };
 
 #[tactic(auto, unfolding(crate::specs::Layout::kind_number))]
@@ -65,13 +66,40 @@ pub fn row_of(descriptor: Descriptor) -> Row
         Descriptor::EndDependentFn => small(descriptor, 7, 1, Body::Nothing),
         Descriptor::Io => small(descriptor, 8, 8, Body::Nothing),
         Descriptor::FixedIo => small(descriptor, 9, 4, Body::Nothing),
-        Descriptor::VendorShort => small(descriptor, 14, 1, Body::Numbers { bits: 8, least: 1 }),
-        Descriptor::VendorLong => large(descriptor, 0x84, 3, Body::Numbers { bits: 8, least: 0 }),
+        Descriptor::VendorShort => small(
+            descriptor,
+            14,
+            1,
+            Body::Numbers {
+                bits: 8,
+                least: 1,
+                most: 7,
+            },
+        ),
+        Descriptor::VendorLong => large(
+            descriptor,
+            0x84,
+            3,
+            Body::Numbers {
+                bits: 8,
+                least: 0,
+                most: 0xFFFF,
+            },
+        ),
         Descriptor::Memory24 => large(descriptor, 0x81, 12, Body::Nothing),
         Descriptor::Memory32 => large(descriptor, 0x85, 20, Body::Nothing),
         Descriptor::Memory32Fixed => large(descriptor, 0x86, 12, Body::Nothing),
         Descriptor::Register => large(descriptor, 0x82, 15, Body::Nothing),
-        Descriptor::Interrupt => large(descriptor, 0x89, 5, Body::Numbers { bits: 32, least: 1 }),
+        Descriptor::Interrupt => large(
+            descriptor,
+            0x89,
+            5,
+            Body::Numbers {
+                bits: 32,
+                least: 1,
+                most: 0xFF,
+            },
+        ),
         Descriptor::WordIo => large(descriptor, 0x88, 16, Body::Nothing),
         Descriptor::DWordIo => large(descriptor, 0x87, 26, Body::Nothing),
         Descriptor::QWordIo => large(descriptor, 0x8A, 46, Body::Nothing),
@@ -84,6 +112,27 @@ pub fn row_of(descriptor: Descriptor) -> Row
         Descriptor::DWordSpace => large(descriptor, 0x87, 26, Body::Nothing),
         Descriptor::QWordSpace => large(descriptor, 0x8A, 46, Body::Nothing),
         Descriptor::ExtendedSpace => large(descriptor, 0x8B, 56, Body::Nothing),
+        Descriptor::GpioInt => large(
+            descriptor,
+            0x8C,
+            23,
+            Body::Numbers {
+                bits: 16,
+                least: 1,
+                most: 0xFF,
+            },
+        ),
+        Descriptor::GpioIo => large(
+            descriptor,
+            0x8C,
+            23,
+            Body::Numbers {
+                bits: 16,
+                least: 1,
+                most: 0xFF,
+            },
+        ),
+        Descriptor::I2cSerialBus => large(descriptor, 0x8E, 18, Body::Nothing),
     }
 }
 
@@ -121,6 +170,9 @@ pub fn fields_of(descriptor: Descriptor) -> &'static [Field]
         Descriptor::DWordSpace => DWORD_SPACE,
         Descriptor::QWordSpace => QWORD_SPACE,
         Descriptor::ExtendedSpace => EXTENDED_SPACE,
+        Descriptor::GpioInt => GPIO_INT,
+        Descriptor::GpioIo => GPIO_IO,
+        Descriptor::I2cSerialBus => I2C_SERIAL_BUS,
     }
 }
 

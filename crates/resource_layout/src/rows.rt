@@ -44,6 +44,32 @@ macro_rules! word_or {
     };
 }
 
+macro_rules! word_below {
+    ($argument:expr, $name:expr, $byte:expr, $bit:expr, $bits:expr, $kind:ident, $limit:expr, $default:expr) => {
+        field!(
+            $argument,
+            $name,
+            $byte,
+            $bit,
+            $bits,
+            Giver::WordBelow(Kind::$kind, $limit),
+            $default
+        )
+    };
+}
+
+macro_rules! text {
+    ($argument:expr) => {
+        field!($argument, b"    ", 0, 0, 0, Giver::Text, None)
+    };
+}
+
+macro_rules! vacant {
+    ($argument:expr) => {
+        field!($argument, b"    ", 0, 0, 0, Giver::Vacant, Some(0))
+    };
+}
+
 macro_rules! name {
     ($argument:expr) => {
         field!($argument, b"    ", 0, 0, 0, Giver::Name, Some(0))
@@ -89,7 +115,7 @@ macro_rules! first_member {
 /// The fields of `Irq` (ACPI Specification 6.4, 6.4.2.1).
 pub(crate) const IRQ: &[Field] = &[
     word!(0, b"_HE_", 3, 0, 1, Mode),
-    word!(1, b"_LL_", 3, 3, 1, Level),
+    word_below!(1, b"_LL_", 3, 3, 1, Level, 2, None),
     word_or!(2, b"_SHR", 3, 4, 2, Sharing, 0),
     name!(3),
     mask!(b"_INT", 1, 16),
@@ -192,7 +218,7 @@ pub(crate) const REGISTER: &[Field] = &[
 pub(crate) const INTERRUPT: &[Field] = &[
     word_or!(0, b"    ", 3, 0, 1, Usage, 1),
     word!(1, b"_HE_", 3, 1, 1, Mode),
-    word!(2, b"_LL_", 3, 2, 1, Level),
+    word_below!(2, b"_LL_", 3, 2, 1, Level, 2, None),
     word_or!(3, b"_SHR", 3, 3, 2, Sharing, 0),
     index!(4),
     source!(5),
@@ -431,4 +457,60 @@ pub(crate) const EXTENDED_SPACE: &[Field] = &[
     number_or!(11, b"_ATT", 48, 64, 0),
     name!(12),
     fixed!(6, 8, 1),
+];
+
+/// The fields of `GpioInt` (ACPI Specification 6.4, 6.4.3.8.1).
+pub(crate) const GPIO_INT: &[Field] = &[
+    word!(0, b"    ", 7, 0, 1, Mode),
+    word!(1, b"_POL", 7, 1, 2, Level),
+    word_or!(2, b"_SHR", 7, 3, 2, Sharing, 0),
+    field!(3, b"_PPI", 9, 0, 8, Giver::WordOrNumber(Kind::Pull), None),
+    number_or!(4, b"_DBT", 12, 16, 0),
+    text!(5),
+    number_or!(6, b"    ", 16, 8, 0),
+    word_or!(7, b"    ", 5, 0, 1, Usage, 1),
+    name!(8),
+    vacant!(9),
+    fixed!(3, 8, 1),
+    fixed!(4, 8, 0),
+    fixed!(14, 16, 0x17),
+    field!(0, b"    ", 17, 0, 16, Giver::TextPlace, None),
+    field!(0, b"    ", 19, 0, 16, Giver::TextEnd, None),
+];
+
+/// The fields of `GpioIo` (ACPI Specification 6.4, 6.4.3.8.1).
+pub(crate) const GPIO_IO: &[Field] = &[
+    word_or!(0, b"_SHR", 7, 3, 2, Sharing, 0),
+    field!(1, b"_PPI", 9, 0, 8, Giver::WordOrNumber(Kind::Pull), None),
+    number_or!(2, b"_DBT", 12, 16, 0),
+    number_or!(3, b"_DRS", 10, 16, 0),
+    word_or!(4, b"_IOR", 7, 0, 2, IoRestriction, 0),
+    text!(5),
+    number_or!(6, b"    ", 16, 8, 0),
+    word_or!(7, b"    ", 5, 0, 1, Usage, 1),
+    name!(8),
+    vacant!(9),
+    fixed!(3, 8, 1),
+    fixed!(4, 8, 1),
+    fixed!(14, 16, 0x17),
+    field!(0, b"    ", 17, 0, 16, Giver::TextPlace, None),
+    field!(0, b"    ", 19, 0, 16, Giver::TextEnd, None),
+];
+
+/// The fields of `I2cSerialBus` (ACPI Specification 6.4, 6.4.3.8.2.1).
+pub(crate) const I2C_SERIAL_BUS: &[Field] = &[
+    number!(0, b"_ADR", 16, 16),
+    word!(1, b"    ", 6, 0, 1, Initiator),
+    number!(2, b"_SPE", 12, 32),
+    word!(3, b"    ", 7, 0, 1, Addressing),
+    text!(4),
+    number_or!(5, b"    ", 4, 8, 0),
+    word_or!(6, b"    ", 6, 1, 1, Usage, 1),
+    name!(7),
+    word_below!(8, b"_SHR", 6, 2, 1, Sharing, 2, Some(0)),
+    vacant!(9),
+    fixed!(3, 8, 2),
+    fixed!(5, 8, 1),
+    fixed!(9, 8, 1),
+    fixed!(10, 16, 6),
 ];

@@ -22,7 +22,7 @@ use Rattle.resource_macros.specs.declared.bits.Due.{Due}
 use Rattle.resource_macros.specs.Numbers.{little_bytes, little_number}
 use Rattle.resource_macros.specs.Arguments.{fitted, or_zero, member_of, members_of}
 use Rattle.resource_macros.specs.Packing.{place_of, packed}
-use Rattle.resource_macros.specs.Resources.{is_fitting, head_dues, field_dues, dues_in, length_in, bytes_in, behind_in, members_in, source_in, width_behind, numbers_behind, numbers_bytes, has_room, least_of}
+use Rattle.resource_macros.specs.Resources.{Listed, listed_in, are_few, is_fitting, head_dues, field_dues, dues_in, length_in, bytes_in, behind_in, members_in, source_in, width_behind, numbers_behind, numbers_bytes, has_room, least_of}
 use Rattle.resource_macros.specs.Reading.{IsHead, AreRead, AreClear, numbers_read, IsResource}
 use Rattle.resource_macros.specs.Templates.{Resource, own_fault, argument_faults, list_faults, faults_of, all_faults, bytes_of, all_bytes, length_of, Describes}
 use Rattle.resource_macros.proofs.Bytes.{little_length, little_back}
@@ -34,7 +34,7 @@ both true b e = (refl, e)
 both false b e = absurd cc
 
 -- the dues stand where the layout says
-field_places : (args : List Node) (members : List ℕ) (fields : List Field) → map place_of (field_dues args members fields) ≡ map window_of fields
+field_places : (args : List Node) (members : Listed) (fields : List Field) → map place_of (field_dues args members fields) ≡ map window_of fields
 field_places args members [] = refl
 field_places args members (field ∷ fields) = ap (λ ws. window_of field ∷ ws) (field_places args members fields)
 
@@ -43,14 +43,14 @@ head_places (h.Small name) bytes more = refl
 head_places (h.Large tag) bytes more = refl
 
 places : (row : Row) (args body : List Node) → map place_of (dues_in row args body) ≡ windows_of row
-places row args body = head_places row.head (length_in row args body) (field_dues args (members_in row body) (fields_of row.descriptor)) ∙ ap (λ ws. head_windows row.head ++ ws) (field_places args (members_in row body) (fields_of row.descriptor))
+places row args body = head_places row.head (length_in row args body) (field_dues args (listed_in row args body) (fields_of row.descriptor)) ∙ ap (λ ws. head_windows row.head ++ ws) (field_places args (listed_in row args body) (fields_of row.descriptor))
 
 -- what is read of the dues is read of the head and of the fields
 head_read : (head : Head) (size : ℕ) (bytes : List ℕ) (more : List Due) → AreDuesRead bytes (head_dues head size ++ more) → IsHead head size bytes × AreDuesRead bytes more
 head_read (h.Small name) size bytes more read = ((read.1.0, read.0), read.1.1)
 head_read (h.Large tag) size bytes more read = ((read.0, read.1.0), read.1.1)
 
-fields_read : (bytes : List ℕ) (args : List Node) (members : List ℕ) (fields : List Field) → AreDuesRead bytes (field_dues args members fields) → AreRead bytes args members fields
+fields_read : (bytes : List ℕ) (args : List Node) (members : Listed) (fields : List Field) → AreDuesRead bytes (field_dues args members fields) → AreRead bytes args members fields
 fields_read bytes args members [] read = tt
 fields_read bytes args members (field ∷ fields) read = (read.0, fields_read bytes args members fields read.1)
 
@@ -102,23 +102,23 @@ fitted_below bits n =
       | false ↦ λ e. one-le-pow bits 2 (omega arith)
     ] refl
 
-member_below : (bits least : ℕ) (term : Term) → or_zero (member_of (b.Numbers bits least) term) < 2 ^ bits
-member_below bits least (D.Integer n) = fitted_below bits n
-member_below bits least _ = one-le-pow bits 2 (omega arith)
+member_below : (bits least most : ℕ) (term : Term) → or_zero (member_of (b.Numbers bits least most) term) < 2 ^ bits
+member_below bits least most (D.Integer n) = fitted_below bits n
+member_below bits least most _ = one-le-pow bits 2 (omega arith)
 
-members_below : (bits least : ℕ) (nodes : List Node) → AreBelow bits (members_of (b.Numbers bits least) nodes)
+members_below : (bits least most : ℕ) (nodes : List Node) → AreBelow bits (members_of (b.Numbers bits least most) nodes)
 unfolding AreBelow
-members_below bits least [] = tt
-members_below bits least (node ∷ nodes) = (member_below bits least node.term, members_below bits least nodes)
+members_below bits least most [] = tt
+members_below bits least most (node ∷ nodes) = (member_below bits least most node.term, members_below bits least most nodes)
 
 behind_below : (body : Body) (nodes : List Node) → has_whole_bytes body ≡ true → AreBelow (8 * width_behind body) (numbers_behind body (members_of body nodes))
 unfolding AreBelow
 behind_below b.Nothing nodes e = tt
 behind_below (b.Bits bits) nodes e = tt
-behind_below (b.Numbers bits least) nodes e =
+behind_below (b.Numbers bits least most) nodes e =
     let same : bits ≡ 8 * (bits / 8) = grind arith in
-    let P : ℕ → Type 0 = λ k. AreBelow k (members_of (b.Numbers bits least) nodes) in
-    subst P same (members_below bits least nodes)
+    let P : ℕ → Type 0 = λ k. AreBelow k (members_of (b.Numbers bits least most) nodes) in
+    subst P same (members_below bits least most nodes)
 behind_below b.Descriptors nodes e = tt
 
 -- a descriptor that has room reads as it is to be
@@ -128,13 +128,13 @@ resource_reads row args body sound room =
     let tail = numbers_bytes (width_behind row.body) (behind_in row body) ++ source_in row args in
     let s = both (are_apart (windows_of row)) (list_all (is_within (8 * row.bytes)) (windows_of row) && has_whole_bytes row.body) sound in
     let u = both (list_all (is_within (8 * row.bytes)) (windows_of row)) (has_whole_bytes row.body) s.1 in
-    let fit = fitting dues (both (nat_le (least_of row.body) (length body)) (list_all is_fitting dues) room).1 in
+    let fit = fitting dues (both (nat_le (least_of row.body) (length body) && are_few row.body (length body)) (list_all is_fitting dues) room).1 in
     let apart : are_apart (map place_of dues) ≡ true = ap are_apart (places row args body) ∙ s.0 in
     let within : list_all (is_within (8 * row.bytes)) (map place_of dues) ≡ true = ap (list_all (is_within (8 * row.bytes))) (places row args body) ∙ u.0 in
     let here = front row.bytes (packed dues) tail in
     let rest = behind row.bytes (packed dues) tail in
     let size = length-append (little_bytes row.bytes (packed dues)) tail ∙ ap (λ k. k + length tail) (little_length row.bytes (packed dues)) ∙ ap (λ k. row.bytes + k) (behind_length (width_behind row.body) (behind_in row body) (source_in row args)) in
-    let fields = field_dues args (members_in row body) (fields_of row.descriptor) in
+    let fields = field_dues args (listed_in row args body) (fields_of row.descriptor) in
     let read = subst (λ (bs : List ℕ). AreDuesRead bs dues) (sym here) (read_back row.bytes dues apart within fit) in
     let clear = subst (λ (bs : List ℕ). AreDuesClear (8 * row.bytes) bs dues) (sym here) (clear_back row.bytes dues apart fit) in
     let front_bytes = take row.bytes (bytes_in row args body) in
@@ -142,7 +142,7 @@ resource_reads row args body sound room =
     record {
       whole = size;
       head = subst (λ (k : ℕ). IsHead row.head k front_bytes) (sym size) two.0;
-      fields = fields_read front_bytes args (members_in row body) (fields_of row.descriptor) two.1;
+      fields = fields_read front_bytes args (listed_in row args body) (fields_of row.descriptor) two.1;
       clear = subst (AreClear (8 * row.bytes) front_bytes) (places row args body) (clear_from (8 * row.bytes) front_bytes dues clear);
       numbers = ap (numbers_read (width_behind row.body) (length (behind_in row body))) rest ∙ numbers_back (width_behind row.body) (behind_in row body) (source_in row args) (behind_below row.body body u.1);
       source = ap (drop (width_behind row.body * length (behind_in row body))) rest ∙ source_back (width_behind row.body) (behind_in row body) (source_in row args);

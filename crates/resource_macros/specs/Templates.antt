@@ -67,6 +67,8 @@ argument_fault (g.Fixed number) field args = []
 argument_fault g.Mask field args = []
 argument_fault g.Count field args = []
 argument_fault g.FirstMember field args = []
+argument_fault g.TextPlace field args = []
+argument_fault g.TextEnd field args = []
 argument_fault _ field args = told_of field (slice_get args field.argument)
 
 abbrev pub argument_faults : List Field → List Node → List Message

@@ -52,14 +52,16 @@ fn mask_of(members: &[u64]) -> u64
     mask
 }
 
-fn number_of(field: &Field, args: &[Node], members: &[u64]) -> u64
-    ensures { result ≡ resource.number_of field.now args.now members.now }
+fn number_of(field: &Field, args: &[Node], members: &[u64], before: u64, whole: u64) -> u64
+    ensures { result ≡ resource.number_of field.now args.now (resource.listed members.now before whole) }
 {
     match field.giver {
         Giver::Fixed(number) => number,
         Giver::Mask => mask_of(members),
         Giver::Count => members.len() as u64,
         Giver::FirstMember | Giver::Index => 0,
+        Giver::TextPlace => before,
+        Giver::TextEnd => whole,
         _ => answer_to(field, args.get(field.argument)).unwrap_or(0),
     }
 }
@@ -103,12 +105,13 @@ fn head_dues(alloc: Global, head: Head, bytes: u64) -> Result<Vec<Due>, AllocErr
 fn all_dues(
     alloc: Global,
     row: &Row,
+    before: u64,
     bytes: u64,
     fields: &[Field],
     args: &[Node],
     members: &[u64],
 ) -> Result<Vec<Due>, AllocError>
-    ensures { IfOk result (λ dues. dues.items ≡ resource.head_dues row.now.head bytes ++ resource.field_dues args.now members.now fields.now) }
+    ensures { IfOk result (λ dues. dues.items ≡ resource.head_dues row.now.head bytes ++ resource.field_dues args.now (resource.listed members.now before bytes) fields.now) }
 {
     let mut dues = head_dues(alloc, row.head, bytes)?;
     for field in fields {
@@ -116,7 +119,7 @@ fn all_dues(
             &mut dues,
             field.at,
             bits_of(field),
-            number_of(field, args, members),
+            number_of(field, args, members, before, bytes),
         )?;
     }
     Ok(dues)
@@ -150,6 +153,18 @@ fn is_source(giver: Giver) -> bool
     ensures { result ≡ resource.is_source giver }
 {
     matches!(giver, Giver::Source)
+}
+
+fn is_text(giver: Giver) -> bool
+    ensures { result ≡ resource.is_text giver }
+{
+    matches!(giver, Giver::Text)
+}
+
+fn text_field(fields: &[Field]) -> Option<&Field>
+    ensures { option_copied result ≡ find (λ field. resource.is_text field.giver) fields.now }
+{
+    fields.iter().find(|field| is_text(field.giver))
 }
 
 fn index_field(fields: &[Field]) -> Option<&Field>
@@ -213,6 +228,26 @@ fn text_of<'a>(fields: &[Field], args: &'a [Node]) -> Option<&'a [u8]>
     ensures { option_copied result ≡ resource.in_node resource.text_in (resource.argument_by resource.is_source fields.now args.now) }
 {
     text_in(argument_in(args, source_field(fields)))
+}
+
+fn plain_text_of<'a>(fields: &[Field], args: &'a [Node]) -> Option<&'a [u8]>
+    ensures { option_copied result ≡ resource.in_node resource.text_in (resource.argument_by resource.is_text fields.now args.now) }
+{
+    text_in(argument_in(args, text_field(fields)))
+}
+
+// Writes the text of a source without index.
+fn put_text(out: &mut Vec<u8>, text: Option<&[u8]>) -> Result<(), AllocError>
+    ensures { OnOk result (out.new.items ≡ out.old.items ++ resource.text_bytes (option_copied text.entry)) }
+{
+    match text {
+        Some(text) => {
+            out.extend_from_slice(text)?;
+            out.push(0)?;
+            Ok(())
+        }
+        None => Ok(()),
+    }
 }
 
 // Writes a source.
@@ -283,10 +318,25 @@ fn least_of(body: Body) -> u64
     }
 }
 
-fn has_room(body: Body, nodes: &[Node], dues: &[Due]) -> bool
-    ensures { result ≡ (nat_le (resource.least_of body) (length nodes.now) && list_all resource.is_fitting dues.now) }
+fn are_few(body: Body, count: u64) -> bool
+    ensures { result ≡ resource.are_few body count }
 {
-    least_of(body) <= nodes.len() as u64 && are_fitting(dues)
+    match body {
+        Body::Numbers { most, .. } => count <= most,
+        _ => true,
+    }
+}
+
+fn has_count(body: Body, count: u64) -> bool
+    ensures { result ≡ (nat_le (resource.least_of body) count && resource.are_few body count) }
+{
+    least_of(body) <= count && are_few(body, count)
+}
+
+fn has_room(body: Body, nodes: &[Node], dues: &[Due]) -> bool
+    ensures { result ≡ ((nat_le (resource.least_of body) (length nodes.now) && resource.are_few body (length nodes.now)) && list_all resource.is_fitting dues.now) }
+{
+    has_count(body, nodes.len() as u64) && are_fitting(dues)
 }
 
 /// The bytes of a descriptor, and whether they hold what it has.
@@ -297,7 +347,7 @@ pub struct Encoded {
 }
 
 /// The bytes of a descriptor with these arguments and this list.
-#[tactic(auto, using(crate::proofs::Lengths::behind_length))]
+#[tactic(auto, using(crate::proofs::Lengths::behind_length, crate::proofs::Lengths::numbers_length))]
 pub(crate) fn encode(
     alloc: Global,
     row: &Row,
@@ -310,9 +360,12 @@ pub(crate) fn encode(
     ensures room { IfOk result (λ made. made.has_room ≡ resource.has_room row.now args.now body.now) }
 {
     let members = members_of(alloc, row.body, body)?;
-    let behind = behind_of(alloc, row, fields, args, &members)?;
+    let mut behind = Vec::new(alloc);
+    put_behind(&mut behind, row.body, &members)?;
+    let before = row.bytes as u64 + behind.len() as u64;
+    put_sources(&mut behind, fields, args)?;
     let length = row.bytes as u64 + behind.len() as u64;
-    let dues = all_dues(alloc, row, length, fields, args, &members)?;
+    let dues = all_dues(alloc, row, before, length, fields, args, &members)?;
     let mut bytes = packed_bytes(alloc, row.bytes, &dues)?;
     bytes.extend_from_slice(&behind)?;
     Ok(Encoded {
@@ -321,18 +374,10 @@ pub(crate) fn encode(
     })
 }
 
-// What stands behind the fields.
-fn behind_of(
-    alloc: Global,
-    row: &Row,
-    fields: &[Field],
-    args: &[Node],
-    members: &[u64],
-) -> Result<Vec<u8>, AllocError>
-    ensures { IfOk result (λ bytes. bytes.items ≡ resource.numbers_bytes (resource.width_behind row.now.body) (resource.numbers_behind row.now.body members.now) ++ resource.source_of fields.now args.now) }
+// Writes the source of a descriptor.
+fn put_sources(out: &mut Vec<u8>, fields: &[Field], args: &[Node]) -> Result<(), AllocError>
+    ensures { OnOk result (out.new.items ≡ out.old.items ++ resource.source_of fields.now args.now) }
 {
-    let mut bytes = Vec::new(alloc);
-    put_behind(&mut bytes, row.body, members)?;
-    put_source(&mut bytes, index_of(fields, args), text_of(fields, args))?;
-    Ok(bytes)
+    put_source(out, index_of(fields, args), text_of(fields, args))?;
+    put_text(out, plain_text_of(fields, args))
 }

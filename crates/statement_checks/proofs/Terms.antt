@@ -36,6 +36,7 @@ no_number t not_integer = by_layer (D.out-Term t) (sym (D.roll-out-Term t))
     by_layer (D.Term-F.Unit p n) e = ap number_in (e ∙ V.rolls-Unit p n)
     by_layer (D.Term-F.Skip n) e = ap number_in (e ∙ V.rolls-Skip n)
     by_layer (D.Term-F.Offset n) e = ap number_in (e ∙ V.rolls-Offset n)
+    by_layer (D.Term-F.Access access attribute count) e = ap number_in (e ∙ V.rolls-Access access attribute count)
     by_layer (D.Term-F.Call p v) e = ap number_in (e ∙ V.rolls-Call p v) ∙ number_call p v
     by_layer (D.Term-F.Form o v w) e = ap number_in (e ∙ V.rolls-Form o v w) ∙ number_form o v w
 
@@ -63,6 +64,7 @@ module _ (around : Around) (place : Place) where
       by_layer (D.Term-F.Unit p n) e = ap errors_in (e ∙ V.rolls-Unit p n)
       by_layer (D.Term-F.Skip n) e = ap errors_in (e ∙ V.rolls-Skip n)
       by_layer (D.Term-F.Offset n) e = ap errors_in (e ∙ V.rolls-Offset n)
+      by_layer (D.Term-F.Access access attribute count) e = ap errors_in (e ∙ V.rolls-Access access attribute count)
 
 -- the plan of a call and of a form, by the nodes in it
 pub call_is : (t : Term) (path : Path) (args : Vec Node Global) (xs : List Node) → t ≡ D.Call path args → xs ≡ args.items → plan_of t ≡ a_call path (plans_of xs)

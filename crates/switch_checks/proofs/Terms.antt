@@ -1,5 +1,5 @@
 -- Terms as plans.
-use Rattle.std.proofs.Common.{◌≡◌, ℕ, ◌++◌, List, [], ◌∷◌, Some, None, true, false, Vec, Global, append_assoc, subst, refl, sym, ap, ◌∙◌}
+use Rattle.std.proofs.Common.{◌≡◌, ℕ, ◌++◌, List, [], ◌∷◌, Option, Some, None, true, false, Vec, Global, append_assoc, subst, refl, sym, ap, ◌∙◌}
 use Rattle.std.specs.Prelude.{if◌then◌else◌}
 use Rattle.acpi_values.specs.Paths.{NameSeg}
 use Rattle.acpi_values.specs.declared.width.Width.{Width}
@@ -13,7 +13,7 @@ use Rattle.asl_tree.specs.declared.term.Node.{Node}
 use Rattle.asl_tree.specs.declared.term.Term.{Term}
 use Rattle.asl_tree.specs.declared.term.Term as D
 use Rattle.asl_tree.specs.declared.term.Term.TheVariants as V
-use Rattle.asl_shape.specs.Plans.{Plan, an_integer, a_text, a_fill, a_word, a_local, an_arg, debug, omitted, a_name, a_unit, a_skip, an_offset, a_call, a_form, Plans, plan_of, plans_of}
+use Rattle.asl_shape.specs.Plans.{Plan, an_integer, a_text, a_fill, a_word, a_local, an_arg, debug, omitted, a_name, a_unit, a_skip, an_offset, an_access, a_call, a_form, Plans, plan_of, plans_of}
 use Rattle.asl_shape.proofs.Plans.{plan_form, plan_call}
 use Rattle.statement_checks.proofs.Terms.{form_is}
 use Rattle.switch_checks.specs.Values.{byte_of, alone_bytes, size_in, is_package, form_value, value_of}
@@ -25,9 +25,9 @@ pub of_plans : (P : Plan → Type 0) (t : Term)
     → ((n : ℕ) → t ≡ D.Integer n → P (an_integer n)) → ((s : List ℕ) → t ≡ D.Text s → P (a_text s)) → ((s : List ℕ) (ds : List NamedDescriptor) → t ≡ D.Fill s ds → P (a_fill s ds))
     → ((o : Op) (v w : Vec Node Global) → t ≡ D.Form o v w → P (a_form o (plans_of v.items) (plans_of w.items)))
     → ((w : Word) → P (a_word w)) → ((n : ℕ) → P (a_local n)) → ((n : ℕ) → P (an_arg n)) → P debug → P omitted → ((p : Path) → P (a_name p))
-    → ((s : NameSeg) (n : ℕ) → P (a_unit s n)) → ((n : ℕ) → P (a_skip n)) → ((n : ℕ) → P (an_offset n)) → ((p : Path) (qs : Plans) → P (a_call p qs)) → P (plan_of t)
+    → ((s : NameSeg) (n : ℕ) → P (a_unit s n)) → ((n : ℕ) → P (a_skip n)) → ((n : ℕ) → P (an_offset n)) → ((access attribute : ℕ) (count : Option ℕ) → P (an_access access attribute count)) → ((p : Path) (qs : Plans) → P (a_call p qs)) → P (plan_of t)
 unfolding plan_of
-of_plans P t integer text fill form word local arg debug' omitted' name unit skip offset call = by_layer (D.out-Term t) (sym (D.roll-out-Term t))
+of_plans P t integer text fill form word local arg debug' omitted' name unit skip offset access call = by_layer (D.out-Term t) (sym (D.roll-out-Term t))
   where
     at : (u : Term) → t ≡ u → P (plan_of u) → P (plan_of t)
     at u e p = subst (λ v. P (plan_of v)) (sym e) p
@@ -45,6 +45,7 @@ of_plans P t integer text fill form word local arg debug' omitted' name unit ski
     by_layer (D.Term-F.Unit s n) e = at (D.Unit s n) (e ∙ V.rolls-Unit s n) (unit s n)
     by_layer (D.Term-F.Skip n) e = at (D.Skip n) (e ∙ V.rolls-Skip n) (skip n)
     by_layer (D.Term-F.Offset n) e = at (D.Offset n) (e ∙ V.rolls-Offset n) (offset n)
+    by_layer (D.Term-F.Access a b c) e = at (D.Access a b c) (e ∙ V.rolls-Access a b c) (access a b c)
     by_layer (D.Term-F.Call p v) e = at (D.Call p v) (e ∙ V.rolls-Call p v) (subst P (sym (plan_call p v)) (call p (plans_of v.items)))
     by_layer (D.Term-F.Form o v w) e = let q = e ∙ V.rolls-Form o v w in at (D.Form o v w) q (subst P (sym (plan_form o v w)) (form o v w q))
 
@@ -52,12 +53,12 @@ of_plans P t integer text fill form word local arg debug' omitted' name unit ski
 
 pub no_size : (t : Term) → ((n : ℕ) → t ≡ D.Integer n → ⊥) → size_in (plan_of t) ≡ None
 no_size t not_integer =
-    of_plans (λ p. size_in p ≡ None) t (λ n e. absurd (not_integer n e)) (λ s e. refl) (λ s ds e. refl) (λ o v w e. refl) (λ w. refl) (λ n. refl) (λ n. refl) refl refl (λ p. refl) (λ s n. refl) (λ n. refl) (λ n. refl) (λ p qs. refl)
+    of_plans (λ p. size_in p ≡ None) t (λ n e. absurd (not_integer n e)) (λ s e. refl) (λ s ds e. refl) (λ o v w e. refl) (λ w. refl) (λ n. refl) (λ n. refl) refl refl (λ p. refl) (λ s n. refl) (λ n. refl) (λ n. refl) (λ a b c. refl) (λ p qs. refl)
 
 -- what is no string and no contents is one byte
 pub byte_alone : (t : Term) → ((s : List ℕ) → t ≡ D.Text s → ⊥) → ((s : List ℕ) (ds : List NamedDescriptor) → t ≡ D.Fill s ds → ⊥) → byte_of (plan_of t) ∷ [] ≡ alone_bytes (plan_of t)
 byte_alone t not_text not_fill =
-    of_plans (λ p. byte_of p ∷ [] ≡ alone_bytes p) t (λ n e. refl) (λ s e. absurd (not_text s e)) (λ s ds e. absurd (not_fill s ds e)) (λ o v w e. refl) (λ w. refl) (λ n. refl) (λ n. refl) refl refl (λ p. refl) (λ s n. refl) (λ n. refl) (λ n. refl) (λ p qs. refl)
+    of_plans (λ p. byte_of p ∷ [] ≡ alone_bytes p) t (λ n e. refl) (λ s e. absurd (not_text s e)) (λ s ds e. absurd (not_fill s ds e)) (λ o v w e. refl) (λ w. refl) (λ n. refl) (λ n. refl) refl refl (λ p. refl) (λ s n. refl) (λ n. refl) (λ n. refl) (λ a b c. refl) (λ p qs. refl)
 
 pub form_value_is : (width : Width) (t : Term) (op : Op) (args body : Vec Node Global) (xs ys : List Node) → t ≡ D.Form op args body → xs ≡ args.items → ys ≡ body.items
     → form_value width op (plans_of xs) (plans_of ys) ≡ value_of width (plan_of t)
@@ -66,7 +67,7 @@ form_value_is width t op args body xs ys e a b = sym (ap (value_of width) (form_
 pub no_value : (width : Width) (t : Term) → ((n : ℕ) → t ≡ D.Integer n → ⊥) → ((s : List ℕ) → t ≡ D.Text s → ⊥) → ((o : Op) (v w : Vec Node Global) → t ≡ D.Form o v w → ⊥) → value_of width (plan_of t) ≡ None
 no_value width t not_integer not_text not_form =
     of_plans (λ p. value_of width p ≡ None) t (λ n e. absurd (not_integer n e)) (λ s e. absurd (not_text s e)) (λ s ds e. refl) (λ o v w e. absurd (not_form o v w e)) (λ w. refl) (λ n. refl) (λ n. refl) refl refl (λ p. refl)
-    (λ s n. refl) (λ n. refl) (λ n. refl) (λ p qs. refl)
+    (λ s n. refl) (λ n. refl) (λ n. refl) (λ a b c. refl) (λ p qs. refl)
 
 -- ---- what a term says of values
 
@@ -86,7 +87,7 @@ module _ (width : Width) (place : Place) where
   pub alone_members : (t : Term) → ((o : Op) (v w : Vec Node Global) → t ≡ D.Form o v w → ⊥) → members_at width place (plan_of t) ≡ value_at width place (plan_of t)
   alone_members t not_form =
       of_plans (λ p. members_at width place p ≡ value_at width place p) t (λ n e. refl) (λ s e. refl) (λ s ds e. refl) (λ o v w e. absurd (not_form o v w e)) (λ w. refl) (λ n. refl) (λ n. refl) refl refl (λ p. refl)
-      (λ s n. refl) (λ n. refl) (λ n. refl) (λ p qs. refl)
+      (λ s n. refl) (λ n. refl) (λ n. refl) (λ a b c. refl) (λ p qs. refl)
 
   pub case_members : (t : Term) (op : Op) (args body : Vec Node Global) (xs : List Node) → t ≡ D.Form op args body → xs ≡ args.items → is_case op ≡ true → case_values width place (plan_of t) ≡ first_members width (plans_of xs)
   case_members t op args body xs e a holds =
@@ -101,7 +102,7 @@ module _ (width : Width) (place : Place) where
   pub no_members : (t : Term) → ((o : Op) (v w : Vec Node Global) → t ≡ D.Form o v w → ⊥) → case_values width place (plan_of t) ≡ []
   no_members t not_form =
       of_plans (λ p. case_values width place p ≡ []) t (λ n e. refl) (λ s e. refl) (λ s ds e. refl) (λ o v w e. absurd (not_form o v w e)) (λ w. refl) (λ n. refl) (λ n. refl) refl refl (λ p. refl)
-      (λ s n. refl) (λ n. refl) (λ n. refl) (λ p qs. refl)
+      (λ s n. refl) (λ n. refl) (λ n. refl) (λ a b c. refl) (λ p qs. refl)
 
 -- ---- what is told of a term
 
@@ -109,7 +110,7 @@ module _ (width : Width) where
   pub none_repeated : (t : Term) → ((o : Op) (v w : Vec Node Global) → t ≡ D.Form o v w → ⊥) → term_repeats width (plan_of t) ≡ []
   none_repeated t not_form =
       of_plans (λ p. term_repeats width p ≡ []) t (λ n e. refl) (λ s e. refl) (λ s ds e. refl) (λ o v w e. absurd (not_form o v w e)) (λ w. refl) (λ n. refl) (λ n. refl) refl refl (λ p. refl)
-      (λ s n. refl) (λ n. refl) (λ n. refl) (λ p qs. refl)
+      (λ s n. refl) (λ n. refl) (λ n. refl) (λ a b c. refl) (λ p qs. refl)
 
   pub form_repeated : (t : Term) (op : Op) (args body : Vec Node Global) (xs ys : List Node) (old own new : List Message) → t ≡ D.Form op args body → xs ≡ body.items → ys ≡ body.items
       → own ≡ old ++ switch_repeats width op (plans_of xs) → new ≡ own ++ repeated_values width (plans_of ys) → new ≡ old ++ term_repeats width (plan_of t)
@@ -126,7 +127,7 @@ module _ (place : Place) where
   pub no_switch : (t : Term) → ((o : Op) (v w : Vec Node Global) → t ≡ D.Form o v w → ⊥) → switch_in place (plan_of t) ≡ None
   no_switch t not_form =
       of_plans (λ p. switch_in place p ≡ None) t (λ n e. refl) (λ s e. refl) (λ s ds e. refl) (λ o v w e. absurd (not_form o v w e)) (λ w. refl) (λ n. refl) (λ n. refl) refl refl (λ p. refl)
-      (λ s n. refl) (λ n. refl) (λ n. refl) (λ p qs. refl)
+      (λ s n. refl) (λ n. refl) (λ n. refl) (λ a b c. refl) (λ p qs. refl)
 
   pub form_switch : (t : Term) (op : Op) (args body : Vec Node Global) (ys : List Node) → t ≡ D.Form op args body → ys ≡ body.items → switch_in place (plan_of t) ≡ switch_in place (a_form op (plans_of args.items) (plans_of ys))
   form_switch t op args body ys e b = ap (switch_in place) (form_is t op args body args.items ys e refl b)

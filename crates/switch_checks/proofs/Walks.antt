@@ -150,6 +150,7 @@ nothing_told at p t not_form = by_layer (D.out-Term t) (sym (D.roll-out-Term t))
     by_layer (D.Term-F.Unit s n) e = ap told (e ∙ V.rolls-Unit s n)
     by_layer (D.Term-F.Skip n) e = ap told (e ∙ V.rolls-Skip n)
     by_layer (D.Term-F.Offset n) e = ap told (e ∙ V.rolls-Offset n)
+    by_layer (D.Term-F.Access access attribute count) e = ap told (e ∙ V.rolls-Access access attribute count)
     by_layer (D.Term-F.Call name v) e = ap told (e ∙ V.rolls-Call name v) ∙ ap (λ u. method_errors u p) (call_tree at name v)
     by_layer (D.Term-F.Form o v w) e = absurd (not_form o v w (e ∙ V.rolls-Form o v w))
 

@@ -76,3 +76,4 @@ other_named node found not_local not_call not_form =
     by_layer (D.Term-F.Unit segment bits) e = ap is_other (e ∙ V.rolls-Unit segment bits)
     by_layer (D.Term-F.Skip n) e = ap is_other (e ∙ V.rolls-Skip n)
     by_layer (D.Term-F.Offset n) e = ap is_other (e ∙ V.rolls-Offset n)
+    by_layer (D.Term-F.Access access attribute count) e = ap is_other (e ∙ V.rolls-Access access attribute count)

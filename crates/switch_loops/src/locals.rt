@@ -103,7 +103,15 @@ pub enum Reads {
 fn is_item(term: &Term) -> bool
     ensures { result ≡ is_item_term term.now }
 {
-    matches!(term, Term::Unit { .. } | Term::Skip(_) | Term::Offset(_))
+    matches!(
+        term,
+        Term::Unit { .. }
+            | Term::Skip(_)
+            | Term::Offset(_)
+            | Term::Access { .. }
+            | Term::Name(_)
+            | Term::Fill { .. }
+    )
 }
 
 fn are_items(nodes: &[Node]) -> bool

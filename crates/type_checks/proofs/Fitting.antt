@@ -20,14 +20,14 @@ pub any_leaf : (in_place : Bool) (object : Named) (t : Term) → ((n : ℕ) → 
 unfolding plan_of
 any_leaf in_place object t not_integer not_word not_text not_debug not_name =
     by_term (λ u. leaf_kinds in_place object (plan_of u) ≡ any_data) t (λ n e. absurd (not_integer n e)) (λ s e. absurd (not_text s e)) (λ s named e. refl) (λ w e. absurd (not_word w e)) (λ n e. refl) (λ n e. refl)
-    (λ e. absurd (not_debug e)) (λ e. refl) (λ p e. absurd (not_name p e)) (λ s n e. refl) (λ n e. refl) (λ n e. refl) (λ p v e. ap (leaf_kinds in_place object) (plan_call p v)) (λ o v w e. ap (leaf_kinds in_place object) (plan_form o v w))
+    (λ e. absurd (not_debug e)) (λ e. refl) (λ p e. absurd (not_name p e)) (λ s n e. refl) (λ n e. refl) (λ n e. refl) (λ a b c e. refl) (λ p v e. ap (leaf_kinds in_place object) (plan_call p v)) (λ o v w e. ap (leaf_kinds in_place object) (plan_form o v w))
 
 -- what is no form has the kinds of a leaf
 pub leaf_is : (names : ℕ → Named) (in_place : Bool) (node : ℕ) (t : Term) → ((o : Op) (v w : Vec Node Global) → t ≡ D.Form o v w → ⊥) → leaf_kinds in_place (names node) (plan_of t) ≡ kinds_of names in_place node (plan_of t)
 unfolding plan_of
 leaf_is names in_place node t not_form =
     by_term (λ u. leaf_kinds in_place (names node) (plan_of u) ≡ kinds_of names in_place node (plan_of u)) t (λ n e. refl) (λ s e. refl) (λ s named e. refl) (λ w e. refl) (λ n e. refl) (λ n e. refl)
-    (λ e. refl) (λ e. refl) (λ p e. refl) (λ s n e. refl) (λ n e. refl) (λ n e. refl)
+    (λ e. refl) (λ e. refl) (λ p e. refl) (λ s n e. refl) (λ n e. refl) (λ n e. refl) (λ a b c e. refl)
     (λ p v e. ap (leaf_kinds in_place (names node)) (plan_call p v) ∙ sym (ap (kinds_of names in_place node) (plan_call p v))) (λ o v w e. absurd (not_form o v w e))
 
 module _ (names : ℕ → Named) (any : List Kind) where

@@ -55,7 +55,7 @@ pub no_bytes_alone : (t : Term) → ((s : List ℕ) → t ≡ D.Text s → ⊥) 
 unfolding plan_of
 no_bytes_alone t not_text not_fill =
     by_term (λ u. bytes_alone (plan_of u) ≡ None) t (λ n e. refl) (λ s e. absurd (not_text s e)) (λ s named e. absurd (not_fill s named e)) (λ w e. refl) (λ n e. refl) (λ n e. refl) (λ e. refl) (λ e. refl) (λ p e. refl)
-    (λ s n e. refl) (λ n e. refl) (λ n e. refl) (λ p v e. ap bytes_alone (plan_call p v)) (λ o v w e. ap bytes_alone (plan_form o v w))
+    (λ s n e. refl) (λ n e. refl) (λ n e. refl) (λ a b c e. refl) (λ p v e. ap bytes_alone (plan_call p v)) (λ o v w e. ap bytes_alone (plan_form o v w))
 
 -- ---- nodes one after another
 
@@ -80,7 +80,7 @@ module _ (width : Width) where
 
   pub none_long : (place : Place) (t : Term) → ((p : Path) (v : Vec Node Global) → t ≡ D.Call p v → ⊥) → ((o : Op) (v w : Vec Node Global) → t ≡ D.Form o v w → ⊥) → term_errors width place (plan_of t) ≡ []
   none_long place =
-      of_leaves (λ p. term_errors width place p ≡ []) (λ n. refl) (λ s. refl) (λ s named. refl) (λ w. refl) (λ n. refl) (λ n. refl) refl refl (λ p. refl) (λ s n. refl) (λ n. refl) (λ n. refl)
+      of_leaves (λ p. term_errors width place p ≡ []) (λ n. refl) (λ s. refl) (λ s named. refl) (λ w. refl) (λ n. refl) (λ n. refl) refl refl (λ p. refl) (λ s n. refl) (λ n. refl) (λ n. refl) (λ a b c. refl)
 
   pub form_listed : (place : Place) (t : Term) (op : Op) (args body : Vec Node Global) (zs xs ys ws : List Node) (old own first new : List Message)
       → t ≡ D.Form op args body → zs ≡ args.items → ws ≡ body.items → xs ≡ args.items → ys ≡ body.items

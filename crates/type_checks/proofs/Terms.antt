@@ -1,5 +1,5 @@
 -- Terms as plans.
-use Rattle.std.proofs.Common.{◌≡◌, ℕ, zero, suc, ◌+◌, ◌<◌, ◌≤◌, length, get_or, drop, arith, List, [], ◌∷◌, Vec, Global, subst, refl, sym, ap, ◌∙◌}
+use Rattle.std.proofs.Common.{◌≡◌, ℕ, zero, suc, ◌+◌, ◌<◌, ◌≤◌, length, get_or, drop, arith, List, [], ◌∷◌, Option, Vec, Global, subst, refl, sym, ap, ◌∙◌}
 use Rattle.acpi_values.specs.Paths.{NameSeg}
 use Rattle.asl_tree.specs.declared.path.Path.{Path}
 use Rattle.asl_tree.specs.declared.term.Op.{Op}
@@ -9,7 +9,7 @@ use Rattle.asl_tree.specs.declared.term.Node.{Node}
 use Rattle.asl_tree.specs.declared.term.Term.{Term}
 use Rattle.asl_tree.specs.declared.term.Term as D
 use Rattle.asl_tree.specs.declared.term.Term.TheVariants as V
-use Rattle.asl_shape.specs.Plans.{Plan, an_integer, a_text, a_fill, a_word, a_local, an_arg, debug, omitted, a_name, a_unit, a_skip, an_offset, a_call, a_form, Plans, no_plans, plan, plan_of, plans_of}
+use Rattle.asl_shape.specs.Plans.{Plan, an_integer, a_text, a_fill, a_word, a_local, an_arg, debug, omitted, a_name, a_unit, a_skip, an_offset, an_access, a_call, a_form, Plans, no_plans, plan, plan_of, plans_of}
 use Rattle.asl_shape.proofs.Plans.{plan_form, plan_call}
 use Rattle.asl_numbers.specs.Numbers.{inside, nodes}
 
@@ -32,8 +32,9 @@ pub by_term : (P : Term → Type 0) (t : Term)
     → ((n : ℕ) → t ≡ D.Integer n → P (D.Integer n)) → ((s : List ℕ) → t ≡ D.Text s → P (D.Text s)) → ((s : List ℕ) (named : List NamedDescriptor) → t ≡ D.Fill s named → P (D.Fill s named)) → ((w : Word) → t ≡ D.Word w → P (D.Word w))
     → ((n : ℕ) → t ≡ D.Local n → P (D.Local n)) → ((n : ℕ) → t ≡ D.Arg n → P (D.Arg n)) → (t ≡ D.Debug → P D.Debug) → (t ≡ D.Omitted → P D.Omitted) → ((p : Path) → t ≡ D.Name p → P (D.Name p))
     → ((s : NameSeg) (n : ℕ) → t ≡ D.Unit s n → P (D.Unit s n)) → ((n : ℕ) → t ≡ D.Skip n → P (D.Skip n)) → ((n : ℕ) → t ≡ D.Offset n → P (D.Offset n))
+    → ((access attribute : ℕ) (count : Option ℕ) → t ≡ D.Access access attribute count → P (D.Access access attribute count))
     → ((p : Path) (v : Vec Node Global) → t ≡ D.Call p v → P (D.Call p v)) → ((o : Op) (v w : Vec Node Global) → t ≡ D.Form o v w → P (D.Form o v w)) → P t
-by_term P t integer text fill word local arg debug' omitted' name unit skip offset call form = by_layer (D.out-Term t) (sym (D.roll-out-Term t))
+by_term P t integer text fill word local arg debug' omitted' name unit skip offset access call form = by_layer (D.out-Term t) (sym (D.roll-out-Term t))
   where
     at : (u : Term) → t ≡ u → P u → P t
     at u e p = subst P (sym e) p
@@ -51,23 +52,24 @@ by_term P t integer text fill word local arg debug' omitted' name unit skip offs
     by_layer (D.Term-F.Unit s n) e = let q = e ∙ V.rolls-Unit s n in at (D.Unit s n) q (unit s n q)
     by_layer (D.Term-F.Skip n) e = let q = e ∙ V.rolls-Skip n in at (D.Skip n) q (skip n q)
     by_layer (D.Term-F.Offset n) e = let q = e ∙ V.rolls-Offset n in at (D.Offset n) q (offset n q)
+    by_layer (D.Term-F.Access a b c) e = let q = e ∙ V.rolls-Access a b c in at (D.Access a b c) q (access a b c q)
     by_layer (D.Term-F.Call p v) e = let q = e ∙ V.rolls-Call p v in at (D.Call p v) q (call p v q)
     by_layer (D.Term-F.Form o v w) e = let q = e ∙ V.rolls-Form o v w in at (D.Form o v w) q (form o v w q)
 
 -- what holds of the plans of all terms but calls and forms
 pub of_leaves : (P : Plan → Type 0)
     → ((n : ℕ) → P (an_integer n)) → ((s : List ℕ) → P (a_text s)) → ((s : List ℕ) (named : List NamedDescriptor) → P (a_fill s named)) → ((w : Word) → P (a_word w)) → ((n : ℕ) → P (a_local n)) → ((n : ℕ) → P (an_arg n)) → P debug → P omitted
-    → ((p : Path) → P (a_name p)) → ((s : NameSeg) (n : ℕ) → P (a_unit s n)) → ((n : ℕ) → P (a_skip n)) → ((n : ℕ) → P (an_offset n))
+    → ((p : Path) → P (a_name p)) → ((s : NameSeg) (n : ℕ) → P (a_unit s n)) → ((n : ℕ) → P (a_skip n)) → ((n : ℕ) → P (an_offset n)) → ((access attribute : ℕ) (count : Option ℕ) → P (an_access access attribute count))
     → (t : Term) → ((p : Path) (v : Vec Node Global) → t ≡ D.Call p v → ⊥) → ((o : Op) (v w : Vec Node Global) → t ≡ D.Form o v w → ⊥) → P (plan_of t)
 unfolding plan_of
-of_leaves P integer text fill word local arg debug' omitted' name unit skip offset t not_call not_form =
+of_leaves P integer text fill word local arg debug' omitted' name unit skip offset access t not_call not_form =
     by_term (λ u. P (plan_of u)) t (λ n e. integer n) (λ s e. text s) (λ s named e. fill s named) (λ w e. word w) (λ n e. local n) (λ n e. arg n) (λ e. debug') (λ e. omitted') (λ p e. name p)
-    (λ s n e. unit s n) (λ n e. skip n) (λ n e. offset n) (λ p v e. absurd (not_call p v e)) (λ o v w e. absurd (not_form o v w e))
+    (λ s n e. unit s n) (λ n e. skip n) (λ n e. offset n) (λ a b c e. access a b c) (λ p v e. absurd (not_call p v e)) (λ o v w e. absurd (not_form o v w e))
 
 -- no node stands inside a leaf
 pub none_inside : (t : Term) → ((p : Path) (v : Vec Node Global) → t ≡ D.Call p v → ⊥) → ((o : Op) (v w : Vec Node Global) → t ≡ D.Form o v w → ⊥) → inside (plan_of t) ≡ 0
 none_inside =
-    of_leaves (λ p. inside p ≡ 0) (λ n. refl) (λ s. refl) (λ s named. refl) (λ w. refl) (λ n. refl) (λ n. refl) refl refl (λ p. refl) (λ s n. refl) (λ n. refl) (λ n. refl)
+    of_leaves (λ p. inside p ≡ 0) (λ n. refl) (λ s. refl) (λ s named. refl) (λ w. refl) (λ n. refl) (λ n. refl) refl refl (λ p. refl) (λ s n. refl) (λ n. refl) (λ n. refl) (λ a b c. refl)
 
 -- ---- nodes one after another
 

@@ -57,7 +57,7 @@ module _ (names : ℕ → Named) where
   -- nothing is wrong inside a leaf
   pub none_wrong : (node : ℕ) (t : Term) → ((p : Path) (v : Vec Node Global) → t ≡ D.Call p v → ⊥) → ((o : Op) (v w : Vec Node Global) → t ≡ D.Form o v w → ⊥) → errors_inside names node (plan_of t) ≡ []
   none_wrong node =
-      of_leaves (λ p. errors_inside names node p ≡ []) (λ n. refl) (λ s. refl) (λ s named. refl) (λ w. refl) (λ n. refl) (λ n. refl) refl refl (λ p. refl) (λ s n. refl) (λ n. refl) (λ n. refl)
+      of_leaves (λ p. errors_inside names node p ≡ []) (λ n. refl) (λ s. refl) (λ s named. refl) (λ w. refl) (λ n. refl) (λ n. refl) refl refl (λ p. refl) (λ s n. refl) (λ n. refl) (λ n. refl) (λ a b c. refl)
 
   -- the messages of a form: those of its arguments, and then those of its body
   pub form_told : (first middle : ℕ) (t : Term) (op : Op) (args body : Vec Node Global) (xs ys : List Node) (old own new : List Message)

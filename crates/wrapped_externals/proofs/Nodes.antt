@@ -162,6 +162,7 @@ is_other t not_call not_form = by_layer (D.out-Term t) (sym (D.roll-out-Term t))
     by_layer (D.Term-F.Unit segment bits) e = ap is_flat (e ∙ V.rolls-Unit segment bits)
     by_layer (D.Term-F.Skip n) e = ap is_flat (e ∙ V.rolls-Skip n)
     by_layer (D.Term-F.Offset n) e = ap is_flat (e ∙ V.rolls-Offset n)
+    by_layer (D.Term-F.Access access attribute count) e = ap is_flat (e ∙ V.rolls-Access access attribute count)
 
 pub other_wrapped : (at : At) (t : Term) → ((p : Path) (v : Vec Node Global) → t ≡ D.Call p v → ⊥) → ((o : Op) (v w : Vec Node Global) → t ≡ D.Form o v w → ⊥) → tree_of at t ≡ wrapped (tree_of at t)
 other_wrapped at t not_call not_form = flat_wrapped at t (is_other t not_call not_form)

@@ -1,5 +1,5 @@
 -- A program does the same with its Externals in Ifs.
-use Rattle.std.proofs.Common.{◌≡◌, ℕ, zero, suc, Bool, true, false, List, [], ◌∷◌, Option, Some, None, refl, sym, ap, ◌∙◌}
+use Rattle.std.proofs.Common.{◌≡◌, ℕ, zero, suc, Bool, true, false, List, [], ◌∷◌, length, Option, Some, None, refl, sym, ap, ◌∙◌}
 use Rattle.std.specs.Prelude.{◌||◌}
 use Rattle.acpi_values.specs.declared.width.Width.{Width}
 use Rattle.acpi_values.specs.declared.operator.Plain.{Plain}
@@ -22,18 +22,18 @@ use Rattle.acpi_state.specs.Actions.{computed, write_named}
 use Rattle.acpi_state.specs.Activations.{create}
 use Rattle.acpi_state.specs.Stores.{Spot, Nowhere, DebugObject, At, read, store}
 use Rattle.acpi_state.specs.Acts.{Operand, OfValue, OfKept, OfSpot, OfNumber, number_of, act_of, last_of}
-use Rattle.acpi_state.specs.FieldUnits.{Extent, FieldUnit, InRegion, InBank, BehindIndex}
+use Rattle.acpi_state.specs.FieldUnits.{ToObject, ToResource, Extent, FieldUnit, InRegion, InBank, BehindIndex}
 use Rattle.acpi_state.specs.Registers.{register_of}
 use Rattle.acpi_state.specs.FieldActs.{region_letters, field_letters}
 use Rattle.acpi_state.specs.Forms.{buffer_of, package_of, slot_here, if_data, spot_in, cond_ref_of}
-use Rattle.asl_tree.specs.FieldItems.{Placed as PlacedUnit, placed_from}
+use Rattle.asl_tree.specs.FieldItems.{FieldItem, UnitItem, SkipItem, OffsetItem, AccessItem, ConnectionItem, Connected, ToName, ToBytes}
 use Rattle.asl_tree.specs.declared.path.Path.{Path}
 use Rattle.asl_tree.specs.Symbols.{compound_operator}
 use Rattle.asl_tree.specs.declared.term.Literal.TheVariants as Literal
 use Rattle.asl_tree.specs.Literals.{literal_number}
 use Rattle.asl_tree.specs.Names.{Known, is_known, place_of, denoted, element_path}
 use Rattle.asl_tree.specs.Tree.{Tree, Integer, Constant, String, InSlot, Debug, Omitted, Raw, Use, Call, Apply, Buffer, Package, VarPackage, CondRefOf, Return, Name, Alias, External, Method, Mutex, Event, Container', Scope, Fill, Misshapen, Trees, no_trees, tree, OperationRegion, Field, IndexField, BankField, CreateField, UnitName, If, ElseIf, Else, While, Break, Continue, Item, Operated, Assigned, AssignedBy, Switch, Case, Default}
-use Rattle.asl_meaning.specs.FieldTerms.{create_units}
+use Rattle.asl_meaning.specs.FieldTerms.{Cursor, first_unit, behind_bits, at_byte, accessed, length_or_none, connected_to, resource_of, connect, create_units}
 use Rattle.asl_meaning.specs.Meaning as S
 use Rattle.asl_meaning.specs.Meaning.{SourceRun, SpotForm, OfResult, OfInside, NoSpot, spot_form, store_last, operate, two_values, store_with, assign_with, target_operator, leave_switch}
 use Rattle.asl_meaning.specs.SourceSession.{source_session}
@@ -57,10 +57,21 @@ module _ (width : Width) (known : Known) where
   alike_register_at : (name : Path) (scope : AbsolutePath) → Alike wrapped_all (S.register_at known name scope) (S.register_at known name scope)
   alike_register_at name scope = alike_then (alike_found name scope) (λ e. alike_act (register_of e))
 
-  alike_units : (unit : Extent → FieldUnit) (flags : ℕ) (scope : AbsolutePath) (units : List (PlacedUnit UnitName)) → Alike wrapped_all (create_units unit flags scope units) (create_units unit flags scope units)
-  alike_units unit flags scope [] = alike_done (Normal false)
-  alike_units unit flags scope (placed ∷ later) =
-      alike_then (alike_create (placed.name.segment ∷ scope) (UnitObject (unit (record { at = placed.at; bits = placed.bits; flags = flags })))) (λ u. alike_units unit flags scope later)
+  abbrev leads : AbsolutePath → Path → SourceRun AbsolutePath
+  leads scope name = S.region_at known name scope
+
+  alike_connect : (to : Connected) (scope : AbsolutePath) → Alike wrapped_all (connect (leads scope) to) (connect (leads scope) to)
+  alike_connect (ToName at name) scope = alike_then (alike_region_at name scope) (λ path. alike_done (ToObject path))
+  alike_connect (ToBytes bytes) scope = alike_then (alike_act (resource_of (length bytes) bytes)) (λ bytes. alike_done (ToResource bytes))
+
+  alike_units : (unit : Extent → FieldUnit) (scope : AbsolutePath) (c : Cursor) (items : List (FieldItem UnitName)) → Alike wrapped_all (create_units (leads scope) unit scope c items) (create_units (leads scope) unit scope c items)
+  alike_units unit scope c [] = alike_done (Normal false)
+  alike_units unit scope c (UnitItem name bits ∷ items) =
+      alike_then (alike_create (name.segment ∷ scope) (UnitObject (unit (record { at = c.at; bits = bits; flags = c.flags; link = c.link })))) (λ u. alike_units unit scope (behind_bits c bits) items)
+  alike_units unit scope c (SkipItem bits ∷ items) = alike_units unit scope (behind_bits c bits) items
+  alike_units unit scope c (OffsetItem bytes ∷ items) = alike_units unit scope (at_byte c bytes) items
+  alike_units unit scope c (AccessItem access attribute count ∷ items) = alike_units unit scope (accessed c access attribute (length_or_none count)) items
+  alike_units unit scope c (ConnectionItem to ∷ items) = alike_then (alike_connect to scope) (λ x. alike_units unit scope (connected_to c x) items)
 
   alike_size : {m m' : SourceRun Flow} → Alike wrapped_all m m' → Alike wrapped_all (S.size_by width known m) (S.size_by width known m')
   alike_size h = alike_then (alike_valued h) (λ v. alike_act (number_of width v))
@@ -265,12 +276,12 @@ module _ (width : Width) (known : Known) (turns : ℕ) (call : AbsolutePath → 
     alike Break scope due = alike_done O.Break
     alike Continue scope due = alike_done O.Continue
     alike (OperationRegion at name space args) scope due = alike_then (alike_operands region_letters args scope) (λ os. alike_region width (place_of name scope) space os)
-    alike (Field here from region flags items) scope due = alike_then (alike_region_at width known region scope) (λ r. alike_units width known (InRegion r) flags scope (placed_from 0 items))
+    alike (Field here from region flags items) scope due = alike_then (alike_region_at width known region scope) (λ r. alike_units width known (InRegion r) scope (first_unit flags) items)
     alike (IndexField here from index to register flags items) scope due =
-        alike_then (alike_register_at width known index scope) (λ i. alike_then (alike_register_at width known register scope) (λ r. alike_units width known (BehindIndex i r) flags scope (placed_from 0 items)))
+        alike_then (alike_register_at width known index scope) (λ i. alike_then (alike_register_at width known register scope) (λ r. alike_units width known (BehindIndex i r) scope (first_unit flags) items))
     alike (BankField here from region to bank value flags items) scope due =
         alike_then (alike_region_at width known region scope) (λ r. alike_then (alike_register_at width known bank scope)
-        (λ b. alike_then (alike_size width known (alike value scope false)) (λ n. alike_units width known (InBank r b n) flags scope (placed_from 0 items))))
+        (λ b. alike_then (alike_size width known (alike value scope false)) (λ n. alike_units width known (InBank r b n) scope (first_unit flags) items)))
     alike (CreateField form args at name) scope due = alike_then (alike_operands (field_letters form) args scope) (λ os. alike_buffer_field width form (place_of name scope) os)
     alike (Item item) scope due = alike_stop Broken
     alike (Fill bytes) scope due = alike_stop Broken

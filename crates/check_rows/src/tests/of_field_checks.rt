@@ -1,6 +1,7 @@
 use asl_tree::term::{Declaration, Node, Op, Term};
 use field_checks::check::list_faults;
 use iasl_messages::place::Place;
+use iasl_ports::list::{List, Text};
 use std::alloc::{AllocError, Global};
 use std::test::Fail;
 
@@ -16,6 +17,15 @@ fn list(alloc: Global, items: &[Item]) -> Result<Vec<Node>, AllocError> {
             },
             Item::Skip(bits) => Term::Skip(bits),
             Item::Offset(bytes) => Term::Offset(bytes),
+            Item::Access(access) => Term::Access {
+                access,
+                attribute: 0,
+                length: None,
+            },
+            Item::Connection => Term::Fill {
+                bytes: Text::from_bytes(alloc, b"\x79\0")?,
+                named: List::new(alloc),
+            },
         };
         nodes.push(Node {
             id: 0,
@@ -36,6 +46,8 @@ enum Item {
     Unit(u64),
     Skip(u64),
     Offset(u64),
+    Access(u8),
+    Connection,
 }
 
 // The number and the column of the one error of a field in a Device; 0 where there is none.
@@ -74,7 +86,7 @@ const PLACE: Place = Place {
 };
 
 // A declaration, the list behind it, and the number and the column of its one error, or zeros.
-static LISTS: [(Declaration, &[Item], (u16, u32)); 8] = [
+static LISTS: [(Declaration, &[Item], (u16, u32)); 14] = [
     (
         Declaration::Field,
         &[Item::Unit(8), Item::Skip(0), Item::Offset(1)],
@@ -103,6 +115,49 @@ static LISTS: [(Declaration, &[Item], (u16, u32)); 8] = [
         (6071, 2),
     ),
     (Declaration::Method, &[Item::Unit(0)], (0, 0)),
+    (
+        Declaration::IndexField,
+        &[Item::Access(5), Item::Skip(8), Item::Unit(8)],
+        (6074, 4),
+    ),
+    (
+        Declaration::IndexField,
+        &[Item::Access(5), Item::Access(1), Item::Unit(8)],
+        (0, 0),
+    ),
+    (
+        Declaration::Field,
+        &[Item::Access(5), Item::Unit(8)],
+        (0, 0),
+    ),
+    (
+        Declaration::Field,
+        &[Item::Unit(9), Item::Access(1), Item::Offset(1)],
+        (6070, 4),
+    ),
+    (
+        Declaration::BankField,
+        &[
+            Item::Connection,
+            Item::Unit(9),
+            Item::Connection,
+            Item::Offset(1),
+            Item::Unit(0),
+        ],
+        (6070, 5),
+    ),
+    // An IndexField needs no connection.
+    (
+        Declaration::IndexField,
+        &[
+            Item::Unit(8),
+            Item::Connection,
+            Item::Access(5),
+            Item::Offset(4),
+            Item::Unit(8),
+        ],
+        (6074, 6),
+    ),
 ];
 
 #[test]

@@ -68,6 +68,7 @@ mod externals;
 mod folding;
 mod kinds;
 mod rows;
+mod serial;
 mod spelling;
 mod switches;
 mod widths;

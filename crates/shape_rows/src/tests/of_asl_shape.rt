@@ -1,4 +1,5 @@
 mod resources;
+mod serial;
 mod switches;
 
 use acpi_values::operator::{DataOp, IntOp, Plain};
@@ -186,7 +187,7 @@ fn tells_each_error_at_its_place(rt: HostRuntime) -> Result<(), Fail> {
 }
 
 // The terms of a block, and the errors of their regions and fields.
-static ERRORS_OF_REGIONS_AND_FIELDS: [(&str, &str); 19] = [
+static ERRORS_OF_REGIONS_AND_FIELDS: [(&str, &str); 18] = [
     ("OPERATIONREGION ( R , SYSTEMIO , 128 , 4 )", "none"),
     (
         "FIELD ( R , WORDACC , NOLOCK , PRESERVE ) { A , 12 , B , 8 , C , 12 }",
@@ -207,10 +208,6 @@ static ERRORS_OF_REGIONS_AND_FIELDS: [(&str, &str); 19] = [
     ("OPERATIONREGION ( R , SYSTEMIO , 0 )", "6021@15 "),
     // The words of a field, and its list.
     ("FIELD ( R , NOLOCK , NOLOCK , 1 ) { }", "6022@19 6022@23 "),
-    (
-        "FIELD ( R , BUFFERACC , NOLOCK , PRESERVE ) { }",
-        "6020@19 ",
-    ),
     ("FIELD ( R , ANYACC , LOCK , PRESERVE )", "6023@15 "),
     // A list that is not elements with commas between them is told at the field.
     (
@@ -248,6 +245,54 @@ static ERRORS_OF_REGIONS_AND_FIELDS: [(&str, &str); 19] = [
 fn tells_errors_of_regions_and_fields(rt: HostRuntime) -> Result<(), Fail> {
     let alloc = rt.alloc();
     for (text, want) in &ERRORS_OF_REGIONS_AND_FIELDS {
+        assert_eq!(rt; errors_within(alloc, text)?.as_str(), *want);
+    }
+    Ok(())
+}
+
+// The terms of a block, and the errors of accesses and connections in the lists of fields.
+static ERRORS_OF_CONNECTIONS: [(&str, &str); 8] = [
+    (
+        "FIELD ( R , BUFFERACC , NOLOCK , PRESERVE ) { CONNECTION ( \\A.B ) , ACCESSAS ( BYTEACC , ATTRIBBYTE ) , ACCESSAS ( 5 , ATTRIBBYTES ( 255 ) ) , ACCESSAS ( ANYACC ) , F , 8 , OFFSET ( 4 ) }",
+        "none",
+    ),
+    (
+        "FIELD ( R , ANYACC , LOCK , PRESERVE ) { CONNECTION ( GPIOIO ( , PULLUP , , , , \"S ) { 1 } ) , F , 1 , CONNECTION ( I2CSERIALBUSV2 ( 1 , DEVICEINITIATED , 2 , ADDRESSINGMODE10BIT , \"S ) ) }",
+        "none",
+    ),
+    // Units are connected to a name or to a descriptor of pins or of a serial bus.
+    (
+        "FIELD ( R , ANYACC , LOCK , PRESERVE ) { CONNECTION ( 1 ) , CONNECTION ( ADD ( 1 , 2 ) ) , CONNECTION ( LOCAL0 ) , CONNECTION ( IRQNOFLAGS ( ) { 1 } ) , CONNECTION ( \"S ) }",
+        "6022@28 6022@33 6022@43 6022@48 6022@58 ",
+    ),
+    (
+        "FIELD ( R , ANYACC , LOCK , PRESERVE ) { CONNECTION ( ) , ACCESSAS ( ) , ACCESSAS ( 1 , 2 , 3 ) , CONNECTION ( A ) { } , ACCESSAS ( 1 , ATTRIBBYTES ( ) ) }",
+        "6021@26 6021@30 6021@34 6023@43 6021@54 ",
+    ),
+    // An access is a word or a number up to 5, and its attribute a word, a byte, or one with a length.
+    (
+        "FIELD ( R , ANYACC , LOCK , PRESERVE ) { ACCESSAS ( 6 , 256 ) , ACCESSAS ( LOCK , ATTRIBBYTES ( 256 ) ) , ACCESSAS ( ATTRIBBYTES ( 1 ) ) , ATTRIBBYTES ( 1 ) , 8 }",
+        "6024@28 6024@30 6022@35 6024@39 6025@45 6025@51 ",
+    ),
+    (
+        "FIELD ( R , ANYACC , LOCK , PRESERVE ) { ACCESSAS ( 1 , ATTRIBRAWBYTES ( 4 ) ) }",
+        "6020@30 ",
+    ),
+    // These words stand in a field's list alone, each as an element.
+    (
+        "CONNECTION ( A ) NAME ( B , ACCESSAS ( 1 ) )",
+        "6025@15 6025@23 ",
+    ),
+    (
+        "FIELD ( R , ANYACC , LOCK , PRESERVE ) { CONNECTION ( A ) 8 }",
+        "6022@15 ",
+    ),
+];
+
+#[test]
+fn tells_errors_of_connections(rt: HostRuntime) -> Result<(), Fail> {
+    let alloc = rt.alloc();
+    for (text, want) in &ERRORS_OF_CONNECTIONS {
         assert_eq!(rt; errors_within(alloc, text)?.as_str(), *want);
     }
     Ok(())

@@ -71,10 +71,11 @@ fn texts_have_characters_of_16_bits(rt: HostRuntime) -> Result<(), AllocError> {
 
 // An argument, or a member of a list.
 #[derive(Clone, Copy)]
-enum Given {
+pub enum Given {
     Number(u64),
     Word(Kind, u64),
     Letter(u8),
+    Source(&'static str),
     Name([u8; 4]),
     LeftOut,
 }
@@ -96,12 +97,13 @@ fn term(alloc: Global, given: Given) -> Result<Term, AllocError> {
         Given::Number(number) => Ok(Term::Integer(number)),
         Given::Word(kind, number) => Ok(Term::Word(Word { kind, number })),
         Given::Letter(letter) => Ok(Term::Text(Text::from_bytes(alloc, &[letter])?)),
+        Given::Source(source) => Ok(Term::Text(Text::from_bytes(alloc, source.as_bytes())?)),
         Given::Name(segment) => name(alloc, segment),
         Given::LeftOut => Ok(Term::Omitted),
     }
 }
 
-fn place(line: u32, column: u32) -> Place {
+pub fn place(line: u32, column: u32) -> Place {
     Place {
         file: 0,
         line,
@@ -124,7 +126,7 @@ fn nodes(alloc: Global, line: u32, given: &[Given]) -> Result<Vec<Node>, AllocEr
 }
 
 // A descriptor at line 1, its arguments in line 2, its list in line 3.
-fn resource(
+pub fn resource(
     alloc: Global,
     descriptor: Descriptor,
     args: &[Given],
@@ -261,7 +263,7 @@ fn descriptors_are_bytes(rt: HostRuntime) -> Result<(), Fail> {
 }
 
 // Whether the first of the faults is this one.
-fn begins_with(made: &Result<Template, Stage>, number: u16, at: Place) -> bool {
+pub fn begins_with(made: &Result<Template, Stage>, number: u16, at: Place) -> bool {
     match made {
         Err(Stage::Refused(faults)) => match faults.get(0) {
             Some(fault) => fault.number == number && fault.place == at,

@@ -4,7 +4,7 @@ use asl_tree::path::{NameSeg, Path, Segs};
 use asl_tree::program::{Block, Blocks, Core, Program};
 use asl_tree::term::{Control, Declaration, Node, Op, Special, Term};
 use iasl_messages::place::{LineList, Lines, Pieces, Place};
-use iasl_ports::list::{Text, Texts};
+use iasl_ports::list::{List, Text, Texts};
 use std::alloc::{AllocError, Global};
 
 const PLACE: Place = Place {
@@ -317,6 +317,93 @@ fn forms_as_bytes(rt: HostRuntime) -> Result<(), AllocError> {
                 content
                     == Some(
                         b"\x5B\x80REGA\x00\x0A\x10\x0A\x04\x5B\x81\x14REGA\x21UNTA\x04\x00\x04\x00\x08UNTB\x08\x08BUFF\x11\x06\x0A\x03\x01\x02\x03\x08PKGE\x12\x06\x02\x01\x0DA\x00\x14\x11MTHD\x02\x70\x92\x93\x60\x69\x5B\x31\x9C\x61\xFF\x00\x15EXTN\x08\x00".as_slice()
+                    )
+            );
+        }
+        Err(_) => assert!(rt; false),
+    }
+    Ok(())
+}
+
+fn bytes_of(alloc: Global, bytes: &[u8]) -> Result<Term, AllocError> {
+    Ok(Term::Fill {
+        bytes: Text::from_bytes(alloc, bytes)?,
+        named: List::new(alloc),
+    })
+}
+
+// Field (REGA, BufferAcc) { Connection (CON0), AccessAs (BufferAcc, AttribByte), UNTA, 8, , 4, Offset (4), Connection (a resource of two bytes),
+// AccessAs (BufferAcc, AttribBytes (9)), UNTB, 16 }
+fn connected_field(alloc: Global) -> Result<Term, AllocError> {
+    let mut args = Vec::new(alloc);
+    add(&mut args, 1, name(alloc, *b"REGA")?)?;
+    add(&mut args, 2, Term::Integer(5))?;
+    let mut items = Vec::new(alloc);
+    add(&mut items, 3, name(alloc, *b"CON0")?)?;
+    add(
+        &mut items,
+        4,
+        Term::Access {
+            access: 5,
+            attribute: 6,
+            length: None,
+        },
+    )?;
+    add(&mut items, 5, unit(*b"UNTA", 8))?;
+    add(&mut items, 6, Term::Skip(4))?;
+    add(&mut items, 7, Term::Offset(4))?;
+    add(&mut items, 8, bytes_of(alloc, b"\x79\x00")?)?;
+    add(
+        &mut items,
+        9,
+        Term::Access {
+            access: 5,
+            attribute: 11,
+            length: Some(9),
+        },
+    )?;
+    add(&mut items, 10, unit(*b"UNTB", 16))?;
+    Ok(form(Op::Declaration(Declaration::Field), args, items))
+}
+
+fn field_alone(alloc: Global) -> Result<Core, AllocError> {
+    let mut terms = Vec::new(alloc);
+    add(&mut terms, 0, connected_field(alloc)?)?;
+    let mut blocks = Blocks::new(alloc);
+    blocks.push(Block {
+        place: PLACE,
+        file: Text::new(alloc),
+        signature: Text::from_bytes(alloc, b"SSDT")?,
+        revision: 2,
+        oem_id: Text::from_bytes(alloc, b"RATTLE")?,
+        table_id: Text::from_bytes(alloc, b"FIELD   ")?,
+        oem_revision: 1,
+        terms,
+    })?;
+    Ok(Core {
+        program: Program { blocks },
+    })
+}
+
+#[test]
+fn elements_of_a_field_as_bytes(rt: HostRuntime) -> Result<(), AllocError> {
+    let lines = Lines {
+        files: Texts::new(rt.alloc()),
+        list: LineList::new(rt.alloc()),
+    };
+    let core = field_alone(rt.alloc())?;
+    if core.program.blocks.is_empty() {
+        assert!(rt; false);
+        return Ok(());
+    }
+    match write(rt.alloc(), &core, &lines, 0, true) {
+        Ok(pieces) => {
+            let bytes = joined(rt.alloc(), &pieces)?;
+            assert_eq!(rt; pieces.len(), 2);
+            assert!(rt;
+                bytes.get(36..)
+                    == Some(
+                        b"\x5B\x81\x27REGA\x05\x02CON0\x01\x05\x06UNTA\x08\x00\x04\x00\x14\x02\x11\x05\x0A\x02\x79\x00\x03\x05\x0B\x09UNTB\x10".as_slice()
                     )
             );
         }

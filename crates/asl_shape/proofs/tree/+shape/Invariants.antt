@@ -77,8 +77,8 @@ decreases-add_argument l = 16 * sizes_at l.args.now + 4
 abbrev pub decreases-add_member : goal.decreases-add_member
 decreases-add_member l = 16 * size_at l.raw.now + 4
 
-abbrev pub decreases-offset : goal.decreases-offset
-decreases-offset l = 16 * (size_in_at l.args.now) + 8
+abbrev pub decreases-element : goal.decreases-element
+decreases-element l = 16 * (size_in_at l.args.now) + 8
 
 abbrev pub decreases-field_list : goal.decreases-field_list
 decreases-field_list l = 16 * (sizes_at l.raws.now) + 6

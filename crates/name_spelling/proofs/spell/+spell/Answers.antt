@@ -129,10 +129,6 @@ pub spell_form-returns-in_ok-spell_all-in-Returns-clause-args : goal.spell_form-
 spell_form-returns-in_ok-spell_all-in-Returns-clause-args t c d counts agrees tabled =
     c.in_ok-spell_all-in-Returns.ensures.spells d counts agrees tabled ∙ ap (λ part. part_args c.args.shorten (is_named d) (written_external counts) part (value_form_of c.args.op (trees_of c.args.args.now.items) (trees_of c.args.body.now.items)) (trees_of c.args.args.now.items) (get_or c.args.index.now.paths c.args.scope [])) (c.in-Returns.ensures ∙ ap (λ ns. part_of c.args.op (trees_of ns) (trees_of c.deref-2.result.now)) c.deref.ensures.value ∙ ap (λ ns. part_of c.args.op (trees_of c.args.args.now.items) (trees_of ns)) c.deref-2.ensures.value)
 
-pub spell_form-returns-in_ok-spell_all-in-Units-clause-args : goal.spell_form-returns-in_ok-spell_all-in-Units-clause-args
-spell_form-returns-in_ok-spell_all-in-Units-clause-args t c d counts agrees tabled =
-    c.in_ok-spell_all-in-Units.ensures.spells d counts agrees tabled ∙ ap (λ part. part_args c.args.shorten (is_named d) (written_external counts) part (value_form_of c.args.op (trees_of c.args.args.now.items) (trees_of c.args.body.now.items)) (trees_of c.args.args.now.items) (get_or c.args.index.now.paths c.args.scope [])) (c.in-Units.ensures ∙ ap (λ ns. part_of c.args.op (trees_of ns) (trees_of c.deref-2.result.now)) c.deref.ensures.value ∙ ap (λ ns. part_of c.args.op (trees_of c.args.args.now.items) (trees_of ns)) c.deref-2.ensures.value)
-
 pub spell_form-returns-in_ok-spell_all-in-Scope-2-clause-args : goal.spell_form-returns-in_ok-spell_all-in-Scope-2-clause-args
 spell_form-returns-in_ok-spell_all-in-Scope-2-clause-args t c d counts agrees tabled =
     c.in_ok-spell_all-in-Scope.ensures.spells d counts agrees tabled ∙ ap (λ part. part_args c.args.shorten (is_named d) (written_external counts) part (value_form_of c.args.op (trees_of c.args.args.now.items) (trees_of c.args.body.now.items)) (trees_of c.args.args.now.items) (get_or c.args.index.now.paths c.args.scope [])) (c.in-Scope.ensures ∙ ap (λ ns. part_of c.args.op (trees_of ns) (trees_of c.deref-2.result.now)) c.deref.ensures.value ∙ ap (λ ns. part_of c.args.op (trees_of c.args.args.now.items) (trees_of ns)) c.deref-2.ensures.value)
@@ -140,6 +136,10 @@ spell_form-returns-in_ok-spell_all-in-Scope-2-clause-args t c d counts agrees ta
 pub spell_form-returns-in_ok-spell_all-in-Within-2-clause-args : goal.spell_form-returns-in_ok-spell_all-in-Within-2-clause-args
 spell_form-returns-in_ok-spell_all-in-Within-2-clause-args t c d counts agrees tabled =
     c.in_ok-spell_all-in-Within.ensures.spells d counts agrees tabled ∙ ap (λ part. part_args c.args.shorten (is_named d) (written_external counts) part (value_form_of c.args.op (trees_of c.args.args.now.items) (trees_of c.args.body.now.items)) (trees_of c.args.args.now.items) (get_or c.args.index.now.paths c.args.scope [])) (c.in-Within.ensures ∙ ap (λ ns. part_of c.args.op (trees_of ns) (trees_of c.deref-2.result.now)) c.deref.ensures.value ∙ ap (λ ns. part_of c.args.op (trees_of c.args.args.now.items) (trees_of ns)) c.deref-2.ensures.value)
+
+pub spell_form-returns-in_ok-spell_all-in-Units-2-clause-args : goal.spell_form-returns-in_ok-spell_all-in-Units-2-clause-args
+spell_form-returns-in_ok-spell_all-in-Units-2-clause-args t c d counts agrees tabled =
+    c.in_ok-spell_all-in-Units.ensures.spells d counts agrees tabled ∙ ap (λ part. part_args c.args.shorten (is_named d) (written_external counts) part (value_form_of c.args.op (trees_of c.args.args.now.items) (trees_of c.args.body.now.items)) (trees_of c.args.args.now.items) (get_or c.args.index.now.paths c.args.scope [])) (c.in-Units.ensures ∙ ap (λ ns. part_of c.args.op (trees_of ns) (trees_of c.deref-2.result.now)) c.deref.ensures.value ∙ ap (λ ns. part_of c.args.op (trees_of c.args.args.now.items) (trees_of ns)) c.deref-2.ensures.value)
 
 pub spell_form-returns-in_ok-spell_external-in-External-clause-args : goal.spell_form-returns-in_ok-spell_external-in-External-clause-args
 spell_form-returns-in_ok-spell_external-in-External-clause-args t c d counts agrees tabled =
@@ -149,6 +149,11 @@ pub spell_form-returns-in_ok-spell_all-in-Within-2-clause-body : goal.spell_form
 spell_form-returns-in_ok-spell_all-in-Within-2-clause-body t c d counts agrees tabled =
     all_before c.args.index.now.paths c.spell_all-in-Within.new.index.paths c.args.index.now.named.items c.spell_all-in-Within.new.index.named.items c.args.calls.now (λ d counts s. spelled_all c.args.shorten (is_named d) (written_external counts) (trees_of c.args.body.now.items) s) (trees_of c.spell_all-in-Within-2.new.nodes.items) c.args.scope c.requires.scope_in c.in_ok-spell_all-in-Within.ensures.grows c.in_ok-spell_all-in-Within-2.ensures.spells d counts agrees tabled
     ∙ ap (λ part. part_body c.args.shorten (is_named d) (written_external counts) part (value_form_of c.args.op (trees_of c.args.args.now.items) (trees_of c.args.body.now.items)) (trees_of c.args.args.now.items) (trees_of c.args.body.now.items) (get_or c.args.index.now.paths c.args.scope [])) (c.in-Within.ensures ∙ ap (λ ns. part_of c.args.op (trees_of ns) (trees_of c.deref-2.result.now)) c.deref.ensures.value ∙ ap (λ ns. part_of c.args.op (trees_of c.args.args.now.items) (trees_of ns)) c.deref-2.ensures.value)
+
+pub spell_form-returns-in_ok-spell_all-in-Units-2-clause-body : goal.spell_form-returns-in_ok-spell_all-in-Units-2-clause-body
+spell_form-returns-in_ok-spell_all-in-Units-2-clause-body t c d counts agrees tabled =
+    all_before c.args.index.now.paths c.spell_all-in-Units.new.index.paths c.args.index.now.named.items c.spell_all-in-Units.new.index.named.items c.args.calls.now (λ d counts s. spelled_all c.args.shorten (is_named d) (written_external counts) (trees_of c.args.body.now.items) s) (trees_of c.spell_all-in-Units-2.new.nodes.items) c.args.scope c.requires.scope_in c.in_ok-spell_all-in-Units.ensures.grows c.in_ok-spell_all-in-Units-2.ensures.spells d counts agrees tabled
+    ∙ ap (λ part. part_body c.args.shorten (is_named d) (written_external counts) part (value_form_of c.args.op (trees_of c.args.args.now.items) (trees_of c.args.body.now.items)) (trees_of c.args.args.now.items) (trees_of c.args.body.now.items) (get_or c.args.index.now.paths c.args.scope [])) (c.in-Units.ensures ∙ ap (λ ns. part_of c.args.op (trees_of ns) (trees_of c.deref-2.result.now)) c.deref.ensures.value ∙ ap (λ ns. part_of c.args.op (trees_of c.args.args.now.items) (trees_of ns)) c.deref-2.ensures.value)
 
 pub spell_form-returns-in_ok-spell_all-in-Scope-2-clause-body : goal.spell_form-returns-in_ok-spell_all-in-Scope-2-clause-body
 spell_form-returns-in_ok-spell_all-in-Scope-2-clause-body t c d counts agrees tabled =
@@ -163,6 +168,10 @@ spell_form-returns-in_ok-spell_all-in-Scope-2-clause-grows t c =
 pub spell_form-returns-in_ok-spell_all-in-Within-2-clause-grows : goal.spell_form-returns-in_ok-spell_all-in-Within-2-clause-grows
 spell_form-returns-in_ok-spell_all-in-Within-2-clause-grows t c =
     grows_then c.args.index.now.paths c.spell_all-in-Within.new.index.paths c.spell_all-in-Within-2.new.index.paths c.args.index.now.named.items c.spell_all-in-Within.new.index.named.items c.spell_all-in-Within-2.new.index.named.items c.args.calls.now c.in_ok-spell_all-in-Within.ensures.grows c.in_ok-spell_all-in-Within-2.ensures.grows
+
+pub spell_form-returns-in_ok-spell_all-in-Units-2-clause-grows : goal.spell_form-returns-in_ok-spell_all-in-Units-2-clause-grows
+spell_form-returns-in_ok-spell_all-in-Units-2-clause-grows t c =
+    grows_then c.args.index.now.paths c.spell_all-in-Units.new.index.paths c.spell_all-in-Units-2.new.index.paths c.args.index.now.named.items c.spell_all-in-Units.new.index.named.items c.spell_all-in-Units-2.new.index.named.items c.args.calls.now c.in_ok-spell_all-in-Units.ensures.grows c.in_ok-spell_all-in-Units-2.ensures.grows
 
 pub spell_inner-returns-in_ok-spell_all-in-Call-clause-spells : goal.spell_inner-returns-in_ok-spell_all-in-Call-clause-spells
 spell_inner-returns-in_ok-spell_all-in-Call-clause-spells t c d counts agrees tabled =

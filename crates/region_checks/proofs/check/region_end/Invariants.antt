@@ -1,4 +1,4 @@
-use Rattle.region_checks.proofs.check.size_of.Given as goal
+use Rattle.region_checks.proofs.check.region_end.Given as goal
 
 abbrev pub ghost-denoted : goal.ghost-denoted
 ghost-denoted g a = g.whole
