@@ -5,3 +5,5 @@ pub mod Numbering
 pub mod Laws
 pub mod Worked
 pub mod GrammarLaws
+pub mod Told
+pub mod Answered

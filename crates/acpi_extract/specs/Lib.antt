@@ -8,3 +8,4 @@ pub mod Words
 pub mod Due
 pub mod Asking
 pub mod Grammar
+pub mod Calls

@@ -1,5 +1,5 @@
 -- The lines of a dump, and which of them are blank or begin a table.
-use Rattle.std.specs.Prelude.{ℕ, Bool, not, ◌-◌, ◌==◌, ◌&&◌, ◌||◌, cond, nat_eq, List, [], ◌∷◌, length, take, drop, codes, Some, None}
+use Rattle.std.specs.Prelude.{ℕ, Bool, not, ◌==◌, ◌&&◌, ◌||◌, cond, nat_eq, List, length, take, drop, codes, Some, None}
 use Rattle.std.specs.declared.option.Option.{Option}
 use Rattle.std.specs.List.{list_all, starts_with}
 use Rattle.std.specs.Char.{is_ascii_graphic}

@@ -1,5 +1,5 @@
 -- What the code's tables and refusals stand for.
-use Rattle.std.specs.Prelude.{◌≡◌, List, [], ◌∷◌, Ok, Err, ⊤}
+use Rattle.std.specs.Prelude.{◌≡◌, List, [], ◌∷◌, map, Ok, Err, ⊤}
 use Rattle.std.specs.declared.result.Result.{Result}
 use Rattle.iasl_messages.specs.declared.message.Message.{Message}
 use Rattle.iasl_messages.specs.declared.message.Stage.{Stage}
@@ -20,3 +20,8 @@ abbrev pub Refuses : Stage → Result (List Dumped) Fault → Type 0
 Refuses (Refused messages) (Err fault) = messages ≡ message_of fault ∷ []
 Refuses (Refused messages) (Ok tables) = ⊥
 Refuses Memory dump = ⊤
+
+-- a call answers with these tables or this fault, unless memory is wanted
+abbrev pub Answers : Result (List Table) Stage → Result (List Dumped) Fault → Type 0
+Answers (Ok tables) answer = answer ≡ Ok (map dumped tables)
+Answers (Err stage) answer = Refuses stage answer

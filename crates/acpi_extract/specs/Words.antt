@@ -1,5 +1,5 @@
 -- What the words of a call ask for.
-use Rattle.std.specs.Prelude.{ℕ, Bool, true, ◌==◌, ◌||◌, cond, List, [], ◌∷◌, codes, Some, None}
+use Rattle.std.specs.Prelude.{◌≡◌, ℕ, Bool, true, ◌==◌, ◌||◌, cond, List, [], ◌∷◌, codes, Some, None}
 use Rattle.std.specs.declared.option.Option.{Option}
 use Rattle.std.specs.Str.{bytes_eq}
 use Rattle.acpi_extract.specs.Dump.{stem_of}
@@ -44,3 +44,15 @@ is_asked Code signature = bytes_eq (stem_of signature) (codes "dsdt") || bytes_e
 is_asked Every signature = true
 is_asked Listing signature = true
 is_asked (One asked) signature = bytes_eq (stem_of asked) (stem_of signature)
+
+-- a file's name as a command line has it: it is not empty and does not begin with `-`
+pub data IsFileName : List ℕ → Type 0 where
+  begins : (c : ℕ) (cs : List ℕ) → (c ≡ 45 → ⊥) → IsFileName (c ∷ cs)
+
+-- The words are a command line that asks for these tables of this file: FILE, `-a` FILE, `-l` FILE, or `-s` SIGNATURE FILE with a signature that is not
+-- empty.
+pub data IsCommandLine : List (List ℕ) → Asked → List ℕ → Type 0 where
+  of_code : (file : List ℕ) → IsFileName file → IsCommandLine (file ∷ []) Code file
+  of_every : (file : List ℕ) → IsFileName file → IsCommandLine (codes "-a" ∷ file ∷ []) Every file
+  of_list : (file : List ℕ) → IsFileName file → IsCommandLine (codes "-l" ∷ file ∷ []) Listing file
+  of_one : (c : ℕ) (cs file : List ℕ) → IsFileName file → IsCommandLine (codes "-s" ∷ (c ∷ cs) ∷ file ∷ []) (One (c ∷ cs)) file

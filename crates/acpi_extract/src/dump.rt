@@ -1,10 +1,11 @@
 //! A text dump, as `acpidump` writes it, and its tables.
-ghost use Rattle.std.specs.Prelude.{◌≡◌, ◌+◌, ◌^◌, ◌<◌, List, [], ◌∷◌, ◌≤◌, ℕ, length, map, Ok, Some, None, IfOk, IfErr, OnOk, IsTrue};
+ghost use Rattle.std.specs.Prelude.{◌≡◌, ◌+◌, ◌^◌, ◌<◌, List, [], ◌∷◌, ◌≤◌, ℕ, length, map, Ok, Err, Some, None, IfOk, IfErr, OnOk, IsTrue};
 ghost use Rattle.std.specs.declared.result.Result.{Result};
 ghost use Rattle.iasl_messages.specs.Cut.{lines_of};
 ghost use Rattle.acpi_extract.specs.Lines.{is_signature};
 ghost use Rattle.acpi_extract.specs.Dump.{Dumped, Fault, dump_of, bytes_of, tells_length, told_length, Numbered, Block, Cut, table_of, then_all, all_of, blocks_of, numbered_from};
-ghost use Rattle.acpi_extract.specs.Table.{dumped, message_of, Refuses};
+ghost use Rattle.acpi_extract.specs.Table.{dumped, message_of, Refuses, Answers};
+ghost use Rattle.acpi_extract.specs.Grammar.{IsDump, HasFault, Explains};
 ghost use Rattle.acpi_extract.specs.Reading.{Halts};
 
 use crate::line::signature_in;
@@ -214,12 +215,10 @@ pub(crate) fn one_message(alloc: Global, number: u16, line: u32) -> Result<Messa
     Ok(messages)
 }
 
-/// The tables of a text dump, in order. A dump with a fault is refused with the one message of its first
-/// fault, which stands in column 1 of its line: 6100, 6101, 6102 or 6103.
-pub fn tables(alloc: Global, text: &[u8]) -> Result<Tables, Stage>
+// The tables, or the one message of the first fault.
+fn answer(alloc: Global, text: &[u8]) -> Result<Tables, Stage>
     requires { length (lines_of text.now) < 2 ^ 32 }
-    ensures tables { IfOk result (λ tables. dump_of text.now ≡ Ok (map dumped tables)) }
-    ensures refused { IfErr result (λ stage. Refuses stage (dump_of text.now)) }
+    ensures { Answers result (dump_of text.now) }
 {
     match read(alloc, text) {
         Ok(tables) => Ok(tables),
@@ -229,4 +228,22 @@ pub fn tables(alloc: Global, text: &[u8]) -> Result<Tables, Stage>
         },
         Err(Halt::Memory) => Err(Stage::Memory),
     }
+}
+
+/// The tables of a text dump, in order. A dump with a fault is refused with the one message of its first
+/// fault, which stands in column 1 of its line: 6100, 6101, 6102 or 6103.
+pub fn tables(alloc: Global, text: &[u8]) -> Result<Tables, Stage>
+    requires { length (lines_of text.now) < 2 ^ 32 }
+    ensures tables { IfOk result (λ tables. dump_of text.now ≡ Ok (map dumped tables)) }
+    ensures refused { IfErr result (λ stage. Refuses stage (dump_of text.now)) }
+
+    // The lines are a dump of these tables by the grammar, and of no others: where they are one of some, these are found, unless memory runs out.
+    ensures found { IfOk result (λ tables. IsDump (lines_of text.now) (map dumped tables)) }
+    ensures only { (others : List Dumped) → IsDump (lines_of text.now) others → Answers result (Ok others) }
+
+    // The one message tells the grammar's first fault, and no other is it.
+    ensures fault { IfErr result (λ stage. Explains stage (lines_of text.now)) }
+    ensures first { (fault : Fault) → HasFault 1 (lines_of text.now) fault → Answers result (Err fault) }
+{
+    answer(alloc, text)
 }

@@ -26,12 +26,11 @@ use Rattle.iasl_backends.specs.Table.{table_bytes}
 use Rattle.acpi_names.specs.Errors.{NameError, name_errors, type_errors}
 use Rattle.name_checks.specs.Messages.{message_of, first_errors, told_errors}
 use Rattle.data_tables.specs.declared.compiled.Compiled.{Compiled as DataTable}
-use Rattle.data_tables.specs.Compiling.{Answer as DataAnswer, compiled, joined}
+use Rattle.data_tables.specs.Compiling.{Answer as DataAnswer, joined}
 use Rattle.data_tables.specs.Entries.{unsealed_bytes}
 use Rattle.data_tables.proofs.Law.{reads_as_written}
 use Rattle.data_tables.proofs.Unique.{only_written}
 use Rattle.data_tables.proofs.Sizes.{few_bytes}
-use Rattle.data_generic.specs.Compiling.{compiled_generic}
 use Rattle.data_generic.proofs.Law.{reads_as_written as generic_as_written}
 use Rattle.data_generic.proofs.Only.{only_written as only_generic}
 use Rattle.iasl_options.specs.Asking.{Asked}
@@ -54,13 +53,13 @@ use Rattle.iasl_tool.specs.Sources.{is_data_source, data_answer, of_data, of_sou
 use Rattle.table_outputs.specs.Files.{table_name, table_files, name_in_use}
 use Rattle.table_outputs.specs.Decision.{only_by, asks_for_text, wants_template, asks_for_template}
 use Rattle.iasl_tool.specs.Due.{style_of, unless_in_use, made_files, refusal, made_or_in_use, has_warning, answer_to_text, answer_to_compiled, answer_to_preprocessed, answer_to_file, answer_to_task, answer_for}
-use Rattle.iasl_tool.specs.Headline.{Request, ComeFrom, a_file, devices, more_of, generated_request, table_of, table_for, data_file_of, further_of, further_data, files_of, data_files_of, LetsPass, NamesLines, NamesSource, NamesData, ReadsBack, PutsFaithfulTable, PutsDataTable, AreItsFiles, WritesItsTable, WritesItsDataTable}
+use Rattle.iasl_tool.specs.Headline.{Request, ComeFrom, a_file, devices, more_of, generated_request, table_of, table_for, its_pieces, data_file_of, further_of, further_data, files_of, data_files_of, LetsPass, NamesLines, NamesSource, NamesData, ReadsBack, PutsFaithfulTable, PutsDataTable, AreItsFiles, WritesItsTable, WritesItsDataTable}
 use Rattle.iasl_tool.proofs.Bytes.{as_joined_pieces, as_joined}
 use Rattle.asl_tables.proofs.Programs.{none_told, none_first, none_behind, none_of_others, both_right, some_behind}
 use Rattle.iasl_tool.proofs.Sizes.{come_sizes}
 use Rattle.iasl_tool.proofs.Strict.{is_passed, lets_pass}
 
-abbrev signature_of : List Raw → List ℕ
+abbrev pub signature_of : List Raw → List ℕ
 signature_of items = (fields_in items).signature
 
 -- nothing is told of its names
@@ -68,41 +67,45 @@ nothing_told : (items : List Raw) → IsRight items → told_in items ≡ []
 nothing_told items right =
     none_first (told_of_names (source_in items)) (told_errors (terms_in items)) (none_first (names_in items) (uses_in items) right.declared right.uses) (none_told (terms_in items) right.names right.counts)
 
+-- nothing is wrong behind its form
+pub nothing_behind : (items : List Raw) → IsRight items → with_others (told_in items) (others_in items) ≡ []
+nothing_behind items right = none_behind (told_in items) (others_in items) (nothing_told items right) (both_right items right)
+
 -- what the tree of a right source comes to
-items_are : (style : Style) (lines : List Line) (items : List Raw) → IsRight items → length (written_in style items) ≤ most_table_bytes → of_items style lines items ≡ Table (signature_of items) (own_in items) (cut_in style lines items) (noted_in items)
+pub items_are : (style : Style) (lines : List Line) (items : List Raw) → IsRight items → length (written_in style items) ≤ most_table_bytes → of_items style lines items ≡ Table (signature_of items) (own_in items) (cut_in style lines items) (noted_in items)
 items_are style lines items right within =
     let place = block_place (writtens items) in
     let le : nat_le (length (written_in style items)) most_table_bytes ≡ true = le-leb (length (written_in style items)) most_table_bytes within in
     ap (λ es. unless_wrong es (with_notes (noted_in items) (of_terms style lines place (core_places (plans_in items)) (own_in items) (fields_in items) (told_in items) (others_in items) (locals_in items) (terms_in items)))) right.form
-    ∙ ap (λ es. with_notes (noted_in items) (unless_wrong es (unless_wrong (locals_in items) (of_table place (signature_of items) (own_in items) (written_in style items) (cut_in style lines items))))) (none_behind (told_in items) (others_in items) (nothing_told items right) (both_right items right))
+    ∙ ap (λ es. with_notes (noted_in items) (unless_wrong es (unless_wrong (locals_in items) (of_table place (signature_of items) (own_in items) (written_in style items) (cut_in style lines items))))) (nothing_behind items right)
     ∙ ap (λ es. with_notes (noted_in items) (unless_wrong es (of_table place (signature_of items) (own_in items) (written_in style items) (cut_in style lines items)))) right.locals
     ∙ ap (λ c. with_notes (noted_in items) (if c then Table (signature_of items) (own_in items) (cut_in style lines items) [] else Refused (too_long place ∷ []))) le
 
 -- the files of a source of these lines, of which the first has these bytes
-abbrev files_with : Request → List Line → List Raw → List ℕ → List Named
+abbrev pub files_with : Request → List Line → List Raw → List ℕ → List Named
 files_with request lines items bytes = (table_of request items, bytes) ∷ further_of request lines items
 
 -- what is due of a source in which no warning refuses these bytes, whose name is free
-abbrev due_with : Request → List (List ℕ) → List Message → List ℕ → List Line → List Raw → List ℕ → Answer
+abbrev pub due_with : Request → List (List ℕ) → List Message → List ℕ → List Line → List Raw → List ℕ → Answer
 due_with request files notes more lines items bytes = made_files request.asked.switches.brief files (notes ++ noted_in items) (table_line (table_of request items) (signature_of items) (length bytes) ++ more) (files_with request lines items bytes)
 
 -- what is due of a source in which no warning refuses these bytes
-abbrev named_with : Request → List (List ℕ) → List Message → List ℕ → List Line → List Raw → List ℕ → Answer
+abbrev pub named_with : Request → List (List ℕ) → List Message → List ℕ → List Line → List Raw → List ℕ → Answer
 named_with request files notes more lines items bytes = unless_in_use (name_in_use files (files_with request lines items bytes)) (due_with request files notes more lines items bytes)
 
 -- what is due of these bytes, whatever warnings there are
-abbrev noted_with : Request → List (List ℕ) → List Message → List ℕ → List Line → List Raw → List ℕ → Answer
+abbrev pub noted_with : Request → List (List ℕ) → List Message → List ℕ → List Line → List Raw → List ℕ → Answer
 noted_with request files notes more lines items bytes =
     cond (request.asked.switches.strict && has_warning (notes ++ noted_in items)) (refusal request.asked.switches.brief files (notes ++ noted_in items)) (named_with request files notes more lines items bytes)
 
 -- the bytes of its pieces are its table
-bytes_are : (request : Request) (lines : List Line) (items : List Raw) → errors_at items ≡ [] → IsKeptSource (writtens items) → table_bytes (cut_in (style_of request.asked) lines items) ≡ table_for request items
+pub bytes_are : (request : Request) (lines : List Line) (items : List Raw) → errors_at items ≡ [] → IsKeptSource (writtens items) → table_bytes (cut_in (style_of request.asked) lines items) ≡ table_for request items
 bytes_are request lines items e kept =
     let style = style_of request.asked in
     as_joined_pieces (cut_in style lines items) ∙ joined_is_table lines style.wrap style.fold style.short style.shorten items e kept
 
 -- what is due of lines that are read
-come_is : (words : List (List ℕ)) (told : List Named) (request : Request) (files : List (List ℕ)) (lines : List Line) (notes : List Message) (come : ComeFrom words told request files lines notes) (it : Compiled) → of_source request.asked.switches.generic (style_of request.asked) lines ≡ it
+pub come_is : (words : List (List ℕ)) (told : List Named) (request : Request) (files : List (List ℕ)) (lines : List Line) (notes : List Message) (come : ComeFrom words told request files lines notes) (it : Compiled) → of_source request.asked.switches.generic (style_of request.asked) lines ≡ it
     → answer_for words told ≡ Some (answer_to_compiled request.asked request.file files notes (more_of come) it)
 come_is words told request files lines notes (a_file line file_is compiles lines_are) it e =
     let asked = request.asked in
@@ -119,11 +122,11 @@ come_is words told request files lines notes (devices count task request_is file
     ∙ ap (λ ns. Some (answer_to_compiled request.asked request.file files ns (devices_line count) (of_source request.asked.switches.generic (style_of request.asked) (generated_lines count)))) (sym notes_are)
     ∙ ap (λ it. Some (answer_to_compiled request.asked request.file files notes (devices_line count) it)) (ap (of_source request.asked.switches.generic (style_of request.asked)) (sym lines_are) ∙ e)
 
-given_is : (words : List (List ℕ)) (told : List Named) (request : Request) (h : NamesLines words told request) (it : Compiled) → of_source request.asked.switches.generic (style_of request.asked) h.lines ≡ it → answer_for words told ≡ Some (answer_to_compiled request.asked request.file h.files h.notes (more_of h.come) it)
+pub given_is : (words : List (List ℕ)) (told : List Named) (request : Request) (h : NamesLines words told request) (it : Compiled) → of_source request.asked.switches.generic (style_of request.asked) h.lines ≡ it → answer_for words told ≡ Some (answer_to_compiled request.asked request.file h.files h.notes (more_of h.come) it)
 given_is words told request h it e = come_is words told request h.files h.lines h.notes h.come it e
 
 -- the parser keeps what it reads
-kept_from : (words : List (List ℕ)) (told : List Named) (request : Request) (n : NamesLines words told request) (tokens : List Token) (items : List Raw) → tokens_of n.lines ≡ Ok tokens → Spells items tokens → IsKeptSource (writtens items)
+pub kept_from : (words : List (List ℕ)) (told : List Named) (request : Request) (n : NamesLines words told request) (tokens : List Token) (items : List Raw) → tokens_of n.lines ≡ Ok tokens → Spells items tokens → IsKeptSource (writtens items)
 kept_from words told request n tokens items cut spelled =
     let sizes = come_sizes words told request n.files n.lines n.notes n.come in
     is_kept items tokens spelled (few_tokens n.lines tokens cut sizes.0) (lexed_short n.lines tokens cut sizes.1)
@@ -131,16 +134,22 @@ kept_from words told request n tokens items cut spelled =
 kept_source : (words : List (List ℕ)) (told : List Named) (request : Request) (items : List Raw) → NamesSource words told request items → IsKeptSource (writtens items)
 kept_source words told request items h = kept_from words told request h.named h.tokens items (cut_is_tokens h.named.lines h.tokens h.tokens_are) h.spelled
 
+-- what a source that the words name comes to
+pub compiled_is : (words : List (List ℕ)) (told : List Named) (request : Request) (items : List Raw) (h : NamesSource words told request items)
+    → of_source request.asked.switches.generic (style_of request.asked) h.named.lines ≡ Table (signature_of items) (own_in items) (its_pieces request h.named.lines items) (noted_in items)
+compiled_is words told request items h =
+    let lines = h.named.lines in
+    let style = style_of request.asked in
+    ap (λ c. cond c (of_data (data_answer request.asked.switches.generic lines)) (of_lines style lines)) h.is_asl
+    ∙ ap (of_tokens style lines) (cut_is_tokens lines h.tokens h.tokens_are) ∙ ap (of_outcome style lines h.tokens) (spelled_is_outcome items h.tokens h.spelled h.shallow h.low) ∙ items_are style lines items h.right h.table_within
+
 answer_is : (words : List (List ℕ)) (told : List Named) (request : Request) (items : List Raw) (h : NamesSource words told request items) → answer_for words told ≡ Some (due_with request h.named.files h.named.notes (more_of h.named.come) h.named.lines items (table_for request items))
 answer_is words told request items h =
     let lines = h.named.lines in
     let files = h.named.files in
     let notes = h.named.notes in
     let more = more_of h.named.come in
-    let style = style_of request.asked in
-    let table : of_lines style lines ≡ Table (signature_of items) (own_in items) (cut_in style lines items) (noted_in items) =
-    ap (of_tokens style lines) (cut_is_tokens lines h.tokens h.tokens_are) ∙ ap (of_outcome style lines h.tokens) (spelled_is_outcome items h.tokens h.spelled h.shallow h.low) ∙ items_are style lines items h.right h.table_within in
-    given_is words told request h.named (Table (signature_of items) (own_in items) (cut_in style lines items) (noted_in items)) (ap (λ c. cond c (of_data (data_answer request.asked.switches.generic lines)) (of_lines style lines)) h.is_asl ∙ table)
+    given_is words told request h.named (Table (signature_of items) (own_in items) (its_pieces request lines items) (noted_in items)) (compiled_is words told request items h)
     ∙ ap (λ bytes. Some (noted_with request files notes more lines items bytes)) (bytes_are request lines items h.right.form (kept_source words told request items h))
     ∙ ap (λ c. Some (cond c (refusal request.asked.switches.brief files (notes ++ noted_in items)) (named_with request files notes more lines items (table_for request items)))) (is_passed request.asked (notes ++ noted_in items) h.notes_pass)
     ∙ ap (λ o. Some (unless_in_use o (due_with request files notes more lines items (table_for request items)))) h.names_are_free
@@ -152,31 +161,36 @@ puts_faithful_table words told request items h =
       status = ap status_of answer;
       due = ap due_of answer;
       does = does_as request.asked.switches.wrap request.asked.switches.fold request.asked.switches.short request.asked.switches.shorten items h.right (kept_source words told request items h) h.table_within;
+      joined_pieces = bytes_are request h.named.lines items h.right.form (kept_source words told request items h);
     }
 
 -- ---- data tables
 
 -- the files of a data table, of which the first has these bytes
-abbrev data_files_with : Request → DataTable → List ℕ → List Named
+abbrev pub data_files_with : Request → DataTable → List ℕ → List Named
 data_files_with request table bytes = (data_file_of request, bytes) ∷ further_data request table
 
 -- what is due of a data table where no warning refuses these bytes, whose file's name is free
-abbrev due_data : Request → List (List ℕ) → List Message → List ℕ → DataTable → List ℕ → Answer
+abbrev pub due_data : Request → List (List ℕ) → List Message → List ℕ → DataTable → List ℕ → Answer
 due_data request files notes more table bytes = made_files request.asked.switches.brief files (notes ++ table.notes) (table_line (data_file_of request) table.signature (length bytes) ++ more) (data_files_with request table bytes)
 
 -- what is due of a data table where no warning refuses these bytes
-abbrev named_data : Request → List (List ℕ) → List Message → List ℕ → DataTable → List ℕ → Answer
+abbrev pub named_data : Request → List (List ℕ) → List Message → List ℕ → DataTable → List ℕ → Answer
 named_data request files notes more table bytes = unless_in_use (name_in_use files (data_files_with request table bytes)) (due_data request files notes more table bytes)
 
 -- what is due of these bytes, whatever warnings there are
-abbrev noted_data : Request → List (List ℕ) → List Message → List ℕ → DataTable → List ℕ → Answer
+abbrev pub noted_data : Request → List (List ℕ) → List Message → List ℕ → DataTable → List ℕ → Answer
 noted_data request files notes more table bytes =
     cond (request.asked.switches.strict && has_warning (notes ++ table.notes)) (refusal request.asked.switches.brief files (notes ++ table.notes)) (named_data request files notes more table bytes)
 
+-- what a data table that the words name comes to
+pub data_comes : (words : List (List ℕ)) (told : List Named) (request : Request) (table : DataTable) (h : NamesData words told request table) → of_source request.asked.switches.generic (style_of request.asked) h.named.lines ≡ Table table.signature [] table.pieces table.notes
+data_comes words told request table h =
+    ap (λ c. cond c (of_data (data_answer request.asked.switches.generic h.named.lines)) (of_lines (style_of request.asked) h.named.lines)) h.is_data ∙ ap of_data h.table_is
+
 data_is : (words : List (List ℕ)) (told : List Named) (request : Request) (table : DataTable) (h : NamesData words told request table) → answer_for words told ≡ Some (due_data request h.named.files h.named.notes (more_of h.named.come) table (joined table.pieces))
 data_is words told request table h =
-    let lines = h.named.lines in
-    given_is words told request h.named (Table table.signature [] table.pieces table.notes) (ap (λ c. cond c (of_data (data_answer request.asked.switches.generic lines)) (of_lines (style_of request.asked) lines)) h.is_data ∙ ap of_data h.table_is)
+    given_is words told request h.named (Table table.signature [] table.pieces table.notes) (data_comes words told request table h)
     ∙ ap (λ bytes. Some (noted_data request h.named.files h.named.notes (more_of h.named.come) table bytes)) (as_joined table.pieces)
     ∙ ap (λ c. Some (cond c (refusal request.asked.switches.brief h.named.files (h.named.notes ++ table.notes)) (named_data request h.named.files h.named.notes (more_of h.named.come) table (joined table.pieces)))) (is_passed request.asked (h.named.notes ++ table.notes) h.notes_pass)
     ∙ ap (λ o. Some (unless_in_use o (due_data request h.named.files h.named.notes (more_of h.named.come) table (joined table.pieces)))) h.names_are_free
@@ -195,12 +209,13 @@ puts_data_table words told request table h =
       status = ap status_of answer;
       due = ap due_of answer;
       reads = reads_back request.asked.switches.generic n.lines table h.table_is few;
+      joined_pieces = as_joined table.pieces;
     }
 
 -- ---- which sources have status 0
 
 -- no errors of names are told where there are none of either class
-right_names : (terms : _) → told_errors terms ≡ [] → (name_errors terms ≡ []) × (type_errors terms ≡ [])
+pub right_names : (terms : _) → told_errors terms ≡ [] → (name_errors terms ≡ []) × (type_errors terms ≡ [])
 right_names terms e = by (name_errors terms) (type_errors terms) e
   where
     by : (ns ts : List NameError) → map message_of (first_errors ns ts) ≡ [] → (ns ≡ []) × (ts ≡ [])
@@ -209,11 +224,11 @@ right_names terms e = by (name_errors terms) (type_errors terms) e
     by (n ∷ ns) ts e = absurd cc
 
 -- nothing is told where there is none of either
-both_first : (messages others : List Message) → first_told messages others ≡ [] → (messages ≡ []) × (others ≡ [])
+pub both_first : (messages others : List Message) → first_told messages others ≡ [] → (messages ≡ []) × (others ≡ [])
 both_first [] others e = (refl, e)
 both_first (m ∷ ms) others e = absurd cc
 
-both_none : (errors statements : List Message) → with_others errors statements ≡ [] → (errors ≡ []) × (statements ≡ [])
+pub both_none : (errors statements : List Message) → with_others errors statements ≡ [] → (errors ≡ []) × (statements ≡ [])
 both_none [] statements e = (refl, e)
 both_none (m ∷ ms) statements e = absurd (some_behind (m ∷ ms) statements (λ f. absurd cc) e)
 
@@ -346,19 +361,28 @@ writes_its_table words told old new z t h gained = by (by_words words told (task
     by : Found words told → WritesItsTable words told old new ⊎ WritesItsDataTable words told old new
     by (a_source request items names) =
         let puts : PutsFaithfulTable words told request names.named.lines items = puts_faithful_table words told request items names in
-        inl (record { request = request; items = items; names = names; table = subst (Gains old new) puts.due gained; does = puts.does })
+        inl (record { request = request; items = items; names = names; table = subst (Gains old new) puts.due gained; does = puts.does; joined_pieces = puts.joined_pieces })
     by (a_data_table request table names) =
         let puts : PutsDataTable words told request table names.named.lines = puts_data_table words told request table names in
-        inr (record { request = request; table = table; names = names; gained = subst (Gains old new) puts.due gained; reads = puts.reads })
+        inr (record { request = request; table = table; names = names; gained = subst (Gains old new) puts.due gained; reads = puts.reads; joined_pieces = puts.joined_pieces })
 
--- each source that the words name has status 0
-pub status_of_source : (words : List (List ℕ)) (told : List Named) (request : Request) (items : List Raw) (result : ℕ) → NamesSource words told request items → (result ≡ status_of (answer_for words told)) ⊎ (result ≡ 4) → (result ≡ 0) ⊎ (result ≡ 4)
-status_of_source words told request items result h (inl e) = inl (e ∙ (puts_faithful_table words told request items h).status)
-status_of_source words told request items result h (inr e) = inr e
+-- each source that the words name is put
+pub source_is_put : (words : List (List ℕ)) (told : List Named) (request : Request) (items : List Raw) (result : ℕ) (old new : Option (List Named)) (names : NamesSource words told request items) → (result ≡ status_of (answer_for words told)) ⊎ (result ≡ 4) → (result ≤ 2 → Gains old new (due_of (answer_for words told)))
+    → ((result ≡ 0) × PutsFaithfulTable words told request names.named.lines items × Gains old new (files_of request names.named.lines items)) ⊎ (result ≡ 4)
+source_is_put words told request items result old new names (inl e) gained =
+    let puts : PutsFaithfulTable words told request names.named.lines items = puts_faithful_table words told request items names in
+    let zero : result ≡ 0 = e ∙ puts.status in
+    inl (zero, puts, subst (Gains old new) puts.due (gained (omega (arith, zero))))
+source_is_put words told request items result old new names (inr e) gained = inr e
 
-pub status_of_data : (words : List (List ℕ)) (told : List Named) (request : Request) (table : DataTable) (result : ℕ) → NamesData words told request table → (result ≡ status_of (answer_for words told)) ⊎ (result ≡ 4) → (result ≡ 0) ⊎ (result ≡ 4)
-status_of_data words told request table result h (inl e) = inl (e ∙ (puts_data_table words told request table h).status)
-status_of_data words told request table result h (inr e) = inr e
+-- and each data table
+pub data_is_put : (words : List (List ℕ)) (told : List Named) (request : Request) (table : DataTable) (result : ℕ) (old new : Option (List Named)) (names : NamesData words told request table) → (result ≡ status_of (answer_for words told)) ⊎ (result ≡ 4) → (result ≤ 2 → Gains old new (due_of (answer_for words told)))
+    → ((result ≡ 0) × PutsDataTable words told request table names.named.lines × Gains old new (data_files_of request table)) ⊎ (result ≡ 4)
+data_is_put words told request table result old new names (inl e) gained =
+    let puts : PutsDataTable words told request table names.named.lines = puts_data_table words told request table names in
+    let zero : result ≡ 0 = e ∙ puts.status in
+    inl (zero, puts, subst (Gains old new) puts.due (gained (omega (arith, zero))))
+data_is_put words told request table result old new names (inr e) gained = inr e
 
 -- what is due of a status other than 0 is nothing
 abbrev Settled : Option Answer → Type 0
@@ -404,10 +428,10 @@ module _ (words : List (List ℕ)) (told : List Named) where
   found_tables : Found words told → AreItsFiles words told (due_of (answer_for words told))
   found_tables (a_source request items names) =
       let puts : PutsFaithfulTable words told request names.named.lines items = puts_faithful_table words told request items names in
-      subst (AreItsFiles words told) (sym puts.due) (inl (record { request = request; items = items; names = names; name = refl; bytes = refl; does = puts.does; others = refl }))
+      subst (AreItsFiles words told) (sym puts.due) (inl (record { request = request; items = items; names = names; name = refl; bytes = refl; does = puts.does; others = refl; joined_pieces = puts.joined_pieces }))
   found_tables (a_data_table request table names) =
       let puts : PutsDataTable words told request table names.named.lines = puts_data_table words told request table names in
-      subst (AreItsFiles words told) (sym puts.due) (inr (record { request = request; table = table; names = names; name = refl; bytes = refl; reads = puts.reads; others = refl }))
+      subst (AreItsFiles words told) (sym puts.due) (inr (record { request = request; table = table; names = names; name = refl; bytes = refl; reads = puts.reads; others = refl; joined_pieces = puts.joined_pieces }))
 
   by_settled : (o : Option Answer) → answer_for words told ≡ o → asks_for_text words ≡ false → asks_for_template words ≡ false → Settled o → AreItsFiles words told (due_of (answer_for words told))
   by_settled None is z t h = subst (AreItsFiles words told) (sym (ap due_of is)) tt

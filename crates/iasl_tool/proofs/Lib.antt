@@ -7,3 +7,6 @@ mod Strict
 mod Devices
 pub mod Headline
 pub mod TemplateLaws
+pub mod Pieces
+pub mod Fates
+pub mod Refusals

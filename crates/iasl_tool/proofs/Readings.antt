@@ -52,7 +52,7 @@ sinks (t ∷ ts) a fs rest e = by (nat_le (depth fs) limit) (step t a fs) e (λ 
     by true (Some c) e go = let r = go c.0 c.1 e in record { at = suc r.at; within' = omega (arith, r.within'); are = r.are }
 
 -- a reading that goes too deep does so behind a token
-below_start : (ts rest : List Mark) → walk (within limit) ts st.Sequence start ≡ deep rest → (k : ℕ) × (k < length ts) × (rest ≡ drop (suc k) ts)
+pub below_start : (ts rest : List Mark) → walk (within limit) ts st.Sequence start ≡ deep rest → (k : ℕ) × (k < length ts) × (rest ≡ drop (suc k) ts)
 unfolding walk
 below_start [] rest e = absurd (never st.Sequence start rest e)
 below_start (t ∷ ts) rest e = by (step t st.Sequence start) e

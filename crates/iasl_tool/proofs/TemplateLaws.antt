@@ -1,5 +1,5 @@
 -- What is due of a template.
-use Rattle.std.proofs.Common.{◌≡◌, ℕ, true, List, [], ◌∷◌, Option, Some, refl, sym, ap, ◌∙◌}
+use Rattle.std.proofs.Common.{◌≡◌, ℕ, true, List, [], ◌∷◌, Option, Some, refl, ap, ◌∙◌}
 use Rattle.std.specs.Prelude.{is_some}
 use Rattle.iasl_ports.specs.Delivery.{Answer}
 use Rattle.iasl_messages.specs.declared.place.Piece.{Piece}
@@ -22,7 +22,7 @@ table_is t.Slit = refl
 pub is_known : (table : Table) (signature : List ℕ) → signature ≡ signature_of table → is_some (table_of signature) ≡ true
 is_known table signature e = ap (λ (o : Option Table). is_some o) (ap table_of e ∙ table_is table)
 
-pieces_are : (table : Table) (signature : List ℕ) (pieces : List Piece) → signature ≡ signature_of table → Some pieces ≡ default_of (table_of signature) → pieces ≡ default_pieces table
+pub pieces_are : (table : Table) (signature : List ℕ) (pieces : List Piece) → signature ≡ signature_of table → Some pieces ≡ default_of (table_of signature) → pieces ≡ default_pieces table
 pieces_are table signature pieces e f =
     let all : ◌≡◌ {A = Option (List Piece)} (Some pieces) (Some (default_pieces table)) = f ∙ ap (λ (s : List ℕ). default_of (table_of s)) e ∙ ap default_of (table_is table) in
     cc

@@ -6,6 +6,7 @@ use Rattle.std.specs.List.{list_any}
 use Rattle.iasl_ports.specs.Gained.{Named}
 use Rattle.iasl_ports.specs.Delivery.{Answer}
 use Rattle.iasl_messages.specs.declared.place.Line.{Line}
+use Rattle.iasl_messages.specs.declared.place.Piece.{Piece}
 use Rattle.iasl_messages.specs.declared.message.Message.{Message}
 use Rattle.iasl_messages.specs.declared.severity.Severity.TheVariants.{Warning}
 use Rattle.iasl_messages.specs.Severity.{severity_of, is_same}
@@ -125,6 +126,36 @@ answer_to_task told (Err word) = Some usage
 -- what a call with these words is to end with, where these are the files
 abbrev pub answer_for : List (List ℕ) → List Named → Option Answer
 answer_for words told = answer_to_task told (task_by words)
+
+-- the pieces of what lines come to: those of a table, and none where they are refused
+abbrev pub pieces_in : Compiled → List Piece
+pieces_in (Table signature own pieces told) = pieces
+pieces_in (Refused messages) = []
+
+-- those of the table of lines, as it is asked for
+abbrev pub pieces_of_lines : Asked → List Line → List Piece
+pieces_of_lines asked lines = pieces_in (of_source asked.switches.generic (style_of asked) lines)
+
+-- none where there are no lines
+abbrev pub pieces_of_preprocessed : Asked → Preprocessed → List Piece
+pieces_of_preprocessed asked (Given files lines notes) = pieces_of_lines asked lines
+pieces_of_preprocessed asked (Stopped message files) = []
+pieces_of_preprocessed asked Absent = []
+
+abbrev pub pieces_of_file : Asked → List Named → Option (List ℕ) → List Piece
+pieces_of_file asked told None = []
+pieces_of_file asked told (Some file) = pieces_of_preprocessed asked (preprocessed told file asked.directories asked.definitions asked.enabled)
+
+-- those of the last table of a task, which is its only one, or of a template
+abbrev pub pieces_of_task : List Named → Result Task ℕ → List Piece
+pieces_of_task told (Ok (Compiles asked)) = pieces_of_file asked told asked.file
+pieces_of_task told (Ok (Generates count)) = pieces_of_lines generated_settings (generated_lines count)
+pieces_of_task told (Ok (Templates table)) = default_pieces table
+pieces_of_task told (Err word) = []
+
+-- the pieces of which the outputs of a call with these words are, where these are the files
+abbrev pub pieces_for : List (List ℕ) → List Named → List Piece
+pieces_for words told = pieces_of_task told (task_by words)
 
 -- the text of status 3
 abbrev pub fault_text : List ℕ

@@ -3,6 +3,7 @@ use Rattle.std.specs.Prelude.{◌≡◌, ◌⊎◌, ℕ, ◌≤◌, Bool, true, 
 use Rattle.iasl_ports.specs.Gained.{Named, Gains}
 use Rattle.iasl_ports.specs.Delivery.{due_of, status_of}
 use Rattle.iasl_messages.specs.declared.place.Line.{Line}
+use Rattle.iasl_messages.specs.declared.place.Piece.{Piece}
 use Rattle.iasl_messages.specs.declared.message.Message.{Message}
 use Rattle.iasl_messages.specs.declared.severity.Severity.TheVariants.{Warning}
 use Rattle.iasl_messages.specs.Severity.{severity_of}
@@ -15,6 +16,7 @@ use Rattle.asl_parser.specs.Grammar.{Spells}
 use Rattle.asl_parser.specs.Grow.{limit}
 use Rattle.asl_parser.specs.Marks.{marks}
 use Rattle.aml_writer.specs.Written.{most_table_bytes}
+use Rattle.iasl_backends.specs.Table.{table_bytes}
 use Rattle.data_tables.specs.declared.compiled.Compiled.{Compiled as DataTable}
 use Rattle.data_tables.specs.Compiling.{joined}
 use Rattle.data_tables.specs.Entries.{Entry, written_values}
@@ -49,9 +51,13 @@ data_file_of request = table_name request.asked request.file []
 abbrev pub table_for : Request → List Raw → List ℕ
 table_for request items = written_in (style_of request.asked) items
 
--- its further outputs, which are of its pieces with the texts of these lines
+-- its pieces, with the texts of these lines
+abbrev pub its_pieces : Request → List Line → List Raw → List Piece
+its_pieces request lines items = cut_in (style_of request.asked) lines items
+
+-- its further outputs, which are of its pieces
 abbrev pub further_of : Request → List Line → List Raw → List Named
-further_of request lines items = further_files request.asked request.file (own_in items) (cut_in (style_of request.asked) lines items)
+further_of request lines items = further_files request.asked request.file (own_in items) (its_pieces request lines items)
 
 -- whether a generic data table is asked for
 abbrev pub is_generic : Request → Bool
@@ -123,11 +129,13 @@ pub record NamesData (words : List (List ℕ)) (told : List Named) (request : Re
   pub notes_pass : LetsPass request.asked (named.notes ++ table.notes)
   pub names_are_free : name_in_use named.files (data_files_of request table) ≡ None
 
--- the call puts the files of the table of a source of these lines, and nothing else; the table has the source's header and does what the source says
+-- The call puts the files of the table of a source of these lines, and nothing else. The table has the source's header and does what the source
+-- says, and its further outputs are of pieces that are its own bytes, one piece behind another.
 pub record PutsFaithfulTable (words : List (List ℕ)) (told : List Named) (request : Request) (lines : List Line) (items : List Raw) : Type 0 where
   pub status : status_of (answer_for words told) ≡ 0
   pub due : due_of (answer_for words told) ≡ files_of request lines items
   pub does : IsTableOf items (table_for request items)
+  pub joined_pieces : table_bytes (its_pieces request lines items) ≡ table_for request items
 
 -- bytes that read by offset as the values that some lines write, and as no others
 pub record ReadsByLayout (lines : List Line) (bytes : List ℕ) : Type 0 where
@@ -144,14 +152,17 @@ abbrev pub ReadsBack : Bool → List Line → List ℕ → Type 0
 ReadsBack true lines bytes = ReadsByTypes lines bytes
 ReadsBack false lines bytes = ReadsByLayout lines bytes
 
--- the call puts the data table's files, and nothing else; its bytes read as the values that the text writes
+-- The call puts the data table's files, and nothing else. Its bytes read as the values that the text writes, and its further outputs are of pieces
+-- that are its own bytes.
 pub record PutsDataTable (words : List (List ℕ)) (told : List Named) (request : Request) (table : DataTable) (lines : List Line) : Type 0 where
   pub status : status_of (answer_for words told) ≡ 0
   pub due : due_of (answer_for words told) ≡ data_files_of request table
   pub reads : ReadsBack (is_generic request) lines (joined table.pieces)
+  pub joined_pieces : table_bytes table.pieces ≡ joined table.pieces
 
 -- A file is the table of an ASL source that the words name: it has the source's header and does what the source says. The files that
--- follow it are its further outputs: its bytes as an array of C, and the source's lines with their bytes, where these are asked for.
+-- follow it are its further outputs: its bytes as an array of C, and the source's lines with their bytes, where these are asked for. They are of pieces
+-- that are the file's own bytes, one piece behind another.
 pub record IsItsTable (words : List (List ℕ)) (told : List Named) (file : Named) (further : List Named) : Type 0 where
   pub request : Request
   pub items : List Raw
@@ -160,9 +171,10 @@ pub record IsItsTable (words : List (List ℕ)) (told : List Named) (file : Name
   pub bytes : file.1 ≡ table_for request items
   pub does : IsTableOf items file.1
   pub others : further ≡ further_of request names.named.lines items
+  pub joined_pieces : table_bytes (its_pieces request names.named.lines items) ≡ file.1
 
 -- A file is the data table whose text the words name: its bytes read as the values that the text writes. The files that follow it are its
--- further outputs.
+-- further outputs, which are of pieces that are its own bytes.
 pub record IsItsDataTable (words : List (List ℕ)) (told : List Named) (file : Named) (further : List Named) : Type 0 where
   pub request : Request
   pub table : DataTable
@@ -171,6 +183,7 @@ pub record IsItsDataTable (words : List (List ℕ)) (told : List Named) (file : 
   pub bytes : file.1 ≡ joined table.pieces
   pub reads : ReadsBack (is_generic request) names.named.lines file.1
   pub others : further ≡ further_data request table
+  pub joined_pieces : table_bytes table.pieces ≡ file.1
 
 -- the first file is the table, and the others are its further outputs
 abbrev pub AreItsFiles : List (List ℕ) → List Named → List Named → Type 0
@@ -178,19 +191,22 @@ AreItsFiles words told [] = Unit {0}
 AreItsFiles words told (file ∷ further) = IsItsTable words told file further ⊎ IsItsDataTable words told file further
 
 -- The words name an ASL source, and the outputs gained the files of its table and nothing else. The table, which is the first of them, has
--- the header that the source states, and every session over its bytes is the source's; the others are its further outputs.
+-- the header that the source states, and every session over its bytes is the source's; the others are its further outputs, which are of pieces that are
+-- the table's own bytes.
 pub record WritesItsTable (words : List (List ℕ)) (told : List Named) (old new : Option (List Named)) : Type 0 where
   pub request : Request
   pub items : List Raw
   pub names : NamesSource words told request items
   pub table : Gains old new ((table_of request items, table_for request items) ∷ further_of request names.named.lines items)
   pub does : IsTableOf items (table_for request items)
+  pub joined_pieces : table_bytes (its_pieces request names.named.lines items) ≡ table_for request items
 
 -- The words name the text of a data table, and the outputs gained its files and nothing else. The bytes of the first, the table, read as
--- the values that the text writes; the others are its further outputs.
+-- the values that the text writes; the others are its further outputs, which are of pieces that are the table's own bytes.
 pub record WritesItsDataTable (words : List (List ℕ)) (told : List Named) (old new : Option (List Named)) : Type 0 where
   pub request : Request
   pub table : DataTable
   pub names : NamesData words told request table
   pub gained : Gains old new ((data_file_of request, joined table.pieces) ∷ further_data request table)
   pub reads : ReadsBack (is_generic request) names.named.lines (joined table.pieces)
+  pub joined_pieces : table_bytes table.pieces ≡ joined table.pieces

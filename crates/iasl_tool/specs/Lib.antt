@@ -1,3 +1,4 @@
 pub mod Sources
 pub mod Due
 pub mod Headline
+pub mod Refusals

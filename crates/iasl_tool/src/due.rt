@@ -3,6 +3,7 @@ ghost use Rattle.std.specs.Prelude.{◌≡◌, ◌≤◌, ◌<◌, ◌++◌, ◌
 ghost use Rattle.iasl_ports.specs.Delivery.{name_and_bytes, answer_of, IsSettled};
 ghost use Rattle.iasl_runs.specs.Ends.{files_seen};
 ghost use Rattle.iasl_options.specs.Task.{task_by};
+ghost use Rattle.iasl_messages.specs.declared.place.Piece.{Piece as SpecPiece};
 ghost use Rattle.asl_preprocess.specs.Sound.{IsGoodLine, IsGoodNote};
 ghost use Rattle.iasl_options.specs.Shown.{AreTexts, asked_of};
 ghost use Rattle.iasl_options.specs.Asking.{Asked};
@@ -10,8 +11,8 @@ ghost use Rattle.asl_tables.specs.Compiled.{AreWithin};
 ghost use Rattle.iasl_tool.specs.Sources.{of_source};
 ghost use Rattle.iasl_backends.specs.Table.{table_bytes};
 ghost use Rattle.table_outputs.specs.Files.{table_name, table_files};
-ghost use Rattle.table_outputs.specs.Decision.{end_of, IsDecidedBy, IsDecidedFor, Settles};
-ghost use Rattle.iasl_tool.specs.Due.{console_text, refusal, made_files, in_use, has_warning, made_or_refused, text_of_lines, answer_to_text, answer_to_compiled, answer_to_lines, answer_to_file, usage, answer_for, style_of as style_by};
+ghost use Rattle.table_outputs.specs.Decision.{end_of, IsDecidedBy, IsDecidedFor, IsMadeOf, Settles};
+ghost use Rattle.iasl_tool.specs.Due.{console_text, refusal, made_files, in_use, has_warning, made_or_refused, text_of_lines, answer_to_text, answer_to_compiled, answer_to_lines, answer_to_file, usage, answer_for, pieces_of_lines, pieces_of_file, pieces_for, style_of as style_by};
 ghost use Rattle.iasl_messages.specs.declared.severity.Severity.TheVariants.{Warning};
 ghost use Rattle.iasl_messages.specs.Severity.{severity_of, is_same};
 ghost use Rattle.iasl_messages.specs.Console.{table_line};
@@ -93,6 +94,7 @@ fn decide_refusal(
     requires { AreWithin (length files.now) messages }
     ensures due { IfOk result (λ decision. end_of decision ≡ refusal brief files.now messages) }
     ensures decided { (asked : Asked) → IfOk result (IsDecidedBy asked) }
+    ensures made { (all : List SpecPiece) → IfOk result (IsMadeOf all) }
 {
     Ok(Decision::Ends(refuse(alloc, brief, files, messages)?))
 }
@@ -153,6 +155,7 @@ fn refuse_name(alloc: Global, name: &str) -> Result<Due<'static>, AllocError>
 fn decide_in_use(alloc: Global, name: &str) -> Result<Decision, AllocError>
     ensures due { IfOk result (λ decision. end_of decision ≡ in_use name.now) }
     ensures decided { (asked : Asked) → IfOk result (IsDecidedBy asked) }
+    ensures made { (all : List SpecPiece) → IfOk result (IsMadeOf all) }
 {
     Ok(Decision::Ends(refuse_name(alloc, name)?))
 }
@@ -313,6 +316,7 @@ fn make_table(
     requires notes { AreWithin (length files.now) notes }
     ensures due { IfOk result (λ decision. end_of decision ≡ made_or_refused (asked_of options.now) files.now notes (table_line (table_name (asked_of options.now) options.now.file heading.now.own.now) heading.now.signature.now (length (table_bytes pieces)) ++ heading.now.more.now) (table_files (asked_of options.now) options.now.file heading.now.own.now pieces)) }
     ensures decided { IfOk result (IsDecidedBy (asked_of options.now)) }
+    ensures made { IfOk result (IsMadeOf pieces) }
 {
     let brief = options.switches.brief;
     if is_refused(options, &notes) {
@@ -358,6 +362,7 @@ pub(crate) fn make_compiled(
     requires notes { AreWithin (length lines.now.files) notes }
     ensures due { IfOk result (λ decision. end_of decision ≡ answer_to_compiled (asked_of options.now) options.now.file lines.now.files notes more.now (of_source options.now.switches.generic (style_by (asked_of options.now)) lines.now.list)) }
     ensures decided { IfOk result (IsDecidedBy (asked_of options.now)) }
+    ensures made { IfOk result (IsMadeOf (pieces_of_lines (asked_of options.now) lines.now.list)) }
 {
     match compile_source(alloc, options.switches.generic, style_of(options), lines)? {
         Compiled::Table {
@@ -401,6 +406,7 @@ fn answer_to_lines(
     requires notes { All (IsGoodNote (length given.lines.files)) given.notes }
     ensures due { IfOk result (λ decision. end_of decision ≡ answer_to_lines (asked_of options.now) options.now.file given.lines.files given.lines.list given.notes) }
     ensures decided { IfOk result (IsDecidedBy (asked_of options.now)) }
+    ensures made { IfOk result (IsMadeOf (pieces_of_lines (asked_of options.now) given.lines.list)) }
 {
     let Preprocessed { lines, notes } = given;
     if options.only {
@@ -420,6 +426,7 @@ fn answer_to_stop(
     requires { message.place.file < length files.now }
     ensures due { IfOk result (λ decision. end_of decision ≡ refusal brief files.now (message ∷ [])) }
     ensures decided { (asked : Asked) → IfOk result (IsDecidedBy asked) }
+    ensures made { (all : List SpecPiece) → IfOk result (IsMadeOf all) }
 {
     let messages = one_message(alloc, message)?;
     decide_refusal(alloc, brief, files, messages)
@@ -440,7 +447,7 @@ fn usage(alloc: Global) -> Result<Due<'static>, AllocError>
 // What is due for these options, where their file and its includes are fetched.
 fn answer<F: Files>(alloc: Global, options: &Options, files: &mut F) -> Result<Decision, Stop>
     requires { AreTexts options.now }
-    ensures { Settles (λ told. answer_to_file (asked_of options.now) told (Some options.now.file)) (IsDecidedBy (asked_of options.now)) result (files_seen (F.contents files.old) (F.faults files.old) (F.absents files.old)) (files_seen (F.contents files.new) (F.faults files.new) (F.absents files.new)) }
+    ensures { Settles (λ told. answer_to_file (asked_of options.now) told (Some options.now.file)) (λ told. pieces_of_file (asked_of options.now) told (Some options.now.file)) (IsDecidedBy (asked_of options.now)) result (files_seen (F.contents files.old) (F.faults files.old) (F.absents files.old)) (files_seen (F.contents files.new) (F.faults files.new) (F.absents files.new)) }
 {
     match preprocess(
         alloc,
@@ -469,7 +476,7 @@ pub(crate) fn decide<F: Files>(
     words: &[String],
     files: &mut F,
 ) -> Result<Decision, Stop>
-    ensures { Settles (answer_for (map string_bytes words.now)) (IsDecidedFor (task_by (map string_bytes words.now))) result (files_seen (F.contents files.old) (F.faults files.old) (F.absents files.old)) (files_seen (F.contents files.new) (F.faults files.new) (F.absents files.new)) }
+    ensures { Settles (answer_for (map string_bytes words.now)) (pieces_for (map string_bytes words.now)) (IsDecidedFor (task_by (map string_bytes words.now))) result (files_seen (F.contents files.old) (F.faults files.old) (F.absents files.old)) (files_seen (F.contents files.new) (F.faults files.new) (F.absents files.new)) }
 {
     match task_of(alloc, words) {
         Ok(Task::Compile(options)) => answer(alloc, &options, files),

@@ -1,8 +1,9 @@
 //! What a call is to end with that asks for generated devices.
 ghost use Rattle.std.specs.Prelude.{◌≡◌, ◌≤◌, [], ◌∷◌, IfOk};
 ghost use Rattle.iasl_options.specs.Task.{generated_settings};
-ghost use Rattle.table_outputs.specs.Decision.{end_of, IsDecidedBy};
-ghost use Rattle.iasl_tool.specs.Due.{answer_to_generated};
+ghost use Rattle.generated_lines.specs.Generated.{generated_lines};
+ghost use Rattle.table_outputs.specs.Decision.{end_of, IsDecidedBy, IsMadeOf};
+ghost use Rattle.iasl_tool.specs.Due.{answer_to_generated, pieces_of_lines};
 
 use crate::due::make_compiled;
 use generated_lines::lines::device_lines;
@@ -29,6 +30,7 @@ pub(crate) fn answer_to_generated(alloc: Global, count: u32) -> Result<Decision,
     requires { count ≤ 4096 }
     ensures due { IfOk result (λ decision. end_of decision ≡ answer_to_generated count) }
     ensures decided { IfOk result (IsDecidedBy generated_settings) }
+    ensures made { IfOk result (IsMadeOf (pieces_of_lines generated_settings (generated_lines count))) }
 {
     let options = generated_options(alloc)?;
     let generated = device_lines(alloc, count)?;

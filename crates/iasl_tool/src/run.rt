@@ -1,15 +1,19 @@
 //! The top call: a source to its table, of ASL or of a data table; or the template of a table.
-ghost use Rattle.std.specs.Prelude.{◌≡◌, ◌≤◌, ◌⊎◌, List, map, string_bytes, true, false};
+ghost use Rattle.std.specs.Prelude.{◌≡◌, ◌≤◌, ◌⊎◌, ℕ, List, map, string_bytes, true, false};
+ghost use Rattle.std.specs.List.{All};
 ghost use Rattle.std.specs.Option.{ForSome};
+ghost use Rattle.iasl_ports.specs.Gained.{Gains};
 ghost use Rattle.iasl_ports.specs.Delivery.{due_of};
+ghost use Rattle.iasl_messages.specs.declared.message.Message.{Message};
 ghost use Rattle.iasl_runs.specs.Ends.{files_seen, outputs_seen, console_seen, world, IsQuiet, Ends};
 ghost use Rattle.asl_parser.specs.declared.raw.Raw.{Raw};
 ghost use Rattle.iasl_backends.specs.Asked.{IsOneOfEach};
 ghost use Rattle.iasl_options.specs.Task.{task_by};
 ghost use Rattle.table_outputs.specs.Boxes.{HoldsAsked, AreRendered, kinds_by};
-ghost use Rattle.iasl_tool.specs.Due.{answer_for, fault_text, memory_text};
+ghost use Rattle.iasl_tool.specs.Due.{answer_for, pieces_for, fault_text, memory_text};
 ghost use Rattle.data_tables.specs.declared.compiled.Compiled.{Compiled as DataTable};
-ghost use Rattle.iasl_tool.specs.Headline.{Request, NamesSource, NamesData, AreItsFiles, WritesItsTable, WritesItsDataTable};
+ghost use Rattle.iasl_tool.specs.Headline.{Request, its_pieces, files_of, data_files_of, NamesSource, NamesData, PutsFaithfulTable, PutsDataTable, AreItsFiles, WritesItsTable, WritesItsDataTable};
+ghost use Rattle.iasl_tool.specs.Refusals.{IsRefused, TellsRefusal, refusal_text};
 ghost use Rattle.table_outputs.specs.Decision.{asks_for_text, asks_for_template};
 
 use crate::due::decide;
@@ -56,19 +60,31 @@ pub fn iasl<F: Files, O: Outputs, C: Sink>(
     // 0 comes, where neither is asked for, only of such a source, whose table, with its further outputs, is then what the outputs gained.
     ensures headline { result ≡ 0 → asks_for_text (map string_bytes words.now) ≡ false → asks_for_template (map string_bytes words.now) ≡ false → ForSome (F.contents files.old) (λ told. WritesItsTable (map string_bytes words.now) told (O.written outs.old) (O.written outs.new) ⊎ WritesItsDataTable (map string_bytes words.now) told (O.written outs.old) (O.written outs.new)) }
 
-    // And every such source gives 0, or 4, where no count rose.
-    ensures complete { ForSome (F.contents files.old) (λ told. (request : Request) → (items : List Raw) → NamesSource (map string_bytes words.now) told request items
+    // And where no count rose, every such source gives 0, and the outputs gain the files of its table and nothing else; or the call gives 4.
+    ensures complete { ForSome (F.contents files.old) (λ told. (request : Request) → (items : List Raw) → (names : NamesSource (map string_bytes words.now) told request items)
         → IsQuiet
         (world (files_seen (F.contents files.old) (F.faults files.old) (F.absents files.old)) (outputs_seen (O.written outs.old) (O.faults outs.old)) (console_seen (C.told console.old) (C.faults console.old)))
         (world (files_seen (F.contents files.new) (F.faults files.new) (F.absents files.new)) (outputs_seen (O.written outs.new) (O.faults outs.new)) (console_seen (C.told console.new) (C.faults console.new)))
-        → (result ≡ 0) ⊎ (result ≡ 4)) }
+        → ((result ≡ 0) × PutsFaithfulTable (map string_bytes words.now) told request names.named.lines items × Gains (O.written outs.old) (O.written outs.new) (files_of request names.named.lines items)) ⊎ (result ≡ 4)) }
 
-    // So does every text of a data table in which there is no fault.
-    ensures complete_data { ForSome (F.contents files.old) (λ told. (request : Request) → (table : DataTable) → NamesData (map string_bytes words.now) told request table
+    // So does every text of a data table in which there is no fault, with its files.
+    ensures complete_data { ForSome (F.contents files.old) (λ told. (request : Request) → (table : DataTable) → (names : NamesData (map string_bytes words.now) told request table)
         → IsQuiet
         (world (files_seen (F.contents files.old) (F.faults files.old) (F.absents files.old)) (outputs_seen (O.written outs.old) (O.faults outs.old)) (console_seen (C.told console.old) (C.faults console.old)))
         (world (files_seen (F.contents files.new) (F.faults files.new) (F.absents files.new)) (outputs_seen (O.written outs.new) (O.faults outs.new)) (console_seen (C.told console.new) (C.faults console.new)))
-        → (result ≡ 0) ⊎ (result ≡ 4)) }
+        → ((result ≡ 0) × PutsDataTable (map string_bytes words.now) told request table names.named.lines × Gains (O.written outs.old) (O.written outs.new) (data_files_of request table)) ⊎ (result ≡ 4)) }
+
+    // 1 comes, whatever is asked for, only of what is refused: a source whose preprocessing stops, whose tokens have a fault, stop being a source or nest too
+    // deep, or in which there are errors, and then all of the first class that has some; a data table with faults; or warnings, where these refuse. The
+    // console gained these messages in order, and how many they are.
+    ensures refuses { result ≡ 1 → ForSome (F.contents files.old) (λ told. TellsRefusal (map string_bytes words.now) told (C.told console.old) (C.told console.new)) }
+
+    // And where no count rose, all that is so refused gives 1, and the console gains its messages; or the call gives 4.
+    ensures complete_refusal { ForSome (F.contents files.old) (λ told. (request : Request) → (fetched : List (List ℕ)) → (messages : List Message) → IsRefused (map string_bytes words.now) told request fetched messages
+        → IsQuiet
+        (world (files_seen (F.contents files.old) (F.faults files.old) (F.absents files.old)) (outputs_seen (O.written outs.old) (O.faults outs.old)) (console_seen (C.told console.old) (C.faults console.old)))
+        (world (files_seen (F.contents files.new) (F.faults files.new) (F.absents files.new)) (outputs_seen (O.written outs.new) (O.faults outs.new)) (console_seen (C.told console.new) (C.faults console.new)))
+        → ((result ≡ 1) × Gains (C.told console.old) (C.told console.new) (refusal_text request fetched messages)) ⊎ (result ≡ 4)) }
 
     // The boxes are as before, or those of the kinds that are asked for are left, in their old order.
     ensures boxes { (backends.new.items ≡ backends.old.items) ⊎ HoldsAsked (λ b. kind_of b) (kinds_by (task_by (map string_bytes words.now))) backends.old.items backends.new.items }
@@ -78,10 +94,16 @@ pub fn iasl<F: Files, O: Outputs, C: Sink>(
     ensures text_alone { asks_for_text (map string_bytes words.now) ≡ true → backends.new.items ≡ backends.old.items }
 
     // After 0, where that is not, exactly those of the kinds that are asked for are left, in their old order. They are finished over one list
-    // of pieces, and their texts are the bytes of the files.
+    // of pieces, which are those of the last table, or of the template, and no others; and their texts are the bytes of the files.
     ensures rendered { result ≡ 0 → asks_for_text (map string_bytes words.now) ≡ false
         → HoldsAsked (λ b. kind_of b) (kinds_by (task_by (map string_bytes words.now))) backends.old.items backends.new.items
-        × AreRendered (λ b. pieces b) (λ b. finished b) (kinds_by (task_by (map string_bytes words.now))) backends.new.items (answer_for (map string_bytes words.now)) (F.contents files.old) }
+        × AreRendered (λ b. pieces b) (λ b. finished b) (kinds_by (task_by (map string_bytes words.now))) backends.new.items (answer_for (map string_bytes words.now)) (pieces_for (map string_bytes words.now)) (F.contents files.old) }
+
+    // Where the words name a source, these are the pieces of its table, which the clauses above have, and where they name a data table, that table's.
+    ensures over_its_table { result ≡ 0 → ForSome (F.contents files.old) (λ told. (request : Request) → (items : List Raw) → (names : NamesSource (map string_bytes words.now) told request items)
+        → All (λ b. pieces b ≡ its_pieces request names.named.lines items) backends.new.items) }
+    ensures over_its_data { result ≡ 0 → ForSome (F.contents files.old) (λ told. (request : Request) → (table : DataTable) → NamesData (map string_bytes words.now) told request table
+        → All (λ b. pieces b ≡ table.pieces) backends.new.items) }
 {
     let decided = decide(alloc, words, files);
     let rendered = render(backends, decided);

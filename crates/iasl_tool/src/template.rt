@@ -1,8 +1,8 @@
 //! What a call is to end with that asks for a template.
 ghost use Rattle.std.specs.Prelude.{◌≡◌, ◌++◌, ◌∷◌, [], IfOk, codes, map, string_bytes};
 ghost use Rattle.std.specs.Char.{to_ascii_lowercase};
-ghost use Rattle.data_generic.specs.Templates.{signature_of};
-ghost use Rattle.table_outputs.specs.Decision.{end_of, IsTemplate};
+ghost use Rattle.data_generic.specs.Templates.{signature_of, default_pieces};
+ghost use Rattle.table_outputs.specs.Decision.{end_of, IsTemplate, IsMadeOf};
 ghost use Rattle.iasl_tool.specs.Due.{template_name, answer_to_template};
 
 use crate::due::console_text;
@@ -47,6 +47,7 @@ fn template_text(alloc: Global, table: Table) -> Result<Text, AllocError>
 pub(crate) fn answer_to_template(alloc: Global, table: Table) -> Result<Decision, AllocError>
     ensures due { IfOk result (λ decision. end_of decision ≡ answer_to_template table) }
     ensures decided { IfOk result IsTemplate }
+    ensures made { IfOk result (IsMadeOf (default_pieces table)) }
 {
     let name = String::from_str(alloc, template_name(table))?;
     let pieces = default_lines(alloc, signature_of(table))?;

@@ -45,9 +45,9 @@ due_then (Err stop) (Err later) (Ok due) r m = absurd m
 due_then (Err stop) (Err later) (Err last) r m = m ∙ r
 
 -- what a call decides, once its outputs are made
-pub decides : (answer : List Named → Option Answer) (r : Result Task ℕ) (decided : Result Decision Stop) (made : Result Due Stop) (old new : FilesSeen)
-    → Settles answer (IsDecidedFor r) decided old new → IsDueOf decided made → Decides answer made old new
-decides answer r (Ok (Makes making)) (Ok due) old new s m = record {
+pub decides : (answer : List Named → Option Answer) (pieces : List Named → List Piece) (r : Result Task ℕ) (decided : Result Decision Stop) (made : Result Due Stop) (old new : FilesSeen)
+    → Settles answer pieces (IsDecidedFor r) decided old new → IsDueOf decided made → Decides answer made old new
+decides answer pieces r (Ok (Makes making)) (Ok due) old new s m = record {
   due = λ told is. s.due told is ∙ ap Some (sym m.0);
   settled = m.1;
   fault = λ h. absurd cc;
@@ -55,7 +55,7 @@ decides answer r (Ok (Makes making)) (Ok due) old new s m = record {
   contents = s.contents;
   later = s.later;
 }
-decides answer r (Ok (Ends decided)) (Ok due) old new s m = record {
+decides answer pieces r (Ok (Ends decided)) (Ok due) old new s m = record {
   due = λ told is. s.due told is ∙ ap (λ d. Some (answer_of d)) (sym m);
   settled = subst IsSettled (sym m) (end_settled r decided s.settled);
   fault = λ h. absurd cc;
@@ -63,8 +63,8 @@ decides answer r (Ok (Ends decided)) (Ok due) old new s m = record {
   contents = s.contents;
   later = s.later;
 }
-decides answer r (Ok (Ends decided)) (Err stop) old new s m = absurd m
-decides answer r (Ok (Makes making)) (Err stop) old new s m = record {
+decides answer pieces r (Ok (Ends decided)) (Err stop) old new s m = absurd m
+decides answer pieces r (Ok (Makes making)) (Err stop) old new s m = record {
   due = tt;
   settled = tt;
   fault = λ h. absurd cc;
@@ -72,8 +72,8 @@ decides answer r (Ok (Makes making)) (Err stop) old new s m = record {
   contents = s.contents;
   later = s.later;
 }
-decides answer r (Err stop) (Ok due) old new s m = absurd m
-decides answer r (Err stop) (Err later) old new s m = record {
+decides answer pieces r (Err stop) (Ok due) old new s m = absurd m
+decides answer pieces r (Err stop) (Err later) old new s m = record {
   due = tt;
   settled = tt;
   fault = λ h. s.fault (as_decided stop later m h);
@@ -150,14 +150,15 @@ module _ {X : Type 0} (kind_of : X → Kind) (pieces_of : X → List Piece) (is_
     boxes_as_before (Ok (Ends due)) rendered made m change f some few = change
     boxes_as_before (Err stop) rendered made m change f some few = change
 
-    pub boxes_rendered : (answer : List Named → Option Answer) (files now_files : FilesSeen) (decided rendered : Result Decision Stop) (made : Result Due Stop) → Settles answer (IsDecidedFor r) decided files now_files → IsDueOf decided made → IsDueOf rendered made
+    pub boxes_rendered : (answer : List Named → Option Answer) (pieces : List Named → List Piece) (files now_files : FilesSeen) (decided rendered : Result Decision Stop) (made : Result Due Stop) → Settles answer pieces (IsDecidedFor r) decided files now_files → IsDueOf decided made → IsDueOf rendered made
         → ChangesBy kind_of pieces_of is_finished decided rendered old new → Finishes fault memory made status put now_put told now_told
-        → status ≡ 0 → only_by (settings_in r) ≡ false → HoldsAsked kind_of (kinds_by r) old new × AreRendered pieces_of is_finished (kinds_by r) new answer files.contents
-    boxes_rendered answer files now_files (Ok (Makes making)) (Ok rendered) (Ok due) s m n change f zero asks =
+        → status ≡ 0 → only_by (settings_in r) ≡ false → HoldsAsked kind_of (kinds_by r) old new × AreRendered pieces_of is_finished (kinds_by r) new answer pieces files.contents
+    boxes_rendered answer pieces files now_files (Ok (Makes making)) (Ok rendered) (Ok due) s m n change f zero asks =
         let kinds = kinds_are r making s.settled in (
           subst (λ kinds. HoldsAsked kind_of kinds old new) kinds change.0,
           record {
             pieces = making.pieces;
+            are = s.made;
             over = change.1.0;
             finished = change.1.1;
             texts = λ all is.
@@ -166,10 +167,10 @@ module _ {X : Type 0} (kind_of : X → Kind) (pieces_of : X → List Piece) (is_
                 ∙ ap (λ kinds. map (λ kind. rendering kind making.pieces) (order_of kinds)) kinds;
           },
         )
-    boxes_rendered answer files now_files (Ok (Makes making)) (Err stop) (Ok due) s m n change f zero asks = absurd n
-    boxes_rendered answer files now_files (Ok (Makes making)) rendered (Err stop) s m n change f zero asks = let high = stops stop status f.1.is in absurd (omega (arith, high, zero))
-    boxes_rendered answer files now_files (Ok (Ends decided)) rendered (Ok due) s m n change f zero asks =
+    boxes_rendered answer pieces files now_files (Ok (Makes making)) (Err stop) (Ok due) s m n change f zero asks = absurd n
+    boxes_rendered answer pieces files now_files (Ok (Makes making)) rendered (Err stop) s m n change f zero asks = let high = stops stop status f.1.is in absurd (omega (arith, high, zero))
+    boxes_rendered answer pieces files now_files (Ok (Ends decided)) rendered (Ok due) s m n change f zero asks =
         let yes : only_by (settings_in r) ≡ true = text_alone r decided s.settled (ap (λ d. d.status) (sym m) ∙ of_zero due status zero f.is) in absurd cc
-    boxes_rendered answer files now_files (Ok (Ends decided)) rendered (Err stop) s m n change f zero asks = absurd m
-    boxes_rendered answer files now_files (Err stop) rendered (Ok due) s m n change f zero asks = absurd m
-    boxes_rendered answer files now_files (Err stop) rendered (Err later) s m n change f zero asks = let high = stops later status f.1.is in absurd (omega (arith, high, zero))
+    boxes_rendered answer pieces files now_files (Ok (Ends decided)) rendered (Err stop) s m n change f zero asks = absurd m
+    boxes_rendered answer pieces files now_files (Err stop) rendered (Ok due) s m n change f zero asks = absurd m
+    boxes_rendered answer pieces files now_files (Err stop) rendered (Err later) s m n change f zero asks = let high = stops later status f.1.is in absurd (omega (arith, high, zero))

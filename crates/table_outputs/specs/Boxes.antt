@@ -34,9 +34,10 @@ HoldsAsked kind_of kinds old new = Each (λ b c. kind_of c ≡ kind_of b) (filte
 abbrev pub order_of : Kinds → List Kind
 order_of kinds = cond kinds.template (Template ∷ []) (RawAml ∷ []) ++ cond kinds.c_text (CHex ∷ []) [] ++ cond kinds.listing (Listing ∷ []) []
 
--- The boxes are finished over one list of pieces, and the texts of their kinds are the bytes of the files that were due.
-pub record AreRendered {X : Type 0} (pieces_of : X → List Piece) (is_finished : X → Bool) (kinds : Kinds) (boxes : List X) (answer : List Named → Option Answer) (contents : Option (List Named)) : Type 0 where
+-- The boxes are finished over one list of pieces, which are the due ones, and the texts of their kinds are the bytes of the files that were due.
+pub record AreRendered {X : Type 0} (pieces_of : X → List Piece) (is_finished : X → Bool) (kinds : Kinds) (boxes : List X) (answer : List Named → Option Answer) (due_pieces : List Named → List Piece) (contents : Option (List Named)) : Type 0 where
   pub pieces : List Piece
+  pub are : ForSome contents (λ told. pieces ≡ due_pieces told)
   pub over : All (λ b. pieces_of b ≡ pieces) boxes
   pub finished : All (λ b. is_finished b ≡ true) boxes
   pub texts : ForSome contents (λ told. map (λ file. file.1) (due_of (answer told)) ≡ map (λ kind. rendering kind pieces) (order_of kinds))

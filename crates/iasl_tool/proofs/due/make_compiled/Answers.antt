@@ -1,4 +1,5 @@
 use Rattle.std.proofs.Common.{ℕ, length, sym, subst}
+use Rattle.iasl_tool.specs.Due.{pieces_of_lines}
 use Rattle.iasl_options.specs.Shown.{asked_of}
 use Rattle.asl_tables.specs.Compiled.{AreWithin, TellsWithin}
 use Rattle.iasl_tool.proofs.Sorting.{both_within}
@@ -18,3 +19,6 @@ decide_refusal-requires c =
 
 pub returns-in_ok-both-in-Refused-clause-decided : goal.returns-in_ok-both-in-Refused-clause-decided
 returns-in_ok-both-in-Refused-clause-decided c = c.decide_refusal.ensures.decided (asked_of c.args.options.now)
+
+pub returns-in_ok-both-in-Refused-clause-made : goal.returns-in_ok-both-in-Refused-clause-made
+returns-in_ok-both-in-Refused-clause-made c = c.decide_refusal.ensures.made (pieces_of_lines (asked_of c.args.options.now) c.args.lines.now.list)
