@@ -2,8 +2,8 @@
 #![tactic(auto)]
 
 use acpi_extract::run::extract;
+use host_ports::host::{HostFiles, HostOutputs, HostSink};
 use iasl_ports::delivery::tell;
-use iasl_ports::host::{HostFiles, HostOutputs, HostSink};
 use std::alloc::AllocError;
 use std::env;
 use std::io::ErrorKind;

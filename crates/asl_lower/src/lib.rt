@@ -3,5 +3,6 @@
 
 mod copy;
 pub mod kind;
+pub mod laws;
 pub mod lower;
 mod nest;

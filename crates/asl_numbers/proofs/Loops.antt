@@ -1,5 +1,6 @@
 -- Nodes that are numbered one after another.
 use Rattle.std.proofs.Common.{◌≡◌, ℕ, zero, suc, ◌+◌, ◌<◌, ◌≤◌, List, [], ◌∷◌, length, get_or, set, take, drop, refl, sym, ap, ◌∙◌, subst, arith}
+use Rattle.std.specs.Prelude.{Option, Some, None, IfNone}
 use Rattle.std.proofs.lemmas.List.{take_all, drop_all}
 use Rattle.asl_tree.specs.declared.term.Node.{Node}
 use Rattle.asl_tree.specs.Tree.{At, Trees, no_trees, tree}
@@ -149,3 +150,15 @@ node_numbered first old now at next behind_it node held made lt e h id place tre
     let one : at + 1 ≡ suc at = omega arith in
     subst (λ ns. IsNumbered first old ns (at + 1) behind_it) (sym (twice_set now at held made))
     (subst (λ n. IsNumbered first old (set now at made) n behind_it) (sym one) (next_numbered first old now at next behind_it node made lt e h id place tree_is count plan_is))
+
+-- ---- the numbers that the nodes need
+
+-- a node and the nodes inside it have their numbers among those of all nodes
+pub needed : (first : ℕ) (old now : List Node) (at next : ℕ) (node : Node) → at < length now → node ≡ get_or now at node → IsNumbered first old now at next → suc next + inside (plan_of node.term) ≤ first + nodes (plans_of old)
+needed first old now at next node lt e h =
+    let here : nodes (plans_of (drop at old)) ≡ suc (inside (plan_of node.term) + nodes (plans_of (drop (suc at) now))) = ap (λ ns. nodes (plans_of ns)) (sym h.rest ∙ first_behind now at node lt e) ∙ one_count node (drop (suc at) now) in
+    omega (arith, here, h.count)
+
+pub where_none : {X : Type 0} (answer : Option X) (P : Type 0) → P → IfNone answer P
+where_none None P p = p
+where_none (Some x) P p = tt

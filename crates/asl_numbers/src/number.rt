@@ -1,5 +1,5 @@
 //! Numbers in preorder: each node, then its arguments, then its body.
-ghost use Rattle.std.specs.Prelude.{◌≡◌, ◌+◌, IfSome};
+ghost use Rattle.std.specs.Prelude.{◌≡◌, ◌+◌, ◌^◌, ◌≤◌, IfSome, IfNone};
 ghost use Rattle.asl_tree.specs.View.{tree_of, trees_of};
 ghost use Rattle.asl_tree.specs.Tree.{At};
 ghost use Rattle.asl_shape.specs.Plans.{plan_of, plans_of};
@@ -8,13 +8,15 @@ ghost use Rattle.asl_numbers.specs.Numbers.{inside, nodes as node_count, numbere
 use asl_tree::term::{Node, Term};
 use std::mem::replace;
 
-/// Gives each node its number, the first that of `first`, and answers the number behind the last. It answers None where
-/// that is more than 32 bits hold; the terms, their places and their order stay what they are.
+/// Gives each node its number, the first that of `first`, and answers the number behind the last; the terms, their places
+/// and their order stay what they are. It answers None exactly where that number is more than 32 bits hold: some nodes have
+/// their numbers then, and the terms are fit for nothing but to be let go.
 #[cycle(number)]
 pub fn number_nodes(nodes: &mut Vec<Node>, first: u32) -> Option<u32>
     ensures next { IfSome result (λ next. next ≡ first + node_count (plans_of nodes.old.items)) }
     ensures trees { IfSome result (λ next. trees_of nodes.new.items ≡ numbered_all first (plans_of nodes.old.items)) }
     ensures plans { IfSome result (λ next. plans_of nodes.new.items ≡ plans_of nodes.old.items) }
+    ensures none { IfNone result (2 ^ 32 ≤ first + node_count (plans_of nodes.old.items)) }
 {
     let mut next = first;
     let mut at = 0;
@@ -33,13 +35,14 @@ pub fn number_nodes(nodes: &mut Vec<Node>, first: u32) -> Option<u32>
     Some(next)
 }
 
-// A term with its nodes numbered, and the number behind the last.
+// A term with its nodes numbered, and the number behind the last, where it has 32 bits.
 #[cycle(number)]
 #[tactic(auto, using(asl_shape::proofs::Plans::plan_rules, crate::proofs::Trees::tree_rules, crate::proofs::Trees::numbered_rules, crate::proofs::Trees::alone_rules))]
 fn numbered_inside(term: Term, first: u32) -> Option<(Term, u32)>
     ensures next { IfSome result (λ r. r.1 ≡ first + inside (plan_of term)) }
     ensures tree { IfSome result (λ r. (at : At) → tree_of at r.0 ≡ numbered at first (plan_of term)) }
     ensures plan { IfSome result (λ r. plan_of r.0 ≡ plan_of term) }
+    ensures none { IfNone result (2 ^ 32 ≤ first + inside (plan_of term)) }
 {
     match term {
         Term::Call { path, mut args } => {

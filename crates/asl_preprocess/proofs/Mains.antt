@@ -69,7 +69,7 @@ pub keeps_counts : (stop : PreStop) (message : Message) (files : List (List ℕ)
 keeps_counts (by.Refused told names) message files before now h e = e
 keeps_counts by.Absent message files before now h e = absurd h
 keeps_counts by.ReadFault message files before now h e = absurd h
-keeps_counts by.Memory message files before now h e = tt
+keeps_counts by.Memory message files before now h e = e
 
 -- what is left, if anything is
 pub all_given : (r : Result Left PreStop) (files : List (List ℕ)) (lines : List Line) (notes : List Message) {contents : Option (List Named)} {it : List Named → Preprocessed} → ForSome contents (λ told. it told ≡ Given files lines notes)
@@ -102,13 +102,13 @@ ends_place stop Memory contents files outcome h r = subst HasPlace (sym h) tt
 pub ends_counts : (stop : PreStop) (early : ReadingStop) (files : List (List ℕ)) (before now : ℕ) → EndsWith stop early files → Counts early before now → MainCauses stop before now
 ends_counts stop (At message) files before now h e = keeps_counts stop message files before now h e
 ends_counts stop ReadFault files before now h e = subst (λ s. MainCauses s before now) (sym h) e
-ends_counts stop Memory files before now h e = subst (λ s. MainCauses s before now) (sym h) tt
+ends_counts stop Memory files before now h e = subst (λ s. MainCauses s before now) (sym h) e
 
 pub main_causes : (stop : PreStop) (before mid now absents absents' : ℕ) → mid ≡ before → MainCauses stop mid now → Causes stop before now absents absents'
 main_causes (by.Refused told names) before mid now absents absents' e h = h ∙ e
 main_causes by.Absent before mid now absents absents' e h = absurd h
 main_causes by.ReadFault before mid now absents absents' e h = omega (arith, h, e)
-main_causes by.Memory before mid now absents absents' e h = tt
+main_causes by.Memory before mid now absents absents' e h = h ∙ e
 
 -- the same where the main file was not fetched
 pub lacks_stop : (stop : PreStop) (fault : FetchFault) (setting : Setting) (name : List ℕ) (defines : List Define) (found : Option (List ℕ)) → LacksMain stop fault name → RefusedAt fault found → IsStop stop (of_found setting name defines found)
@@ -128,10 +128,10 @@ keeps_causes : (stop : PreStop) (message : Message) (files : List (List ℕ)) (b
 keeps_causes (by.Refused told names) message files before now absents absents' h e = e
 keeps_causes by.Absent message files before now absents absents' h e = absurd h
 keeps_causes by.ReadFault message files before now absents absents' h e = absurd h
-keeps_causes by.Memory message files before now absents absents' h e = tt
+keeps_causes by.Memory message files before now absents absents' h e = e
 
 pub lacks_causes : (stop : PreStop) (fault : FetchFault) (name : List ℕ) (before now absents absents' larges larges' : ℕ) → LacksMain stop fault name → RefusedCounts fault before now absents absents' larges larges' → Causes stop before now absents absents'
 lacks_causes stop fetch.Absent name before now absents absents' larges larges' h r = subst (λ s. Causes s before now absents absents') (sym h) r
 lacks_causes stop fetch.TooLarge name before now absents absents' larges larges' h r = keeps_causes stop too_large_main (name ∷ []) before now absents absents' h r.0
 lacks_causes stop fetch.Failed name before now absents absents' larges larges' h r = subst (λ s. Causes s before now absents absents') (sym h) r
-lacks_causes stop fetch.Memory name before now absents absents' larges larges' h r = subst (λ s. Causes s before now absents absents') (sym h) tt
+lacks_causes stop fetch.Memory name before now absents absents' larges larges' h r = subst (λ s. Causes s before now absents absents') (sym h) r

@@ -102,4 +102,4 @@ pub end_counts : (r : Result (Unit {0}) ReadingStop) (file : ℕ) (outcome : Out
 end_counts (Ok u) file outcome state before now e h = tt
 end_counts (Err (At message)) file outcome state before now e h = e
 end_counts (Err ReadFault) file outcome state before now e h = absurd h.0
-end_counts (Err Memory) file outcome state before now e h = tt
+end_counts (Err Memory) file outcome state before now e h = e

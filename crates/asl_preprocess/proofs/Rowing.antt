@@ -160,15 +160,15 @@ module _ (contents : Option (List Named)) (directories : List (List ℕ)) (enabl
     seek_reads name bytes told h = looks told ∙ ap (read_found (of_file (setting told) (levels - 1)) (asked_for wanted) wanted.place state) h
 
 -- a search that ends early, and one that finds no file, or too large a one
-pub search_seeks : (stop : ReadingStop) (rose : Type 0) (wanted : Wanted) (old new : List (List ℕ)) (contents : Option (List Named)) (found : List Named → SearchResult) → SearchStops stop rose → SeekStops stop wanted old new contents found
-search_seeks (At message) rose wanted old new contents found h = absurd h
-search_seeks ReadFault rose wanted old new contents found h = tt
-search_seeks Memory rose wanted old new contents found h = tt
+pub search_seeks : (stop : ReadingStop) (before now : ℕ) (wanted : Wanted) (old new : List (List ℕ)) (contents : Option (List Named)) (found : List Named → SearchResult) → SearchStops stop before now → SeekStops stop wanted old new contents found
+search_seeks (At message) before now wanted old new contents found h = absurd h
+search_seeks ReadFault before now wanted old new contents found h = tt
+search_seeks Memory before now wanted old new contents found h = tt
 
-pub search_counts : (stop : ReadingStop) (before now : ℕ) → SearchStops stop (Rose before now) → Counts stop before now
+pub search_counts : (stop : ReadingStop) (before now : ℕ) → SearchStops stop before now → Counts stop before now
 search_counts (At message) before now h = absurd h
 search_counts ReadFault before now h = h
-search_counts Memory before now h = tt
+search_counts Memory before now h = h
 
 pub refuses_missing : (stop : ReadingStop) (wanted : Wanted) (name : List ℕ) (files : List (List ℕ)) (contents : Option (List Named)) (found : List Named → SearchResult)
     → name ≡ wanted.name → Refuses stop (message_at 6001 wanted.place name) → ForSome contents (λ told. found told ≡ Missing) → SeekStops stop wanted files files contents found
@@ -188,4 +188,4 @@ refuses_large Memory wanted files contents found h f = tt
 pub row_counts : {X : Type 0} (stop : ReadingStop) (files : List (List ℕ)) (o : Outcome X) (count : ℕ) → StopsWith stop files o → Counts stop count count
 row_counts (At message) files o count h = refl
 row_counts ReadFault files o count h = absurd h
-row_counts Memory files o count h = tt
+row_counts Memory files o count h = refl

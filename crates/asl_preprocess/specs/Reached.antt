@@ -38,7 +38,7 @@ Reaches (Err stop) contents files Is outcome = StopsAt stop contents files outco
 abbrev pub Counts : ReadingStop → ℕ → ℕ → Type 0
 Counts (At message) before now = now ≡ before
 Counts ReadFault before now = Rose before now
-Counts Memory before now = ⊤
+Counts Memory before now = now ≡ before
 
 -- the end of a file, or a refusal there
 abbrev pub EndsAt : ReadingStop → List (List ℕ) → Outcome State → Type 0

@@ -1,6 +1,7 @@
 -- What the code's search tells of the definition's.
 use Rattle.std.specs.Prelude.{◌≡◌, ◌≤◌, ℕ, List, [], length, ⊤, Option, Some, None}
 use Rattle.std.specs.Option.{ForSome}
+use Rattle.iasl_ports.specs.Counts.{Rose}
 use Rattle.iasl_ports.specs.Gained.{Named}
 use Rattle.iasl_messages.specs.declared.message.Message.{Message}
 use Rattle.asl_preprocess.specs.declared.directives.Wanted.{Wanted}
@@ -32,11 +33,11 @@ abbrev pub HasRoom : Option SearchResultByCode → Type 0
 HasRoom None = ⊤
 HasRoom (Some found) = FoundHasRoom found
 
--- a search ends early only for a file that could not be read, or for want of memory
-abbrev pub SearchStops : ReadingStop → Type 0 → Type 0
-SearchStops (At message) rose = ⊥
-SearchStops ReadFault rose = rose
-SearchStops Memory rose = ⊤
+-- a search ends early only for a file that could not be read, or for want of memory, where none was so
+abbrev pub SearchStops : ReadingStop → ℕ → ℕ → Type 0
+SearchStops (At message) before now = ⊥
+SearchStops ReadFault before now = Rose before now
+SearchStops Memory before now = now ≡ before
 
 -- what a search for an included file that finds none refuses
 abbrev pub RefusesFound : Message → Wanted → SearchResult → Type 0

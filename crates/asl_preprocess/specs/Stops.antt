@@ -24,19 +24,19 @@ HasPlace by.Absent = ⊤
 HasPlace by.ReadFault = ⊤
 HasPlace by.Memory = ⊤
 
--- what the counts of faults and of absent files say
+-- what the counts of faults and of absent files say; want of memory does not take the place of a file that could not be read
 abbrev pub Causes : PreStop → ℕ → ℕ → ℕ → ℕ → Type 0
 Causes (by.Refused message files) faults faults' absents absents' = faults' ≡ faults
 Causes by.Absent faults faults' absents absents' = (faults' ≡ faults) × Rose absents absents'
 Causes by.ReadFault faults faults' absents absents' = Rose faults faults'
-Causes by.Memory faults faults' absents absents' = ⊤
+Causes by.Memory faults faults' absents absents' = faults' ≡ faults
 
 -- the same where the main file was fetched
 abbrev pub MainCauses : PreStop → ℕ → ℕ → Type 0
 MainCauses (by.Refused message files) faults faults' = faults' ≡ faults
 MainCauses by.Absent faults faults' = ⊥
 MainCauses by.ReadFault faults faults' = Rose faults faults'
-MainCauses by.Memory faults faults' = ⊤
+MainCauses by.Memory faults faults' = faults' ≡ faults
 
 -- this message and these files
 abbrev pub Keeps : PreStop → Message → List (List ℕ) → Type 0

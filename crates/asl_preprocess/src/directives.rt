@@ -1,5 +1,5 @@
 //! What the directives do.
-ghost use Rattle.std.specs.Prelude.{◌≡◌, ◌≢◌, ◌+◌, [], ℕ, List, IfOk, true, false};
+ghost use Rattle.std.specs.Prelude.{◌≡◌, ◌≢◌, ◌+◌, ◌^◌, ◌≤◌, [], ℕ, List, IfOk, IfErr, true, false};
 ghost use Rattle.asl_directives.specs.Forms.{name_alone as name_in, definition_of as definition_in, message_of as message_in, include_of as include_in};
 ghost use Rattle.asl_directives.specs.Branches.{at_else, at_end_if};
 ghost use Rattle.asl_directives.specs.declared.branches.Branch.{Branch};
@@ -343,7 +343,8 @@ fn skip_or_refuse(
 
 /// The column of the byte behind so many others. (No longer line is read.)
 pub(crate) fn column_behind(count: usize) -> Result<u32, AllocError>
-    ensures { IfOk result (λ column. column ≡ count + 1) }
+    ensures column { IfOk result (λ column. column ≡ count + 1) }
+    ensures full { IfErr result (λ _. 2 ^ 32 ≤ count + 1) }
 {
     if count >= 4_294_967_295 {
         return Err(AllocError);

@@ -1,5 +1,5 @@
 //! The names of the files that were fetched.
-ghost use Rattle.std.specs.Prelude.{◌≡◌, ◌∷◌, ◌++◌, ◌<◌, [], length, IfOk, OnOk};
+ghost use Rattle.std.specs.Prelude.{◌≡◌, ◌∷◌, ◌++◌, ◌+◌, ◌^◌, ◌<◌, ◌≤◌, [], length, IfOk, IfErr, OnOk};
 ghost use Rattle.asl_preprocess.specs.State.{number_of, with_file};
 
 use iasl_ports::list::{Text, Texts};
@@ -14,6 +14,17 @@ fn copy_of(alloc: Global, bytes: &[u8]) -> Result<Vec<u8>, AllocError>
     ensures { IfOk result (λ copy. copy.items ≡ bytes.now) }
 {
     bytes.to_vec(alloc)
+}
+
+// The number of a file that so many files stand before. There is no room for 2^32 files.
+fn number_behind(count: usize) -> Result<u32, AllocError>
+    ensures number { IfOk result (λ number. number ≡ count) }
+    ensures full { IfErr result (λ _. 2 ^ 32 ≤ count + 1) }
+{
+    if count >= MOST_FILES {
+        return Err(AllocError);
+    }
+    Ok(count as u32)
 }
 
 /// Puts a text of these bytes behind others.
@@ -61,10 +72,8 @@ impl FileNames {
     {
         let name = copy_of(alloc, name)?;
         let (place, _) = self.names.insert_full(name)?;
-        if place >= MOST_FILES {
-            return Err(AllocError);
-        }
-        Ok(place as u32)
+        let number = number_behind(place)?;
+        Ok(number)
     }
 
     /// The names as texts.

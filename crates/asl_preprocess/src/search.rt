@@ -128,7 +128,7 @@ fn fetch<F: Files>(
 ) -> Result<Option<SearchResult>, ReadingStop>
     ensures found { IfOk result (λ found. ForSome (F.contents files.old) (λ told. (rest : spec.SearchResult) → found_or_rest found rest ≡ spec.search_first told name.now rest)) }
     ensures size { IfOk result HasRoom }
-    ensures fault { IfErr result (λ stop. SearchStops stop (Rose (F.faults files.old) (F.faults files.new))) }
+    ensures fault { IfErr result (λ stop. SearchStops stop (F.faults files.old) (F.faults files.new)) }
     ensures faults { OnOk result (F.faults files.new ≡ F.faults files.old) }
     ensures contents { F.contents files.new ≡ F.contents files.old }
     ensures later { F.faults files.old ≤ F.faults files.new }
@@ -156,7 +156,7 @@ fn search<F: Files>(
 ) -> Result<SearchResult, ReadingStop>
     ensures found { IfOk result (λ found. ForSome (F.contents files.old) (λ told. spec.search told names.now ≡ found_by found)) }
     ensures size { IfOk result FoundHasRoom }
-    ensures fault { IfErr result (λ stop. SearchStops stop (Rose (F.faults files.old) (F.faults files.new))) }
+    ensures fault { IfErr result (λ stop. SearchStops stop (F.faults files.old) (F.faults files.new)) }
     ensures faults { OnOk result (F.faults files.new ≡ F.faults files.old) }
     ensures contents { F.contents files.new ≡ F.contents files.old }
     ensures later { F.faults files.old ≤ F.faults files.new }
@@ -181,7 +181,7 @@ pub(crate) fn search_for<F: Files>(
 ) -> Result<SearchResult, ReadingStop>
     ensures found { IfOk result (λ found. ForSome (F.contents files.old) (λ told. spec.search told (spec.names_for directories.now own.now (asked_for wanted.now)) ≡ found_by found)) }
     ensures size { IfOk result FoundHasRoom }
-    ensures fault { IfErr result (λ stop. SearchStops stop (Rose (F.faults files.old) (F.faults files.new))) }
+    ensures fault { IfErr result (λ stop. SearchStops stop (F.faults files.old) (F.faults files.new)) }
     ensures faults { OnOk result (F.faults files.new ≡ F.faults files.old) }
     ensures contents { F.contents files.new ≡ F.contents files.old }
     ensures later { F.faults files.old ≤ F.faults files.new }

@@ -1,5 +1,5 @@
 //! Resource templates, which stand for the bytes of their descriptors.
-ghost use Rattle.std.specs.Prelude.{◌≡◌, ◌++◌, ◌∷◌, [], true, OnOk, IfOk, length, map};
+ghost use Rattle.std.specs.Prelude.{◌≡◌, ◌+◌, ◌^◌, ◌≤◌, ◌++◌, ◌∷◌, [], true, OnOk, IfOk, IfErr, length, map};
 ghost use Rattle.asl_shape.specs.Descriptors as table;
 ghost use Rattle.asl_shape.specs.Shapes as spec;
 ghost use Rattle.asl_shape.specs.Plans.{plan_of, plans_of};
@@ -86,9 +86,10 @@ struct Fill {
     named: Vec<NamedDescriptor>,
 }
 
-// A descriptor that has a name, so many bytes further behind.
+// A descriptor that has a name, so many bytes further behind. There is no memory where it would stand behind more than a `usize` counts.
 fn moved(named: NamedDescriptor, bytes: usize) -> Result<NamedDescriptor, AllocError>
-    ensures { IfOk result (λ further. further ≡ table.moved bytes named) }
+    ensures further { IfOk result (λ further. further ≡ table.moved bytes named) }
+    ensures full { IfErr result (λ _. 2 ^ 64 ≤ named.at + bytes) }
 {
     let Some(at) = named.at.checked_add(bytes) else {
         return Err(AllocError);

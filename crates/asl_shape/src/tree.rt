@@ -415,16 +415,9 @@ fn form(
     ensures faults { OnOk result (work.new.faults.items ≡ work.old.faults.items ++ (spec.form_shape inside.width op place (at.arguments_in_at (table.parameters_as op slot) place inside args.now) (at.contents_at (table.body_as op slot) (spec.within op inside) place body.now)).faults) }
     ensures made { IfOk result (λ term. plan_of term ≡ (spec.form_shape inside.width op place (at.arguments_in_at (table.parameters_as op slot) place inside args.now) (at.contents_at (table.body_as op slot) (spec.within op inside) place body.now)).made) }
 {
-    let mut nodes = Vec::new(alloc);
-    arguments(
-        alloc,
-        work,
-        &mut nodes,
-        parameters_as(op, slot),
-        inside,
-        place,
-        args,
-    )?;
+    let parameters = parameters_as(op, slot);
+    let mut nodes = Vec::with_capacity(alloc, parameters.len())?;
+    arguments(alloc, work, &mut nodes, parameters, inside, place, args)?;
     settle(alloc, inside.width, op, place, &mut nodes)?;
     let mut terms = Vec::new(alloc);
     contents(
@@ -702,6 +695,8 @@ fn elements(
     if !is_listed(raws) {
         return Ok(tell(alloc, work, WRONG_ARGUMENT_FORM, place)?);
     }
+    // every other member is a comma
+    nodes.reserve_exact(raws.len() / 2 + 1)?;
     Ok(members(alloc, work, nodes, slot, inside, raws)?)
 }
 
@@ -736,6 +731,7 @@ pub fn terms(
     ensures faults { OnOk result (work.new.faults.items ≡ work.old.faults.items ++ (at.terms_at inside None raws.now).faults) }
     ensures made { OnOk result (plans_of nodes.new.items ≡ join (plans_of nodes.old.items) (at.terms_at inside None raws.now).made) }
 {
+    nodes.reserve_exact(raws.len())?;
     let mut run = None;
     for raw in raws {
         add_member(alloc, work, nodes, Slot::Term { run }, inside, raw)?;
@@ -757,6 +753,7 @@ fn cases(
     ensures faults { OnOk result (work.new.faults.items ≡ work.old.faults.items ++ (at.cases_at inside false raws.now).faults) }
     ensures made { OnOk result (plans_of nodes.new.items ≡ join (plans_of nodes.old.items) (at.cases_at inside false raws.now).made) }
 {
+    nodes.reserve_exact(raws.len())?;
     let mut defaulted = false;
     for raw in raws {
         add_member(alloc, work, nodes, Slot::Branch { defaulted }, inside, raw)?;

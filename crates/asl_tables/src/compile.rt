@@ -1,5 +1,5 @@
 //! An ASL source to its table, or its errors.
-ghost use Rattle.std.specs.Prelude.{◌≡◌, ℕ, ◌<◌, ◌^◌, ◌++◌, ◌∷◌, [], length, All, Ok, IfOk, IfErr, true};
+ghost use Rattle.std.specs.Prelude.{◌≡◌, ◌↔◌, ℕ, ◌<◌, ◌^◌, ◌++◌, ◌∷◌, [], length, All, Ok, IfOk, IfErr, IsTrue, true};
 ghost use Rattle.acpi_values.specs.Revisions.{width_of};
 ghost use Rattle.literal_checks.specs.Literals.{cut_literals_at};
 ghost use Rattle.name_notes.specs.Notes.{name_notes};
@@ -69,7 +69,7 @@ use name_spelling::spell::spell;
 use region_checks::check::region_faults;
 use statement_checks::check::statement_errors;
 use std::alloc::{AllocError, Global};
-use std::mem::replace;
+use std::mem::{drop, forget, replace};
 use switch_checks::locals::few_locals;
 use switch_checks::repeat::repeated_values;
 use switch_loops::loops::loops;
@@ -126,7 +126,12 @@ fn pieces_of(alloc: Global, short: bool, lines: &Lines, block: Block) -> Result<
     ensures refused { IfErr result (RefusedFor block short) }
 {
     match core_of(alloc, block) {
-        Ok(core) => write(alloc, &core, lines, 0, short),
+        Ok(core) => {
+            let made = write(alloc, &core, lines, 0, short);
+            // the process ends soon, so nobody needs the room of the terms
+            forget(core);
+            made
+        }
         Err(AllocError) => Err(WriteStop::Memory),
     }
 }
@@ -366,20 +371,12 @@ fn with_notes(notes: Messages, it: Compiled) -> Result<Compiled, AllocError>
     }
 }
 
-// The notes on the literals of a block's source and on its names.
-fn notes_of(alloc: Global, unit: &RawUnit, block: &Block) -> Result<Messages, AllocError>
-    ensures { IfOk result (λ notes. notes ≡ cut_literals_at (width_of block.now.revision) unit.now.items ++ name_notes (trees_of block.now.terms.items)) }
-{
-    let literals = cut_literals(alloc, Width::of_revision(block.revision), unit)?;
-    both(literals, notes_on_names(alloc, block.terms.as_slice())?)
-}
-
-// A block, with the notes on the literals of its source and on its names.
+// A block, with the notes on the literals of its source, which are found before, and on its names.
 fn compile_noted(
     alloc: Global,
     style: Style,
     lines: &Lines,
-    unit: &RawUnit,
+    literals: Messages,
     block: Block,
     told: Messages,
     others: Messages,
@@ -387,9 +384,9 @@ fn compile_noted(
     requires room { HasRoom (fields_of block) }
     requires formed { AreFormed AreNamed (Unit {0}) (Unit {0}) (trees_of block.terms.items) }
     requires shaped { others ≡ [] → AreShaped (named_all (without_switches (trees_of block.terms.items))) }
-    ensures { IfOk result (λ it. it ≡ with_notes (cut_literals_at (width_of block.revision) unit.now.items ++ name_notes (trees_of block.terms.items)) (of_terms style lines.now.list block.place (core_places (plans_of block.terms.items)) block.file (fields_of block) (first_told told (told_errors (trees_of block.terms.items))) others (few_locals (trees_of block.terms.items) (plans_of block.terms.items)) (trees_of block.terms.items))) }
+    ensures { IfOk result (λ it. it ≡ with_notes (literals ++ name_notes (trees_of block.terms.items)) (of_terms style lines.now.list block.place (core_places (plans_of block.terms.items)) block.file (fields_of block) (first_told told (told_errors (trees_of block.terms.items))) others (few_locals (trees_of block.terms.items) (plans_of block.terms.items)) (trees_of block.terms.items))) }
 {
-    let notes = notes_of(alloc, unit, &block)?;
+    let notes = both(literals, notes_on_names(alloc, block.terms.as_slice())?)?;
     let it = compile_block(alloc, style, lines, block, told, others)?;
     with_notes(notes, it)
 }
@@ -422,18 +419,20 @@ fn compile_unit(
     alloc: Global,
     style: Style,
     lines: &Lines,
-    unit: &RawUnit,
+    unit: RawUnit,
 ) -> Result<Compiled, AllocError>
-    requires { IsKeptSource (writtens unit.now.items) }
-    ensures value { IfOk result (λ compiled. compiled ≡ of_items style lines.now.list unit.now.items) }
+    requires { IsKeptSource (writtens unit.items) }
+    ensures value { IfOk result (λ compiled. compiled ≡ of_items style lines.now.list unit.items) }
     ensures own { IfOk result HasAsciiName }
 {
-    match shape(alloc, unit) {
+    match shape(alloc, &unit) {
         Ok(program) => {
             let Resolved { block, told } = resolve_block(alloc, block_of(program)?)?;
             let width = Width::of_revision(block.revision);
+            let literals = cut_literals(alloc, width, &unit)?;
+            drop(unit);
             let others = other_errors(alloc, width, block.terms.as_slice())?;
-            compile_noted(alloc, style, lines, unit, block, told, others)
+            compile_noted(alloc, style, lines, literals, block, told, others)
         }
         Err(stage) => Ok(Compiled::Refused(refusal(stage)?)),
     }
@@ -464,20 +463,30 @@ fn compile_tokens(
     alloc: Global,
     style: Style,
     lines: &Lines,
-    tokens: &Tokens,
+    tokens: Tokens,
 ) -> Result<Compiled, AllocError>
-    requires few { length tokens.now < 2 ^ 32 }
-    requires short { HaveShortTexts tokens.now }
-    ensures value { IfOk result (λ compiled. compiled ≡ of_outcome style lines.now.list tokens.now (outcome tokens.now)) }
+    requires few { length tokens < 2 ^ 32 }
+    requires short { HaveShortTexts tokens }
+    ensures value { IfOk result (λ compiled. compiled ≡ of_outcome style lines.now.list tokens (outcome tokens)) }
     ensures own { IfOk result HasAsciiName }
-    ensures within { (files : ℕ) → 0 < files → All (λ token. token.place.file < files) tokens.now → IfOk result (TellsWithin files) }
+    ensures within { (files : ℕ) → 0 < files → All (λ token. token.place.file < files) tokens → IfOk result (TellsWithin files) }
 {
-    match parse(alloc, tokens) {
-        Ok(unit) => compile_unit(alloc, style, lines, &unit),
-        Err(Syntax::Stop { token }) => refuse_at(alloc, tokens, SYNTAX, token),
-        Err(Syntax::TooDeep { token }) => refuse_at(alloc, tokens, NESTING_TOO_DEEP, token),
+    match parse(alloc, &tokens) {
+        Ok(unit) => {
+            drop(tokens);
+            compile_unit(alloc, style, lines, unit)
+        }
+        Err(Syntax::Stop { token }) => refuse_at(alloc, &tokens, SYNTAX, token),
+        Err(Syntax::TooDeep { token }) => refuse_at(alloc, &tokens, NESTING_TOO_DEEP, token),
         Err(Syntax::Memory) => Err(AllocError),
     }
+}
+
+// Whether so many tokens have numbers of 32 bits.
+fn are_numbered(count: usize) -> bool
+    ensures { IsTrue result ↔ count < 2 ^ 32 }
+{
+    count <= MOST_TOKENS
 }
 
 /// What lines of ASL come to: a table in pieces (ACPI Specification 6.4, 19.6 and 20.2), or errors, of which there is at least one. Each refusal stands in one of their files.
@@ -492,8 +501,8 @@ pub fn compile(alloc: Global, style: Style, lines: &Lines) -> Result<Compiled, A
 {
     match tokens(alloc, lines) {
         // (no more tokens have room)
-        Ok(tokens) if tokens.len() > MOST_TOKENS => Err(AllocError),
-        Ok(tokens) => compile_tokens(alloc, style, lines, &tokens),
+        Ok(tokens) if !are_numbered(tokens.len()) => Err(AllocError),
+        Ok(tokens) => compile_tokens(alloc, style, lines, tokens),
         Err(stage) => Ok(Compiled::Refused(refusal(stage)?)),
     }
 }

@@ -1,9 +1,9 @@
 //! The names of a block's resource descriptors, before its other names are checked.
-ghost use Rattle.std.specs.Prelude.{◌≡◌, ◌++◌, [], not, map, filter, IfOk, true};
+ghost use Rattle.std.specs.Prelude.{◌≡◌, ◌^◌, ◌≤◌, ◌++◌, [], not, map, filter, IfOk, IfErr, true};
 ghost use Rattle.std.specs.List.{list_any};
 ghost use Rattle.asl_tree.specs.View.{trees_of};
 ghost use Rattle.asl_shape.specs.Plans.{plans_of};
-ghost use Rattle.asl_numbers.specs.Numbers.{numbered_all};
+ghost use Rattle.asl_numbers.specs.Numbers.{nodes, numbered_all};
 ghost use Rattle.aml_code.specs.Header.{fields_of};
 ghost use Rattle.acpi_names.specs.Errors.{name_errors, type_errors};
 ghost use Rattle.acpi_names.specs.Terms.{are_terms};
@@ -240,6 +240,7 @@ fn resolve_terms(alloc: Global, terms: Vec<Node>) -> Result<Described, AllocErro
 fn numbered(terms: Vec<Node>) -> Result<Vec<Node>, AllocError>
     ensures trees { IfOk result (λ made. trees_of made.items ≡ numbered_all 0 (plans_of terms.items)) }
     ensures plans { IfOk result (λ made. plans_of made.items ≡ plans_of terms.items) }
+    ensures full { IfErr result (λ _. 2 ^ 32 ≤ nodes (plans_of terms.items)) }
 {
     let mut made = terms;
     match number_nodes(&mut made, 0) {

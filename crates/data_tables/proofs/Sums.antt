@@ -1,5 +1,5 @@
 -- Lengths and sums of joined bytes.
-use Rattle.std.proofs.Common.{◌≡◌, ℕ, ◌+◌, ◌%◌, ◌<◌, List, [], ◌∷◌, ◌++◌, length, take, get_or, refl, sym, ap, ◌∙◌, arith, length-append, append_assoc}
+use Rattle.std.proofs.Common.{◌≡◌, ℕ, ◌+◌, ◌%◌, ◌<◌, ◌≤◌, zero, suc, List, [], ◌∷◌, ◌++◌, length, take, get_or, refl, sym, ap, ◌∙◌, arith, length-append, append_assoc}
 use Rattle.std.specs.Prelude.{sum}
 use Rattle.std.proofs.lemmas.List.Sums.{sum_by-append}
 use Rattle.std.proofs.lemmas.List.{take_more, append-nil}
@@ -26,3 +26,10 @@ length_more ps i d lt e = ap length (joined_more ps i d lt e) ∙ length-append 
 
 pub next_sum : (ps : List Piece) (i : ℕ) (d : Piece) (total here : ℕ) → i < length ps → d ≡ get_or ps i d → total ≡ sum (joined (take i ps)) % 256 → here ≡ sum d.bytes % 256 → (total + here) % 256 ≡ sum (joined (take (i + 1) ps)) % 256
 next_sum ps i d total here lt e before is = let more = sum_more ps i d lt e in omega (arith, more, before, is)
+
+-- some first pieces have no more bytes than all
+pub first_bytes : (ps : List Piece) (i : ℕ) → length (joined (take i ps)) ≤ length (joined ps)
+first_bytes [] zero = omega arith
+first_bytes [] (suc i) = omega arith
+first_bytes (p ∷ ps) zero = omega arith
+first_bytes (p ∷ ps) (suc i) = omega (arith, first_bytes ps i, length-append p.bytes (joined (take i ps)), length-append p.bytes (joined ps))

@@ -1,5 +1,5 @@
 // The length and the checksum of a table, which stand in its second and its fourth field.
-ghost use Rattle.std.specs.Prelude.{◌≡◌, ◌+◌, ◌%◌, ◌^◌, ◌<◌, ◌≤◌, length, sum, IfOk, IfSome, OnOk};
+ghost use Rattle.std.specs.Prelude.{◌≡◌, ◌+◌, ◌%◌, ◌^◌, ◌<◌, ◌≤◌, length, sum, IfOk, IfSome, IfNone, OnOk};
 ghost use Rattle.aml_code.specs.Header.{checksum_of};
 ghost use Rattle.data_tables.specs.Compiling.{joined, put_at, with_length, with_checksum, sealed};
 
@@ -30,10 +30,11 @@ fn checksum(pieces: &[Piece]) -> u8
 }
 
 // How many bytes pieces have, where 32 bits hold the number.
-#[tactic(auto, using(crate::proofs::Sums::length_more))]
+#[tactic(auto, using(crate::proofs::Sums::length_more, crate::proofs::Sums::first_bytes))]
 fn total_bytes(pieces: &[Piece]) -> Option<u64>
     ensures total { IfSome result (λ total. total ≡ length (joined pieces.now)) }
     ensures within { IfSome result (λ total. total < 2 ^ 32) }
+    ensures none { IfNone result (2 ^ 32 ≤ length (joined pieces.now)) }
 {
     let mut total: u64 = 0;
     for piece in pieces {

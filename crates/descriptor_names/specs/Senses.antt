@@ -1,5 +1,5 @@
 -- What a written name denotes where descriptors have names, and where names stand.
-use Rattle.std.specs.Prelude.{ℕ, ◌+◌, ◌*◌, ◌-◌, nat_lt, Bool, false, if◌then◌else◌, List, length, take, slice_get, Option, Some, None}
+use Rattle.std.specs.Prelude.{ℕ, ◌+◌, ◌*◌, ◌-◌, ◌^◌, ◌≤◌, nat_lt, Bool, false, if◌then◌else◌, List, length, take, slice_get, Option, Some, None}
 use Rattle.acpi_values.specs.Paths.{NameSeg, AbsolutePath}
 use Rattle.acpi_values.specs.Operators.{Letter, Placed, Used, Row, row_of}
 use Rattle.acpi_values.specs.Operators as L
@@ -17,6 +17,12 @@ use Rattle.asl_tree.specs.declared.term.NamedDescriptor.{NamedDescriptor}
 pub data Sense : Type 0 where
   Nothing ADescriptor : Sense
   AField : (bit : ℕ) → Sense
+
+-- a field whose lowest bit has no number of 64 bits
+abbrev pub IsTooFar : Sense → Type 0
+IsTooFar Nothing = ⊥
+IsTooFar ADescriptor = ⊥
+IsTooFar (AField bit) = 2 ^ 64 ≤ bit
 
 -- a field of a descriptor by its place in the descriptor
 abbrev pub field_behind : NamedDescriptor → Option (ℕ × ℕ) → Sense

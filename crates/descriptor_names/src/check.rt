@@ -1,10 +1,10 @@
 //! The names of a block's descriptors, resolved.
-ghost use Rattle.std.specs.Prelude.{◌≡◌, length, map, IfOk};
+ghost use Rattle.std.specs.Prelude.{◌≡◌, ◌^◌, ◌≤◌, length, map, IfOk, IfErr};
 ghost use Rattle.asl_tree.specs.View.{trees_of};
 ghost use Rattle.asl_meaning.specs.Declarations.{declarations};
 ghost use Rattle.acpi_names.specs.Parts.{Agrees};
 ghost use Rattle.asl_shape.specs.Plans.{plans_of};
-ghost use Rattle.asl_numbers.specs.Numbers.{numbered_all};
+ghost use Rattle.asl_numbers.specs.Numbers.{nodes, numbered_all};
 ghost use Rattle.name_checks.specs.Messages.{message_of};
 ghost use Rattle.descriptor_names.specs.Resolved as spec;
 ghost use Rattle.descriptor_names.specs.Told as errors;
@@ -32,6 +32,7 @@ pub struct Checked {
 fn numbered(terms: Vec<Node>) -> Result<Vec<Node>, AllocError>
     ensures trees { IfOk result (λ made. trees_of made.items ≡ numbered_all 0 (plans_of terms.items)) }
     ensures plans { IfOk result (λ made. plans_of made.items ≡ plans_of terms.items) }
+    ensures full { IfErr result (λ _. 2 ^ 32 ≤ nodes (plans_of terms.items)) }
 {
     let mut made = terms;
     match number_nodes(&mut made, 0) {

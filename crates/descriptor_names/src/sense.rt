@@ -1,5 +1,5 @@
 //! What a written name denotes where descriptors have names.
-ghost use Rattle.std.specs.Prelude.{◌≡◌, ◌<◌, [], length, get_or, Option, IfOk};
+ghost use Rattle.std.specs.Prelude.{◌≡◌, ◌<◌, [], length, get_or, Option, IfOk, IfErr};
 ghost use Rattle.acpi_values.specs.Paths.{AbsolutePath};
 ghost use Rattle.asl_meaning.specs.Declarations.{Declarations, is_named};
 ghost use Rattle.acpi_names.specs.Parts.{Agrees};
@@ -42,9 +42,10 @@ pub(crate) fn entry(
     }
 }
 
-// A field of a descriptor.
+// A field of a descriptor. There is no memory for a template in which its lowest bit has no number of 64 bits.
 fn field_in(named: NamedDescriptor, segment: NameSeg) -> Result<Sense, AllocError>
-    ensures { IfOk result (λ sense. sense_as sense ≡ spec.field_in named segment) }
+    ensures sense { IfOk result (λ sense. sense_as sense ≡ spec.field_in named segment) }
+    ensures far { IfErr result (λ _. spec.IsTooFar (spec.field_in named segment)) }
 {
     let Some((at, _)) = descriptor_field(named.descriptor, segment) else {
         return Ok(Sense::Nothing);
@@ -88,7 +89,8 @@ fn field_sense(
     scope: usize,
 ) -> Result<Sense, AllocError>
     requires scope_in { scope < length index.now.paths }
-    ensures { IfOk result (λ sense. (look : AbsolutePath → Option ANamed) → Tabled index.now.paths table.now look → sense_as sense ≡ spec.field_sense look name.now (get_or index.now.paths scope [])) }
+    ensures sense { IfOk result (λ sense. (look : AbsolutePath → Option ANamed) → Tabled index.now.paths table.now look → sense_as sense ≡ spec.field_sense look name.now (get_or index.now.paths scope [])) }
+    ensures far { IfErr result (λ _. (look : AbsolutePath → Option ANamed) → Tabled index.now.paths table.now look → spec.IsTooFar (spec.field_sense look name.now (get_or index.now.paths scope []))) }
 {
     let Some(segment) = last_segment(name) else {
         return Ok(Sense::Nothing);
@@ -101,7 +103,7 @@ fn field_sense(
 }
 
 /// What a name denotes in the scope with a number, where a table has the descriptors by the numbers of their paths. The only
-/// error is want of memory, as which a template of 2^61 bytes is answered.
+/// error is want of memory, as which a template of 2^61 bytes is answered, and nothing else.
 pub fn sense_of(
     index: &Index,
     table: &[Option<NamedDescriptor>],
@@ -110,7 +112,8 @@ pub fn sense_of(
 ) -> Result<Sense, AllocError>
     requires scope_in { scope < length index.now.paths }
     requires all { length index.now.named.items ≡ length index.now.paths }
-    ensures { IfOk result (λ sense. (d : Declarations) (look : AbsolutePath → Option ANamed) → Agrees index.now.paths index.now.named.items d → Tabled index.now.paths table.now look → sense_as sense ≡ spec.sense_of (is_named d) look name.now (get_or index.now.paths scope [])) }
+    ensures sense { IfOk result (λ sense. (d : Declarations) (look : AbsolutePath → Option ANamed) → Agrees index.now.paths index.now.named.items d → Tabled index.now.paths table.now look → sense_as sense ≡ spec.sense_of (is_named d) look name.now (get_or index.now.paths scope [])) }
+    ensures far { IfErr result (λ _. (d : Declarations) (look : AbsolutePath → Option ANamed) → Agrees index.now.paths index.now.named.items d → Tabled index.now.paths table.now look → spec.IsTooFar (spec.sense_of (is_named d) look name.now (get_or index.now.paths scope []))) }
 {
     let count = index.paths.len();
     match denoted_by(index, name, scope) {

@@ -1,5 +1,5 @@
 //! The lists of fields, checked.
-ghost use Rattle.std.specs.Prelude.{◌≡◌, ◌++◌, ◌<◌, ◌^◌, IfOk, OnOk};
+ghost use Rattle.std.specs.Prelude.{◌≡◌, ◌++◌, ◌<◌, ◌^◌, ◌↔◌, IsTrue, IfOk, OnOk};
 ghost use Rattle.std.specs.Option.{option_map};
 ghost use Rattle.asl_shape.specs.Plans.{plan_of, plans_of};
 ghost use Rattle.field_checks.specs.Lists as spec;
@@ -35,6 +35,13 @@ fn item_in(term: &Term) -> Option<FieldItem>
     }
 }
 
+// Whether there is room for an item behind so many bits.
+fn has_room(at: u64) -> bool
+    ensures { IsTrue result ↔ at < 2 ^ 62 }
+{
+    at <= MOST_BITS
+}
+
 // The first fault of a list.
 fn list_errors(alloc: Global, out: &mut Messages, body: &[Node]) -> Result<(), AllocError>
     ensures { OnOk result (out.new ≡ out.old ++ spec.list_errors 0 (plans_of body.now)) }
@@ -44,7 +51,7 @@ fn list_errors(alloc: Global, out: &mut Messages, body: &[Node]) -> Result<(), A
         let Some(item) = item_in(&node.term) else {
             return Ok(());
         };
-        if at > MOST_BITS {
+        if !has_room(at) {
             return Err(AllocError);
         }
         match next_bit(&item, at) {

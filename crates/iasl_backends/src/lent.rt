@@ -1,8 +1,8 @@
 //! A list of boxed outputs that a caller lends.
 ghost use Rattle.std.specs.Prelude.{◌≡◌, ◌≢◌, ◌∷◌, ◌++◌, [], List, true, false, IfSome, IfNone, IfOk, OnOk};
-ghost use Rattle.std.specs.List.{filter, All, Any};
+ghost use Rattle.std.specs.List.{filter, All};
 ghost use Rattle.iasl_messages.specs.declared.place.Piece.{Piece as SpecPiece};
-ghost use Rattle.iasl_backends.specs.Asked.{is_asked, has_kind, IsOneOfEach};
+ghost use Rattle.iasl_backends.specs.Asked.{is_asked, has_kind, FirstOfKind, IsOneOfEach};
 ghost use Rattle.iasl_backends.specs.declared.backend.Kind.{Kind as SpecKind};
 ghost use Rattle.iasl_backends.specs.declared.backend.Kind.TheVariants as kinds;
 ghost use Rattle.iasl_backends.specs.Each.{Each};
@@ -169,7 +169,7 @@ fn text_of_box(backend: &Box<dyn Backend>) -> &[u8]
 /// The text of the first output of a kind, in bytes; none where there is no output of the kind.
 pub fn text_of_kind(backends: &Vec<Box<dyn Backend>>, kind: Kind) -> Option<&[u8]>
     requires { All (λ b. finished b ≡ true) backends.now.items }
-    ensures text { IfSome result (λ text. Any (λ b. (kind_of b ≡ kind) × (text.now ≡ rendering kind (pieces b))) backends.now.items) }
+    ensures text { IfSome result (λ text. FirstOfKind (λ b. kind_of b) kind (λ b. text.now ≡ rendering kind (pieces b)) backends.now.items) }
     ensures shared { (all : List SpecPiece) → All (λ b. pieces b ≡ all) backends.now.items → IfSome result (λ text. text.now ≡ rendering kind all) }
     ensures none { IfNone result (All (λ b. kind_of b ≢ kind) backends.now.items) }
 {

@@ -1,5 +1,5 @@
 //! The listing: the lines of the source, each with the bytes of the table that come from it.
-ghost use Rattle.std.specs.Prelude.{◌≡◌, ◌+◌, ◌^◌, ◌<◌, ◌++◌, [], true, false, length, OnOk, IfOk};
+ghost use Rattle.std.specs.Prelude.{◌≡◌, ◌+◌, ◌^◌, ◌<◌, ◌≤◌, ◌++◌, [], true, false, length, OnOk, IfOk, IfErr};
 ghost use Rattle.std.specs.List.{flat_map};
 ghost use Rattle.iasl_backends.specs.Table.{rows};
 ghost use Rattle.iasl_backends.specs.Listing as spec;
@@ -116,16 +116,25 @@ fn put_piece(out: &mut Vec<u8>, offset: usize, piece: &Piece) -> Result<(), Allo
     put_rows(out, offset, piece.bytes.as_bytes())
 }
 
-// The listing of the pieces. There is no memory for a table whose size is no `usize`.
+// The offset behind so many bytes at an offset. There is no memory for a table whose size is no `usize`.
+fn offset_behind(offset: usize, size: usize) -> Result<usize, AllocError>
+    ensures end { IfOk result (λ end. end ≡ offset + size) }
+    ensures full { IfErr result (λ _. 2 ^ 64 ≤ offset + size) }
+{
+    match offset.checked_add(size) {
+        Some(end) => Ok(end),
+        None => Err(AllocError),
+    }
+}
+
+// The listing of the pieces.
 fn render(alloc: Global, pieces: &[Piece]) -> Result<Vec<u8>, AllocError>
     ensures { IfOk result (λ text. text.items ≡ spec.listed_pieces 0 pieces.now) }
 {
     let mut out = Vec::new(alloc);
     let mut offset: usize = 0;
     for piece in pieces {
-        let end = offset
-            .checked_add(piece.bytes.as_bytes().len())
-            .ok_or(AllocError)?;
+        let end = offset_behind(offset, piece.bytes.as_bytes().len())?;
         put_piece(&mut out, offset, piece)?;
         offset = end;
     }

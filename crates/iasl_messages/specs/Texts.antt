@@ -34,6 +34,8 @@ text_of number =
     if number == 6026 then codes "bad EISA identifier" else (
     if number == 6027 then codes "bad UUID" else (
     if number == 6028 then codes "no definition block" else (
+    if number == 6029 then codes "bad format" else (
+    if number == 6030 then codes "wrong number of format arguments" else (
     if number == 6040 then codes "name is declared twice" else (
     if number == 6041 then codes "name is not found" else (
     if number == 6042 then codes "scope is not a container" else (
@@ -50,6 +52,7 @@ text_of number =
     if number == 6056 then codes "field is not whole bytes" else (
     if number == 6057 then codes "list is longer than its size" else (
     if number == 6061 then codes "too few free locals" else (
+    if number == 6062 then codes "too many copies" else (
     if number == 6070 then codes "offset goes back" else (
     if number == 6071 then codes "bad width" else (
     if number == 6072 then codes "access is wider than the region" else (
@@ -71,4 +74,4 @@ text_of number =
     if number == 6103 then codes "length disagrees with the header" else (
     if number == 6110 then codes "unknown data type" else (
     if number == 6111 then codes "label is declared twice" else (
-    if number == 6112 then codes "label is not found" else [])))))))))))))))))))))))))))))))))))))))))))))))))))))))))))))))))))
+    if number == 6112 then codes "label is not found" else []))))))))))))))))))))))))))))))))))))))))))))))))))))))))))))))))))))))

@@ -91,6 +91,12 @@ pub const BAD_UUID: u16 = 6027;
 /// No definition block.
 pub const NO_DEFINITION_BLOCK: u16 = 6028;
 
+/// Bad format.
+pub const BAD_FORMAT: u16 = 6029;
+
+/// Wrong number of format arguments.
+pub const WRONG_FORMAT_ARGUMENT_COUNT: u16 = 6030;
+
 /// Name is declared twice.
 pub const NAME_DECLARED_TWICE: u16 = 6040;
 
@@ -138,6 +144,9 @@ pub const LIST_LONGER_THAN_SIZE: u16 = 6057;
 
 /// Too few free locals.
 pub const TOO_FEW_LOCALS: u16 = 6061;
+
+/// Too many copies.
+pub const TOO_MANY_COPIES: u16 = 6062;
 
 /// Offset goes back.
 pub const OFFSET_GOES_BACK: u16 = 6070;

@@ -1,2 +1,1 @@
-pub mod PutSoFar
 pub mod ToldInPart

@@ -226,6 +226,27 @@ impl Text {
         Ok(Text { bytes })
     }
 
+    /// A text of a few bytes, which takes no memory.
+    pub fn of_few(bytes: &[u8]) -> Text
+        requires { length bytes.now ≤ 14 }
+        ensures { result ≡ bytes.now }
+    {
+        Text {
+            bytes: inline(bytes),
+        }
+    }
+
+    /// The text of a vector's bytes, in a box that is there for it.
+    pub fn in_box(shell: Box<Vec<u8>>, bytes: Vec<u8>) -> Text
+        ensures { result ≡ bytes.items }
+    {
+        let mut shell = shell;
+        *shell = bytes;
+        Text {
+            bytes: Bytes::Vector(shell),
+        }
+    }
+
     /// Its bytes.
     pub fn as_bytes(&self) -> &[u8]
         ensures { result.now ≡ self.now }

@@ -1,6 +1,7 @@
 mod controller;
 mod data;
 mod data_rows;
+mod faults;
 mod generic;
 mod runs;
 mod terms;
@@ -95,6 +96,18 @@ fn are(texts: &Texts, wanted: &[&[u8]]) -> bool {
     let mut same = texts.len() == wanted.len();
     for (i, one) in wanted.iter().enumerate() {
         same = same && texts.get(i).is_some_and(|text| text.as_bytes() == *one);
+    }
+    same
+}
+
+fn are_same(texts: &Texts, others: &Texts) -> bool {
+    let mut same = texts.len() == others.len();
+    for i in 0..others.len() {
+        same = same
+            && match (texts.get(i), others.get(i)) {
+                (Some(text), Some(other)) => text.as_bytes() == other.as_bytes(),
+                _ => false,
+            };
     }
     same
 }

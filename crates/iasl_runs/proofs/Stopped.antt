@@ -28,6 +28,7 @@ pub record Stops (due : Due) (stop : Stop) (put now_put : OutputsSeen) (told now
   pub text : (n : ℕ) × Gains told.told now_told.told (take n due.text)
   pub no_text : Quiet told.faults now_told.faults → Gains told.told now_told.told []
   pub no_text_yet : stop ≡ Memory → Gains told.told now_told.told []
+  pub memory_calm : stop ≡ Memory → now_put.faults ≡ put.faults
   pub put_later : put.faults ≤ now_put.faults
   pub told_later : told.faults ≤ now_told.faults
 
@@ -42,6 +43,7 @@ module _ (fault memory : List ℕ) (due : Due) (status : ℕ) (put now_put : Out
         fault_told = record { fault_whole = λ h q. gains_then (s.no_text (omega (arith, q, s.told_later, f.later))) (f.whole (omega (arith, q, s.told_later, f.later))); memory_whole = λ h. absurd (omega (arith, three)); memory_torn = λ h. absurd (omega (arith, three)) };
         put_calm = λ h. absurd (omega (arith, three));
         told_calm = λ h. absurd (omega (arith, three));
+        memory_calm = λ h. absurd (omega (arith, three));
         put_later = s.put_later;
         told_later = omega (arith, s.told_later, f.later);
       }
@@ -58,6 +60,7 @@ module _ (fault memory : List ℕ) (due : Due) (status : ℕ) (put now_put : Out
         fault_told = record { fault_whole = λ h. absurd (omega (arith, four)); memory_whole = λ h q. gains_then (s.no_text (omega (arith, q, s.told_later, f.later))) (f.whole (omega (arith, q, s.told_later, f.later))); memory_torn = λ h. (f.torn.0, gains_then (s.no_text_yet refl) f.torn.1) };
         put_calm = λ h. absurd (omega (arith, four));
         told_calm = λ h. absurd (omega (arith, four));
+        memory_calm = λ h. s.memory_calm refl;
         put_later = s.put_later;
         told_later = omega (arith, s.told_later, f.later);
       }

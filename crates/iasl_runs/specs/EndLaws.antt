@@ -74,6 +74,8 @@ module _ (answer : List Named → Option Answer) (fault memory : List ℕ) (stat
         read_calm = λ h. d.calm;
         put_calm = e.put_calm;
         told_calm = e.told_calm;
+        memory_read_calm = λ h. d.calm;
+        memory_put_calm = e.memory_calm;
         cause = λ h. caused (reason status due.status small h e.is);
         no_files = λ some h.
             let same : status ≡ due.status = low status due.status h e.is in
@@ -112,6 +114,8 @@ module _ (answer : List Named → Option Answer) (fault memory : List ℕ) (stat
         read_calm = λ h. absurd (omega (arith, three));
         put_calm = λ h. ap (λ o. o.faults) same;
         told_calm = λ h. absurd (omega (arith, three));
+        memory_read_calm = λ h. absurd (omega (arith, three));
+        memory_put_calm = λ h. absurd (omega (arith, three));
         cause = λ h. found (d.fault (search rules));
         no_files = λ some h. absurd (omega (arith, three));
         outs = λ all is. subst (λ o. OutsGained (answer all) status (Rose put.faults o.faults) (Quiet files.faults now_files.faults × Quiet put.faults o.faults) put.written o.written) (sym same) (nothing_put put.written (omega (arith, three)) (λ h q. subst (λ a. Gains put.written put.written (due_of a)) (sym (no_answer d q.0 all is)) (gains_none put.written)));
@@ -132,6 +136,8 @@ module _ (answer : List Named → Option Answer) (fault memory : List ℕ) (stat
         read_calm = λ h. absurd (omega (arith, four));
         put_calm = λ h. ap (λ o. o.faults) same;
         told_calm = λ h. absurd (omega (arith, four));
+        memory_read_calm = λ h. d.memory_calm (search rules);
+        memory_put_calm = λ h. ap (λ o. o.faults) same;
         cause = λ h. absurd (omega (arith, four));
         no_files = λ some h. absurd (omega (arith, four));
         outs = λ all is. subst (λ o. OutsGained (answer all) status (Rose put.faults o.faults) (Quiet files.faults now_files.faults × Quiet put.faults o.faults) put.written o.written) (sym same) (nothing_put put.written (omega (arith, four)) (λ h. absurd (omega (arith, four))));

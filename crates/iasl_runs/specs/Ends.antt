@@ -58,8 +58,9 @@ pub record Decides (answer : List Named → Option Answer) (decided : Result Due
   pub settled : IfOk decided IsSettled
   -- a fault has a cause: a count that rose, or a file that is absent, of which there is no answer
   pub fault : IsErrOf decided Fault → Rose old.faults new.faults ⊎ (Rose old.absents new.absents × ForSome old.contents (λ told. answer told ≡ None))
-  -- an answer comes only where no fetch failed
+  -- an answer comes only where no fetch failed, and so does want of memory
   pub calm : OnOk decided (new.faults ≡ old.faults)
+  pub memory_calm : IsErrOf decided Memory → new.faults ≡ old.faults
   -- the files stay what they are, and their count does not fall
   pub contents : new.contents ≡ old.contents
   pub later : old.faults ≤ new.faults
@@ -81,6 +82,9 @@ pub record Ends (answer : List Named → Option Answer) (fault memory : List ℕ
   pub read_calm : status ≤ 2 → new.files.faults ≡ old.files.faults
   pub put_calm : status ≤ 2 → new.outputs.faults ≡ old.outputs.faults
   pub told_calm : status ≤ 2 → new.console.faults ≡ old.console.faults
+  -- 4 does not take the place of another's fault: no file was read or put with one
+  pub memory_read_calm : status ≡ 4 → new.files.faults ≡ old.files.faults
+  pub memory_put_calm : status ≡ 4 → new.outputs.faults ≡ old.outputs.faults
   -- 3 has a cause: a count that rose, or a file that is absent
   pub cause : status ≡ 3 → FaultCause (Rose old.files.faults new.files.faults) (Rose old.outputs.faults new.outputs.faults) (Rose old.console.faults new.console.faults)
       (Rose old.files.absents new.files.absents × ForSome old.files.contents (λ told. answer told ≡ None))
@@ -113,6 +117,8 @@ pub record Delivers (fault memory : List ℕ) (due : Due) (status : ℕ) (put no
   -- 0, 1 and 2 come only where no count rose, and no count falls
   pub put_calm : status ≤ 2 → now_put.faults ≡ put.faults
   pub told_calm : status ≤ 2 → now_told.faults ≡ told.faults
+  -- 4 comes only where that of the outputs did not rise
+  pub memory_calm : status ≡ 4 → now_put.faults ≡ put.faults
   pub put_later : put.faults ≤ now_put.faults
   pub told_later : told.faults ≤ now_told.faults
 

@@ -1,4 +1,5 @@
 //! The end of a run of either program: what it has decided is delivered, or its failure is told.
 #![tactic(auto)]
 
+pub mod deliver;
 pub mod run;

@@ -5,7 +5,8 @@ ghost use Rattle.iasl_ports.specs.Gained.{Gains};
 ghost use Rattle.iasl_ports.specs.Delivery.{IsSettled};
 ghost use Rattle.iasl_runs.specs.Ends.{stop_status, stop_text, outputs_seen, console_seen, Fails, Delivers, Finishes};
 
-use iasl_ports::delivery::{Due, Stop, deliver, tell};
+use crate::deliver::deliver;
+use iasl_ports::delivery::{Due, Stop, tell};
 use iasl_ports::outputs::Outputs;
 use iasl_ports::sink::Sink;
 

@@ -1,5 +1,5 @@
 //! What a call is to end with.
-ghost use Rattle.std.specs.Prelude.{◌≡◌, ◌≤◌, ◌<◌, ◌++◌, ◌&&◌, [], ◌∷◌, ℕ, List, length, map, All, IfOk, OnOk, IsErrOf, ◌⊎◌, Some, None, string_bytes, false};
+ghost use Rattle.std.specs.Prelude.{◌≡◌, ◌≤◌, ◌<◌, ◌^◌, ◌++◌, ◌&&◌, [], ◌∷◌, ℕ, List, length, map, All, IfOk, IfErr, OnOk, IsErrOf, ◌⊎◌, Some, None, string_bytes, false};
 ghost use Rattle.iasl_ports.specs.Delivery.{name_and_bytes, answer_of, IsSettled};
 ghost use Rattle.iasl_runs.specs.Ends.{files_seen};
 ghost use Rattle.iasl_options.specs.Task.{task_by};
@@ -37,6 +37,7 @@ use iasl_ports::files::Files;
 use iasl_ports::list::{List, Text, Texts};
 use std::alloc::{AllocError, Global};
 use std::borrow::CowSlice;
+use std::mem::forget;
 use table_outputs::decision::{Decision, Making, OutputNames};
 use table_outputs::names::{is_fetched, name_in_use, names_of_table};
 
@@ -247,14 +248,18 @@ fn make_text(
 }
 
 // How many bytes pieces have together. No memory has more than 64 bits can count.
-#[tactic(auto, using(crate::proofs::Bytes::length_more))]
+#[tactic(auto, using(crate::proofs::Bytes::length_more, crate::proofs::Bytes::first_bytes))]
 fn size_of(pieces: &[Piece]) -> Result<u64, AllocError>
-    ensures { IfOk result (λ size. size ≡ length (table_bytes pieces.now)) }
+    ensures size { IfOk result (λ size. size ≡ length (table_bytes pieces.now)) }
+    ensures full { IfErr result (λ _. 2 ^ 64 ≤ length (table_bytes pieces.now)) }
 {
     let mut size: u64 = 0;
     for piece in pieces {
         let more = piece.bytes.as_bytes().len() as u64;
-        size = size.checked_add(more).ok_or(AllocError)?;
+        match size.checked_add(more) {
+            Some(together) => size = together,
+            None => return Err(AllocError),
+        }
     }
     Ok(size)
 }
@@ -412,7 +417,10 @@ fn answer_to_lines(
     if options.only {
         Ok(Decision::Ends(make_text(alloc, options, &lines, notes)?))
     } else {
-        make_compiled(alloc, options, &lines, notes, &Text::new(alloc))
+        let made = make_compiled(alloc, options, &lines, notes, &Text::new(alloc));
+        // the process ends behind the files, so nobody needs the room of the lines
+        forget(lines);
+        made
     }
 }
 

@@ -1,5 +1,5 @@
 //! The entries of a block's names, and what each used name denotes.
-ghost use Rattle.std.specs.Prelude.{◌≡◌, ◌<◌, ℕ, length, get_or, slice_get, true, None, IfOk};
+ghost use Rattle.std.specs.Prelude.{◌≡◌, ◌↔◌, ◌^◌, ◌≤◌, ◌<◌, ℕ, length, get_or, slice_get, true, None, IsTrue, IfOk};
 ghost use Rattle.acpi_state.specs.Outcomes.{choose};
 ghost use Rattle.asl_tree.specs.View.{trees_of};
 ghost use Rattle.asl_meaning.specs.Declarations.{declarations};
@@ -21,6 +21,13 @@ use std::alloc::{AllocError, Global};
 
 // No more paths than this, so that a number has 32 bits.
 const MOST: usize = 0x1_0000_0000;
+
+// Whether so many paths have numbers of 32 bits.
+fn has_room(count: usize) -> bool
+    ensures { IsTrue result ↔ count ≤ 2 ^ 32 }
+{
+    count <= MOST
+}
 
 /// What a path is: its number, the path from the root, its kind, how many arguments it takes, and the place of the node
 /// that is its declared name. An alias has the kind and the number of arguments of what it refers to.
@@ -97,7 +104,7 @@ pub fn entries(alloc: Global, terms: &[Node]) -> Result<Names, AllocError>
     ensures said { IfOk result (λ n. are_terms (trees_of terms.now) ≡ true → (number : ℕ) → get_or n.said.items number None ≡ choose (slice_get n.index.paths number) None (described_in (trees_of terms.now))) }
 {
     let Found { index, mentions } = names_of(alloc, terms)?;
-    if index.paths.len() > MOST {
+    if !has_room(index.paths.len()) {
         return Err(AllocError);
     }
     let uses = uses_of(alloc, &index, &mentions)?;

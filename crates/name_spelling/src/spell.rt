@@ -477,7 +477,8 @@ fn put_number(
 /// written from the root (ACPI Specification 6.4, 5.3), or in the shortest way that leads to the same path where
 /// `shorten` asks for it; a name in a Package that would be searched is written from the root; an
 /// External says its object type and its arity. `calls` says of the numbers of paths with how many arguments they
-/// are called first.
+/// are called first. After a want of memory some names are spelled and others are not: the terms are fit for nothing but
+/// to be let go, and so is the index.
 pub fn spell(
     alloc: Global,
     index: &mut Index,

@@ -27,6 +27,7 @@ pub mod Folded
 pub mod Wrapped
 pub mod Cores
 pub mod Tables
+pub mod SameCores
 pub mod ListPlaces
 pub mod RegionPlaces
 pub mod TypePlaces

@@ -30,8 +30,8 @@ end_settled (Ok (Generates count)) due h = h.0
 end_settled (Ok (Templates table)) due h = absurd h
 end_settled (Err word) due h = h.0
 
-as_decided : (stop later : Stop) → later ≡ stop → IsErrOf {T = Due} (Err later) Fault → IsErrOf {T = Decision} (Err stop) Fault
-as_decided stop later m h = let is : later ≡ Fault = cc in ap (λ s. Err s) (sym m ∙ is)
+as_decided : (stop later which : Stop) → later ≡ stop → IsErrOf {T = Due} (Err later) which → IsErrOf {T = Decision} (Err stop) which
+as_decided stop later which m h = let is : later ≡ which = cc in ap (λ s. Err s) (sym m ∙ is)
 
 -- what is due of a decision whose outputs were made
 pub due_then : (decided rendered : Result Decision Stop) (made : Result Due Stop) → IsRendered decided rendered → IsDueOf rendered made → IsDueOf decided made
@@ -52,6 +52,7 @@ decides answer pieces r (Ok (Makes making)) (Ok due) old new s m = record {
   settled = m.1;
   fault = λ h. absurd cc;
   calm = s.calm;
+  memory_calm = λ h. absurd cc;
   contents = s.contents;
   later = s.later;
 }
@@ -60,6 +61,7 @@ decides answer pieces r (Ok (Ends decided)) (Ok due) old new s m = record {
   settled = subst IsSettled (sym m) (end_settled r decided s.settled);
   fault = λ h. absurd cc;
   calm = s.calm;
+  memory_calm = λ h. absurd cc;
   contents = s.contents;
   later = s.later;
 }
@@ -69,6 +71,7 @@ decides answer pieces r (Ok (Makes making)) (Err stop) old new s m = record {
   settled = tt;
   fault = λ h. absurd cc;
   calm = tt;
+  memory_calm = λ h. s.calm;
   contents = s.contents;
   later = s.later;
 }
@@ -76,8 +79,9 @@ decides answer pieces r (Err stop) (Ok due) old new s m = absurd m
 decides answer pieces r (Err stop) (Err later) old new s m = record {
   due = tt;
   settled = tt;
-  fault = λ h. s.fault (as_decided stop later m h);
+  fault = λ h. s.fault (as_decided stop later Fault m h);
   calm = tt;
+  memory_calm = λ h. s.memory_calm (as_decided stop later Memory m h);
   contents = s.contents;
   later = s.later;
 }

@@ -91,8 +91,9 @@ pub record Settles (answer : List Named → Option Answer) (pieces : List Named 
   pub settled : IfOk decided is_decided
   -- a fault has a cause: a count that rose, or a file that is absent, of which there is no answer
   pub fault : IsErrOf decided Fault → Rose old.faults new.faults ⊎ (Rose old.absents new.absents × ForSome old.contents (λ told. answer told ≡ None))
-  -- a decision comes only where no fetch failed
+  -- a decision comes only where no fetch failed, and so does want of memory
   pub calm : OnOk decided (new.faults ≡ old.faults)
+  pub memory_calm : IsErrOf decided Memory → new.faults ≡ old.faults
   -- the files stay what they are, and their count does not fall
   pub contents : new.contents ≡ old.contents
   pub later : old.faults ≤ new.faults

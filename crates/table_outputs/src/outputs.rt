@@ -18,6 +18,7 @@ use iasl_backends::lent::{render_asked, rendered_text};
 use iasl_ports::delivery::{Due, OutFile, Stop};
 use std::alloc::{AllocError, Global};
 use std::borrow::CowSlice;
+use std::mem::forget;
 
 // The kinds of outputs that have names.
 fn asked_of(names: &OutputNames) -> Asked
@@ -160,10 +161,17 @@ fn due_of_outputs<'a>(
     ensures due { IfOk result (λ due. answer_of due ≡ end_of (Makes making)) }
     ensures settled { IfOk result IsSettled }
 {
+    let Making {
+        text,
+        names,
+        pieces,
+    } = making;
+    // the process ends behind the files, so nobody needs the room of the pieces
+    forget(pieces);
     Ok(Due {
         status: 0,
-        text: making.text,
-        files: files_of(alloc, backends, making.names)?,
+        text,
+        files: files_of(alloc, backends, names)?,
     })
 }
 

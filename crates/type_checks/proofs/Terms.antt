@@ -1,5 +1,6 @@
 -- Terms as plans.
-use Rattle.std.proofs.Common.{◌≡◌, ℕ, zero, suc, ◌+◌, ◌<◌, ◌≤◌, length, get_or, drop, arith, List, [], ◌∷◌, Option, Vec, Global, subst, refl, sym, ap, ◌∙◌}
+use Rattle.std.proofs.Common.{◌≡◌, ℕ, zero, suc, ◌+◌, ◌<◌, ◌≤◌, length, get_or, take, drop, arith, List, [], ◌∷◌, Option, Vec, Global, subst, refl, sym, ap, ◌∙◌, zero-add}
+use Rattle.std.specs.Prelude.{Result, Ok, Err, IfErr}
 use Rattle.acpi_values.specs.Paths.{NameSeg}
 use Rattle.asl_tree.specs.declared.path.Path.{Path}
 use Rattle.asl_tree.specs.declared.term.Op.{Op}
@@ -112,3 +113,21 @@ count_done ns i next le before = omega (arith, none_left ns i le, before)
 
 pub count_none : (ns : List Node) → 0 + nodes (plans_of (drop 0 ns)) ≡ nodes (plans_of ns)
 count_none ns = let left = ap nodes (all_left ns) in omega (arith, left)
+
+-- the nodes before one, that one, and those inside it are among all
+taken : (ns : List Node) (i : ℕ) → nodes (plans_of (take i ns)) + nodes (plans_of (drop i ns)) ≡ nodes (plans_of ns)
+unfolding plans_of
+taken [] zero = refl
+taken [] (suc i) = refl
+taken (n ∷ ns) zero = zero-add (nodes (plans_of (n ∷ ns)))
+taken (n ∷ ns) (suc i) = omega (arith, taken ns i)
+
+pub count_before : (ns : List Node) (i : ℕ) → nodes (plans_of (take i ns)) ≤ nodes (plans_of ns)
+count_before ns i = omega (arith, taken ns i)
+
+pub count_through : (ns : List Node) (i : ℕ) (node : Node) → i < length ns → node ≡ get_or ns i node → nodes (plans_of (take i ns)) + suc (inside (plan_of node.term)) ≤ nodes (plans_of ns)
+count_through ns i node lt e = omega (arith, taken ns i, count_at ns i node lt e)
+
+pub where_err : {X E : Type 0} (answer : Result X E) (P : Type 0) → P → IfErr answer (λ e. P)
+where_err (Ok x) P p = tt
+where_err (Err e) P p = p

@@ -1,5 +1,5 @@
 //! Arguments of a wrong kind.
-ghost use Rattle.std.specs.Prelude.{◌≡◌, ◌+◌, ◌<◌, ◌++◌, ℕ, suc, length, get_or, IfOk, OnOk, true};
+ghost use Rattle.std.specs.Prelude.{◌≡◌, ◌+◌, ◌^◌, ◌<◌, ◌≤◌, ◌++◌, ℕ, suc, length, get_or, IfOk, IfErr, OnOk, true};
 ghost use Rattle.asl_tree.specs.View.{trees_of};
 ghost use Rattle.acpi_names.specs.Terms.{are_terms};
 ghost use Rattle.asl_shape.specs.Plans.{plan_of, plans_of};
@@ -23,7 +23,8 @@ use std::alloc::{AllocError, Global};
 
 // The sum of two numbers of nodes; there is no memory for more nodes than 32 bits count.
 fn sum(first: u32, second: u32) -> Result<u32, AllocError>
-    ensures { IfOk result (λ n. n ≡ first + second) }
+    ensures sum { IfOk result (λ n. n ≡ first + second) }
+    ensures full { IfErr result (λ _. 2 ^ 32 ≤ first + second) }
 {
     match first.checked_add(second) {
         Some(sum) => Ok(sum),
@@ -33,7 +34,8 @@ fn sum(first: u32, second: u32) -> Result<u32, AllocError>
 
 // The number behind another one.
 fn after(number: u32) -> Result<u32, AllocError>
-    ensures { IfOk result (λ n. n ≡ suc number) }
+    ensures next { IfOk result (λ n. n ≡ suc number) }
+    ensures full { IfErr result (λ _. 2 ^ 32 ≤ suc number) }
 {
     match number.checked_add(1) {
         Some(next) => Ok(next),
@@ -45,7 +47,8 @@ fn after(number: u32) -> Result<u32, AllocError>
 #[cycle(count)]
 #[tactic(auto, using(crate::proofs::Terms::none_inside))]
 fn count_inside(term: &Term) -> Result<u32, AllocError>
-    ensures { IfOk result (λ n. n ≡ inside (plan_of term.now)) }
+    ensures count { IfOk result (λ n. n ≡ inside (plan_of term.now)) }
+    ensures full { IfErr result (λ _. 2 ^ 32 ≤ inside (plan_of term.now)) }
 {
     match term {
         Term::Call { args, .. } => Ok(count(args)?),
@@ -57,7 +60,8 @@ fn count_inside(term: &Term) -> Result<u32, AllocError>
 // How many nodes some nodes are, with those inside them.
 #[cycle(count)]
 fn count(nodes: &[Node]) -> Result<u32, AllocError>
-    ensures { IfOk result (λ n. n ≡ node_count (plans_of nodes.now)) }
+    ensures count { IfOk result (λ n. n ≡ node_count (plans_of nodes.now)) }
+    ensures full { IfErr result (λ _. 2 ^ 32 ≤ node_count (plans_of nodes.now)) }
 {
     let mut next = 0;
     for node in nodes {
@@ -100,7 +104,8 @@ fn fits(
     node: u32,
     term: &Term,
 ) -> Result<bool, AllocError>
-    ensures { IfOk result (λ b. b ≡ spec.fits wants (kinds_of (listed names.now) in_place node (plan_of term.now))) }
+    ensures fits { IfOk result (λ b. b ≡ spec.fits wants (kinds_of (listed names.now) in_place node (plan_of term.now))) }
+    ensures full { IfErr result (λ _. 2 ^ 32 ≤ suc node + inside (plan_of term.now)) }
 {
     match term {
         Term::Form { op, args, .. } => Ok(form_fits(names, wants, after(node)?, *op, args)?),
@@ -120,7 +125,8 @@ fn form_fits(
     op: Op,
     args: &[Node],
 ) -> Result<bool, AllocError>
-    ensures { IfOk result (λ b. b ≡ spec.fits wants (given op (kinds_all (listed names.now) first (plans_of args.now)))) }
+    ensures fits { IfOk result (λ b. b ≡ spec.fits wants (given op (kinds_all (listed names.now) first (plans_of args.now)))) }
+    ensures full { IfErr result (λ _. 2 ^ 32 ≤ first + node_count (plans_of args.now)) }
 {
     match given_on(op) {
         None => Ok(takes_one(wants, form_kinds(op))),
@@ -138,7 +144,8 @@ fn argument_fits(
     args: &[Node],
     place: usize,
 ) -> Result<bool, AllocError>
-    ensures { IfOk result (λ b. b ≡ spec.fits wants (get_or (kinds_all (listed names.now) first (plans_of args.now)) place any_kinds)) }
+    ensures fits { IfOk result (λ b. b ≡ spec.fits wants (get_or (kinds_all (listed names.now) first (plans_of args.now)) place any_kinds)) }
+    ensures full { IfErr result (λ _. 2 ^ 32 ≤ first + node_count (plans_of args.now)) }
 {
     if place >= args.len() {
         return Ok(takes_one(wants, any_data()));

@@ -370,15 +370,21 @@ fn faults(rt: HostRuntime) -> Result<(), AllocError> {
     Ok(())
 }
 
-// What fails, and how many files stand then.
-static FAILURES: [(Failing, usize); 4] = [
+const DSDT: &[u8] = b"DSDT\x08\x00\x00\x00";
+
+const SSDT: &[u8] = b"SSDT\x08\x00\x00\x00";
+
+const LAST: &[u8] = b"ssdt\x09\x00\x00\x00\x07";
+
+// What fails, and what stands then: a put that fails leaves half of its file.
+static FAILURES: [(Failing, &[&[u8]]); 5] = [
     (
         Failing {
             fetch: 1,
             put: 9,
             write: 9,
         },
-        0,
+        &[],
     ),
     (
         Failing {
@@ -386,7 +392,15 @@ static FAILURES: [(Failing, usize); 4] = [
             put: 1,
             write: 9,
         },
-        1,
+        &[b"DSDT"],
+    ),
+    (
+        Failing {
+            fetch: 9,
+            put: 2,
+            write: 9,
+        },
+        &[DSDT, b"SSDT"],
     ),
     (
         Failing {
@@ -394,7 +408,7 @@ static FAILURES: [(Failing, usize); 4] = [
             put: 3,
             write: 9,
         },
-        3,
+        &[DSDT, SSDT, b"ssdt"],
     ),
     (
         Failing {
@@ -402,24 +416,24 @@ static FAILURES: [(Failing, usize); 4] = [
             put: 9,
             write: 1,
         },
-        3,
+        &[DSDT, SSDT, LAST],
     ),
 ];
 
-// Whether a run of three tables ends with a file fault and so many files.
-fn stops(alloc: Global, failing: &Failing, files: usize) -> Result<bool, AllocError> {
+// Whether a run of three tables ends with a file fault and these files.
+fn stops(alloc: Global, failing: &Failing, bodies: &[&[u8]]) -> Result<bool, AllocError> {
     let ran = run(alloc, &["d.txt"], THREE, failing)?;
     Ok(
         ran.status == 3
-            && ran.outs.names().len() == files
+            && are(ran.outs.bodies(), bodies)
             && ran.console.as_bytes() == b"acpixtract: file fault\n".as_slice(),
     )
 }
 
 #[test]
 fn failing_ports(rt: HostRuntime) -> Result<(), AllocError> {
-    for (failing, files) in &FAILURES {
-        assert!(rt; stops(rt.alloc(), failing, *files)?);
+    for (failing, bodies) in &FAILURES {
+        assert!(rt; stops(rt.alloc(), failing, bodies)?);
     }
     Ok(())
 }

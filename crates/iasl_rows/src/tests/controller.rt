@@ -2,7 +2,7 @@
 use super::{are, run};
 use std::alloc::{AllocError, Global};
 
-const CONTROLLER: &[u8] =
+pub(super) const CONTROLLER: &[u8] =
     b"DefinitionBlock (\"ec.aml\", \"SSDT\", 2, \"OEMX00\", \"ECTABLE\", 0x1000)
 {
     External (\\_SB.PCI0, DeviceObj)
@@ -28,7 +28,7 @@ const CONTROLLER: &[u8] =
 }
 ";
 
-const CONSOLE: &[u8] = b"ec.aml: SSDT, 218 bytes\n0 errors, 0 warnings, 0 remarks\n";
+pub(super) const CONSOLE: &[u8] = b"ec.aml: SSDT, 218 bytes\n0 errors, 0 warnings, 0 remarks\n";
 
 // Whether the controller has its three files.
 fn is_right(alloc: Global) -> Result<bool, AllocError> {

@@ -113,12 +113,13 @@ fn other_lines_of_the_console(rt: HostRuntime) -> Result<(), AllocError> {
 }
 
 // The number of a message, and its text.
-static TEXTS: [(u16, &str); 6] = [
+static TEXTS: [(u16, &str); 7] = [
     (6028, "no definition block"),
     (6097, "bad locality matrix"),
     (6103, "length disagrees with the header"),
     (3002, "constant is cut to 32 bits"),
-    (6030, ""),
+    (6030, "wrong number of format arguments"),
+    (6031, ""),
     (0, ""),
 ];
 

@@ -1,10 +1,10 @@
-use iasl_ports::delivery::{Due, OutFile, Stop, deliver, tell};
+use iasl_ports::delivery::{Due, OutFile, Stop, tell};
 use iasl_ports::files::{FetchFault, Files};
-use iasl_ports::host::{HostFiles, HostOutputs, HostSink};
 use iasl_ports::list::Text;
 use iasl_ports::memory::{MemoryFiles, MemoryOutputs, MemorySink};
 use iasl_ports::outputs::{Outputs, PutFault};
 use iasl_ports::sink::{Sink, SinkFault, write_all};
+use iasl_runs::deliver::deliver;
 use std::alloc::{AllocError, Global};
 use std::borrow::CowSlice;
 
@@ -53,30 +53,6 @@ fn a_console_takes_what_it_has_room_for(rt: HostRuntime) -> Result<(), AllocErro
     assert!(rt; write_all(&mut sink, b"d") == Err(SinkFault));
     assert!(rt; write_all(&mut sink, b"def") == Err(SinkFault));
     assert!(rt; sink.as_bytes() == b"abcde".as_slice());
-    Ok(())
-}
-
-#[test]
-fn the_host_has_what_was_put(rt: HostRuntime) {
-    let mut outs = HostOutputs::new(rt);
-    assert!(rt; put_one(&mut outs, "made.bin", b"hello") == Ok(()));
-    assert!(rt; put_one(&mut outs, "no/such/dir/made.bin", b"hello") == Err(PutFault::Failed));
-    let mut files = HostFiles::new(rt);
-    assert!(rt; fetch_len(&mut files, rt.alloc(), "made.bin") == Ok(5));
-    assert!(rt; fetch_len(&mut files, rt.alloc(), "absent.bin") == Err(FetchFault::Absent));
-    assert!(rt; fetch_len(&mut files, rt.alloc(), "made.bin/x") == Err(FetchFault::Absent));
-    assert!(rt; fetch_len(&mut files, rt.alloc(), ".") == Err(FetchFault::Failed));
-    let mut sink = HostSink::new(rt);
-    assert!(rt; write_all(&mut sink, b"told\n") == Ok(()));
-}
-
-// Names that no file of the system can have: one with a NUL byte, and one of 5,000 characters.
-#[test]
-fn the_host_lacks_impossible_names(rt: HostRuntime) -> Result<(), AllocError> {
-    let mut files = HostFiles::new(rt);
-    assert!(rt; fetch_len(&mut files, rt.alloc(), "made\0.bin") == Err(FetchFault::Absent));
-    let long = "long/".repeat(rt.alloc(), 1000)?;
-    assert!(rt; fetch_len(&mut files, rt.alloc(), &long) == Err(FetchFault::Absent));
     Ok(())
 }
 

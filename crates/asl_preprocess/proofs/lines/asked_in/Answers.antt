@@ -9,5 +9,5 @@ pub returns-in-Err : goal.returns-in-Err
 returns-in-Err c =
     let asked = include_line c.args.blanked.now in
     let P : ℕ → Type 0 = λ k. LacksFile c.in-Err.stop (at c.args.line.now.file c.args.line.now.number k) asked in
-    subst P (c.in-Ok.ensures ∙ ap (λ b. b + 1) c.blanks_before.ensures.count)
+    subst P (c.in-Ok.ensures.column ∙ ap (λ b. b + 1) c.blanks_before.ensures.count)
     (lacks_name c.in-Err.stop (at c.args.line.now.file c.args.line.now.number c.in-Ok.column) c.in-Some.name.now asked (sym c.in-Some.ensures) c.in-Err.ensures)

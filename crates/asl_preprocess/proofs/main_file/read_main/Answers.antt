@@ -64,7 +64,7 @@ returns-in-Ok-clause-fault g c = by c.last_work.result c.last_work.ensures.memor
   where
     by : (r : Result Preprocessed PreStop) → IfErr r (λ stop. stop ≡ Memory) → IfErr r (λ stop. MainCauses stop (g.F.Files.faults c.args.files.now) (g.F.Files.faults c.read_file.new.files))
     by (Ok it) e = tt
-    by (Err stop) e = subst (λ s. MainCauses s (g.F.Files.faults c.args.files.now) (g.F.Files.faults c.read_file.new.files)) (sym e) tt
+    by (Err stop) e = subst (λ s. MainCauses s (g.F.Files.faults c.args.files.now) (g.F.Files.faults c.read_file.new.files)) (sym e) c.in-Ok.ensures.faults
 
 pub returns-clause-stopped : goal.returns-clause-stopped
 returns-clause-stopped g c told k =

@@ -5,7 +5,7 @@ use Rattle.asl_preprocess.proofs.Rowing.{search_seeks, search_counts, refuses_mi
 use Rattle.asl_preprocess.proofs.reading.seek.Goals as goal
 
 pub returns-in-Err-clause-refused : goal.returns-in-Err-clause-refused
-returns-in-Err-clause-refused g c = search_seeks c.in-Err.stop _ c.args.wanted.now _ _ _ _ c.in-Err.ensures.fault
+returns-in-Err-clause-refused g c = search_seeks c.in-Err.stop _ _ c.args.wanted.now _ _ _ _ c.in-Err.ensures.fault
 
 pub returns-in-Err-clause-fault : goal.returns-in-Err-clause-fault
 returns-in-Err-clause-fault g c = search_counts c.in-Err.stop _ _ c.in-Err.ensures.fault

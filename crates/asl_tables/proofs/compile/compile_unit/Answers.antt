@@ -14,7 +14,11 @@ use Rattle.asl_shape.specs.Plans.{plans_of}
 use Rattle.switch_checks.specs.Locals.{few_locals}
 use Rattle.source_pieces.specs.Places.{core_places}
 use Rattle.asl_tables.proofs.Programs.{ok_block, found_block, IsResolvedOf, resolved_block, written_formed, same_told, block_room, block_formed, others_of, block_shaped, program_comes, named_in_ascii, ascii_comes}
-use Rattle.asl_tables.specs.Compiled.{first_told, told_in, of_items}
+use Rattle.asl_tables.specs.Compiled.{first_told, told_in, of_items, of_terms, with_notes}
+use Rattle.literal_checks.specs.Literals.{cut_literals_at}
+use Rattle.name_notes.specs.Notes.{name_notes}
+use Rattle.aml_code.specs.Header.{fields_of}
+use Rattle.std.specs.Prelude.{◌++◌, IfOk}
 use Rattle.asl_tables.proofs.compile.compile_unit.Goals as goal
 
 is_block : (items : List Raw) (program : Program) (found : Block) → Forms items program → ((block : Block) → program.blocks ≡ block ∷ [] → ok_block found ≡ ok_block block) → IsBlockOf items found
@@ -24,13 +28,13 @@ is_block items program found forms is =
 
 pub resolve_block-requires : goal.resolve_block-requires
 resolve_block-requires c =
-    let items = c.args.unit.now.items in
+    let items = c.args.unit.items in
     let found = c.in_ok-block_of-in-Ok.field-0 in
     written_formed items found c.in-Ok.ensures.formed.no_errors (is_block items c.in-Ok.program found c.in-Ok.ensures.formed c.in_ok-block_of-in-Ok.ensures) c.requires
 
 pub compile_noted-requires-clause-room : goal.compile_noted-requires-clause-room
 compile_noted-requires-clause-room c =
-    let items = c.args.unit.now.items in
+    let items = c.args.unit.items in
     let found = c.in_ok-block_of-in-Ok.field-0 in
     let made = c.in_ok-block-in-Ok.field-0.block in
     let is = c.in_ok-block-in-Ok.ensures in
@@ -39,7 +43,7 @@ compile_noted-requires-clause-room c =
 
 pub compile_noted-requires-clause-formed : goal.compile_noted-requires-clause-formed
 compile_noted-requires-clause-formed c =
-    let items = c.args.unit.now.items in
+    let items = c.args.unit.items in
     let found = c.in_ok-block_of-in-Ok.field-0 in
     let made = c.in_ok-block-in-Ok.field-0.block in
     let is = c.in_ok-block-in-Ok.ensures in
@@ -48,7 +52,7 @@ compile_noted-requires-clause-formed c =
 
 pub compile_noted-requires-clause-shaped : goal.compile_noted-requires-clause-shaped
 compile_noted-requires-clause-shaped c =
-    let items = c.args.unit.now.items in
+    let items = c.args.unit.items in
     let found = c.in_ok-block_of-in-Ok.field-0 in
     let made = c.in_ok-block-in-Ok.field-0.block in
     let is = c.in_ok-block-in-Ok.ensures in
@@ -58,7 +62,7 @@ compile_noted-requires-clause-shaped c =
 
 pub returns-in_ok-others-in-Ok-clause-value : goal.returns-in_ok-others-in-Ok-clause-value
 returns-in_ok-others-in-Ok-clause-value c =
-    let items = c.args.unit.now.items in
+    let items = c.args.unit.items in
     let found = c.in_ok-block_of-in-Ok.field-0 in
     let made = c.in_ok-block-in-Ok.field-0.block in
     let is = c.in_ok-block-in-Ok.ensures in
@@ -67,14 +71,15 @@ returns-in_ok-others-in-Ok-clause-value c =
     let names : List Message = first_told c.in_ok-block-in-Ok.field-0.told (told_errors (trees_of made.terms.items)) in
     let told : names ≡ told_in items = same_told items found names written is.told in
     program_comes c.args.style c.args.lines.now.list c.compile_noted.result items made (trees_of made.terms.items) (core_places (plans_of made.terms.items)) names c.in_ok-others-in-Ok.others (few_locals (trees_of made.terms.items) (plans_of made.terms.items)) c.in-Ok.ensures.formed.no_errors resolved is.trees refl told
-    (c.in_ok-others-in-Ok.ensures ∙ ap (λ w. others_of w (trees_of c.as_slice.result.now) (plans_of c.as_slice.result.now)) c.of_revision-width.ensures ∙ ap (λ ns. others_of (width_of made.revision) (trees_of ns) (plans_of ns)) c.as_slice.ensures.value) refl c.compile_noted.ensures
+    (c.in_ok-others-in-Ok.ensures ∙ ap (λ w. others_of w (trees_of c.as_slice.result.now) (plans_of c.as_slice.result.now)) c.of_revision-width.ensures ∙ ap (λ ns. others_of (width_of made.revision) (trees_of ns) (plans_of ns)) c.as_slice.ensures.value) refl
+    (subst (λ ms. IfOk c.compile_noted.result (λ it. it ≡ with_notes (ms ++ name_notes (trees_of made.terms.items)) (of_terms c.args.style c.args.lines.now.list made.place (core_places (plans_of made.terms.items)) made.file (fields_of made) names c.in_ok-others-in-Ok.others (few_locals (trees_of made.terms.items) (plans_of made.terms.items)) (trees_of made.terms.items)))) (c.in_ok-literals-in-Ok.ensures ∙ ap (λ w. cut_literals_at w items) c.of_revision-width.ensures) c.compile_noted.ensures)
 
 pub returns-in_ok-others-in-Ok-clause-own : goal.returns-in_ok-others-in-Ok-clause-own
-returns-in_ok-others-in-Ok-clause-own c = ascii_comes c.compile_noted.result (of_items c.args.style c.args.lines.now.list c.args.unit.now.items) (named_in_ascii c.args.style c.args.lines.now.list c.args.unit.now.items c.requires) (returns-in_ok-others-in-Ok-clause-value c)
+returns-in_ok-others-in-Ok-clause-own c = ascii_comes c.compile_noted.result (of_items c.args.style c.args.lines.now.list c.args.unit.items) (named_in_ascii c.args.style c.args.lines.now.list c.args.unit.items c.requires) (returns-in_ok-others-in-Ok-clause-value c)
 
 pub other_errors-requires : goal.other_errors-requires
 other_errors-requires c =
-    let items = c.args.unit.now.items in
+    let items = c.args.unit.items in
     let found = c.in_ok-block_of-in-Ok.field-0 in
     let made = c.in_ok-block-in-Ok.field-0.block in
     let is = c.in_ok-block-in-Ok.ensures in

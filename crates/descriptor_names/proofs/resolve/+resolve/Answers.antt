@@ -56,12 +56,12 @@ resolve_term-returns-in_default-clause-told t c d look agrees tabled = other_tol
 
 pub resolve_term-returns-in_ok-resolved_use-in-Name-clause-made : goal.resolve_term-returns-in_ok-resolved_use-in-Name-clause-made
 resolve_term-returns-in_ok-resolved_use-in-Name-clause-made t c d look agrees tabled =
-    name_resolved (is_named d) look c.args.standing.bits (position_as c.args.standing.position) (get_or c.args.names.now.index.now.paths c.args.standing.scope []) c.args.term _ c.in-Name.path _ c.in-Name.is (c.in_ok-sense-in-Name.ensures d look agrees tabled) c.in_ok-resolved_use-in-Name.ensures
+    name_resolved (is_named d) look c.args.standing.bits (position_as c.args.standing.position) (get_or c.args.names.now.index.now.paths c.args.standing.scope []) c.args.term _ c.in-Name.path _ c.in-Name.is (c.in_ok-sense-in-Name.ensures.sense d look agrees tabled) c.in_ok-resolved_use-in-Name.ensures
 
 pub resolve_term-returns-in_ok-resolved_use-in-Name-clause-told : goal.resolve_term-returns-in_ok-resolved_use-in-Name-clause-told
 resolve_term-returns-in_ok-resolved_use-in-Name-clause-told t c d look agrees tabled =
     name_told (is_named d) look c.args.standing.bits (position_as c.args.standing.position) (get_or c.args.names.now.index.now.paths c.args.standing.scope []) c.args.place c.args.faults.now.items c.tell_leaving.new.faults.items c.tell_use.new.faults.items c.args.term c.in-Name.path _ c.in-Name.is
-    (c.in_ok-sense-in-Name.ensures d look agrees tabled) c.in_ok-tell_leaving-in-Name.ensures c.in_ok-tell_use-in-Name.ensures
+    (c.in_ok-sense-in-Name.ensures.sense d look agrees tabled) c.in_ok-tell_leaving-in-Name.ensures c.in_ok-tell_use-in-Name.ensures
 
 -- ---- a call
 
@@ -72,12 +72,12 @@ resolve_term-resolve_list-requires t c =
 pub resolve_term-returns-in_ok-args-in-Call-clause-made : goal.resolve_term-returns-in_ok-args-in-Call-clause-made
 resolve_term-returns-in_ok-args-in-Call-clause-made t c d look agrees tabled =
     call_resolved (is_named d) look c.args.standing.bits (position_as c.args.standing.position) (get_or c.args.names.now.index.now.paths c.args.standing.scope []) c.args.term c.in-Call.path c.in_ok-path-in-Call.path c.in-Call.args c.in_ok-args-in-Call.args _ c.in-Call.is
-    (c.in_ok-sense-in-Call.ensures d look agrees tabled) c.in_ok-path-in-Call.ensures (c.in_ok-args-in-Call.ensures.made d look agrees tabled)
+    (c.in_ok-sense-in-Call.ensures.sense d look agrees tabled) c.in_ok-path-in-Call.ensures (c.in_ok-args-in-Call.ensures.made d look agrees tabled)
 
 pub resolve_term-returns-in_ok-args-in-Call-clause-told : goal.resolve_term-returns-in_ok-args-in-Call-clause-told
 resolve_term-returns-in_ok-args-in-Call-clause-told t c d look agrees tabled =
     call_told (is_named d) look c.args.standing.bits (position_as c.args.standing.position) (get_or c.args.names.now.index.now.paths c.args.standing.scope []) c.args.place c.args.faults.now.items c.tell_leaving-in-Call.new.faults.items c.tell_call.new.faults.items c.resolve_list.new.faults.items c.args.term c.in-Call.path c.in-Call.args _ c.in-Call.is
-    (c.in_ok-sense-in-Call.ensures d look agrees tabled) c.in_ok-tell_leaving-in-Call.ensures c.in_ok-tell_call-in-Call.ensures (c.in_ok-args-in-Call.ensures.told d look agrees tabled)
+    (c.in_ok-sense-in-Call.ensures.sense d look agrees tabled) c.in_ok-tell_leaving-in-Call.ensures c.in_ok-tell_call-in-Call.ensures (c.in_ok-args-in-Call.ensures.told d look agrees tabled)
 
 -- ---- a form
 

@@ -18,5 +18,5 @@ pub returns-in_ok-sense-in-Some : goal.returns-in_ok-sense-in-Some
 returns-in_ok-sense-in-Some c =
     on_ok_weaker c.tell_opened.result (λ is d look agrees tabled.
     is ∙ ap (λ ms. c.args.faults.now.items ++ ms)
-    (scope_told (is_named d) look (get_or c.args.names.now.index.now.paths c.args.scope []) c.args.op c.args.place c.args.args.now c.in-Some.name.now _ (sym c.is_scope.ensures ∙ c.if-not-is_scope.false) c.in-Some.ensures (c.in_ok-sense-in-Some.ensures d look agrees tabled)))
+    (scope_told (is_named d) look (get_or c.args.names.now.index.now.paths c.args.scope []) c.args.op c.args.place c.args.args.now c.in-Some.name.now _ (sym c.is_scope.ensures ∙ c.if-not-is_scope.false) c.in-Some.ensures (c.in_ok-sense-in-Some.ensures.sense d look agrees tabled)))
     c.tell_opened.ensures

@@ -8,7 +8,9 @@ returns-then-eq-clause-text g c = (
   c.backend-item.result,
   search (rules, c.loop-backend-test.true),
   search (rules, c.backend-item.is),
-  (search (rules, c.kind_of_box.ensures, c.eq.ensures, c.if-eq.ensures), search (rules, c.kind_of_box.ensures, c.eq.ensures, c.if-eq.ensures, c.text_of_box.ensures)),
+  search (rules, c.loop-backend.invariant.none_yet),
+  search (rules, c.kind_of_box.ensures, c.eq.ensures, c.if-eq.ensures),
+  search (rules, c.kind_of_box.ensures, c.eq.ensures, c.if-eq.ensures, c.text_of_box.ensures),
 )
 
 pub returns-clause-none : goal.returns-clause-none

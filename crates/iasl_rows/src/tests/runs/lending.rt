@@ -1,8 +1,9 @@
 // What becomes of the boxes that a caller lends.
-ghost use Rattle.std.specs.Prelude.{IfOk};
+ghost use Rattle.std.specs.Prelude.{IfOk, IfSome};
 ghost use Rattle.iasl_backends.specs.Asked.{IsOneOfEach};
 
-use super::super::{boxes, given_words};
+use super::super::controller::{CONSOLE, CONTROLLER};
+use super::super::{Ran, are_same, boxes, given_words, run};
 use super::{ONE_NAME, WRONG_ARGUMENTS};
 use iasl_backends::backend::{Backend, Kind};
 use iasl_backends::c_hex::CHex;
@@ -73,11 +74,12 @@ fn refusing_boxes(alloc: Global) -> Result<Vec<Box<dyn Backend>>, AllocError>
     )
 }
 
-// A listing that takes so many pieces, and refuses the next.
+// A listing that takes so many pieces, and refuses the next one time.
 #[derive(Drop)]
 struct TakingFew {
     listing: Listing,
     left: u8,
+    has_refused: bool,
 }
 
 impl Backend for TakingFew {
@@ -98,10 +100,11 @@ impl Backend for TakingFew {
     }
 
     fn piece(&mut self, piece: &Piece) -> Result<(), AllocError> {
-        if self.left == 0 {
+        if self.left == 0 && !self.has_refused {
+            self.has_refused = true;
             return Err(AllocError);
         }
-        self.left -= 1;
+        self.left = self.left.saturating_sub(1);
         self.listing.piece(piece)
     }
 
@@ -121,6 +124,7 @@ fn boxes_of_two_pieces(alloc: Global) -> Result<Vec<Box<dyn Backend>>, AllocErro
     let listing = TakingFew {
         listing: Listing::new(alloc),
         left: 2,
+        has_refused: false,
     };
     one_of_each(
         alloc,
@@ -210,11 +214,11 @@ fn are_left(backends: &Vec<Box<dyn Backend>>, wanted: &[Kind]) -> bool {
     same
 }
 
-// How a run ended: its status, how many files it put, and what it told.
+// How a run ended: its status, what it put, and what it told.
 #[derive(Drop)]
 struct Ended {
     status: u8,
-    put: usize,
+    outs: MemoryOutputs,
     console: MemorySink,
 }
 
@@ -235,7 +239,7 @@ fn run_on(
     let status = iasl(alloc, &words, &mut files, &mut outs, &mut console, backends);
     Ok(Ended {
         status,
-        put: outs.names().len(),
+        outs,
         console,
     })
 }
@@ -290,7 +294,7 @@ fn is_refusal(
     )?;
     Ok(
         ended.status == row.status
-            && ended.put == row.put
+            && ended.outs.names().len() == row.put
             && ended.console.as_bytes() == row.told
             && are_left(&backends, &[Kind::RawAml, row.left]),
     )
@@ -347,5 +351,76 @@ fn are_refusals(alloc: Global) -> Result<bool, AllocError> {
 #[test]
 fn boxes_that_refuse(rt: HostRuntime) -> Result<(), AllocError> {
     assert!(rt; are_refusals(rt.alloc())?);
+    Ok(())
+}
+
+// The boxes of a run in which an array and a listing were asked for, with one for the template again; none where that is not so.
+fn taken_again(
+    alloc: Global,
+    mut backends: Vec<Box<dyn Backend>>,
+) -> Result<Option<Vec<Box<dyn Backend>>>, AllocError>
+    ensures { IfOk result (λ taken. IfSome taken (λ backends. IsOneOfEach (λ b. kind_of b) backends.items)) }
+{
+    let Some(listing) = backends.pop() else {
+        return Ok(None);
+    };
+    let Some(array) = backends.pop() else {
+        return Ok(None);
+    };
+    let Some(table) = backends.pop() else {
+        return Ok(None);
+    };
+    if listing.kind() != Kind::Listing
+        || array.kind() != Kind::CHex
+        || table.kind() != Kind::RawAml
+    {
+        return Ok(None);
+    }
+    let template = Box::new(alloc, TemplateText::new(alloc))?;
+    Ok(Some(one_of_each(alloc, table, array, listing, template)?))
+}
+
+const WORDS: &[&str] = &["-l", "-tc", "t.asl"];
+
+// Whether a run over these boxes tells this, with this status.
+fn tells(
+    alloc: Global,
+    backends: &mut Vec<Box<dyn Backend>>,
+    status: u8,
+    told: &[u8],
+) -> Result<Option<MemoryOutputs>, AllocError>
+    requires { IsOneOfEach (λ b. kind_of b) backends.old.items }
+{
+    let ended = run_on(alloc, WORDS, ("t.asl", CONTROLLER), backends)?;
+    let tells = ended.status == status && ended.console.as_bytes() == told;
+    Ok(tells.then_some(ended.outs))
+}
+
+// Whether these are the three files of another run.
+fn are_files_of(outs: &MemoryOutputs, ran: &Ran) -> bool {
+    outs.names().len() == 3
+        && are_same(outs.names(), ran.outs.names())
+        && are_same(outs.bodies(), ran.outs.bodies())
+}
+
+// Whether the boxes of a run that one of them ends serve a second run, which puts the files of the controller.
+fn boxes_serve_again(alloc: Global) -> Result<bool, AllocError> {
+    let whole = run(alloc, WORDS, CONTROLLER)?;
+    let mut backends = boxes_of_two_pieces(alloc)?;
+    let is_refused = tells(alloc, &mut backends, 4, b"iasl: out of memory\n")?.is_some_and(
+        |outs| outs.names().is_empty(),
+    );
+    let Some(mut again) = taken_again(alloc, backends)? else {
+        return Ok(false);
+    };
+    let serves = tells(alloc, &mut again, 0, CONSOLE)?.is_some_and(|outs| are_files_of(
+        &outs, &whole,
+    ));
+    Ok(is_refused && serves)
+}
+
+#[test]
+fn boxes_that_serve_again(rt: HostRuntime) -> Result<(), AllocError> {
+    assert!(rt; boxes_serve_again(rt.alloc())?);
     Ok(())
 }

@@ -14,6 +14,7 @@ returns-in-Err g c =
       text = e.some_text;
       no_text = e.no_text;
       no_text_yet = λ h. e.no_text_yet (ap Err h);
+      memory_calm = λ h. e.memory_calm (ap Err h);
       put_later = e.put_later;
       told_later = e.told_later;
     }) c.fail.ensures

@@ -20,8 +20,8 @@ errors_of-loop-at-preserved t c =
     let node = c.index-nodes-at.result in
     next_checked names c.args.asker c.args.nodes.now c.args.first c.args.out.now c.loop-at.at c.loop-at.next _ c.loop-at.out c.argument_errors.new.out c.errors_inside.new.out node c.loop-at-test.true c.index-nodes-at.is c.loop-at.invariant
     (c.in_ok-argument_errors.ensures ∙ ap (λ w. c.loop-at.out ++ argument_errors names w c.loop-at.next node.place (plan_of node.term)) c.wanted_of.ensures)
-    (c.in_ok-next.ensures.told ∙ ap (λ n. c.argument_errors.new.out ++ errors_inside names n (plan_of node.term)) c.in_ok-after.ensures)
-    (c.in_ok-next.ensures.next ∙ ap (λ n. n + inside (plan_of node.term)) c.in_ok-after.ensures)
+    (c.in_ok-next.ensures.told ∙ ap (λ n. c.argument_errors.new.out ++ errors_inside names n (plan_of node.term)) c.in_ok-after.ensures.next)
+    (c.in_ok-next.ensures.next ∙ ap (λ n. n + inside (plan_of node.term)) c.in_ok-after.ensures.next)
 
 pub errors_of-returns-clause-next : goal.errors_of-returns-clause-next
 errors_of-returns-clause-next t c = all_counted (listed c.args.names.now) c.args.asker c.args.nodes.now c.args.first c.args.out.now c.loop-at.at c.loop-at.next c.loop-at.out c.loop-at-test.false c.loop-at.invariant

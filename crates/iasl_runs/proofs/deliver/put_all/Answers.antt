@@ -1,6 +1,6 @@
 use Rattle.std.proofs.Common.{rules, refl, arith}
-use Rattle.iasl_ports.proofs.PutSoFar.{puts_next, has_put_all, stops_torn}
-use Rattle.iasl_ports.proofs.delivery.put_all.Goals as goal
+use Rattle.iasl_runs.proofs.PutSoFar.{puts_next, has_put_all, stops_torn}
+use Rattle.iasl_runs.proofs.deliver.put_all.Goals as goal
 
 pub returns-in-Err-Failed-clause-some : goal.returns-in-Err-Failed-clause-some
 returns-in-Err-Failed-clause-some g c =

@@ -1,7 +1,7 @@
 use Rattle.std.proofs.Common.{◌≡◌, map, take}
 use Rattle.iasl_ports.specs.Gained.{Gains}
 use Rattle.iasl_ports.specs.Delivery.{name_and_bytes}
-use Rattle.iasl_ports.proofs.delivery.put_all.Given as goal
+use Rattle.iasl_runs.proofs.deliver.put_all.Given as goal
 
 abbrev pub invariant-loop-file : goal.invariant-loop-file
 invariant-loop-file g l = record {

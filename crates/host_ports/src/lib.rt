@@ -1,0 +1,6 @@
+//! The ports over the real system: its files, its outputs and its console.
+#![tactic(auto)]
+
+pub mod host;
+pub mod text;
+pub mod whole;
