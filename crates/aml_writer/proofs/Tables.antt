@@ -1,8 +1,9 @@
 -- What is written of a block is its table.
-use Rattle.std.proofs.Common.{◌≡◌, ℕ, ◌+◌, ◌%◌, ◌≤◌, ◌<◌, Bool, true, false, List, [], ◌∷◌, ◌++◌, length, reverse, Option, None, Some, refl, sym, ap, ◌∙◌, subst, arith}
-use Rattle.std.specs.Prelude.{nat_le, if◌then◌else◌}
-use Rattle.std.proofs.lemmas.Bool.Decides.{nat_tests}
-use Rattle.std.proofs.lemmas.List.{reverse-reverse}
+use Rattle.std.proofs.Common.{◌≡◌, ℕ, ◌+◌, ◌-◌, ◌%◌, ◌≤◌, ◌<◌, Bool, true, false, List, [], ◌∷◌, ◌++◌, length, min, take, drop, get_or, map, replicate, Option, None, Some, refl, sym, ap, ◌∙◌, subst, arith, length-append}
+use Rattle.std.specs.List.{slice_get}
+use Rattle.std.proofs.lemmas.Option.{slice_get-get_or}
+use Rattle.std.specs.Prelude.{nat_le, sum, if◌then◌else◌}
+use Rattle.std.proofs.lemmas.List.{length-map, drop_all, append-nil, length-take, length-replicate}
 use Rattle.iasl_messages.specs.declared.place.Line.{Line}
 use Rattle.iasl_messages.specs.declared.place.Piece.{Piece}
 use Rattle.acpi_values.specs.Paths.{AbsolutePath}
@@ -10,7 +11,6 @@ use Rattle.acpi_values.specs.Operators.{Letter, Valued, Kept, Placed, Used, row_
 use Rattle.acpi_values.specs.Operators as L
 use Rattle.acpi_state.specs.Objects.{Names}
 use Rattle.acpi_state.specs.FieldActs.{region_letters, field_letters}
-use Rattle.asl_tree.specs.declared.path.Path.{Path}
 use Rattle.asl_tree.specs.declared.term.Op.{Op}
 use Rattle.asl_tree.specs.declared.term.Declaration.TheVariants as Declaration
 use Rattle.asl_tree.specs.declared.term.Control.TheVariants as Control
@@ -27,9 +27,11 @@ use Rattle.asl_tree.specs.FieldItems.{FieldItem}
 use Rattle.asl_tree.specs.Tree.{At, Tree, Integer, InSlot, Debug, Omitted, Raw, Use, Call, Apply, Buffer, Package, VarPackage, CondRefOf, Return, Name, Alias, External, Method, Mutex, Event, Container', Scope, Fill, Misshapen, Trees, no_trees, tree, count, If, ElseIf, Else, While, Item, OperationRegion, Field, IndexField, BankField, CreateField, UnitName, Operated, Assigned, AssignedBy, Switch, Case, Default}
 use Rattle.asl_tree.specs.View.{buffer, packaged, items_in, form, tree_of, row_trees, trees_of}
 use Rattle.aml_code.specs.Encoding.{name_bytes}
-use Rattle.aml_meaning.specs.Encoded.{encoded, encoded_all}
-use Rattle.aml_code.specs.Fronts.{IsName}
-use Rattle.aml_code.specs.Header.{header_length, header_with, checksum_of, fields_of, table_bytes, IsHeader}
+use Rattle.aml_meaning.specs.Encoded.{encoded, encoded_all, encoded_block}
+use Rattle.aml_code.specs.Header.{header_length, HeaderFields, header_with, checksum_of, fields_of, table_bytes, IsHeader}
+use Rattle.aml_code.specs.Header.{filled as zero_filled, compiler_bytes}
+use Rattle.byteorder.specs.Endian.{little_bytes}
+use Rattle.byteorder.specs.Numbers.{length-bytes_low_first}
 use Rattle.aml_meaning.specs.ByteSession.{IsFaithful}
 use Rattle.aml_sessions.specs.Ready.{IsReady, IsSpot, IsAlone, AreOperands, AreSpots, AreValues, AreElements, AreReady, LetterReady, SpotReady, ElementReady, CondReady, IsReadyBlock}
 use Rattle.aml_sessions.proofs.Sessions.{faithful}
@@ -40,9 +42,12 @@ use Rattle.aml_writer.specs.Styles.{style_of}
 use Rattle.aml_writer.specs.Leaves.{Leaf, leaf_of, leaves_of, operand_bytes, first_letter, letters_behind}
 use Rattle.aml_writer.specs.Codes.{letters_of}
 use Rattle.aml_writer.specs.Items.{written_items}
-use Rattle.aml_writer.specs.TermBytes.{written_name, whole_form, term_bytes, row_bytes, nodes_bytes}
-use Rattle.aml_writer.specs.Pieces.{joined_pieces, piece_at, nodes_pieces, table_pieces}
-use Rattle.aml_writer.specs.Written.{most_table_bytes, IsTableOf}
+use Rattle.aml_writer.specs.TermBytes.{whole_form, term_bytes, row_bytes, nodes_bytes}
+use Rattle.aml_writer.specs.Pieces.{joined_pieces, nodes_pieces, table_pieces}
+use Rattle.aml_writer.specs.Written.{most_table_bytes, IsTableOf, IsTableSize}
+use Rattle.aml_writer.specs.declared.reserve.Room.{Room}
+use Rattle.aml_writer.specs.Rooms.{blank, size_of, bytes_of, filled, nodes_parts, table_parts_of, joined_parts, header_for, IsRoomOf, HasRoom, EndsIn, Fills}
+use Rattle.aml_writer.proofs.Rooms.{filled_is, blank_filled, parts_sizes, parts_joined, sum_sizes, table_alike, table_sizes_alike}
 use Rattle.aml_writer.proofs.NodePieces.{nodes_joined}
 use Rattle.acpi_state.specs.Outcomes.{choose}
 use Rattle.aml_writer.proofs.FormLeaves.{tree_leaf, tree_leaves, form_leaf}
@@ -288,6 +293,14 @@ module _ (style : IntegerStyle) where
 pub ready_bytes : (known : Known) (style : IntegerStyle) (ns : List Node) → AreReady known (trees_of ns) [] → nodes_bytes style [] ns ≡ encoded_all style.width style.short (trees_of ns)
 ready_bytes known style ns ready = nodes_written style ns (all_whole known (trees_of ns) [] ready)
 
+-- the pieces of a ready block, joined, are its encoding
+pub joined_is : (known : Known) (short : Bool) (lines : List Line) (block : Block) → IsReadyBlock known block → joined_pieces (table_pieces (style_of block short) lines block) ≡ encoded_block short block
+joined_is known short lines block ready =
+    let style = style_of block short in
+    let fields = fields_of block in
+    ap (λ bs. header_with fields (header_length + length (nodes_bytes style [] block.terms.items)) (checksum_of (header_with fields (header_length + length (nodes_bytes style [] block.terms.items)) 0 ++ nodes_bytes style [] block.terms.items)) ++ bs) (nodes_joined style lines block.terms.items)
+    ∙ ap (table_bytes fields) (ready_bytes known style block.terms.items ready.terms)
+
 -- what a ready block's pieces join to is its table
 pub table_of : (known : Known) (externals : Names) (short : Bool) (lines : List Line) (block : Block) (pieces : List Piece) → length (nodes_bytes (style_of block short) [] block.terms.items) ≤ most_content_bytes → pieces ≡ table_pieces (style_of block short) lines block → IsKnownStart known externals → IsReadyBlock known block → IsTableOf known externals block short (joined_pieces pieces)
 table_of known externals short lines block pieces within is start ready =
@@ -298,9 +311,7 @@ table_of known externals short lines block pieces within is start ready =
     let content = encoded_all width short (trees_of block.terms.items) in
     let written_is : nodes_bytes style [] block.terms.items ≡ content = ready_bytes known style block.terms.items ready.terms in
     let size : length content ≤ most_content_bytes = subst (λ bs. length bs ≤ most_content_bytes) written_is within in
-    let joined : joined_pieces (table_pieces style lines block) ≡ table_bytes fields (nodes_bytes style [] block.terms.items) =
-    ap (λ bs. header_with fields (header_length + length (nodes_bytes style [] block.terms.items)) (checksum_of (header_with fields (header_length + length (nodes_bytes style [] block.terms.items)) 0 ++ nodes_bytes style [] block.terms.items)) ++ bs) (nodes_joined style lines block.terms.items) in
-    let table : bytes ≡ table_bytes fields content = ap joined_pieces is ∙ joined ∙ ap (table_bytes fields) written_is in
+    let table : bytes ≡ table_bytes fields content = ap joined_pieces is ∙ joined_is known short lines block ready in
     record {
       encoded = table;
       within = subst (λ bs. length bs ≤ most_table_bytes) (sym table) (let l = length_is fields content ready.signature in omega (arith, l, size));
@@ -308,14 +319,123 @@ table_of known externals short lines block pieces within is start ready =
       faithful = subst (λ bs. IsFaithful width known externals (trees_of block.terms.items) bs) (sym table) (faithful width known short externals (trees_of block.terms.items) (table_bytes fields content) start ready.terms (width_is fields content ready.signature) (omega (arith, size)) (definition_is fields content ready.signature (omega (arith, size))));
     }
 
--- the pieces in their order, with the header before them
-pub whole_pieces : (style : IntegerStyle) (lines : List Line) (block : Block) (reversed pieces : List Piece) (size check : ℕ) (header0 header : List ℕ) → reversed ≡ reverse (nodes_pieces style lines block.terms.items) → pieces ≡ reverse reversed → size ≡ length (nodes_bytes style [] block.terms.items) → header0 ≡ header_with (fields_of block) (36 + size) 0 → check ≡ checksum_of (header0 ++ joined_pieces pieces) → header ≡ header_with (fields_of block) (36 + size) check → piece_at lines block.place header ∷ pieces ≡ table_pieces style lines block
-whole_pieces style lines block reversed pieces size check header0 header ereversed epieces esize eheader0 echeck eheader =
+-- how long the pieces of a block are, joined
+filled_length : (n : ℕ) (text : List ℕ) → length (zero_filled n text) ≡ n
+filled_length n text = omega (arith, length-take n text, length-append (take n text) (replicate (n - length text) 0), length-replicate {A = ℕ} (n - length text) 0)
+
+long_header : (f4 l4 f6 f8 lo compiler : List ℕ) (revision check : ℕ) → length f4 ≡ 4 → length l4 ≡ 4 → length f6 ≡ 6 → length f8 ≡ 8 → length lo ≡ 4 → length compiler ≡ 8 → length (f4 ++ l4 ++ revision ∷ check ∷ f6 ++ f8 ++ lo ++ compiler) ≡ 36
+long_header f4 l4 f6 f8 lo compiler revision check e1 e2 e3 e4 e5 e6 = grind (arith, length-append)
+
+pub header_size : (fields : HeaderFields) (size check : ℕ) → length (header_with fields size check) ≡ 36
+header_size fields size check =
+    long_header (zero_filled 4 fields.signature) (little_bytes 4 size) (zero_filled 6 fields.oem_id) (zero_filled 8 fields.table_id) (little_bytes 4 fields.oem_revision) compiler_bytes fields.revision check
+    (filled_length 4 fields.signature) (length-bytes_low_first 0 4 size) (filled_length 6 fields.oem_id) (filled_length 8 fields.table_id) (length-bytes_low_first 0 4 fields.oem_revision) refl
+
+pub table_size : (style : IntegerStyle) (lines : List Line) (block : Block) → length (joined_pieces (table_pieces style lines block)) ≡ 36 + length (nodes_bytes style [] block.terms.items)
+table_size style lines block =
     let content = nodes_bytes style [] block.terms.items in
-    let fields = fields_of block in
-    let in_order : pieces ≡ nodes_pieces style lines block.terms.items = epieces ∙ ap reverse ereversed ∙ reverse-reverse (nodes_pieces style lines block.terms.items) in
-    let joined : joined_pieces pieces ≡ content = ap joined_pieces in_order ∙ nodes_joined style lines block.terms.items in
-    let whole : header ≡ header_with fields (36 + length content) (checksum_of (header_with fields (36 + length content) 0 ++ content)) =
-    eheader ∙ ap (λ n. header_with fields (36 + n) check) esize
-    ∙ ap (header_with fields (36 + length content)) (echeck ∙ ap (λ h. checksum_of (h ++ joined_pieces pieces)) (eheader0 ∙ ap (λ n. header_with fields (36 + n) 0) esize) ∙ ap (λ bs. checksum_of (header_with fields (36 + length content) 0 ++ bs)) joined) in
-    ap (λ h. piece_at lines block.place h ∷ pieces) whole ∙ ap (λ ps. piece_at lines block.place (header_with fields (36 + length content) (checksum_of (header_with fields (36 + length content) 0 ++ content))) ∷ ps) in_order
+    let size = header_length + length content in
+    let check = checksum_of (header_with (fields_of block) size 0 ++ content) in
+    let header = header_with (fields_of block) size check in
+    let whole = length-append header (joined_pieces (nodes_pieces style lines block.terms.items)) in
+    let rest : length (joined_pieces (nodes_pieces style lines block.terms.items)) ≡ length content = ap length (nodes_joined style lines block.terms.items) in
+    omega (arith, whole, rest, header_size (fields_of block) size check)
+
+pub size_is : (block : Block) (short : Bool) (counted size : ℕ) → counted ≡ min (length (nodes_bytes (style_of block short) [] block.terms.items)) 18446744073709551615 → counted ≤ most_content_bytes → size ≡ 36 + counted → IsTableSize block short size
+size_is block short counted size ec le es =
+    let exact : counted ≡ length (nodes_bytes (style_of block short) [] block.terms.items) = omega (arith, ec, le) in
+    record {
+      joined = λ lines. omega (arith, exact, es, table_size (style_of block short) lines block);
+      encoded = λ known ready. omega (arith, exact, es, table_size (style_of block short) [] block, ap length (joined_is known short [] block ready));
+      content = omega (arith, exact, es);
+      within = omega (arith, le, es);
+    }
+
+-- the bytes of a block's pieces: its header, and those of its terms
+pub parts_are : (block : Block) (short : Bool) → table_parts_of block short ≡ header_for block (length (nodes_bytes (style_of block short) [] block.terms.items)) (nodes_parts (style_of block short) block.terms.items) ∷ nodes_parts (style_of block short) block.terms.items
+parts_are block short =
+    let style = style_of block short in
+    let terms = block.terms.items in
+    let content = nodes_bytes style [] terms in
+    let size = header_length + length content in
+    let same : joined_parts (nodes_parts style terms) ≡ content = parts_joined (nodes_pieces style [] terms) ∙ nodes_joined style [] terms in
+    ap (λ bs. header_with (fields_of block) size (checksum_of (header_with (fields_of block) size 0 ++ bs)) ∷ nodes_parts style terms) (sym same)
+
+-- a room of some lines is one whatever the lines
+pub has_room : (lines : List Line) (block : Block) (short : Bool) (room : Room) → IsRoomOf lines block short room → HasRoom block short room
+has_room lines block short room is =
+    let style = style_of block short in
+    let pieces = table_pieces style lines block in
+    record {
+      count = ap length is.pieces ∙ length-map pieces blank ∙ sym (length-map pieces size_of) ∙ sym (ap length is.spaces);
+      spaces = is.spaces ∙ table_sizes_alike style lines [] block;
+      lengths = is.lengths;
+      within = is.within;
+    }
+
+pub room_filled : (lines : List Line) (block : Block) (short : Bool) (room : Room) (pieces : List Piece) → IsRoomOf lines block short room → pieces ≡ filled room.pieces (table_parts_of block short) → pieces ≡ table_pieces (style_of block short) lines block
+room_filled lines block short room pieces is e =
+    let style = style_of block short in
+    let whole = table_pieces style lines block in
+    e ∙ ap (λ ps. filled ps (table_parts_of block short)) is.pieces ∙ ap (filled (map blank whole)) (sym (table_alike style lines [] block)) ∙ blank_filled whole
+
+-- the rooms of a block: that of the header, and those of the terms
+pub ends_with_terms : (block : Block) (short : Bool) (room : Room) → HasRoom block short room → EndsIn room.spaces (nodes_parts (style_of block short) block.terms.items)
+ends_with_terms block short room has =
+    let parts = table_parts_of block short in
+    let header = header_for block (length (nodes_bytes (style_of block short) [] block.terms.items)) (nodes_parts (style_of block short) block.terms.items) in
+    record {
+      rest = length header ∷ [];
+      is = has.spaces ∙ sym (parts_sizes (table_pieces (style_of block short) [] block)) ∙ ap (map length) (parts_are block short);
+    }
+
+pub ends_with_header : (block : Block) (short : Bool) (room : Room) (spaces : List ℕ) (pieces : List Piece) → HasRoom block short room → Fills (nodes_parts (style_of block short) block.terms.items) room.spaces spaces room.pieces pieces → EndsIn spaces (header_for block (length (nodes_bytes (style_of block short) [] block.terms.items)) (nodes_parts (style_of block short) block.terms.items) ∷ [])
+unfolding ends_with_terms
+ends_with_header block short room spaces pieces has put =
+    let ends = ends_with_terms block short room has in record { rest = []; is = put.left ends.rest ends.is }
+
+-- the header by what is known of the pieces behind it
+pub header_here : (block : Block) (short : Bool) (room : Room) (size : ℕ) (spaces : List ℕ) (pieces : List Piece) → HasRoom block short room → Fills (nodes_parts (style_of block short) block.terms.items) room.spaces spaces room.pieces pieces → size ≡ length (nodes_bytes (style_of block short) [] block.terms.items)
+    → header_for block size (map bytes_of (drop (length spaces) pieces)) ≡ header_for block (length (nodes_bytes (style_of block short) [] block.terms.items)) (nodes_parts (style_of block short) block.terms.items)
+header_here block short room size spaces pieces has put e =
+    let parts = nodes_parts (style_of block short) block.terms.items in
+    let before : map bytes_of (drop (length room.spaces) room.pieces) ≡ [] = ap (map bytes_of) (drop_all (length room.spaces) room.pieces (omega (arith, has.count))) in
+    ap (λ n. header_for block n (map bytes_of (drop (length spaces) pieces))) e
+    ∙ ap (header_for block (length (nodes_bytes (style_of block short) [] block.terms.items))) (put.full ∙ ap (λ xs. parts ++ xs) before ∙ append-nil parts)
+
+-- all the pieces have their bytes
+pub all_filled : (block : Block) (short : Bool) (room : Room) (spaces spaces' : List ℕ) (pieces pieces' : List Piece) → HasRoom block short room → Fills (nodes_parts (style_of block short) block.terms.items) room.spaces spaces room.pieces pieces →
+    Fills (header_for block (length (nodes_bytes (style_of block short) [] block.terms.items)) (nodes_parts (style_of block short) block.terms.items) ∷ []) spaces spaces' pieces pieces' → pieces' ≡ filled room.pieces (table_parts_of block short)
+unfolding ends_with_header
+all_filled block short room spaces spaces' pieces pieces' has terms header =
+    let none : spaces' ≡ [] = header.left [] (ends_with_header block short room spaces pieces has terms).is in
+    let before : map bytes_of (drop (length room.spaces) room.pieces) ≡ [] = ap (map bytes_of) (drop_all (length room.spaces) room.pieces (omega (arith, has.count))) in
+    let bytes : map bytes_of pieces' ≡ table_parts_of block short =
+    ap (λ (ss : List ℕ). map bytes_of (drop (length ss) pieces')) (sym none) ∙ header.full ∙ ap (λ parts. header_for block (length (nodes_bytes (style_of block short) [] block.terms.items)) (nodes_parts (style_of block short) block.terms.items) ∷ parts) (terms.full ∙ ap (λ parts. nodes_parts (style_of block short) block.terms.items ++ parts) before ∙ append-nil (nodes_parts (style_of block short) block.terms.items)) ∙ sym (parts_are block short) in
+    filled_is pieces' room.pieces (header.blanks ∙ terms.blanks) ∙ ap (filled room.pieces) bytes
+
+-- the rooms of a block have no more than 16 MiB
+pub room_within : (block : Block) (short : Bool) (room : Room) → HasRoom block short room → sum room.spaces ≤ 16777216
+room_within block short room has =
+    let style = style_of block short in
+    let whole : sum room.spaces ≡ 36 + length (nodes_bytes style [] block.terms.items) = ap sum has.spaces ∙ sum_sizes (table_pieces style [] block) ∙ table_size style [] block in
+    omega (arith, whole, has.within)
+
+-- what was put in by other names
+pub named_fills : (style style' : IntegerStyle) (ns ns' : List Node) (s s' t : List ℕ) (p p' q : List Piece) → style ≡ style' → ns ≡ ns' → s ≡ s' → p ≡ p' → Fills (nodes_parts style ns) s t p q → Fills (nodes_parts style' ns') s' t p' q
+named_fills style style' ns ns' s s' t p p' q es en espaces ep h =
+    subst (λ (o : IntegerStyle). Fills (nodes_parts o ns') s' t p' q) es (subst (λ ms. Fills (nodes_parts style ms) s' t p' q) en (subst (λ r. Fills (nodes_parts style ns) r t p' q) espaces (subst (λ ps. Fills (nodes_parts style ns) s t ps q) ep h)))
+
+pub named_ends : (style style' : IntegerStyle) (ns ns' : List Node) (s s' : List ℕ) → style ≡ style' → ns ≡ ns' → s ≡ s' → EndsIn s' (nodes_parts style' ns') → EndsIn s (nodes_parts style ns)
+named_ends style style' ns ns' s s' es en espaces h =
+    subst (λ (o : IntegerStyle). EndsIn s (nodes_parts o ns)) (sym es) (subst (λ ms. EndsIn s (nodes_parts style' ms)) (sym en) (subst (λ r. EndsIn r (nodes_parts style' ns')) (sym espaces) h))
+
+pub named_size : (style style' : IntegerStyle) (ns ns' : List Node) (size : ℕ) → style ≡ style' → ns ≡ ns' → size ≡ 0 + length (nodes_bytes style [] ns) → size ≡ length (nodes_bytes style' [] ns')
+named_size style style' ns ns' size es en e =
+    let same : length (nodes_bytes style [] ns) ≡ length (nodes_bytes style' [] ns') = ap (λ (o : IntegerStyle). length (nodes_bytes o [] ns)) es ∙ ap (λ ms. length (nodes_bytes style' [] ms)) en in
+    omega (arith, e, same)
+
+-- the block that is there
+pub block_there : (blocks : List Block) (number : ℕ) → slice_get blocks number ≡ None → number < length blocks → ⊥
+block_there [] number none lt = omega (arith, lt)
+block_there (b ∷ blocks) number none lt = let told : None ≡ Some (get_or (b ∷ blocks) number b) = sym none ∙ slice_get-get_or (b ∷ blocks) number b lt in cc

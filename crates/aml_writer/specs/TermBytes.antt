@@ -2,7 +2,6 @@
 use Rattle.std.specs.Prelude.{ℕ, suc, ◌+◌, ◌%◌, Bool, true, false, nat_le, if◌then◌else◌, List, [], ◌∷◌, ◌++◌, length, Option, Some, None}
 use Rattle.acpi_values.specs.Integers.{wrapped}
 use Rattle.acpi_values.specs.Operators.{Letter}
-use Rattle.asl_tree.specs.declared.path.Path.{Path}
 use Rattle.asl_tree.specs.declared.term.Op.{Op}
 use Rattle.asl_tree.specs.declared.term.Declaration.TheVariants as Declaration
 use Rattle.asl_tree.specs.declared.term.Control.TheVariants as Control
@@ -12,7 +11,7 @@ use Rattle.asl_tree.specs.declared.term.Term.{Term}
 use Rattle.asl_tree.specs.declared.term.Term as D
 use Rattle.asl_tree.specs.Literals.{word_number}
 use Rattle.aml_meaning.specs.Codes.{DebugCode, OmittedCode, StringCode, BufferCode, PackageCode, VarPackageCode, code_bytes}
-use Rattle.aml_code.specs.Encoding.{integer_bytes, name_bytes, package_length_bytes}
+use Rattle.aml_code.specs.Encoding.{integer_bytes, package_length_bytes}
 use Rattle.aml_writer.specs.declared.style.IntegerStyle.{IntegerStyle}
 use Rattle.aml_writer.specs.Leaves.{Leaf, leaf_of, leaves_of, operand_bytes, first_letter, letters_behind, fill_bytes, is_first_left_out, stated_count}
 use Rattle.aml_writer.specs.Codes.{code_of, letters_of}

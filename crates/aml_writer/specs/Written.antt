@@ -15,6 +15,9 @@ use Rattle.aml_meaning.specs.Encoded.{encoded_block}
 use Rattle.aml_meaning.specs.ByteSession.{IsFaithful}
 use Rattle.aml_writer.specs.Styles.{style_of}
 use Rattle.aml_writer.specs.TermBytes.{nodes_bytes}
+use Rattle.aml_writer.specs.Pieces.{joined_pieces, table_pieces}
+use Rattle.iasl_messages.specs.declared.place.Place.{Place}
+use Rattle.iasl_messages.specs.declared.place.Line.{Line}
 use Rattle.aml_writer.specs.declared.stop.WriteStop.{WriteStop}
 use Rattle.aml_writer.specs.declared.stop.WriteStop.TheVariants.{TooLong, Memory}
 
@@ -38,6 +41,19 @@ pub record IsTableOf (known : Known) (externals : Names) (block : Block) (short 
 -- whatever is known of the block's paths and of other tables, its table where it is ready
 pub record IsTable (block : Block) (short : Bool) (bytes : List ℕ) : Type 0 where
   pub table : (known : Known) (externals : Names) → IsKnownStart known externals → IsReadyBlock known block → IsTableOf known externals block short bytes
+
+-- how many bytes the table of a block has: as many as its pieces joined, whatever the lines of these, which is as many as its encoding where the
+-- block is ready, and no more than 16 MiB
+pub record IsTableSize (block : Block) (short : Bool) (size : ℕ) : Type 0 where
+  pub joined : (lines : List Line) → size ≡ length (joined_pieces (table_pieces (style_of block short) lines block))
+  pub encoded : (known : Known) → IsReadyBlock known block → size ≡ length (encoded_block short block)
+  pub content : size ≡ 36 + length (nodes_bytes (style_of block short) [] block.terms.items)
+  pub within : size ≤ most_table_bytes
+
+-- the place of a block whose table is too long
+pub record IsOver (block : Block) (short : Bool) (place : Place) : Type 0 where
+  pub passes : most_table_bytes < 36 + length (nodes_bytes (style_of block short) [] block.terms.items)
+  pub at_block : place ≡ block.place
 
 -- the one message that a table which is too long gets, at its block
 pub record IsTooLong (block : Block) (short : Bool) (message : Message) : Type 0 where

@@ -1,4 +1,6 @@
 use acpi_values::operator::{DataOp, IntOp, Plain};
+use aml_writer::measure::measure;
+use aml_writer::reserve::reserve;
 use aml_writer::write::write;
 use asl_tree::path::{NameSeg, Path, Segs};
 use asl_tree::program::{Block, Blocks, Core, Program};
@@ -137,12 +139,16 @@ static TABLES: [Row; 3] = [
     },
 ];
 
-// Whether the block of a row comes to its table.
-fn is_right(alloc: Global, row: &Row) -> Result<bool, AllocError> {
-    let lines = Lines {
+fn no_lines(alloc: Global) -> Lines {
+    Lines {
         files: Texts::new(alloc),
         list: LineList::new(alloc),
-    };
+    }
+}
+
+// Whether the block of a row comes to its table.
+fn is_right(alloc: Global, row: &Row) -> Result<bool, AllocError> {
+    let lines = no_lines(alloc);
     let core = core(alloc, row)?;
     if core.program.blocks.is_empty() {
         return Ok(false);
@@ -273,14 +279,7 @@ fn external(alloc: Global) -> Result<Term, AllocError> {
     ))
 }
 
-fn forms(alloc: Global) -> Result<Core, AllocError> {
-    let mut terms = Vec::new(alloc);
-    add(&mut terms, 31, region(alloc)?)?;
-    add(&mut terms, 32, field(alloc)?)?;
-    add(&mut terms, 33, named(alloc, *b"BUFF", buffer(alloc)?)?)?;
-    add(&mut terms, 34, named(alloc, *b"PKGE", package(alloc)?)?)?;
-    add(&mut terms, 35, method(alloc)?)?;
-    add(&mut terms, 36, external(alloc)?)?;
+fn one_block(alloc: Global, terms: Vec<Node>) -> Result<Core, AllocError> {
     let mut blocks = Blocks::new(alloc);
     blocks.push(Block {
         place: PLACE,
@@ -297,12 +296,20 @@ fn forms(alloc: Global) -> Result<Core, AllocError> {
     })
 }
 
+fn forms(alloc: Global) -> Result<Core, AllocError> {
+    let mut terms = Vec::new(alloc);
+    add(&mut terms, 31, region(alloc)?)?;
+    add(&mut terms, 32, field(alloc)?)?;
+    add(&mut terms, 33, named(alloc, *b"BUFF", buffer(alloc)?)?)?;
+    add(&mut terms, 34, named(alloc, *b"PKGE", package(alloc)?)?)?;
+    add(&mut terms, 35, method(alloc)?)?;
+    add(&mut terms, 36, external(alloc)?)?;
+    one_block(alloc, terms)
+}
+
 #[test]
 fn forms_as_bytes(rt: HostRuntime) -> Result<(), AllocError> {
-    let lines = Lines {
-        files: Texts::new(rt.alloc()),
-        list: LineList::new(rt.alloc()),
-    };
+    let lines = no_lines(rt.alloc());
     let core = forms(rt.alloc())?;
     if core.program.blocks.is_empty() {
         assert!(rt; false);
@@ -369,28 +376,12 @@ fn connected_field(alloc: Global) -> Result<Term, AllocError> {
 fn field_alone(alloc: Global) -> Result<Core, AllocError> {
     let mut terms = Vec::new(alloc);
     add(&mut terms, 0, connected_field(alloc)?)?;
-    let mut blocks = Blocks::new(alloc);
-    blocks.push(Block {
-        place: PLACE,
-        file: Text::new(alloc),
-        signature: Text::from_bytes(alloc, b"SSDT")?,
-        revision: 2,
-        oem_id: Text::from_bytes(alloc, b"RATTLE")?,
-        table_id: Text::from_bytes(alloc, b"FIELD   ")?,
-        oem_revision: 1,
-        terms,
-    })?;
-    Ok(Core {
-        program: Program { blocks },
-    })
+    one_block(alloc, terms)
 }
 
 #[test]
 fn elements_of_a_field_as_bytes(rt: HostRuntime) -> Result<(), AllocError> {
-    let lines = Lines {
-        files: Texts::new(rt.alloc()),
-        list: LineList::new(rt.alloc()),
-    };
+    let lines = no_lines(rt.alloc());
     let core = field_alone(rt.alloc())?;
     if core.program.blocks.is_empty() {
         assert!(rt; false);
@@ -405,6 +396,159 @@ fn elements_of_a_field_as_bytes(rt: HostRuntime) -> Result<(), AllocError> {
                     == Some(
                         b"\x5B\x81\x27REGA\x05\x02CON0\x01\x05\x06UNTA\x08\x00\x04\x00\x14\x02\x11\x05\x0A\x02\x79\x00\x03\x05\x0B\x09UNTB\x10".as_slice()
                     )
+            );
+        }
+        Err(_) => assert!(rt; false),
+    }
+    Ok(())
+}
+
+// Method (MAIN, 0) and its terms
+fn method_of(alloc: Global, body: Vec<Node>) -> Result<Core, AllocError> {
+    let mut args = Vec::new(alloc);
+    add(&mut args, 1, name(alloc, *b"MAIN")?)?;
+    add(&mut args, 2, Term::Integer(0))?;
+    let mut terms = Vec::new(alloc);
+    add(
+        &mut terms,
+        0,
+        form(Op::Declaration(Declaration::Method), args, body),
+    )?;
+    one_block(alloc, terms)
+}
+
+// Method (MAIN, 0) { 1 1 1 .. }, so many
+fn long_method(alloc: Global, count: u32) -> Result<Core, AllocError> {
+    let mut body = Vec::new(alloc);
+    for id in 0..count {
+        add(&mut body, id, Term::Integer(1))?;
+    }
+    method_of(alloc, body)
+}
+
+// Whether a method of so many terms of one byte begins with these bytes.
+fn begins_with(alloc: Global, count: u32, head: &[u8]) -> Result<bool, AllocError> {
+    let lines = no_lines(alloc);
+    let core = long_method(alloc, count)?;
+    if core.program.blocks.is_empty() {
+        return Ok(false);
+    }
+    match write(alloc, &core, &lines, 0, true) {
+        Ok(pieces) => match pieces.get(1) {
+            Some(piece) => Ok(piece.bytes.as_bytes() == head),
+            None => Ok(false),
+        },
+        Err(_) => Ok(false),
+    }
+}
+
+// A name and the flags are 5 bytes more.
+#[test]
+fn lengths_of_packages(rt: HostRuntime) -> Result<(), AllocError> {
+    assert!(rt; begins_with(rt.alloc(), 4088, b"\x14\x4F\xFFMAIN\x00")?);
+    assert!(rt; begins_with(rt.alloc(), 4089, b"\x14\x81\x00\x01MAIN\x00")?);
+    Ok(())
+}
+
+// If (Local0) { 1 } with more terms behind that
+fn if_local(alloc: Global, op: Control, local: u8, more: Vec<Node>) -> Result<Term, AllocError> {
+    let mut args = Vec::new(alloc);
+    add(&mut args, 1, Term::Local(local))?;
+    Ok(form(Op::Control(op), args, more))
+}
+
+// Method (MAIN, 0) { If (Local0) { 1 } ElseIf (Local1) { 1 1 } Else { 1 } }: the ElseIf is an Else and the If that begins it, at one place.
+fn else_ifs(alloc: Global) -> Result<Core, AllocError> {
+    let mut first = Vec::new(alloc);
+    add(&mut first, 1, Term::Integer(1))?;
+    let mut second = Vec::new(alloc);
+    add(&mut second, 2, Term::Integer(1))?;
+    add(&mut second, 3, Term::Integer(1))?;
+    let mut last = Vec::new(alloc);
+    add(&mut last, 4, Term::Integer(1))?;
+    let mut inside = Vec::new(alloc);
+    add(&mut inside, 5, if_local(alloc, Control::If, 1, second)?)?;
+    add(
+        &mut inside,
+        6,
+        form(Op::Control(Control::Else), Vec::new(alloc), last),
+    )?;
+    let mut body = Vec::new(alloc);
+    add(&mut body, 7, if_local(alloc, Control::If, 0, first)?)?;
+    add(
+        &mut body,
+        8,
+        form(Op::Control(Control::Else), Vec::new(alloc), inside),
+    )?;
+    method_of(alloc, body)
+}
+
+// Whether a core's table has so many bytes, and its room is of so many pieces and of packages of these lengths.
+fn has_room(
+    alloc: Global,
+    core: &Core,
+    size: u32,
+    pieces: usize,
+    lengths: &[u32],
+) -> Result<bool, AllocError> {
+    if core.program.blocks.is_empty() {
+        return Ok(false);
+    }
+    let is_size = match measure(core, 0, true) {
+        Ok(measured) => measured == size,
+        Err(_) => false,
+    };
+    match reserve(alloc, core, &no_lines(alloc), 0, true) {
+        Ok(room) => Ok(
+            is_size && room.pieces.len() == pieces && room.lengths.as_slice() == lengths,
+        ),
+        Err(_) => Ok(false),
+    }
+}
+
+// The length of a package counts its own bytes.
+#[test]
+fn rooms(rt: HostRuntime) -> Result<(), AllocError> {
+    let mut value = Vec::new(rt.alloc());
+    add(&mut value, 3, Term::Integer(1))?;
+    let mut body = Vec::new(rt.alloc());
+    add(
+        &mut body,
+        4,
+        form(Op::Control(Control::Return), value, Vec::new(rt.alloc())),
+    )?;
+    let first = method_of(rt.alloc(), body)?;
+    assert!(rt; has_room(rt.alloc(), &first, 45, 3, &[8])?);
+    let second = forms(rt.alloc())?;
+    assert!(rt; has_room(rt.alloc(), &second, 118, 9, &[20, 6, 6, 17])?);
+    let third = field_alone(rt.alloc())?;
+    assert!(rt; has_room(rt.alloc(), &third, 77, 2, &[39, 5])?);
+    let fourth = else_ifs(rt.alloc())?;
+    assert!(rt; has_room(rt.alloc(), &fourth, 57, 9, &[20, 3, 9, 4, 2])?);
+    Ok(())
+}
+
+#[test]
+fn else_if_as_one_piece(rt: HostRuntime) -> Result<(), AllocError> {
+    let core = else_ifs(rt.alloc())?;
+    if core.program.blocks.is_empty() {
+        assert!(rt; false);
+        return Ok(());
+    }
+    match write(rt.alloc(), &core, &no_lines(rt.alloc()), 0, true) {
+        Ok(pieces) => {
+            let bytes = joined(rt.alloc(), &pieces)?;
+            assert!(rt;
+                bytes.get(36..)
+                    == Some(
+                        b"\x14\x14MAIN\x00\xA0\x03\x60\x01\xA1\x09\xA0\x04\x61\x01\x01\xA1\x02\x01".as_slice()
+                    )
+            );
+            assert!(rt;
+                match pieces.get(4) {
+                    Some(piece) => piece.bytes.as_bytes() == b"\xA1\x09\xA0\x04\x61".as_slice(),
+                    None => false,
+                }
             );
         }
         Err(_) => assert!(rt; false),

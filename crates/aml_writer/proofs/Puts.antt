@@ -1,0 +1,35 @@
+-- Bytes that are put before others.
+use Rattle.std.proofs.Common.{◌≡◌, ℕ, ◌+◌, ◌-◌, ◌≤◌, List, ◌∷◌, ◌++◌, length, take, drop, set, ap, ◌∙◌, arith, append_assoc, length-append}
+use Rattle.std.proofs.lemmas.List.{drop_at, drop-drop, length-take-le, drop-set}
+use Rattle.byteorder.specs.Endian.{little_bytes}
+use Rattle.byteorder.proofs.Bytes.{take-bytes_low_first}
+use Rattle.byteorder.specs.Numbers.{length-bytes_low_first}
+
+pub byte_put : (out : List ℕ) (to at byte : ℕ) → to + 1 ≡ at → at ≤ length out → drop to (set out to byte) ≡ byte ∷ drop at out
+byte_put out to at byte e le = drop-set out to byte (omega (arith, e, le)) ∙ ap (λ n. byte ∷ drop n out) e
+
+pub pasted : (out bytes : List ℕ) (to at : ℕ) → to + length bytes ≡ at → at ≤ length out → drop to (take to out ++ bytes ++ drop (to + length bytes) out) ≡ bytes ++ drop at out
+pasted out bytes to at e le =
+    ap (drop to) (append_assoc (take to out) bytes (drop (to + length bytes) out))
+    ∙ drop_at (take to out) (bytes ++ drop (to + length bytes) out) to (length-take-le to out (omega (arith, e, le)))
+    ∙ ap (λ n. bytes ++ drop n out) e
+
+pub named : (out bytes : List ℕ) (to at : ℕ) → to + length bytes ≡ at → at ≤ length out → drop to (take to out ++ (bytes ++ drop (length bytes) (drop to out))) ≡ bytes ++ drop at out
+named out bytes to at e le =
+    drop_at (take to out) (bytes ++ drop (length bytes) (drop to out)) to (length-take-le to out (omega (arith, e, le)))
+    ∙ ap (λ rest. bytes ++ rest) (drop-drop (length bytes) to out ∙ ap (λ n. drop n out) e)
+
+-- the first bytes of a number in eight
+pub low_bytes : (count number : ℕ) → count ≤ 8 → take count (little_bytes 8 number) ≡ little_bytes count number
+low_bytes count number le = take-bytes_low_first 0 8 count number le
+
+pub low_length : (count number : ℕ) → length (little_bytes count number) ≡ count
+low_length count number = length-bytes_low_first 0 count number
+
+-- a body of which so many bytes were put
+pub body_put : (body out out1 : List ℕ) → out1 ≡ body ++ out → length out1 - length out ≡ length body
+body_put body out out1 e = let l : length out1 ≡ length body + length out = ap length e ∙ length-append body out in omega (arith, l)
+
+-- how many bytes stand before a place
+pub before_it : (to size at : ℕ) → to + size ≡ at → at - to ≡ size
+before_it to size at e = omega (arith, e)
