@@ -1,5 +1,5 @@
 //! What kinds of bytes the tokens are made of.
-ghost use Rattle.std.specs.Prelude.{◌≡◌, Bool};
+ghost use Rattle.std.specs.Prelude.{◌≡◌};
 ghost use Rattle.std.specs.Char.{digit_value};
 ghost use Rattle.asl_lexer.specs.Class as spec;
 

@@ -1,5 +1,5 @@
 //! Lines to tokens.
-ghost use Rattle.std.specs.Prelude.{◌≡◌, ℕ, ◌++◌, ◌∷◌, ◌<◌, ◌≤◌, ◌^◌, [], List as AList, length, All, OnOk, IfOk, IfErr, Ok, Err};
+ghost use Rattle.std.specs.Prelude.{◌≡◌, ℕ, ◌++◌, ◌∷◌, ◌<◌, ◌≤◌, ◌^◌, [], List as AList, length, All, IfOk, IfErr, Ok, Err};
 ghost use Rattle.asl_lexer.specs.declared.token.Token.{Token};
 ghost use Rattle.asl_lexer.specs.Scan as spec;
 ghost use Rattle.asl_lexer.specs.Scan.{MarkedByte, Moves, Gives};
@@ -186,30 +186,21 @@ fn scan_line(alloc: Global, tokens: &mut Tokens, mode: Mode, line: &Line) -> Res
     scan_behind(alloc, tokens, mode, line, index)
 }
 
-// What stands open behind the end of a line.
-#[inline(always)]
-#[tactic(auto, unfolding(crate::specs::Scan::begin, crate::specs::Class::class_of))]
-fn at_break(alloc: Global, tokens: &mut Tokens, mode: Mode, at: Place) -> Result<Mode, LexerStop>
-    ensures { Moves result tokens.new (spec.step mode at 10 tokens.old) }
-{
-    if let Mode::Between = mode {
-        return Ok(mode);
-    }
-    step(alloc, tokens, mode, at, b'\n')
-}
-
 // The end of the line before, and a line.
 #[inline(always)]
 fn next_line(alloc: Global, tokens: &mut Tokens, mode: Mode, line: &Line) -> Result<Mode, LexerStop>
     requires { length line.now.text < 2 ^ 32 }
     ensures { (rest : AList MarkedByte) → AtBreak rest → Leads result tokens.new rest (spec.scan (break_mark line.now ∷ line_marks line.now ++ rest) mode tokens.old) }
 {
+    if let Mode::Between = mode {
+        return scan_line(alloc, tokens, Mode::Between, line);
+    }
     let at = Place {
         file: line.file,
         line: line.number,
         column: 0,
     };
-    let mode = at_break(alloc, tokens, mode, at)?;
+    let mode = step(alloc, tokens, mode, at, b'\n')?;
     scan_line(alloc, tokens, mode, line)
 }
 

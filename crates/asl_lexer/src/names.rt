@@ -1,5 +1,5 @@
 //! Words and paths.
-ghost use Rattle.std.specs.Prelude.{◌≡◌, ◌++◌, List as AList, OnOk, IfOk};
+ghost use Rattle.std.specs.Prelude.{◌≡◌, List as AList, OnOk, IfOk};
 ghost use Rattle.asl_lexer.specs.declared.token.Token.{Token};
 ghost use Rattle.asl_lexer.specs.Scan as spec;
 ghost use Rattle.asl_lexer.specs.Scan.{Moves};

@@ -1,5 +1,5 @@
 //! Numbers.
-ghost use Rattle.std.specs.Prelude.{◌≡◌, ◌==◌, List as AList};
+ghost use Rattle.std.specs.Prelude.{◌==◌, List as AList};
 ghost use Rattle.std.specs.Char.{is_digit};
 ghost use Rattle.asl_lexer.specs.declared.token.Token.{Token};
 ghost use Rattle.asl_lexer.specs.Scan as spec;

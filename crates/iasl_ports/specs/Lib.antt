@@ -5,6 +5,5 @@ pub mod Fetched
 pub mod Put
 pub mod GainedLaws
 pub mod Memory
-pub mod Reading
 pub mod Delivery
 pub mod formers
