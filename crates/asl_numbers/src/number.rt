@@ -1,18 +1,32 @@
 //! Numbers in preorder: each node, then its arguments, then its body.
-ghost use Rattle.std.specs.Prelude.{◌≡◌, ◌+◌, ◌^◌, ◌≤◌, IfSome, IfNone};
+ghost use Rattle.std.specs.Prelude.{◌≡◌, ◌+◌, ◌^◌, ◌≤◌, IfSome, IfNone, IfOk, IfErr};
 ghost use Rattle.asl_tree.specs.View.{tree_of, trees_of};
 ghost use Rattle.asl_tree.specs.Tree.{At};
 ghost use Rattle.asl_shape.specs.Plans.{plan_of, plans_of};
 ghost use Rattle.asl_numbers.specs.Numbers.{inside, nodes as node_count, numbered, numbered_all};
 
 use asl_tree::term::{Node, Term};
+use std::alloc::AllocError;
 use std::mem::replace;
 
-/// Gives each node its number, the first that of `first`, and answers the number behind the last; the terms, their places
-/// and their order stay what they are. It answers None exactly where that number is more than 32 bits hold: some nodes have
-/// their numbers then, and the terms are fit for nothing but to be let go.
+/// Terms with their nodes numbered from 0; the terms, their places and their order stay what they are. More than 2^32
+/// nodes, of which the last has no number, are answered as want of memory. Then nothing is left of the terms.
+pub fn numbered(terms: Vec<Node>) -> Result<Vec<Node>, AllocError>
+    ensures trees { IfOk result (λ made. trees_of made.items ≡ numbered_all 0 (plans_of terms.items)) }
+    ensures plans { IfOk result (λ made. plans_of made.items ≡ plans_of terms.items) }
+    ensures full { IfErr result (λ _. 2 ^ 32 ≤ node_count (plans_of terms.items)) }
+{
+    let mut made = terms;
+    match number_nodes(&mut made, 0) {
+        Some(_) => Ok(made),
+        None => Err(AllocError),
+    }
+}
+
+// Gives each node its number, the first that of `first`, and answers the number behind the last. It answers None exactly
+// where that number is more than 32 bits hold.
 #[cycle(number)]
-pub fn number_nodes(nodes: &mut Vec<Node>, first: u32) -> Option<u32>
+fn number_nodes(nodes: &mut Vec<Node>, first: u32) -> Option<u32>
     ensures next { IfSome result (λ next. next ≡ first + node_count (plans_of nodes.old.items)) }
     ensures trees { IfSome result (λ next. trees_of nodes.new.items ≡ numbered_all first (plans_of nodes.old.items)) }
     ensures plans { IfSome result (λ next. plans_of nodes.new.items ≡ plans_of nodes.old.items) }

@@ -3,6 +3,7 @@ ghost use Rattle.std.specs.Prelude.{◌≡◌, OnOk, IfOk, drop};
 ghost use Rattle.asl_shape.specs.Shapes as spec;
 ghost use Rattle.asl_shape.specs.AtRaw as at;
 ghost use Rattle.asl_shape.specs.Plans.{plan_of, plans_of, join};
+ghost use Rattle.asl_words.specs.Meanings.{slot_as};
 
 use crate::item::{inside_of, is_given};
 use crate::leaf::place_in;
@@ -12,7 +13,7 @@ use crate::work::NOWHERE;
 use asl_parser::Raw;
 use asl_tree::path::{NameSeg, Path};
 use asl_tree::term::{Node, Term};
-use asl_words::meaning::{Meaning, is_connection, is_whole, meaning_of};
+use asl_words::meaning::{Meaning, is_connection, is_whole, meaning_of, slot_as};
 use asl_words::operator::Slot;
 use iasl_messages::place::Place;
 use std::alloc::AllocError;
@@ -51,6 +52,21 @@ pub fn meaning_in(raw: &Raw) -> Meaning
         Raw::Comma => Meaning::Unknown,
         Raw::Semicolon => Meaning::Unknown,
         Raw::Empty => Meaning::Unknown,
+    }
+}
+
+/// How an argument is read for this slot. Its word is asked only for where the slot is one that words decide.
+pub fn slot_of(slot: Slot, raw: &Raw) -> Slot
+    ensures { result ≡ slot_as slot (at.meaning_at raw.now) }
+{
+    match slot {
+        Slot::Space
+        | Slot::RegisterSpace
+        | Slot::WordOrByte(_)
+        | Slot::AccessType
+        | Slot::Attribute
+        | Slot::FieldElement => slot_as(slot, meaning_in(raw)),
+        _ => slot,
     }
 }
 

@@ -1,5 +1,6 @@
 //! What stands in braces.
-ghost use Rattle.std.specs.Prelude.{◌≡◌, ◌≤◌, ◌<◌, drop, true, false};
+ghost use Rattle.std.specs.Prelude.{◌≡◌, ◌≤◌, ◌<◌, drop, length, not, true, false};
+ghost use Rattle.std.specs.List.{filter};
 ghost use Rattle.asl_shape.specs.Shapes as spec;
 ghost use Rattle.asl_shape.specs.AtRaw as at;
 
@@ -38,6 +39,13 @@ pub fn is_separator(raw: &Raw) -> bool
         Raw::List { .. } => false,
         Raw::Empty => false,
     }
+}
+
+/// How many members are no separators.
+pub fn count_members(raws: &[Raw]) -> usize
+    ensures { result ≡ length (filter (λ raw. not (at.is_separator_at raw)) raws.now) }
+{
+    raws.iter().filter(|raw| !is_separator(raw)).count()
 }
 
 /// Whether a member is a comma.

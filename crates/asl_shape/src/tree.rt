@@ -10,10 +10,13 @@ use crate::around::Around;
 use crate::elements::element_term;
 use crate::fields::{
     BITS, Due, UnitName, add_unit, begin, due_behind, element_place, is_field_list, meaning_in,
+    slot_of,
 };
 use crate::item::{inside_of, is_given, item_fault};
 use crate::leaf::{known_term, listed, number, path, place_in, text};
-use crate::lists::{byte_slot, default_after, is_listed, is_separator, run_after, within};
+use crate::lists::{
+    byte_slot, count_members, default_after, is_listed, is_separator, run_after, within,
+};
 use crate::macros::first_term;
 use crate::resources;
 use crate::settle::{arrange, number_in, push, settle};
@@ -458,7 +461,7 @@ fn add_argument(
             alloc,
             work,
             nodes,
-            slot_as(parameter.slot, meaning_in(raw)),
+            slot_of(parameter.slot, raw),
             inside,
             place,
             raw,
@@ -731,7 +734,7 @@ pub fn terms(
     ensures faults { OnOk result (work.new.faults.items ≡ work.old.faults.items ++ (at.terms_at inside None raws.now).faults) }
     ensures made { OnOk result (plans_of nodes.new.items ≡ join (plans_of nodes.old.items) (at.terms_at inside None raws.now).made) }
 {
-    nodes.reserve_exact(raws.len())?;
+    nodes.reserve_exact(count_members(raws))?;
     let mut run = None;
     for raw in raws {
         add_member(alloc, work, nodes, Slot::Term { run }, inside, raw)?;
@@ -753,7 +756,7 @@ fn cases(
     ensures faults { OnOk result (work.new.faults.items ≡ work.old.faults.items ++ (at.cases_at inside false raws.now).faults) }
     ensures made { OnOk result (plans_of nodes.new.items ≡ join (plans_of nodes.old.items) (at.cases_at inside false raws.now).made) }
 {
-    nodes.reserve_exact(raws.len())?;
+    nodes.reserve_exact(count_members(raws))?;
     let mut defaulted = false;
     for raw in raws {
         add_member(alloc, work, nodes, Slot::Branch { defaulted }, inside, raw)?;

@@ -279,22 +279,19 @@ fn table_of(
     style: Style,
     lines: &Lines,
     block: Block,
-    names: &mut Names,
+    names: Names,
 ) -> Result<Compiled, AllocError>
     requires room { HasRoom (fields_of block) }
     requires formed { AreFormed AreNamed (Unit {0}) (Unit {0}) (trees_of block.terms.items) }
     requires shaped { AreShaped (named_all (without_switches (trees_of block.terms.items))) }
-    requires names { AreNamesOf (trees_of block.terms.items) names.old }
+    requires names { AreNamesOf (trees_of block.terms.items) names }
     ensures { IfOk result (λ it. it ≡ of_right style lines.now.list block.place (core_places (plans_of block.terms.items)) block.file (fields_of block) (trees_of block.terms.items)) }
 {
     let mut core = lowered(alloc, style, block)?;
-    spell(
-        alloc,
-        &mut names.index,
-        names.calls.as_slice(),
-        style.shorten,
-        &mut core.terms,
-    )?;
+    let Names { index, calls } = names;
+    let terms = replace(&mut core.terms, Vec::new(alloc));
+    let spelled = spell(alloc, index, calls.as_slice(), style.shorten, terms)?;
+    core.terms = spelled;
     write_block(alloc, style, lines, core)
 }
 
@@ -314,7 +311,7 @@ fn compile_block(
     ensures { IfOk result (λ it. it ≡ of_terms style lines.now.list block.place (core_places (plans_of block.terms.items)) block.file (fields_of block) (first_told told (told_errors (trees_of block.terms.items))) others (few_locals (trees_of block.terms.items) (plans_of block.terms.items)) (trees_of block.terms.items)) }
 {
     match find(alloc, block.terms.as_slice(), told, others)? {
-        Findings::Right(mut names) => table_of(alloc, style, lines, block, &mut names),
+        Findings::Right(names) => table_of(alloc, style, lines, block, names),
         Findings::Wrong(errors) => Ok(Compiled::Refused(errors)),
     }
 }

@@ -17,7 +17,7 @@ ghost use Rattle.asl_tables.specs.Spots.{spot, has_place};
 
 use crate::compile::are_of_names;
 use crate::messages::{both, refusal};
-use asl_numbers::number::number_nodes;
+use asl_numbers::number::numbered;
 use asl_tree::program::Block;
 use asl_tree::term::Node;
 use descriptor_names::check::{Checked, check as check_descriptors};
@@ -234,19 +234,6 @@ fn resolve_terms(alloc: Global, terms: Vec<Node>) -> Result<Described, AllocErro
     )?;
     let terms = stripped(alloc, terms)?;
     Ok(Described { terms, told })
-}
-
-// Terms whose nodes have their numbers.
-fn numbered(terms: Vec<Node>) -> Result<Vec<Node>, AllocError>
-    ensures trees { IfOk result (λ made. trees_of made.items ≡ numbered_all 0 (plans_of terms.items)) }
-    ensures plans { IfOk result (λ made. plans_of made.items ≡ plans_of terms.items) }
-    ensures full { IfErr result (λ _. 2 ^ 32 ≤ nodes (plans_of terms.items)) }
-{
-    let mut made = terms;
-    match number_nodes(&mut made, 0) {
-        Some(_) => Ok(made),
-        None => Err(AllocError),
-    }
 }
 
 // The terms of a block as they are compiled, whose nodes have their numbers, and what is told of their names where descriptors have names.

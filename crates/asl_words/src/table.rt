@@ -206,6 +206,7 @@ fn are_blank(bytes: &[u8]) -> bool
 }
 
 // Whether the last byte of a word stands at its place there. In most other rows of the same letter it does not.
+#[inline(always)]
 #[tactic(auto, using(crate::proofs::Tables::last_rules))]
 fn ends_alike(bytes: &[u8], word: &[u8]) -> bool
     ensures { result ≡ false → spec.is_filled bytes.now word.now ≡ false }
@@ -219,17 +220,23 @@ fn ends_alike(bytes: &[u8], word: &[u8]) -> bool
     }
 }
 
-// Whether these bytes are the word with blanks behind it.
-fn is_filled(bytes: &[u8], word: &[u8]) -> bool
+// Whether these bytes begin with the word, and all behind it are blanks.
+fn is_word(bytes: &[u8], word: &[u8]) -> bool
     ensures { result ≡ spec.is_filled bytes.now word.now }
 {
-    if !ends_alike(bytes, word) {
-        return false;
-    }
     match bytes.strip_prefix(word) {
         Some(rest) => are_blank(rest),
         None => false,
     }
+}
+
+// Whether these bytes are the word with blanks behind it. It stands in the loops over the rows, which ask most rows for
+// one byte alone.
+#[inline(always)]
+fn is_filled(bytes: &[u8], word: &[u8]) -> bool
+    ensures { result ≡ spec.is_filled bytes.now word.now }
+{
+    ends_alike(bytes, word) && is_word(bytes, word)
 }
 
 // How many letters of the alphabet stand before the one that a word begins with.

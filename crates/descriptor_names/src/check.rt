@@ -14,7 +14,7 @@ use crate::declare::declaring;
 use crate::resolve::resolve;
 use crate::table::table_of;
 use acpi_names::index::{Index, names_of};
-use asl_numbers::number::number_nodes;
+use asl_numbers::number::numbered;
 use asl_tree::term::Node;
 use iasl_messages::message::Message;
 use std::alloc::{AllocError, Global};
@@ -26,19 +26,6 @@ pub struct Checked {
     pub terms: Vec<Node>,
     pub below: Vec<Message>,
     pub faults: Vec<Message>,
-}
-
-// Gives the nodes their numbers.
-fn numbered(terms: Vec<Node>) -> Result<Vec<Node>, AllocError>
-    ensures trees { IfOk result (λ made. trees_of made.items ≡ numbered_all 0 (plans_of terms.items)) }
-    ensures plans { IfOk result (λ made. plans_of made.items ≡ plans_of terms.items) }
-    ensures full { IfErr result (λ _. 2 ^ 32 ≤ nodes (plans_of terms.items)) }
-{
-    let mut made = terms;
-    match number_nodes(&mut made, 0) {
-        Some(_) => Ok(made),
-        None => Err(AllocError),
-    }
 }
 
 fn index_of(alloc: Global, terms: &[Node]) -> Result<Index, AllocError>

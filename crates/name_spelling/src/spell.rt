@@ -477,21 +477,23 @@ fn put_number(
 /// written from the root (ACPI Specification 6.4, 5.3), or in the shortest way that leads to the same path where
 /// `shorten` asks for it; a name in a Package that would be searched is written from the root; an
 /// External says its object type and its arity. `calls` says of the numbers of paths with how many arguments they
-/// are called first. After a want of memory some names are spelled and others are not: the terms are fit for nothing but
-/// to be let go, and so is the index.
+/// are called first. The names are looked up in the index for the last time. After a want of memory nothing is left of
+/// the terms.
 pub fn spell(
     alloc: Global,
-    index: &mut Index,
+    index: Index,
     calls: &[Option<usize>],
     shorten: bool,
-    terms: &mut Vec<Node>,
-) -> Result<(), AllocError>
-    requires all { length index.old.named.items ≡ length index.old.paths }
-    requires short { length calls.now ≤ length index.old.paths }
-    ensures trees { OnOk result ((d : Declarations) (counts : List (AbsolutePath × ℕ)) → Agrees index.old.paths index.old.named.items d → Tabled index.old.paths calls.now (lookup counts) → trees_of terms.new.items ≡ spelled_all shorten (is_named d) (written_for counts) (trees_of terms.old.items) []) }
-    ensures places { OnOk result (places_of terms.new.items ≡ places_of terms.old.items) }
+    terms: Vec<Node>,
+) -> Result<Vec<Node>, AllocError>
+    requires all { length index.named.items ≡ length index.paths }
+    requires short { length calls.now ≤ length index.paths }
+    ensures trees { IfOk result (λ made. (d : Declarations) (counts : List (AbsolutePath × ℕ)) → Agrees index.paths index.named.items d → Tabled index.paths calls.now (lookup counts) → trees_of made.items ≡ spelled_all shorten (is_named d) (written_for counts) (trees_of terms.items) []) }
+    ensures places { IfOk result (λ made. places_of made.items ≡ places_of terms.items) }
 {
+    let mut index = index;
+    let mut made = terms;
     let count = index.paths.len();
-    spell_all(alloc, index, calls, shorten, terms, 0)?;
-    Ok(())
+    spell_all(alloc, &mut index, calls, shorten, &mut made, 0)?;
+    Ok(made)
 }

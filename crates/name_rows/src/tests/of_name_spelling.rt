@@ -62,14 +62,11 @@ fn number_of(alloc: Global, index: &Index, segment: NameSeg) -> Result<usize, Al
 fn spelled(
     alloc: Global,
     shorten: bool,
-    mut terms: Vec<Node>,
+    terms: Vec<Node>,
     called: NameSeg,
     count: Option<usize>,
 ) -> Result<Vec<u8>, AllocError> {
-    let Found {
-        mut index,
-        mentions,
-    } = names_of(alloc, &terms)?;
+    let Found { index, mentions } = names_of(alloc, &terms)?;
     drop(mentions);
     let number = number_of(alloc, &index, called)?;
     let mut calls = Vec::new(alloc);
@@ -77,11 +74,11 @@ fn spelled(
         calls.push(None)?;
     }
     calls.push(count)?;
-    if index.named.len() == index.paths.len() && calls.len() <= index.paths.len() {
-        spell(alloc, &mut index, &calls, shorten, &mut terms)?;
-    }
     let mut out = Vec::new(alloc);
-    write_terms(&mut out, &terms)?;
+    if index.named.len() == index.paths.len() && calls.len() <= index.paths.len() {
+        let spelled = spell(alloc, index, &calls, shorten, terms)?;
+        write_terms(&mut out, &spelled)?;
+    }
     Ok(out)
 }
 

@@ -64,12 +64,12 @@ bare-item-requires t c = (grind (arith, c.decreases, item_smaller c.args.raw.now
 
 pub add_argument-returns-in_ok-add-in-Some-clause-faults : goal.add_argument-returns-in_ok-add-in-Some-clause-faults
 add_argument-returns-in_ok-add-in-Some-clause-faults t c =
-    c.in_ok-add-in-Some.ensures.faults ∙ ap (λ q. c.args.work.now.faults.items ++ (shape_at q c.args.inside c.in-Some.raw.now).faults) (c.slot_as.ensures ∙ ap (slot_as c.args.parameter.slot) c.meaning_in.ensures)
+    c.in_ok-add-in-Some.ensures.faults ∙ ap (λ q. c.args.work.now.faults.items ++ (shape_at q c.args.inside c.in-Some.raw.now).faults) c.slot_of.ensures
     ∙ ap (λ ms. c.args.work.now.faults.items ++ ms) (sym (argument_some_faults c.args.parameter c.args.place c.args.inside (slice_get c.args.args.now c.args.i) c.in-Some.raw.now (got_some c.args.args.now c.args.i c.in-Some.raw.now c.in-Some.ensures.lookup.3.0 ∙ ap Some (sym c.in-Some.ensures.lookup.1))))
 
 pub add_argument-returns-in_ok-add-in-Some-clause-made : goal.add_argument-returns-in_ok-add-in-Some-clause-made
 add_argument-returns-in_ok-add-in-Some-clause-made t c =
-    c.in_ok-add-in-Some.ensures.made ∙ ap (λ q. join (plans_of c.args.nodes.now.items) (one_at c.args.place c.in-Some.raw.now (shape_at q c.args.inside c.in-Some.raw.now).made)) (c.slot_as.ensures ∙ ap (slot_as c.args.parameter.slot) c.meaning_in.ensures)
+    c.in_ok-add-in-Some.ensures.made ∙ ap (λ q. join (plans_of c.args.nodes.now.items) (one_at c.args.place c.in-Some.raw.now (shape_at q c.args.inside c.in-Some.raw.now).made)) c.slot_of.ensures
     ∙ ap (λ ps. join (plans_of c.args.nodes.now.items) ps) (sym (argument_some_made c.args.parameter c.args.place c.args.inside (slice_get c.args.args.now c.args.i) c.in-Some.raw.now (got_some c.args.args.now c.args.i c.in-Some.raw.now c.in-Some.ensures.lookup.3.0 ∙ ap Some (sym c.in-Some.ensures.lookup.1))))
 
 pub add_argument-returns-in_ok-push-in-None-clause-faults : goal.add_argument-returns-in_ok-push-in-None-clause-faults

@@ -1,4 +1,5 @@
-use Rattle.std.proofs.Common.{◌≡◌, ℕ, List, true, [], sym, ◌∙◌, subst}
+use Rattle.std.proofs.Common.{◌≡◌, ℕ, List, Vec, Global, true, [], sym, ap, ◌∙◌, subst}
+use Rattle.asl_tree.specs.declared.term.Node.{Node}
 use Rattle.acpi_state.specs.Objects.{lookup}
 use Rattle.asl_meaning.specs.Declarations.{Declarations, is_named, written_external}
 use Rattle.acpi_values.specs.Paths.{AbsolutePath}
@@ -42,17 +43,17 @@ returns c =
     let named : name_errors program ≡ [] = same_name_errors AreNamed (Unit {0}) (Unit {0}) terms formed ∙ names.no_names in
     let called : type_errors program ≡ [] = same_type_errors AreNamed (Unit {0}) (Unit {0}) terms formed ∙ names.no_kinds in
     let lowered = c.in_ok-core in
-    let index = c.args.names.now.index in
+    let index = c.args.names.index in
     let width = width_of block.revision in
     let low : Trees = folded_where c.args.style.fold width (named_all program) in
     let made : Trees = wrapped_where c.args.style.wrap low in
     let shaped : AreShaped low = where_shaped c.args.style.fold width (named_all program) c.requires.shaped in
-    let core = core_looped c.args.style.wrap c.args.style.fold width c.args.style.shorten index.paths index.named.items c.as_slice.result.now terms (trees_of c.spell.new.terms.items) formed
+    let core = core_looped c.args.style.wrap c.args.style.fold width c.args.style.shorten index.paths index.named.items c.as_slice.result.now terms (trees_of c.in_ok-spelled.spelled.items) formed
     (subst
-    (λ ts. (d : Declarations) (counts : List (AbsolutePath × ℕ)) → Agrees index.paths index.named.items d → Tabled index.paths c.as_slice.result.now (lookup counts) → trees_of c.spell.new.terms.items ≡ spelled_all c.args.style.shorten (is_named d) (written_external counts) ts [])
-    lowered.ensures.terms c.in_ok-spell.ensures.trees)
+    (λ ts. (d : Declarations) (counts : List (AbsolutePath × ℕ)) → Agrees index.paths index.named.items d → Tabled index.paths c.as_slice.result.now (lookup counts) → trees_of c.in_ok-spelled.spelled.items ≡ spelled_all c.args.style.shorten (is_named d) (written_external counts) ts [])
+    (ap (λ (ts : Vec Node Global). trees_of ts.items) c.replace-terms.ensures.value ∙ lowered.ensures.terms) c.in_ok-spelled.ensures.trees)
     names.names (subst (λ table. Tabled index.paths table (lookup (whole_of terms).calls)) (sym c.as_slice.ensures.value) names.calls) in
     let room : HasRoom (fields_of lowered.core) = subst HasRoom (sym lowered.ensures.fields) c.requires.room in
-    like_another c.args.style c.args.lines.now.list c.write_block.result lowered.core.place block.place (places_of c.spell.new.terms.items) (placed_where c.args.style.wrap low (core_places (plans_of block.terms.items))) lowered.core.file block.file (fields_of lowered.core) (fields_of block) made
-    lowered.ensures.place (c.in_ok-spell.ensures.places ∙ lowered.ensures.places shaped) lowered.ensures.file lowered.ensures.fields
+    like_another c.args.style c.args.lines.now.list c.write_block.result lowered.core.place block.place (places_of c.in_ok-spelled.spelled.items) (placed_where c.args.style.wrap low (core_places (plans_of block.terms.items))) lowered.core.file block.file (fields_of lowered.core) (fields_of block) made
+    lowered.ensures.place (c.in_ok-spelled.ensures.places ∙ ap (λ (ts : Vec Node Global). places_of ts.items) c.replace-terms.ensures.value ∙ lowered.ensures.places shaped) lowered.ensures.file lowered.ensures.fields
     (c.write_block.ensures made (record { room = room; shaped = wrapped.where_shaped c.args.style.wrap low shaped; names = wrapped.where_name_errors c.args.style.wrap low ∙ where_name_errors c.args.style.fold width (named_all program) ∙ no_name_errors program loops named; counts = wrapped.where_type_errors c.args.style.wrap low ∙ where_type_errors c.args.style.fold width (named_all program) ∙ no_type_errors program loops called; core = core }))
