@@ -1,8 +1,11 @@
 //! Lines by file and number.
-ghost use Rattle.std.specs.Prelude.{◌≡◌, IfOk};
-ghost use Rattle.source_lines.specs.Tells.{Tells};
+ghost use Rattle.std.specs.Prelude.{◌≡◌, IfOk, MatchOption};
+ghost use Rattle.std.proofs.Props.{props};
+ghost use Rattle.source_lines.specs.Order.{IsAscending};
+ghost use Rattle.source_lines.specs.Tells.{text_for, Tells};
 ghost use Rattle.source_lines.specs.Text.{line_text};
 
+use crate::order::{ascends, text_in_order};
 use iasl_messages::place::{Line, Place};
 use std::alloc::{AllocError, Global};
 use std::collections::HashMap;
@@ -28,12 +31,47 @@ struct LineNumber {
     number: u32,
 }
 
-/// The lines of a source, each found by its file and number without a look at the others. Contracts see the
+// The text of the first line of each file and number.
+fn texts_of<'a>(
+    alloc: Global,
+    lines: &'a [Line],
+) -> Result<HashMap<LineNumber, &'a [u8]>, AllocError>
+    ensures { IfOk result (λ texts. Tells texts lines.now) }
+{
+    let mut texts = HashMap::new(alloc);
+    let mut left = lines.len();
+    while left > 0 {
+        left -= 1;
+        let line = &lines[left];
+        let number = LineNumber {
+            file: line.file,
+            number: line.number,
+        };
+        texts.insert(number, line.text.as_bytes())?;
+    }
+    Ok(texts)
+}
+
+fn text_in<'a>(texts: &HashMap<LineNumber, &'a [u8]>, place: Place) -> &'a [u8]
+    ensures { result.now ≡ text_for texts.now place }
+{
+    let number = LineNumber {
+        file: place.file,
+        number: place.line,
+    };
+    match texts.get(&number) {
+        Some(text) => text,
+        None => &[],
+    }
+}
+
+/// The lines of a source, each found by its file and number without a look at most of the others. Contracts see the
 /// list of the lines.
 pub struct SourceLines<'a> {
     lines: &'a [Line],
-    texts: HashMap<LineNumber, &'a [u8]>,
-    ghost tells: { Tells texts lines.now },
+    // None where the lines stand in the order of their files and numbers.
+    texts: Option<HashMap<LineNumber, &'a [u8]>>,
+    ghost tells: { MatchOption texts (IsAscending lines.now) (λ table. Tells table lines.now) } by { Prim.hlevel props },
 }
 
 // By hand, so that an owner lets go of it by one call (docs/DECISIONS.md).
@@ -57,31 +95,23 @@ impl<'a> SourceLines<'a> {
     pub fn new(alloc: Global, lines: &'a [Line]) -> Result<SourceLines<'a>, AllocError>
         ensures { IfOk result (λ made. made ≡ lines.now) }
     {
-        let mut texts = HashMap::new(alloc);
-        let mut left = lines.len();
-        while left > 0 {
-            left -= 1;
-            let line = &lines[left];
-            let number = LineNumber {
-                file: line.file,
-                number: line.number,
-            };
-            texts.insert(number, line.text.as_bytes())?;
+        if ascends(lines) {
+            return Ok(SourceLines { lines, texts: None });
         }
-        Ok(SourceLines { lines, texts })
+        let texts = texts_of(alloc, lines)?;
+        Ok(SourceLines {
+            lines,
+            texts: Some(texts),
+        })
     }
 
     /// The text of the first of the lines that has the place's file and line; empty where there is none.
     pub fn text_at(&self, place: Place) -> &'a [u8]
         ensures { result.now ≡ line_text self.now place }
     {
-        let number = LineNumber {
-            file: place.file,
-            number: place.line,
-        };
-        match self.texts.get(&number) {
-            Some(text) => text,
-            None => &[],
+        match &self.texts {
+            Some(texts) => text_in(texts, place),
+            None => text_in_order(self.lines, place),
         }
     }
 }

@@ -95,3 +95,46 @@ fn first_line_of_a_place(rt: HostRuntime) -> Result<(), AllocError> {
     }
     Ok(())
 }
+
+// Lines in the order of their files and numbers, of which some are left out.
+fn ascending_lines(alloc: Global) -> Result<LineList, AllocError> {
+    let mut lines = LineList::new(alloc);
+    lines.push(line(alloc, 0, 2, b"second")?)?;
+    lines.push(line(alloc, 0, 3, b"third")?)?;
+    lines.push(line(alloc, 0, 7, b"seventh")?)?;
+    lines.push(line(alloc, 0, 8, b"")?)?;
+    lines.push(line(alloc, 1, 1, b"of the second file")?)?;
+    lines.push(line(alloc, 3, 4, b"of the fourth file")?)?;
+    lines.push(line(alloc, 3, 5, b"last")?)?;
+    Ok(lines)
+}
+
+static ASCENDING: [(u32, u32, &[u8]); 12] = [
+    (0, 0, b""),
+    (0, 1, b""),
+    (0, 2, b"second"),
+    (0, 3, b"third"),
+    (0, 4, b""),
+    (0, 7, b"seventh"),
+    (1, 1, b"of the second file"),
+    (2, 1, b""),
+    (3, 4, b"of the fourth file"),
+    (3, 5, b"last"),
+    (3, 6, b""),
+    (4, 1, b""),
+];
+
+#[test]
+fn lines_in_order(rt: HostRuntime) -> Result<(), AllocError> {
+    let lines = ascending_lines(rt.alloc())?;
+    let index = SourceLines::new(rt.alloc(), lines.as_slice())?;
+    for (file, line, text) in &ASCENDING {
+        let place = Place {
+            file: *file,
+            line: *line,
+            column: 1,
+        };
+        assert!(rt; has_text(lines.as_slice(), &index, place, text));
+    }
+    Ok(())
+}

@@ -1,6 +1,6 @@
 use Rattle.std.proofs.Common.{◌≤◌, length, drop}
 use Rattle.source_lines.specs.Tells.{Tells}
-use Rattle.source_lines.proofs.lines.SourceLines.new.Given as goal
+use Rattle.source_lines.proofs.lines.texts_of.Given as goal
 
 abbrev pub invariant-loop-left : goal.invariant-loop-left
 invariant-loop-left l = (l.left ≤ length l.lines) × Tells l.texts (drop l.left l.lines)

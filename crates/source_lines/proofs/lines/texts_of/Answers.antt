@@ -1,6 +1,6 @@
 use Rattle.std.proofs.Common.{arith}
 use Rattle.source_lines.proofs.Added.{tells_none, tells_at, tells_all}
-use Rattle.source_lines.proofs.lines.SourceLines.new.Goals as goal
+use Rattle.source_lines.proofs.lines.texts_of.Goals as goal
 
 pub loop-left-init : goal.loop-left-init
 loop-left-init c = (omega arith, tells_none c.new-texts.result c.args.lines.now c.new-texts.ensures.empty)
@@ -8,5 +8,5 @@ loop-left-init c = (omega arith, tells_none c.new-texts.result c.args.lines.now 
 pub loop-left-preserved : goal.loop-left-preserved
 loop-left-preserved c = (omega (arith, c.loop-left.invariant.0), tells_at c.loop-left.texts c.insert.new.self c.args.lines.now c.loop-left.left c.index-lines-left.result c.as_bytes.result c.loop-left-test.true c.loop-left.invariant.0 c.index-lines-left.is c.as_bytes.ensures c.in_ok-insert.ensures.updates c.loop-left.invariant.1)
 
-pub invariant_of-result : goal.invariant_of-result
-invariant_of-result c = (tells_all c.loop-left.texts c.args.lines.now c.loop-left.left c.loop-left-test.false c.loop-left.invariant.1, record {})
+pub returns : goal.returns
+returns c = tells_all c.loop-left.texts c.args.lines.now c.loop-left.left c.loop-left-test.false c.loop-left.invariant.1
