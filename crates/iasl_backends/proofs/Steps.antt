@@ -1,20 +1,41 @@
 -- One more piece, and one more row.
-use Rattle.std.proofs.Common.{◌≡◌, ℕ, ◌+◌, ◌<◌, ◌-◌, ◌/◌, List, [], ◌∷◌, ◌++◌, length, take, drop, get_or, refl, sym, ap, ◌∙◌, append_assoc, arith, suc}
+use Rattle.std.proofs.Common.{◌≡◌, ℕ, ◌+◌, ◌<◌, ◌-◌, ◌/◌, List, [], ◌∷◌, ◌++◌, length, take, drop, refl, sym, ap, ◌∙◌, append_assoc, arith, suc}
 use Rattle.std.specs.Simd.{first_chunks}
-use Rattle.std.proofs.lemmas.List.{take_more, append-nil, length-take, length-drop}
+use Rattle.std.proofs.lemmas.List.{append-nil, length-take, length-drop, length-append}
 use Rattle.iasl_messages.specs.declared.place.Piece.{Piece}
 use Rattle.std.specs.List.{flat_map}
 use Rattle.iasl_backends.specs.Table.{table_bytes, rows}
 use Rattle.iasl_backends.specs.CText.{c_row}
-use Rattle.iasl_backends.specs.Listing.{listed_row, listed_rows}
+use Rattle.iasl_backends.specs.Listing.{listed_row, listed_rows, listed_piece, listed_pieces}
+use Rattle.iasl_backends.specs.Lines.{piece_lines}
 
 table_bytes-append : (ps qs : List Piece) → table_bytes (ps ++ qs) ≡ table_bytes ps ++ table_bytes qs
 table_bytes-append [] qs = refl
 table_bytes-append (p ∷ ps) qs = ap (λ bs. p.bytes ++ bs) (table_bytes-append ps qs) ∙ sym (append_assoc p.bytes (table_bytes ps) (table_bytes qs))
 
-pub table_bytes_more : (ps : List Piece) (i : ℕ) (d : Piece) → i < length ps → table_bytes (take (i + 1) ps) ≡ table_bytes (take i ps) ++ (get_or ps i d).bytes
-table_bytes_more ps i d lt =
-    ap table_bytes (take_more ps i d lt) ∙ table_bytes-append (take i ps) (get_or ps i d ∷ []) ∙ ap (λ bs. table_bytes (take i ps) ++ bs) (append-nil (get_or ps i d).bytes)
+-- the bytes with those of one more piece
+pub table_bytes_push : (ps : List Piece) (p : Piece) → table_bytes (ps ++ p ∷ []) ≡ table_bytes ps ++ p.bytes
+table_bytes_push ps p = table_bytes-append ps (p ∷ []) ∙ ap (λ bs. table_bytes ps ++ bs) (append-nil p.bytes)
+
+-- the listing with one more piece
+listed_pieces_push : (at : ℕ) (ps : List Piece) (p : Piece) → listed_pieces at (ps ++ p ∷ []) ≡ listed_pieces at ps ++ listed_piece (at + length (table_bytes ps)) p
+listed_pieces_push at [] p = append-nil (listed_piece at p) ∙ ap (λ k. listed_piece k p) (omega arith)
+listed_pieces_push at (q ∷ ps) p =
+    ap (λ bs. listed_piece at q ++ bs) (listed_pieces_push (at + length q.bytes) ps p)
+    ∙ sym (append_assoc (listed_piece at q) (listed_pieces (at + length q.bytes) ps) (listed_piece (at + length q.bytes + length (table_bytes ps)) p))
+    ∙ ap (λ k. (listed_piece at q ++ listed_pieces (at + length q.bytes) ps) ++ listed_piece k p) (let e = length-append q.bytes (table_bytes ps) in omega (arith, e))
+
+-- the listing from the start of a table with one more piece
+pub listing_push : (ps : List Piece) (p : Piece) → listed_pieces 0 (ps ++ p ∷ []) ≡ listed_pieces 0 ps ++ listed_piece (length (table_bytes ps)) p
+listing_push ps p = listed_pieces_push 0 ps p ∙ ap (λ k. listed_pieces 0 ps ++ listed_piece k p) (omega arith)
+
+pub table_size_push : (ps : List Piece) (p : Piece) → length (table_bytes (ps ++ p ∷ [])) ≡ length (table_bytes ps) + length p.bytes
+table_size_push ps p = ap length (table_bytes_push ps p) ∙ length-append (table_bytes ps) p.bytes
+
+-- the lines with that of one more piece
+pub piece_lines_push : (ps : List Piece) (p : Piece) → piece_lines (ps ++ p ∷ []) ≡ piece_lines ps ++ (p.source ++ 10 ∷ [])
+piece_lines_push [] p = refl
+piece_lines_push (q ∷ ps) p = ap (λ bs. q.source ++ 10 ∷ bs) (piece_lines_push ps p) ∙ sym (append_assoc q.source (10 ∷ piece_lines ps) (p.source ++ 10 ∷ []))
 
 chunk_more : {X : Type 0} (n k j : ℕ) (xs : List X) → k ≡ suc j → first_chunks n k xs ≡ take n xs ∷ first_chunks n j (drop n xs)
 chunk_more n k j xs e = ap (λ m. first_chunks n m xs) e

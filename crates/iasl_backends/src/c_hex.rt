@@ -1,13 +1,14 @@
 //! The bytes of the table as an array of C.
 ghost use Rattle.std.specs.Prelude.{◌≡◌, ◌++◌, [], true, false, OnOk, IfOk};
 ghost use Rattle.std.specs.List.{flat_map};
-ghost use Rattle.iasl_backends.specs.Table.{rows, table_bytes};
+ghost use Rattle.iasl_backends.specs.Table.{rows};
 ghost use Rattle.iasl_backends.specs.CText.{c_byte, c_row, c_text};
 ghost use Rattle.iasl_backends.specs.Rendering.{rendering};
 ghost use Rattle.iasl_backends.specs.declared.backend.Kind.TheVariants as kinds;
 
 use crate::backend::{Backend, Kind};
-use crate::text::{copy_of, put, put_pair, table_of};
+use crate::table::Table;
+use crate::text::{put, put_pair};
 use iasl_messages::place::Piece;
 use iasl_ports::list::{behind, front};
 use std::alloc::{AllocError, Global};
@@ -16,10 +17,10 @@ use std::alloc::{AllocError, Global};
 #[derive(Drop)]
 pub struct CHex {
     alloc: Global,
-    held: Vec<Piece>,
+    table: Table,
     text: Vec<u8>,
     done: bool,
-    ghost rendered: { done ≡ true → text.items ≡ rendering kinds.CHex held.items },
+    ghost rendered: { done ≡ true → text.items ≡ rendering kinds.CHex table.taken },
 }
 
 impl CHex {
@@ -30,7 +31,7 @@ impl CHex {
     {
         CHex {
             alloc,
-            held: Vec::new(alloc),
+            table: Table::new(alloc),
             text: Vec::new(alloc),
             done: false,
         }
@@ -84,19 +85,12 @@ fn array_of(alloc: Global, bytes: &[u8]) -> Result<Vec<u8>, AllocError>
     Ok(out)
 }
 
-// The array of the bytes of the pieces.
-fn render(alloc: Global, pieces: &[Piece]) -> Result<Vec<u8>, AllocError>
-    ensures { IfOk result (λ text. text.items ≡ c_text (table_bytes pieces.now)) }
-{
-    array_of(alloc, &table_of(alloc, pieces)?)
-}
-
 impl Backend for CHex {
     ghost use Rattle.iasl_backends.specs.declared.backend.Kind.TheVariants as kinds;
 
     ghost kind_of = { λ output. kinds.CHex };
 
-    ghost pieces = { λ output. output.held.items };
+    ghost pieces = { λ output. output.table.taken };
 
     ghost finished = { λ output. output.done };
 
@@ -106,18 +100,16 @@ impl Backend for CHex {
 
     fn clear(&mut self) {
         self.done = false;
-        self.held.clear();
+        self.table.clear();
         self.text.clear();
     }
 
     fn piece(&mut self, piece: &Piece) -> Result<(), AllocError> {
-        let copy = copy_of(self.alloc, piece)?;
-        self.held.push(copy)?;
-        Ok(())
+        self.table.push(piece)
     }
 
     fn finish(&mut self) -> Result<(), AllocError> {
-        self.text = render(self.alloc, &self.held)?;
+        self.text = array_of(self.alloc, &self.table.bytes)?;
         self.done = true;
         Ok(())
     }

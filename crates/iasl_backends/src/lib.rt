@@ -7,5 +7,7 @@ pub mod c_hex;
 pub mod lent;
 pub mod listing;
 pub mod raw_aml;
+mod table;
+mod taken;
 pub mod template;
 pub mod text;

@@ -1,13 +1,12 @@
 //! The listing: the lines of the source, each with the bytes of the table that come from it.
 ghost use Rattle.std.specs.Prelude.{◌≡◌, ◌+◌, ◌^◌, ◌<◌, ◌≤◌, ◌++◌, [], true, false, length, OnOk, IfOk, IfErr};
 ghost use Rattle.std.specs.List.{flat_map};
-ghost use Rattle.iasl_backends.specs.Table.{rows};
+ghost use Rattle.iasl_backends.specs.Table.{rows, table_bytes};
 ghost use Rattle.iasl_backends.specs.Listing as spec;
-ghost use Rattle.iasl_backends.specs.Rendering.{rendering};
-ghost use Rattle.iasl_backends.specs.declared.backend.Kind.TheVariants as kinds;
 
 use crate::backend::{Backend, Kind};
-use crate::text::{copy_of, put, put_pair};
+use crate::taken::Taken;
+use crate::text::{put, put_pair};
 use iasl_messages::place::Piece;
 use iasl_ports::list::{behind, front};
 use itoa::Buffer;
@@ -16,11 +15,12 @@ use std::alloc::{AllocError, Global};
 /// The output that is the listing.
 #[derive(Drop)]
 pub struct Listing {
-    alloc: Global,
-    held: Vec<Piece>,
+    taken: Taken,
     text: Vec<u8>,
+    offset: usize,
     done: bool,
-    ghost rendered: { done ≡ true → text.items ≡ rendering kinds.Listing held.items },
+    ghost listed: { text.items ≡ spec.listed_pieces 0 taken },
+    ghost end: { offset ≡ length (table_bytes taken) },
 }
 
 impl Listing {
@@ -30,9 +30,9 @@ impl Listing {
         ensures open { ⟦<Listing as Backend>⟧.finished result ≡ false }
     {
         Listing {
-            alloc,
-            held: Vec::new(alloc),
+            taken: Taken::new(alloc),
             text: Vec::new(alloc),
+            offset: 0,
             done: false,
         }
     }
@@ -127,26 +127,12 @@ fn offset_behind(offset: usize, size: usize) -> Result<usize, AllocError>
     }
 }
 
-// The listing of the pieces.
-fn render(alloc: Global, pieces: &[Piece]) -> Result<Vec<u8>, AllocError>
-    ensures { IfOk result (λ text. text.items ≡ spec.listed_pieces 0 pieces.now) }
-{
-    let mut out = Vec::new(alloc);
-    let mut offset: usize = 0;
-    for piece in pieces {
-        let end = offset_behind(offset, piece.bytes.as_bytes().len())?;
-        put_piece(&mut out, offset, piece)?;
-        offset = end;
-    }
-    Ok(out)
-}
-
 impl Backend for Listing {
     ghost use Rattle.iasl_backends.specs.declared.backend.Kind.TheVariants as kinds;
 
     ghost kind_of = { λ output. kinds.Listing };
 
-    ghost pieces = { λ output. output.held.items };
+    ghost pieces = { λ output. output.taken };
 
     ghost finished = { λ output. output.done };
 
@@ -156,18 +142,28 @@ impl Backend for Listing {
 
     fn clear(&mut self) {
         self.done = false;
-        self.held.clear();
+        self.taken.clear();
         self.text.clear();
+        self.offset = 0;
     }
 
+    // Without memory for its lines all pieces go.
+    #[tactic(auto, using(crate::proofs::Steps::listing_push, crate::proofs::Steps::table_size_push))]
     fn piece(&mut self, piece: &Piece) -> Result<(), AllocError> {
-        let copy = copy_of(self.alloc, piece)?;
-        self.held.push(copy)?;
+        let end = offset_behind(self.offset, piece.bytes.as_bytes().len())?;
+        if put_piece(&mut self.text, self.offset, piece).is_err()
+            || self.taken.push(piece).is_err()
+        {
+            self.taken.clear();
+            self.text.clear();
+            self.offset = 0;
+            return Err(AllocError);
+        }
+        self.offset = end;
         Ok(())
     }
 
     fn finish(&mut self) -> Result<(), AllocError> {
-        self.text = render(self.alloc, &self.held)?;
         self.done = true;
         Ok(())
     }

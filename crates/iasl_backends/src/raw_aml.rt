@@ -1,21 +1,16 @@
 //! The table itself.
-ghost use Rattle.std.specs.Prelude.{◌≡◌, [], true, false};
-ghost use Rattle.iasl_backends.specs.Rendering.{rendering};
-ghost use Rattle.iasl_backends.specs.declared.backend.Kind.TheVariants as kinds;
+ghost use Rattle.std.specs.Prelude.{◌≡◌, [], false};
 
 use crate::backend::{Backend, Kind};
-use crate::text::{copy_of, table_of};
+use crate::table::Table;
 use iasl_messages::place::Piece;
 use std::alloc::{AllocError, Global};
 
 /// The output that is the table itself.
 #[derive(Drop)]
 pub struct RawAml {
-    alloc: Global,
-    held: Vec<Piece>,
-    text: Vec<u8>,
+    table: Table,
     done: bool,
-    ghost rendered: { done ≡ true → text.items ≡ rendering kinds.RawAml held.items },
 }
 
 impl RawAml {
@@ -25,9 +20,7 @@ impl RawAml {
         ensures open { ⟦<RawAml as Backend>⟧.finished result ≡ false }
     {
         RawAml {
-            alloc,
-            held: Vec::new(alloc),
-            text: Vec::new(alloc),
+            table: Table::new(alloc),
             done: false,
         }
     }
@@ -38,7 +31,7 @@ impl Backend for RawAml {
 
     ghost kind_of = { λ output. kinds.RawAml };
 
-    ghost pieces = { λ output. output.held.items };
+    ghost pieces = { λ output. output.table.taken };
 
     ghost finished = { λ output. output.done };
 
@@ -48,23 +41,19 @@ impl Backend for RawAml {
 
     fn clear(&mut self) {
         self.done = false;
-        self.held.clear();
-        self.text.clear();
+        self.table.clear();
     }
 
     fn piece(&mut self, piece: &Piece) -> Result<(), AllocError> {
-        let copy = copy_of(self.alloc, piece)?;
-        self.held.push(copy)?;
-        Ok(())
+        self.table.push(piece)
     }
 
     fn finish(&mut self) -> Result<(), AllocError> {
-        self.text = table_of(self.alloc, &self.held)?;
         self.done = true;
         Ok(())
     }
 
     fn text(&self) -> &[u8] {
-        &self.text
+        &self.table.bytes
     }
 }

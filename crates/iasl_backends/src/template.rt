@@ -1,22 +1,20 @@
 //! The lines of a template.
-ghost use Rattle.std.specs.Prelude.{◌≡◌, ◌++◌, ◌∷◌, [], true, false, IfOk, OnOk};
+ghost use Rattle.std.specs.Prelude.{◌≡◌, ◌++◌, ◌∷◌, [], false, OnOk};
 ghost use Rattle.iasl_backends.specs.Lines.{piece_lines};
-ghost use Rattle.iasl_backends.specs.Rendering.{rendering};
-ghost use Rattle.iasl_backends.specs.declared.backend.Kind.TheVariants as kinds;
 
 use crate::backend::{Backend, Kind};
-use crate::text::{copy_of, put};
+use crate::taken::Taken;
+use crate::text::put;
 use iasl_messages::place::Piece;
 use std::alloc::{AllocError, Global};
 
 /// The output that is the lines of a template, which are the sources of its pieces.
 #[derive(Drop)]
 pub struct TemplateText {
-    alloc: Global,
-    held: Vec<Piece>,
+    taken: Taken,
     text: Vec<u8>,
     done: bool,
-    ghost rendered: { done ≡ true → text.items ≡ rendering kinds.Template held.items },
+    ghost lines: { text.items ≡ piece_lines taken },
 }
 
 impl TemplateText {
@@ -26,8 +24,7 @@ impl TemplateText {
         ensures open { ⟦<TemplateText as Backend>⟧.finished result ≡ false }
     {
         TemplateText {
-            alloc,
-            held: Vec::new(alloc),
+            taken: Taken::new(alloc),
             text: Vec::new(alloc),
             done: false,
         }
@@ -41,23 +38,12 @@ fn put_line(out: &mut Vec<u8>, piece: &Piece) -> Result<(), AllocError>
     put(out, b"\n")
 }
 
-// The line of each piece.
-fn lines_of(alloc: Global, pieces: &[Piece]) -> Result<Vec<u8>, AllocError>
-    ensures { IfOk result (λ text. text.items ≡ piece_lines pieces.now) }
-{
-    let mut out = Vec::new(alloc);
-    for piece in pieces {
-        put_line(&mut out, piece)?;
-    }
-    Ok(out)
-}
-
 impl Backend for TemplateText {
     ghost use Rattle.iasl_backends.specs.declared.backend.Kind.TheVariants as kinds;
 
     ghost kind_of = { λ output. kinds.Template };
 
-    ghost pieces = { λ output. output.held.items };
+    ghost pieces = { λ output. output.taken };
 
     ghost finished = { λ output. output.done };
 
@@ -67,18 +53,22 @@ impl Backend for TemplateText {
 
     fn clear(&mut self) {
         self.done = false;
-        self.held.clear();
+        self.taken.clear();
         self.text.clear();
     }
 
+    // Without memory all pieces go.
+    #[tactic(auto, using(crate::proofs::Steps::piece_lines_push))]
     fn piece(&mut self, piece: &Piece) -> Result<(), AllocError> {
-        let copy = copy_of(self.alloc, piece)?;
-        self.held.push(copy)?;
+        if put_line(&mut self.text, piece).is_err() || self.taken.push(piece).is_err() {
+            self.taken.clear();
+            self.text.clear();
+            return Err(AllocError);
+        }
         Ok(())
     }
 
     fn finish(&mut self) -> Result<(), AllocError> {
-        self.text = lines_of(self.alloc, &self.held)?;
         self.done = true;
         Ok(())
     }
