@@ -6,3 +6,4 @@ pub mod Same
 pub mod Forms
 pub mod Walks
 pub mod Silent
+pub mod Switchless

@@ -15,6 +15,7 @@ use iasl_messages::number::TOO_FEW_LOCALS;
 use iasl_messages::place::Place;
 use std::alloc::{AllocError, Global};
 use switch_loops::enough::is_enough;
+use switch_loops::switched::has_switch;
 
 fn is_method(op: Op) -> bool
     ensures { result ≡ spec.is_method op }
@@ -80,6 +81,19 @@ fn own_error(alloc: Global, out: &mut Messages, terms: &[Node]) -> Result<(), Al
     Ok(())
 }
 
+// What is told of a method's body, or of a block: nothing where no Switch stands in it.
+#[cycle(walk)]
+fn body_errors(alloc: Global, out: &mut Messages, terms: &[Node]) -> Result<(), AllocError>
+    ensures { OnOk result (out.new ≡ out.old ++ spec.few_locals (trees_of terms.now) (plans_of terms.now)) }
+{
+    if !has_switch(terms) {
+        return Ok(());
+    }
+    own_error(alloc, out, terms)?;
+    method_errors(alloc, out, terms)?;
+    Ok(())
+}
+
 // What is told of a form.
 #[cycle(walk)]
 fn form_errors(
@@ -97,8 +111,7 @@ fn form_errors(
             opens: true,
             ..
         } => {
-            own_error(alloc, out, body)?;
-            method_errors(alloc, out, body)?;
+            body_errors(alloc, out, body)?;
             Ok(())
         }
         Part::Declares { opens: true, .. } | Part::Scope | Part::Within => {
@@ -143,7 +156,6 @@ pub fn few_locals(alloc: Global, terms: &[Node]) -> Result<Messages, AllocError>
     ensures { IfOk result (λ ms. ms ≡ spec.few_locals (trees_of terms.now) (plans_of terms.now)) }
 {
     let mut out = Messages::new(alloc);
-    own_error(alloc, &mut out, terms)?;
-    method_errors(alloc, &mut out, terms)?;
+    body_errors(alloc, &mut out, terms)?;
     Ok(out)
 }

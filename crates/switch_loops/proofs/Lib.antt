@@ -13,3 +13,6 @@ pub mod MadeRows
 pub mod Packs
 pub mod PutTurns
 pub mod NamedNodes
+pub mod Asked
+pub mod Switchless
+pub mod Unneeded

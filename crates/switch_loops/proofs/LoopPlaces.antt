@@ -202,7 +202,7 @@ pub term_braces : (t : Term) (op : Op) (args body : Vec Node Global) → t ≡ D
 term_braces t op args body e = sym (ap braces e ∙ form_braces op args body)
 
 -- a form that stays
-kept_kind : (k : Kind) (op : Op) (args : Trees) (inside crossed : Bool) (place : Place) (inner chain : List Place) → (k ≡ Kind.Switch → ⊥) → (k ≡ Kind.Continue → ⊥) → form_places k op args inside crossed place inner chain ≡ lowered.form_places op args place inner
+pub kept_kind : (k : Kind) (op : Op) (args : Trees) (inside crossed : Bool) (place : Place) (inner chain : List Place) → (k ≡ Kind.Switch → ⊥) → (k ≡ Kind.Continue → ⊥) → form_places k op args inside crossed place inner chain ≡ lowered.form_places op args place inner
 kept_kind Kind.Switch op args inside crossed place inner chain no_switch no_continue = absurd (no_switch refl)
 kept_kind Kind.Continue op args inside crossed place inner chain no_switch no_continue = absurd (no_continue refl)
 kept_kind k op args inside crossed place inner chain no_switch no_continue = refl

@@ -37,7 +37,7 @@ both_nothing m =
 pub nothing_both : (m : Measure) → both nothing m ≡ m
 nothing_both m = let e : max 0 m.levels ≡ m.levels = omega arith in ap (λ k. made k m.crossed m.continues) e
 
-measured_tree : (t : Tree) (ts : Trees) → measured (tree t ts) ≡ both (measured_one t) (measured ts)
+pub measured_tree : (t : Tree) (ts : Trees) → measured (tree t ts) ≡ both (measured_one t) (measured ts)
 measured_tree t ts =
     let e : min (max (depth t) (depth_all ts)) 9 ≡ max (min (depth t) 9) (min (depth_all ts) 9) = omega arith in
     ap (λ k. made k (is_crossed t || are_crossed ts) (has_continue t || have_continue ts)) e

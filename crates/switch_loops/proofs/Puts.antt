@@ -43,7 +43,7 @@ abbrev pub put_all : ℕ → List ℕ → Bool → List Node → Trees → Trees
 put_all flag values inside [] ts = ts
 put_all flag values inside (node ∷ nodes) ts = put flag values inside (node_tree node) (put_all flag values inside nodes ts)
 
-put_step : (flag : ℕ) (values : List ℕ) (inside : Bool) (t : Tree) (ts : Trees) → put flag values inside t (looped_all flag values inside ts) ≡ looped_all flag values inside (tree t ts)
+pub put_step : (flag : ℕ) (values : List ℕ) (inside : Bool) (t : Tree) (ts : Trees) → put flag values inside t (looped_all flag values inside ts) ≡ looped_all flag values inside (tree t ts)
 put_step flag values inside (Switch value cases) ts = refl
 put_step flag values inside Continue ts = refl
 put_step flag values inside t ts = refl
@@ -79,7 +79,7 @@ given_popped left more node e g = given_last more node (subst (λ ns. AreGiven (
 
 -- ---- forms by their kinds
 
-part_no_switch : (p : Part) → part_kind p ≡ Kind.Switch → ⊥
+pub part_no_switch : (p : Part) → part_kind p ≡ Kind.Switch → ⊥
 part_no_switch (P.Declares n (W.Method flags) true) e = absurd cc
 part_no_switch (P.Declares n what true) e = absurd cc
 part_no_switch (P.Declares n what false) e = absurd cc

@@ -4,3 +4,4 @@ pub mod Reads
 pub mod Given
 pub mod Places
 pub mod Links
+pub mod Switched

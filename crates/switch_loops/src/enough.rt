@@ -13,6 +13,9 @@ pub fn is_enough(terms: &[Node]) -> bool
     ensures { result ≡ trees_are_enough (trees_of terms.now) }
 {
     let found = measure_all(terms);
+    if found.levels == 0 && !found.crossed {
+        return true;
+    }
     let left = named_in(terms).left();
     if found.crossed {
         found.levels < left

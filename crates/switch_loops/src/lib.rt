@@ -9,3 +9,4 @@ mod made;
 mod measure;
 mod spare;
 mod split;
+pub mod switched;

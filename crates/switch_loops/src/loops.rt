@@ -1,14 +1,16 @@
 //! A program whose Switches are loops: its Locals keep the values of Switches.
-ghost use Rattle.std.specs.Prelude.{◌≡◌, ◌++◌, ◌∷◌, [], false, true, length, reverse, drop, IfOk, OnOk};
+ghost use Rattle.std.specs.Prelude.{◌≡◌, ◌++◌, ◌∷◌, [], false, true, nat_eq, if◌then◌else◌, length, reverse, drop, IfOk, OnOk};
 ghost use Rattle.acpi_names.specs.Walked.{node_tree, term_shape};
 ghost use Rattle.asl_lower.specs.Nests.{backwards};
 ghost use Rattle.asl_lower.specs.Places.{has_terms, lowered_places};
 ghost use Rattle.asl_tree.specs.Tree.{Switch};
 ghost use Rattle.asl_tree.specs.View.{form, trees_of};
+ghost use Rattle.hidden_locals.specs.Locals.{locals_all};
 ghost use Rattle.hidden_locals.specs.Switches.{default_link, links, without_switches};
 ghost use Rattle.switch_loops.specs.Given.{AreGiven, IsGiven, HasValue};
 ghost use Rattle.switch_loops.specs.Kinds.{form_kind as form_kind_of, shape_kind};
 ghost use Rattle.switch_loops.specs.Links.{given_default, in_braces as trees_in_braces, link_places, link_trees, linked, looped_all, plan_as, put as put_tree, default_looped, shape_body};
+ghost use Rattle.switch_loops.specs.Reads.{marked_all, none_named, others_of};
 ghost use Rattle.switch_loops.specs.Places.{body_inside, cases_places, case_places, braces as braces_places, default_node_places, first_default_places, form_looped, looped_at, looped_places, switch_looped};
 
 use crate::kind::{Kind, form_kind};
@@ -17,6 +19,7 @@ use crate::made::{Link, Origin, case_test, choice, put_continue, put_turn, turn,
 use crate::measure::measure_all;
 use crate::spare::{later, local_at};
 use crate::split::split_cases;
+use crate::switched::has_switch;
 use asl_tree::term::{Control, Declaration, Node, Op, Term};
 use std::alloc::{AllocError, Global};
 
@@ -29,6 +32,17 @@ fn only(nodes: Vec<Node>) -> Node
     nodes.remove(0)
 }
 
+// The Locals that terms leave to so many levels of Switches; none are looked for where there is no level.
+fn left_to(alloc: Global, levels: usize, terms: &[Node]) -> Result<Vec<u8>, AllocError>
+    ensures { IfOk result (λ free. free.items ≡ (if nat_eq levels 0 then [] else others_of (marked_all none_named (locals_all (trees_of terms.now))))) }
+{
+    if levels == 0 {
+        return Ok(Vec::new(alloc));
+    }
+    let free = named_in(terms).others(alloc)?;
+    Ok(free)
+}
+
 /// The terms of a method, or of a block, in which a loop of one turn stands for each Switch. The Locals for it are those that the
 /// terms do not name; each method has its own.
 #[cycle(loops)]
@@ -36,8 +50,12 @@ pub fn loops(alloc: Global, terms: Vec<Node>) -> Result<Vec<Node>, AllocError>
     ensures trees { IfOk result (λ made. AreGiven (trees_of terms.items) → trees_of made.items ≡ without_switches (trees_of terms.items)) }
     ensures places { IfOk result (λ made. lowered_places made.items ≡ looped_places false terms.items) }
 {
-    let free = named_in(&terms).others(alloc)?;
-    let flag = local_at(&free, measure_all(&terms).levels);
+    if !has_switch(&terms) {
+        return Ok(terms);
+    }
+    let levels = measure_all(&terms).levels;
+    let free = left_to(alloc, levels, &terms)?;
+    let flag = local_at(&free, levels);
     let made = loops_in(alloc, flag, &free, false, terms)?;
     Ok(made)
 }

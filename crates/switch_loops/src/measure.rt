@@ -62,12 +62,23 @@ fn around(kind: Kind, inner: Measure) -> Measure
     }
 }
 
+// The measure of a term by what stands in its braces, which only some kinds ask for.
+#[cycle(measure)]
+fn measure_within(kind: Kind, body: &[Node]) -> Measure
+    ensures { result ≡ measure_around kind (measured (trees_of body.now)) }
+{
+    match kind {
+        Kind::Method | Kind::Other => nothing(),
+        kind => around(kind, measure_all(body)),
+    }
+}
+
 #[cycle(measure)]
 fn measure_node(node: &Node) -> Measure
     ensures { result ≡ measured_one (node_tree node.now) }
 {
     match shape_of(&node.term) {
-        Shape::Form(op, args, body) => around(form_kind(op, args, body), measure_all(body)),
+        Shape::Form(op, args, body) => measure_within(form_kind(op, args, body), body),
         _ => nothing(),
     }
 }

@@ -1,5 +1,6 @@
 use Rattle.std.proofs.Common.{◌≡◌, ◌+◌, ◌-◌, ◌++◌, take, drop, sym, ap, ◌∙◌, refl, append-nil, arith}
 use Rattle.statement_checks.proofs.Terms.{inside_form}
+use Rattle.switch_checks.proofs.Switchless.{none_told}
 use Rattle.switch_checks.proofs.Walks.{alone_nodes, form_alone, other_alone, next_read, all_read, slice_smaller, slice_alone}
 use Rattle.switch_checks.proofs.locals.+walk.Goals as goal
 
@@ -16,11 +17,18 @@ method_errors-loop-index-preserved t c =
 pub method_errors-returns : goal.method_errors-returns
 method_errors-returns t c = all_read c.args.nodes.now c.loop-index.index c.args.out.now c.loop-index.out c.loop-index-test.false c.loop-index.invariant
 
+pub body_errors-method_errors-requires : goal.body_errors-method_errors-requires
+body_errors-method_errors-requires t c = omega (arith, c.decreases)
+
+pub body_errors-returns-then-not-has_switch : goal.body_errors-returns-then-not-has_switch
+body_errors-returns-then-not-has_switch t c =
+    sym (append-nil c.args.out.now) ∙ ap (λ ms. c.args.out.now ++ ms) (sym (none_told c.args.terms.now (sym c.has_switch.ensures ∙ c.if-not-has_switch.true)))
+
+pub form_errors-body_errors-requires : goal.form_errors-body_errors-requires
+form_errors-body_errors-requires t c = omega (arith, c.decreases)
+
 pub form_errors-method_errors-requires : goal.form_errors-method_errors-requires
 form_errors-method_errors-requires t c = omega (arith, c.decreases)
-
-pub form_errors-method_errors-requires-in-Declares-default-default-true : goal.form_errors-method_errors-requires-in-Declares-default-default-true
-form_errors-method_errors-requires-in-Declares-default-default-true t c = omega (arith, c.decreases)
 
 pub term_errors-form_errors-requires : goal.term_errors-form_errors-requires
 term_errors-form_errors-requires t c =

@@ -8,8 +8,9 @@ use Rattle.hidden_locals.specs.Switches.{depth_all}
 use Rattle.hidden_locals.specs.Turns.{nth}
 use Rattle.switch_loops.specs.Links.{looped_all}
 use Rattle.switch_loops.specs.Measures.{capped}
-use Rattle.switch_loops.specs.Reads.{marked_all, none_named}
-use Rattle.std.specs.Prelude.{◌≡◌, reverse}
+use Rattle.switch_loops.specs.Reads.{marked_all, none_named, others_of}
+use Rattle.switch_loops.specs.Switched.{has_switch}
+use Rattle.std.specs.Prelude.{◌≡◌, [], if◌then◌else◌, nat_eq, reverse}
 use Rattle.acpi_names.specs.Walked.{node_tree}
 use Rattle.asl_lower.specs.Nests.{backwards}
 use Rattle.hidden_locals.specs.Switches.{case_test}
@@ -21,16 +22,24 @@ use Rattle.switch_loops.specs.Links.{linked, link_trees, link_places, put as put
 use Rattle.switch_loops.specs.Places.{cases_places, default_node_places, looped_places}
 use Rattle.switch_loops.proofs.MadeRows.{lowered_none}
 use Rattle.switch_loops.proofs.Puts.{form_is, body_is, flat_body, flat_unlinked, flat_pushed, put_none, put_next, put_end, given_popped, switch_is, case_is, switch_put, form_unlinked, case_linked, link_next, link_end, chain_is, cases_given, default_given}
-use Rattle.switch_loops.proofs.Wholes.{whole_looped, form_put}
+use Rattle.switch_loops.proofs.Unneeded.{whole_with}
+use Rattle.switch_loops.proofs.Wholes.{form_put}
 use Rattle.switch_loops.proofs.Sizes.{cases_fit, default_fits}
+use Rattle.switch_loops.proofs.Switchless.{terms_stay, places_stay}
 use Rattle.switch_loops.proofs.LoopPlaces.{case_placed, flat_case, form_placed, kept_put, not_case, other_braces, term_braces, places_none, places_next, places_end, flat_put, cases_next, cases_end, cases_kept, first_places}
 use Rattle.switch_loops.proofs.loops.+loops.Goals as goal
 
+pub loops-returns-then-not-has_switch : goal.loops-returns-then-not-has_switch
+loops-returns-then-not-has_switch t c =
+    let none = ap has_switch (sym c.deref.ensures.value) ∙ sym c.has_switch.ensures ∙ c.if-not-has_switch.true in
+    record { trees = λ g. terms_stay c.args.terms.items none; places = places_stay c.args.terms.items none }
+
 pub loops-returns-clause-trees : goal.loops-returns-clause-trees
 loops-returns-clause-trees t c g =
-    c.in_ok-made.ensures.trees g ∙ ap (λ xs. looped_all c.local_at-flag.result xs false (trees_of c.args.terms.items)) c.deref-4.ensures.value
-    ∙ whole_looped c.local_at-flag.result c.measure_all.result.levels _ c.named_in.result.named (trees_of c.args.terms.items) (c.named_in.ensures ∙ ap (λ ns. marked_all none_named (locals_all (trees_of ns))) c.deref.ensures.value) c.in_ok-free.ensures
-    (ap (λ m. m.levels) c.measure_all.ensures ∙ ap (λ ns. capped (depth_all (trees_of ns))) c.deref-3.ensures.value) (c.local_at-flag.ensures ∙ ap (λ xs. nth xs c.measure_all.result.levels) c.deref-2.ensures.value)
+    c.in_ok-made.ensures.trees g ∙ ap (λ xs. looped_all c.local_at-flag.result xs false (trees_of c.args.terms.items)) c.deref-5.ensures.value
+    ∙ whole_with c.local_at-flag.result c.measure_all-levels.result.levels _ (trees_of c.args.terms.items)
+    (c.in_ok-free.ensures ∙ ap (λ ns. if nat_eq c.measure_all-levels.result.levels 0 then [] else others_of (marked_all none_named (locals_all (trees_of ns)))) c.deref-3.ensures.value)
+    (ap (λ m. m.levels) c.measure_all-levels.ensures ∙ ap (λ ns. capped (depth_all (trees_of ns))) c.deref-2.ensures.value) (c.local_at-flag.ensures ∙ ap (λ xs. nth xs c.measure_all-levels.result.levels) c.deref-4.ensures.value)
 
 -- ---- the terms of a list
 

@@ -1,17 +1,20 @@
-use Rattle.std.proofs.Common.{arith, ap, ◌∙◌}
+use Rattle.std.proofs.Common.{arith, refl, ap, ◌∙◌}
 use Rattle.asl_tree.specs.View.{trees_of}
 use Rattle.acpi_names.proofs.Trees.{node_smaller}
-use Rattle.switch_loops.specs.Measures.{around, measured, both}
+use Rattle.switch_loops.specs.Measures.{measured, both}
 use Rattle.switch_loops.proofs.KindRows.{measured_shape, measured_other}
 use Rattle.switch_loops.proofs.Measured.{nothing_both, measured_next, measured_end}
 use Rattle.switch_loops.proofs.measure.+measure.Goals as goal
 
-pub measure_node-measure_all-requires : goal.measure_node-measure_all-requires
-measure_node-measure_all-requires t c = omega (arith, c.decreases, c.in-Form.ensures.size)
+pub measure_within-measure_all-requires : goal.measure_within-measure_all-requires
+measure_within-measure_all-requires t c = omega (arith, c.decreases)
+
+pub measure_node-measure_within-requires : goal.measure_node-measure_within-requires
+measure_node-measure_within-requires t c = omega (arith, c.decreases, c.in-Form.ensures.size)
 
 pub measure_node-returns-in-Form : goal.measure_node-returns-in-Form
 measure_node-returns-in-Form t c =
-    measured_shape c.args.node.now c.in-Form.op c.in-Form.args.now c.in-Form.body.now c.form_kind.result c.measure_all.result c.around.result c.in-Form.ensures.shape c.form_kind.ensures c.measure_all.ensures c.around.ensures
+    measured_shape c.args.node.now c.in-Form.op c.in-Form.args.now c.in-Form.body.now c.form_kind.result (measured (trees_of c.in-Form.body.now)) c.measure_within.result c.in-Form.ensures.shape c.form_kind.ensures refl c.measure_within.ensures
 
 pub measure_node-returns-in_default : goal.measure_node-returns-in_default
 measure_node-returns-in_default t c = c.nothing.ensures ∙ measured_other c.args.node.now c.shape_of.result c.shape_of.ensures.shape c.in_default.not-Form
