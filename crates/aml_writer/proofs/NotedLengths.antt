@@ -20,6 +20,7 @@ use Rattle.aml_writer.specs.Leaves.{Leaf, leaves_of, first_letter, letters_behin
 use Rattle.aml_writer.specs.Codes.{letters_of}
 use Rattle.aml_writer.specs.Items.{written_items}
 use Rattle.aml_writer.specs.TermBytes.{is_package, buffer_size, count_bytes, body_part, row_bytes, nodes_bytes}
+use Rattle.aml_writer.specs.Forms.{form_lengths}
 use Rattle.aml_writer.specs.PackageLengths.{package_length, entry_lengths, items_lengths, operand_lengths, count_lengths, body_lengths, front_lengths, term_lengths, row_lengths, nodes_lengths, container_lengths, Noted}
 use Rattle.aml_writer.proofs.Letters.{next_letter}
 use Rattle.aml_writer.proofs.Rows.{args_row, body_row, nodes_in, leaf_number, rows}
@@ -173,13 +174,7 @@ module _ (style : IntegerStyle) where
   unfolding term_lengths
   call_lengths path args = let a = args_row (D.Call path args) in row_is [] a.0 a.1 ∙ ap (nodes_lengths style []) (D.items_hidden-the_row-Node-0 args)
 
-  -- a form of nodes
-  abbrev pub form_lengths : Op → List Node → List Node → List ℕ
-  form_lengths op args body =
-      front_lengths style op (leaves_of args) (nodes_bytes style (letters_of op) args) (nodes_lengths style (letters_of op) args) (length (leaves_of body)) (length (body_part style op (leaves_of body) (nodes_bytes style [] body) (written_items 0 body)))
-      ++ body_lengths op (nodes_lengths style [] body) (items_lengths body)
-
-  pub form_is : (op : Op) (args body : Vec Node Global) → term_lengths style (D.Form op args body) ≡ form_lengths op args.items body.items
+  pub form_is : (op : Op) (args body : Vec Node Global) → term_lengths style (D.Form op args body) ≡ form_lengths style op args.items body.items
   unfolding term_lengths
   form_is op args body =
       let a = args_row (D.Form op args body) in
@@ -188,25 +183,28 @@ module _ (style : IntegerStyle) where
       ∙ ap (λ ls. front_lengths style op (leaves_of (nodes_in a)) (nodes_bytes style (letters_of op) (nodes_in a)) ls (length (leaves_of (nodes_in b))) (length (body_part style op (leaves_of (nodes_in b)) (row_bytes style [] b.1) (written_items 0 (nodes_in b)))) ++ body_lengths op (row_lengths style [] b.1) (items_lengths (nodes_in b))) (row_is (letters_of op) a.0 a.1)
       ∙ ap (λ bs. front_lengths style op (leaves_of (nodes_in a)) (nodes_bytes style (letters_of op) (nodes_in a)) (nodes_lengths style (letters_of op) (nodes_in a)) (length (leaves_of (nodes_in b))) (length (body_part style op (leaves_of (nodes_in b)) bs (written_items 0 (nodes_in b)))) ++ body_lengths op (row_lengths style [] b.1) (items_lengths (nodes_in b))) (rows style [] b.0 b.1)
       ∙ ap (λ ls. front_lengths style op (leaves_of (nodes_in a)) (nodes_bytes style (letters_of op) (nodes_in a)) (nodes_lengths style (letters_of op) (nodes_in a)) (length (leaves_of (nodes_in b))) (length (body_part style op (leaves_of (nodes_in b)) (nodes_bytes style [] (nodes_in b)) (written_items 0 (nodes_in b)))) ++ body_lengths op ls (items_lengths (nodes_in b))) (row_is [] b.0 b.1)
-      ∙ ap (λ ns. form_lengths op ns (nodes_in b)) (D.items_hidden-the_row-Node-0 args)
-      ∙ ap (form_lengths op args.items) (D.items_hidden-the_row-Node-0 body)
+      ∙ ap (λ ns. form_lengths style op ns (nodes_in b)) (D.items_hidden-the_row-Node-0 args)
+      ∙ ap (form_lengths style op args.items) (D.items_hidden-the_row-Node-0 body)
 
   -- what is noted of forms
-  pub call_noted : (path : Path) (args : Vec Node Global) (term : Term) (letters : List Letter) (nodes : List Node) (before now : Option (List ℕ)) → term ≡ D.Call path args → letters ≡ [] → nodes ≡ args.items → Noted (nodes_lengths style letters nodes) before now → Noted (term_lengths style term) before now
-  call_noted path args term letters nodes before now et el en h =
-      noted_as (nodes_lengths style letters nodes) (term_lengths style term) before now (ap (term_lengths style) et ∙ call_lengths path args ∙ ap (nodes_lengths style []) (sym en) ∙ ap (λ ls. nodes_lengths style ls nodes) (sym el)) h
+  pub call_noted : (path : Path) (args : Vec Node Global) (term : Term) (nodes : List Node) (before now : Option (List ℕ)) → term ≡ D.Call path args → nodes ≡ args.items → Noted (nodes_lengths style [] nodes) before now → Noted (term_lengths style term) before now
+  call_noted path args term nodes before now et en h =
+      noted_as (nodes_lengths style [] nodes) (term_lengths style term) before now (ap (term_lengths style) et ∙ call_lengths path args ∙ ap (nodes_lengths style []) (sym en)) h
 
-  pub form_noted : (op : Op) (args body : Vec Node Global) (term : Term) (arg_nodes body_nodes body_nodes' : List Node) (nodes size : ℕ) (before between now : Option (List ℕ)) → term ≡ D.Form op args body → arg_nodes ≡ args.items → body_nodes ≡ body.items → body_nodes' ≡ body.items → nodes ≡ length body_nodes'
-      → size ≡ capped (length (body_part style op (leaves_of body_nodes) (nodes_bytes style [] body_nodes) (written_items 0 body_nodes))) → Noted (body_lengths op (nodes_lengths style [] body_nodes) (items_lengths body_nodes)) before between
-      → ((whole : ℕ) → size ≡ capped whole → Noted (front_lengths style op (leaves_of arg_nodes) (nodes_bytes style (letters_of op) arg_nodes) (nodes_lengths style (letters_of op) arg_nodes) nodes whole) between now) → Noted (term_lengths style term) before now
-  form_noted op args body term arg_nodes body_nodes body_nodes' nodes size before between now et ea eb eb' en es inside front =
-      let whole = length (body_part style op (leaves_of body_nodes) (nodes_bytes style [] body_nodes) (written_items 0 body_nodes)) in
-      let own = λ (n : ℕ). front_lengths style op (leaves_of arg_nodes) (nodes_bytes style (letters_of op) arg_nodes) (nodes_lengths style (letters_of op) arg_nodes) n whole in
-      let rest = body_lengths op (nodes_lengths style [] body_nodes) (items_lengths body_nodes) in
-      let count : length (leaves_of body_nodes) ≡ nodes = leaf_number body_nodes ∙ ap length eb ∙ sym (ap length eb') ∙ sym en in
-      noted_as (own nodes ++ rest) (term_lengths style term) before now
-      (ap (term_lengths style) et ∙ form_is op args body ∙ ap (λ ns. form_lengths op ns body.items) (sym ea) ∙ ap (form_lengths op arg_nodes) (sym eb) ∙ ap (λ n. own n ++ rest) count)
-      (noted_both (own nodes) rest before between now inside (front whole es))
+  pub form_noted : (op : Op) (args body : Vec Node Global) (term : Term) (arg_nodes body_nodes : List Node) (before now : Option (List ℕ)) → term ≡ D.Form op args body → arg_nodes ≡ args.items → body_nodes ≡ body.items → Noted (form_lengths style op arg_nodes body_nodes) before now → Noted (term_lengths style term) before now
+  form_noted op args body term arg_nodes body_nodes before now et ea eb h =
+      noted_as (form_lengths style op arg_nodes body_nodes) (term_lengths style term) before now
+      (ap (term_lengths style) et ∙ form_is op args body ∙ ap (λ ns. form_lengths style op ns body.items) (sym ea) ∙ ap (form_lengths style op arg_nodes) (sym eb)) h
+
+  -- the lengths of a form's body, and then of its front
+  pub ruled_noted : (op : Op) (args body : List Node) (nodes size : ℕ) (before between now : Option (List ℕ)) → nodes ≡ length body → size ≡ capped (length (body_part style op (leaves_of body) (nodes_bytes style [] body) (written_items 0 body)))
+      → Noted (body_lengths op (nodes_lengths style [] body) (items_lengths body)) before between
+      → ((whole : ℕ) → size ≡ capped whole → Noted (front_lengths style op (leaves_of args) (nodes_bytes style (letters_of op) args) (nodes_lengths style (letters_of op) args) nodes whole) between now) → Noted (form_lengths style op args body) before now
+  ruled_noted op args body nodes size before between now en es inside front =
+      let whole = length (body_part style op (leaves_of body) (nodes_bytes style [] body) (written_items 0 body)) in
+      let own = λ (n : ℕ). front_lengths style op (leaves_of args) (nodes_bytes style (letters_of op) args) (nodes_lengths style (letters_of op) args) n whole in
+      let rest = body_lengths op (nodes_lengths style [] body) (items_lengths body) in
+      noted_as (own nodes ++ rest) (form_lengths style op args body) before now (ap (λ n. own n ++ rest) (leaf_number body ∙ sym en)) (noted_both (own nodes) rest before between now inside (front whole es))
 
   pub headed_noted : (op : Op) (letters : List Letter) (args : List Node) (packed : Bool) (own body whole : ℕ) (before between now : Option (List ℕ)) → letters ≡ letters_of op → packed ≡ is_package op → own ≡ capped (length (nodes_bytes style letters args)) → body ≡ capped whole → Noted (nodes_lengths style letters args) before between
       → ((content : ℕ) → capped (own + body) ≡ capped content → Noted (if packed then package_length content ∷ [] else []) between now) → Noted ((if is_package op then package_length (length (nodes_bytes style (letters_of op) args) + whole) ∷ [] else []) ++ nodes_lengths style (letters_of op) args) before now

@@ -5,11 +5,12 @@ ghost use Rattle.asl_operators.specs.Letters.{letter_as, letters_as};
 ghost use Rattle.aml_writer.specs.Capped.{capped, framed};
 ghost use Rattle.aml_writer.specs.Leaves.{leaf_of, leaves_of, raw_bytes, operand_bytes, fill_bytes, stated_count as stated};
 ghost use Rattle.aml_writer.specs.Codes.{code_of, letters_of};
-ghost use Rattle.aml_writer.specs.Items.{written_items};
+ghost use Rattle.aml_writer.specs.Items.{written_name, written_items};
 ghost use Rattle.aml_writer.specs.TermBytes.{number_bytes, is_package, head_bytes, missing_bytes, buffer_size, count_bytes, front_part, body_part, term_bytes, nodes_bytes};
+ghost use Rattle.aml_writer.specs.Forms.{form_bytes, form_lengths};
 ghost use Rattle.aml_writer.specs.PackageLengths.{package_length, items_lengths, operand_lengths, count_lengths, argument_lengths, body_lengths, front_lengths, term_lengths, nodes_lengths, Noted};
 
-use crate::codes::{is_packed, letters, no_letters, opcode};
+use crate::codes::{is_packed, is_plain, letters, no_letters, opcode};
 use crate::items::{items_size, note_items};
 use crate::leaf_sizes::{length_size, name_size};
 use crate::notes::Notes;
@@ -18,6 +19,7 @@ use crate::style::IntegerStyle;
 use acpi_values::integer::wrap;
 use aml_code::coded::integer_bytes;
 use asl_operators::letter::Letter;
+use asl_tree::path::Path;
 use asl_tree::term::{Declaration, Node, Op, Special, Term};
 
 fn opcode_size(op: Op) -> usize
@@ -286,6 +288,64 @@ fn node_count(nodes: &[Node]) -> usize
     nodes.len()
 }
 
+// A call with its arguments.
+#[cycle(size)]
+#[inline(never)]
+fn call_size(notes: &mut Notes, path: &Path, args: &[Node], style: IntegerStyle) -> usize
+    ensures size { result ≡ capped (length (written_name path.now ++ nodes_bytes style [] args.now)) }
+    ensures lengths { Noted (nodes_lengths style [] args.now) notes.old notes.new }
+{
+    nodes_size(notes, no_letters(), args, style).saturating_add(name_size(path))
+}
+
+// A form that is its opcode, its arguments and its body, one behind another.
+#[cycle(size)]
+fn plain_form_size(
+    notes: &mut Notes,
+    op: Op,
+    args: &[Node],
+    body: &[Node],
+    style: IntegerStyle,
+) -> usize
+    ensures size { result ≡ capped (length ((code_of op ++ nodes_bytes style (letters_of op) args.now) ++ nodes_bytes style [] body.now)) }
+    ensures lengths { Noted (nodes_lengths style (letters_of op) args.now ++ nodes_lengths style [] body.now) notes.old notes.new }
+{
+    let size = nodes_size(notes, no_letters(), body, style);
+    let own = nodes_size(notes, letters(op), args, style);
+    own.saturating_add(opcode_size(op)).saturating_add(size)
+}
+
+// Any form, by the rule for it.
+#[cycle(size)]
+fn ruled_form_size(
+    notes: &mut Notes,
+    op: Op,
+    args: &[Node],
+    body: &[Node],
+    style: IntegerStyle,
+) -> usize
+    ensures size { result ≡ capped (length (form_bytes style op args.now body.now)) }
+    ensures lengths { Noted (form_lengths style op args.now body.now) notes.old notes.new }
+{
+    let size = body_size(notes, op, body, style);
+    let nodes = node_count(body);
+    sized_form(notes, op, args, nodes, size, style)
+}
+
+// A form. Most are plain, and need no more than a few steps.
+#[cycle(size)]
+#[inline(never)]
+fn form_size(notes: &mut Notes, op: Op, args: &[Node], body: &[Node], style: IntegerStyle) -> usize
+    ensures size { result ≡ capped (length (form_bytes style op args.now body.now)) }
+    ensures lengths { Noted (form_lengths style op args.now body.now) notes.old notes.new }
+{
+    if is_plain(op) {
+        plain_form_size(notes, op, args, body, style)
+    } else {
+        ruled_form_size(notes, op, args, body, style)
+    }
+}
+
 /// A term.
 #[cycle(size)]
 #[tactic(auto, using(crate::proofs::Rows::term_rules))]
@@ -305,13 +365,7 @@ pub(crate) fn term_size(notes: &mut Notes, term: &Term, style: IntegerStyle) -> 
         | Term::Offset(_)
         | Term::Access { .. } => 0,
         Term::Name(path) => name_size(path),
-        Term::Call { path, args } => nodes_size(notes, no_letters(), args, style).saturating_add(
-            name_size(path),
-        ),
-        Term::Form { op, args, body } => {
-            let size = body_size(notes, *op, body, style);
-            let nodes = node_count(body);
-            sized_form(notes, *op, args, nodes, size, style)
-        }
+        Term::Call { path, args } => call_size(notes, path, args, style),
+        Term::Form { op, args, body } => form_size(notes, *op, args, body, style),
     }
 }

@@ -1,13 +1,19 @@
-use Rattle.std.proofs.Common.{ℕ, List, true, false, sym, ◌≡◌, ◌-◌, ◌++◌, ◌∙◌, ◌∷◌, [], length, get_or, take, refl, ap, subst, arith}
+use Rattle.std.proofs.Common.{ℕ, List, true, false, sym, ◌≡◌, ◌-◌, ◌++◌, ◌∙◌, ◌∷◌, [], length, get_or, take, refl, ap, subst, arith, length-append}
 use Rattle.std.proofs.lemmas.List.{take_all}
 use Rattle.asl_operators.specs.Letters.{letter_as, letters_as}
+use Rattle.asl_tree.specs.declared.term.Node.{Node}
 use Rattle.asl_tree.specs.declared.term.Term as D
 use Rattle.aml_writer.specs.Capped.{capped}
+use Rattle.aml_writer.specs.Codes.{code_of, letters_of}
+use Rattle.aml_writer.specs.Forms.{form_lengths}
+use Rattle.aml_writer.specs.Items.{written_name, written_items}
 use Rattle.aml_writer.specs.Leaves.{leaf_of, leaves_of, letter_number, operand_bytes}
-use Rattle.aml_writer.specs.TermBytes.{term_bytes, nodes_bytes}
-use Rattle.aml_writer.proofs.Rows.{nodes_longer, none_left, text_is, form_size, call_length}
-use Rattle.aml_writer.specs.PackageLengths.{operand_lengths, term_lengths, nodes_lengths, Noted}
-use Rattle.aml_writer.proofs.NotedLengths.{noted_nothing, rest_begins, rest_next, rest_done, nodes_more, no_nodes, alone_lengths, alone_noted, entry_noted, byte_noted, call_noted, form_noted, headed_noted, buffer_noted, package_is_noted}
+use Rattle.aml_writer.specs.TermBytes.{term_bytes, nodes_bytes, body_part}
+use Rattle.aml_writer.proofs.Rows.{nodes_longer, none_left, text_is, form_is, form_size, call_nodes}
+use Rattle.aml_writer.proofs.PlainForms.{plainly}
+use Rattle.aml_writer.proofs.Weights.{term_weight, form_weight, call_weight, node_weight}
+use Rattle.aml_writer.specs.PackageLengths.{operand_lengths, term_lengths, nodes_lengths, items_lengths, Noted}
+use Rattle.aml_writer.proofs.NotedLengths.{noted_nothing, noted_as, noted_both, rest_begins, rest_next, rest_done, nodes_more, no_nodes, alone_lengths, alone_noted, entry_noted, byte_noted, call_noted, form_noted, ruled_noted, headed_noted, buffer_noted, package_is_noted}
 use Rattle.aml_writer.proofs.sizes.+size.Goals.{operand_size-in-Omitted, operand_size-in_default-matches}
 use Rattle.aml_writer.proofs.sizes.+size.Goals as goal
 
@@ -44,16 +50,6 @@ term_size-returns-in-Text-clause-size t c =
     let same = ap (λ (bs : List ℕ). length (bs ++ 0x00 ∷ [])) c.as_bytes.ensures in
     omega (arith, whole, same, c.text_size.ensures.size, c.text_size.ensures.few)
 
-pub term_size-returns-in-Call-clause-size : goal.term_size-returns-in-Call-clause-size
-term_size-returns-in-Call-clause-size t c =
-    let whole = call_length c.args.style c.in-Call.path c.in-Call.args c.args.term.now (letters_as c.no_letters.result.now) c.deref.result.now c.in-Call.is c.no_letters.ensures c.deref.ensures.value in
-    omega (arith, whole, c.nodes_size.ensures.size, c.name_size-in-Call.ensures, c.saturating_add.ensures)
-
-pub term_size-returns-in-Form-clause-size : goal.term_size-returns-in-Form-clause-size
-term_size-returns-in-Form-clause-size t c =
-    c.sized_form.ensures.size
-    ∙ form_size c.args.style c.in-Form.op c.in-Form.args c.in-Form.body c.args.term.now c.deref-in-Form-3.result.now c.deref-in-Form.result.now c.deref-in-Form-2.result.now c.node_count-nodes.result c.body_size-size.result c.in-Form.is c.deref-in-Form-3.ensures.value c.deref-in-Form.ensures.value c.deref-in-Form-2.ensures.value c.node_count-nodes.ensures c.body_size-size.ensures.size
-
 pub nodes_size-loop-left-init : goal.nodes_size-loop-left-init
 nodes_size-loop-left-init t c = record {
   within = omega arith;
@@ -80,14 +76,6 @@ sized_buffer-returns-clause-lengths t c = λ whole e.
 pub sized_package-returns-clause-lengths : goal.sized_package-returns-clause-lengths
 sized_package-returns-clause-lengths t c = λ whole e.
     package_is_noted c.args.style (leaves_of c.args.args.now) (nodes_bytes c.args.style [] c.args.args.now) (nodes_lengths c.args.style [] c.args.args.now) c.stated_count-count.result c.args.elements c.args.size c.count_size-own.result whole c.args.notes.now c.count_size-own.new.notes c.framed_size.new.notes c.stated_count-count.ensures e c.count_size-own.ensures.size c.count_size-own.ensures.lengths c.framed_size.ensures.lengths
-
-pub term_size-returns-in-Call-clause-lengths : goal.term_size-returns-in-Call-clause-lengths
-term_size-returns-in-Call-clause-lengths t c =
-    call_noted c.args.style c.in-Call.path c.in-Call.args c.args.term.now (letters_as c.no_letters.result.now) c.deref.result.now c.args.notes.now c.nodes_size.new.notes c.in-Call.is c.no_letters.ensures c.deref.ensures.value c.nodes_size.ensures.lengths
-
-pub term_size-returns-in-Form-clause-lengths : goal.term_size-returns-in-Form-clause-lengths
-term_size-returns-in-Form-clause-lengths t c =
-    form_noted c.args.style c.in-Form.op c.in-Form.args c.in-Form.body c.args.term.now c.deref-in-Form-3.result.now c.deref-in-Form.result.now c.deref-in-Form-2.result.now c.node_count-nodes.result c.body_size-size.result c.args.notes.now c.body_size-size.new.notes c.sized_form.new.notes c.in-Form.is c.deref-in-Form-3.ensures.value c.deref-in-Form.ensures.value c.deref-in-Form-2.ensures.value c.node_count-nodes.ensures c.body_size-size.ensures.size c.body_size-size.ensures.lengths c.sized_form.ensures.lengths
 
 pub term_size-returns-in-Integer-clause-lengths : goal.term_size-returns-in-Integer-clause-lengths
 term_size-returns-in-Integer-clause-lengths t c = alone_noted c.args.style _ _ c.args.notes.now c.in-Integer.is tt
@@ -127,3 +115,88 @@ term_size-returns-in-Local-2-clause-lengths t c = byte_noted c.args.style c.args
 
 pub term_size-returns-in-Local-3-clause-lengths : goal.term_size-returns-in-Local-3-clause-lengths
 term_size-returns-in-Local-3-clause-lengths t c = byte_noted c.args.style c.args.term.now c.args.notes.now c.in-Local.is
+
+pub term_size-returns-in-Call-clause-size : goal.term_size-returns-in-Call-clause-size
+term_size-returns-in-Call-clause-size t c =
+    c.call_size.ensures.size ∙ ap (λ (bs : List ℕ). capped (length bs)) (call_nodes c.args.style c.in-Call.path c.in-Call.args c.args.term.now c.deref.result.now c.in-Call.is c.deref.ensures.value)
+
+pub term_size-returns-in-Call-clause-lengths : goal.term_size-returns-in-Call-clause-lengths
+term_size-returns-in-Call-clause-lengths t c =
+    call_noted c.args.style c.in-Call.path c.in-Call.args c.args.term.now c.deref.result.now c.args.notes.now c.call_size.new.notes c.in-Call.is c.deref.ensures.value c.call_size.ensures.lengths
+
+pub term_size-returns-in-Form-clause-size : goal.term_size-returns-in-Form-clause-size
+term_size-returns-in-Form-clause-size t c =
+    c.form_size.ensures.size ∙ ap (λ (bs : List ℕ). capped (length bs)) (form_is c.args.style c.in-Form.op c.in-Form.args c.in-Form.body c.args.term.now c.deref-in-Form.result.now c.deref-in-Form-2.result.now c.in-Form.is c.deref-in-Form.ensures.value c.deref-in-Form-2.ensures.value)
+
+pub term_size-returns-in-Form-clause-lengths : goal.term_size-returns-in-Form-clause-lengths
+term_size-returns-in-Form-clause-lengths t c =
+    form_noted c.args.style c.in-Form.op c.in-Form.args c.in-Form.body c.args.term.now c.deref-in-Form.result.now c.deref-in-Form-2.result.now c.args.notes.now c.form_size.new.notes c.in-Form.is c.deref-in-Form.ensures.value c.deref-in-Form-2.ensures.value c.form_size.ensures.lengths
+
+pub call_size-returns-clause-size : goal.call_size-returns-clause-size
+call_size-returns-clause-size t c =
+    let none = ap (λ ls. length (nodes_bytes c.args.style ls c.args.args.now)) c.no_letters.ensures in
+    omega (arith, none, length-append (written_name c.args.path.now) (nodes_bytes c.args.style [] c.args.args.now), c.nodes_size.ensures.size, c.name_size.ensures, c.saturating_add.ensures)
+
+pub call_size-returns-clause-lengths : goal.call_size-returns-clause-lengths
+call_size-returns-clause-lengths t c =
+    noted_as (nodes_lengths c.args.style (letters_as c.no_letters.result.now) c.args.args.now) (nodes_lengths c.args.style [] c.args.args.now) c.args.notes.now c.nodes_size.new.notes
+    (ap (λ ls. nodes_lengths c.args.style ls c.args.args.now) (sym c.no_letters.ensures)) c.nodes_size.ensures.lengths
+
+pub plain_form_size-returns-clause-size : goal.plain_form_size-returns-clause-size
+plain_form_size-returns-clause-size t c =
+    let code = code_of c.args.op in
+    let own = nodes_bytes c.args.style (letters_of c.args.op) c.args.args.now in
+    let content = nodes_bytes c.args.style [] c.args.body.now in
+    let own_is = ap (λ ls. length (nodes_bytes c.args.style ls c.args.args.now)) c.letters.ensures in
+    let content_is = ap (λ ls. length (nodes_bytes c.args.style ls c.args.body.now)) c.no_letters.ensures in
+    omega (arith, own_is, content_is, length-append code own, length-append (code ++ own) content, c.nodes_size-size.ensures.size, c.nodes_size-own.ensures.size, c.opcode_size.ensures.size, c.saturating_add.ensures, c.saturating_add-2.ensures)
+
+pub plain_form_size-returns-clause-lengths : goal.plain_form_size-returns-clause-lengths
+plain_form_size-returns-clause-lengths t c =
+    let own = nodes_lengths c.args.style (letters_of c.args.op) c.args.args.now in
+    let content = nodes_lengths c.args.style [] c.args.body.now in
+    noted_both own content c.args.notes.now c.nodes_size-size.new.notes c.nodes_size-own.new.notes
+    (noted_as (nodes_lengths c.args.style (letters_as c.no_letters.result.now) c.args.body.now) content c.args.notes.now c.nodes_size-size.new.notes (ap (λ ls. nodes_lengths c.args.style ls c.args.body.now) (sym c.no_letters.ensures)) c.nodes_size-size.ensures.lengths)
+    (noted_as (nodes_lengths c.args.style (letters_as c.letters.result.now) c.args.args.now) own c.nodes_size-size.new.notes c.nodes_size-own.new.notes (ap (λ ls. nodes_lengths c.args.style ls c.args.args.now) (sym c.letters.ensures)) c.nodes_size-own.ensures.lengths)
+
+pub ruled_form_size-returns-clause-size : goal.ruled_form_size-returns-clause-size
+ruled_form_size-returns-clause-size t c =
+    c.sized_form.ensures.size ∙ form_size c.args.style c.args.op c.args.args.now c.args.body.now c.node_count-nodes.result c.body_size-size.result c.node_count-nodes.ensures c.body_size-size.ensures.size
+
+pub ruled_form_size-returns-clause-lengths : goal.ruled_form_size-returns-clause-lengths
+ruled_form_size-returns-clause-lengths t c =
+    ruled_noted c.args.style c.args.op c.args.args.now c.args.body.now c.node_count-nodes.result c.body_size-size.result c.args.notes.now c.body_size-size.new.notes c.sized_form.new.notes c.node_count-nodes.ensures c.body_size-size.ensures.size c.body_size-size.ensures.lengths c.sized_form.ensures.lengths
+
+pub form_size-returns-then-is_plain-clause-size : goal.form_size-returns-then-is_plain-clause-size
+form_size-returns-then-is_plain-clause-size t c =
+    let plain = plainly c.args.style c.args.op (sym c.is_plain.ensures ∙ c.if-is_plain.true) in
+    c.plain_form_size.ensures.size
+    ∙ ap (λ (bs : List ℕ). capped (length bs)) (plain.bytes (leaves_of c.args.args.now) (nodes_bytes c.args.style (letters_of c.args.op) c.args.args.now) (leaves_of c.args.body.now) (nodes_bytes c.args.style [] c.args.body.now) (written_items 0 c.args.body.now))
+
+pub form_size-returns-then-is_plain-clause-lengths : goal.form_size-returns-then-is_plain-clause-lengths
+form_size-returns-then-is_plain-clause-lengths t c =
+    let plain = plainly c.args.style c.args.op (sym c.is_plain.ensures ∙ c.if-is_plain.true) in
+    let own = nodes_lengths c.args.style (letters_of c.args.op) c.args.args.now in
+    let content = nodes_lengths c.args.style [] c.args.body.now in
+    noted_as (own ++ content) (form_lengths c.args.style c.args.op c.args.args.now c.args.body.now) c.args.notes.now c.plain_form_size.new.notes
+    (sym (plain.lengths (leaves_of c.args.args.now) (nodes_bytes c.args.style (letters_of c.args.op) c.args.args.now) own (length (leaves_of c.args.body.now)) (length (body_part c.args.style c.args.op (leaves_of c.args.body.now) (nodes_bytes c.args.style [] c.args.body.now) (written_items 0 c.args.body.now))) content (items_lengths c.args.body.now)))
+    c.plain_form_size.ensures.lengths
+
+pub nodes_size-operand_size-requires : goal.nodes_size-operand_size-requires
+nodes_size-operand_size-requires t c =
+    let d = c.index-nodes-left.result in
+    let i = c.loop-left.left - 1 in
+    let ns = c.args.nodes.now in
+    let inside = node_weight ns i d (omega arith) in
+    let here = ap (λ (n : Node). term_weight n.term) c.index-nodes-left.is in
+    (omega (arith, c.decreases, inside, here), tt)
+
+pub term_size-call_size-requires : goal.term_size-call_size-requires
+term_size-call_size-requires t c =
+    let inside = call_weight c.args.term.now c.in-Call.path c.in-Call.args c.deref.result.now c.in-Call.is c.deref.ensures.value in
+    (omega (arith, c.decreases, inside), tt)
+
+pub term_size-form_size-requires : goal.term_size-form_size-requires
+term_size-form_size-requires t c =
+    let inside = form_weight c.args.term.now c.in-Form.op c.in-Form.args c.in-Form.body c.deref-in-Form.result.now c.deref-in-Form-2.result.now c.in-Form.is c.deref-in-Form.ensures.value c.deref-in-Form-2.ensures.value in
+    (omega (arith, c.decreases, inside), tt)
