@@ -134,6 +134,32 @@ fn reserve_terms(
     Ok(())
 }
 
+// How many pieces a term has, or one more for each ElseIf in it. Only how much memory is taken at once rests on this.
+#[cycle(count)]
+fn pieces_of_term(node: &Node) -> usize {
+    match &node.term {
+        Term::Form { op, body, .. } => {
+            if holds_terms(*op) {
+                pieces_of_terms(body).saturating_add(1)
+            } else {
+                1
+            }
+        }
+        _ => 1,
+    }
+}
+
+#[cycle(count)]
+fn pieces_of_terms(nodes: &[Node]) -> usize {
+    let mut count: usize = 0;
+    let mut left = nodes.len();
+    while left > 0 {
+        left -= 1;
+        count = count.saturating_add(pieces_of_term(&nodes[left]));
+    }
+    count
+}
+
 // The room of the header before that of the terms, which come with the last first.
 fn finish(
     alloc: Global,
@@ -180,7 +206,7 @@ pub(crate) fn reserve_block(
     ensures refused { IfErr result (RefusedFor block.now short) }
 {
     let lines = SourceLines::new(alloc, lines.list.as_slice())?;
-    let mut draft = Draft::new(alloc);
+    let mut draft = Draft::with_room(alloc, pieces_of_terms(&block.terms).saturating_add(1))?;
     match reserve_terms(
         alloc,
         &mut draft,
