@@ -16,15 +16,19 @@ pub record ReadsText (words : List (List ℕ)) (told : List Named) (asked : Aske
   pub asks : IsCommandLine words asked file
   pub stands : find_file told file ≡ Some text
 
--- What a call with these words is to end with, where these are the files. Words that are no command line have status 2, and a file that is absent has no
--- answer, which is status 3. A text of more than 16 MiB, which is not read, and one whose lines have a fault have status 1, with the one message of the
--- first fault; and the lines of a dump have status 0, with the files and the lines of those of its tables that are asked for.
+-- What a call with these words is to end with, where these are the files. Words that are no command line have status 2,
+-- and a file that is absent has no answer, which is status 3. A text of more than 16 MiB, which is not read, and one
+-- whose lines have a fault have status 1, with the one message of the first fault; and the lines of a dump have status
+-- 0, with the files and the lines of those of its tables that are asked for.
 pub data IsAnswer (words : List (List ℕ)) (told : List Named) : Option Answer → Type 0 where
   bad_words : ((asked : Asked) (file : List ℕ) → IsCommandLine words asked file → ⊥) → IsAnswer words told (Some usage)
   absent : (asked : Asked) (file : List ℕ) → IsCommandLine words asked file → find_file told file ≡ None → IsAnswer words told None
-  too_large : (asked : Asked) (file text : List ℕ) → ReadsText words told asked file text → most_bytes < length text → IsAnswer words told (Some (refusal file (message_of (6007, 1) ∷ [])))
-  faulty : (asked : Asked) (file text : List ℕ) (fault : Fault) → ReadsText words told asked file text → length text ≤ most_bytes → HasFault 1 (lines_of text) fault → IsAnswer words told (Some (refusal file (message_of fault ∷ [])))
-  a_dump : (asked : Asked) (file text : List ℕ) (tables : List Dumped) → ReadsText words told asked file text → length text ≤ most_bytes → IsDump (lines_of text) tables → IsAnswer words told (Some (success asked tables))
+  too_large : (asked : Asked) (file text : List ℕ) → ReadsText words told asked file text → most_bytes < length text →
+      IsAnswer words told (Some (refusal file (message_of (6007, 1) ∷ [])))
+  faulty : (asked : Asked) (file text : List ℕ) (fault : Fault) → ReadsText words told asked file text → length text ≤ most_bytes →
+      HasFault 1 (lines_of text) fault → IsAnswer words told (Some (refusal file (message_of fault ∷ [])))
+  a_dump : (asked : Asked) (file text : List ℕ) (tables : List Dumped) → ReadsText words told asked file text → length text ≤ most_bytes →
+      IsDump (lines_of text) tables → IsAnswer words told (Some (success asked tables))
 
 -- the text of the console: where there is no answer, that of a fault
 abbrev pub text_told : Option Answer → List ℕ
@@ -32,7 +36,8 @@ text_told None = fault_text
 text_told (Some answer) = answer.text
 
 -- The call ended with this answer: its status is the answer's, the outputs gained its files and nothing else, and the console its text.
-pub record EndsWith (answer : Option Answer) (status : ℕ) (put now_put : Option (List Named)) (told now_told : Option (List ℕ)) : Type 0 where
-  pub is : status ≡ status_of answer
-  pub files : Gains put now_put (due_of answer)
-  pub text : Gains told now_told (text_told answer)
+pub record EndsWith (answer : Option Answer) (status : ℕ) (put now_put : Option (List Named)) (told now_told : Option (List ℕ)) : Type 0
+  where
+    pub is : status ≡ status_of answer
+    pub files : Gains put now_put (due_of answer)
+    pub text : Gains told now_told (text_told answer)

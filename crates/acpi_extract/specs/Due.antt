@@ -1,5 +1,6 @@
 -- What a call is to end with: its status, the text of the console, and the files to put.
-use Rattle.std.specs.Prelude.{ℕ, ◌+◌, ◌||◌, false, cond, nat_lt, nat_le, List, [], ◌∷◌, ◌++◌, length, codes, decimal, Some, None, Ok, Err, count_by}
+use Rattle.std.specs.Prelude.{ℕ, ◌+◌, ◌||◌, false, cond, nat_lt, nat_le, List, [], ◌∷◌, ◌++◌, length, codes, decimal, Some, None, Ok, Err}
+use Rattle.std.specs.Prelude.{count_by}
 use Rattle.std.specs.declared.option.Option.{Option}
 use Rattle.std.specs.declared.result.Result.{Result}
 use Rattle.std.specs.Option.{option_map}
@@ -59,7 +60,8 @@ answer_to_dump request (Ok tables) = success request.asked tables
 
 -- a text of more than 16 MiB is not read: 6007 in line 1
 abbrev pub answer_to_text : Request → List ℕ → Answer
-answer_to_text request text = cond (nat_lt most_bytes (length text)) (refusal request.file (message_of (6007, 1) ∷ [])) (answer_to_dump request (dump_of text))
+answer_to_text request text = cond (nat_lt most_bytes (length text)) (refusal request.file (message_of (6007, 1) ∷ []))
+    (answer_to_dump request (dump_of text))
 
 -- of words that are not good
 abbrev pub usage : Answer

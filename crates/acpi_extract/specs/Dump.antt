@@ -1,5 +1,6 @@
 -- The tables of a dump, or its first fault.
-use Rattle.std.specs.Prelude.{ℕ, ◌+◌, ◌==◌, ◌&&◌, ◌||◌, Bool, cond, nat_le, List, [], ◌∷◌, ◌++◌, length, drop, map, codes, Some, None, Ok, Err}
+use Rattle.std.specs.Prelude.{ℕ, ◌+◌, ◌==◌, ◌&&◌, ◌||◌, Bool, cond, nat_le, List, [], ◌∷◌, ◌++◌, length, drop, map, codes, Some, None, Ok}
+use Rattle.std.specs.Prelude.{Err}
 use Rattle.std.specs.declared.option.Option.{Option}
 use Rattle.std.specs.declared.result.Result.{Result}
 use Rattle.std.specs.Char.{to_ascii_lowercase}

@@ -8,7 +8,8 @@ use Rattle.std.specs.Option.{option_map}
 -- the pairs end here; or a pair stands before the others; or the form is wrong
 abbrev pub IsNext : ℕ → List ℕ → Next → Type 0
 IsNext room text End = pairs_of room text ≡ Some []
-IsNext room text (Pair byte rest) = (0 < room) × (length rest.now < length text) × (pairs_of room text ≡ with_first (Some byte) (pairs_of (room - 1) rest.now))
+IsNext room text (Pair byte rest) = (0 < room) × (length rest.now < length text)
+    × (pairs_of room text ≡ with_first (Some byte) (pairs_of (room - 1) rest.now))
 IsNext room text Wrong = pairs_of room text ≡ None
 
 -- a line begins with this offset and a colon, before this text; a number over the largest u128 is shown as that

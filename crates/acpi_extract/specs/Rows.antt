@@ -17,7 +17,8 @@ pairs_of room [] = Some []
 pairs_of room (a ∷ []) = None
 pairs_of room (a ∷ b ∷ []) = cond (is_blank a && is_blank b) (Some []) None
 pairs_of zero (a ∷ b ∷ c ∷ rest) = cond (is_blank a && is_blank b) (Some []) None
-pairs_of (suc room) (a ∷ b ∷ c ∷ rest) = cond (is_blank a && is_blank b) (Some []) (cond (is_blank a) (with_first (byte_of b c) (pairs_of room rest)) None)
+pairs_of (suc room) (a ∷ b ∷ c ∷ rest) = cond (is_blank a && is_blank b) (Some [])
+    (cond (is_blank a) (with_first (byte_of b c) (pairs_of room rest)) None)
 
 -- an offset and the bytes of its line
 abbrev pub Row : Type 0

@@ -23,7 +23,8 @@ for_file asked (c ∷ cs) = cond (c == 45) None (Some (record { asked = asked; f
 
 -- `-a` and `-l`, before the file
 abbrev pub with_option : List ℕ → List ℕ → Option Request
-with_option option file = cond (bytes_eq option (codes "-a")) (for_file Every file) (cond (bytes_eq option (codes "-l")) (for_file Listing file) None)
+with_option option file = cond (bytes_eq option (codes "-a")) (for_file Every file)
+    (cond (bytes_eq option (codes "-l")) (for_file Listing file) None)
 
 -- `-s` and a signature that is not empty, before the file
 abbrev pub with_signature : List ℕ → List ℕ → List ℕ → Option Request
@@ -49,8 +50,8 @@ is_asked (One asked) signature = bytes_eq (stem_of asked) (stem_of signature)
 pub data IsFileName : List ℕ → Type 0 where
   begins : (c : ℕ) (cs : List ℕ) → (c ≡ 45 → ⊥) → IsFileName (c ∷ cs)
 
--- The words are a command line that asks for these tables of this file: FILE, `-a` FILE, `-l` FILE, or `-s` SIGNATURE FILE with a signature that is not
--- empty.
+-- The words are a command line that asks for these tables of this file: FILE, `-a` FILE, `-l` FILE, or `-s` SIGNATURE
+-- FILE with a signature that is not empty.
 pub data IsCommandLine : List (List ℕ) → Asked → List ℕ → Type 0 where
   of_code : (file : List ℕ) → IsFileName file → IsCommandLine (file ∷ []) Code file
   of_every : (file : List ℕ) → IsFileName file → IsCommandLine (codes "-a" ∷ file ∷ []) Every file

@@ -1,5 +1,6 @@
 // What a call is to end with.
-ghost use Rattle.std.specs.Prelude.{◌≡◌, ◌≤◌, ◌+◌, ◌<◌, ◌^◌, ◌++◌, [], ◌∷◌, ℕ, List, length, map, All, IfOk, OnOk, IsErrOf, ◌⊎◌, Some, None, string_bytes};
+ghost use Rattle.std.specs.Prelude.{◌≡◌, ◌≤◌, ◌+◌, ◌<◌, ◌^◌, ◌++◌, [], ◌∷◌, ℕ, List, length, map, All, IfOk, OnOk, IsErrOf, ◌⊎◌, Some};
+ghost use Rattle.std.specs.Prelude.{None, string_bytes};
 ghost use Rattle.iasl_ports.specs.Fetched.{most_bytes};
 ghost use Rattle.iasl_ports.specs.Delivery.{name_and_bytes, answer_of, IsSettled};
 ghost use Rattle.iasl_messages.specs.Console.{summary_line, table_line};
@@ -52,7 +53,8 @@ fn push_table(
     name: String,
     table: Table,
 ) -> Result<(), AllocError>
-    ensures files { OnOk result (map name_and_bytes files.new.items ≡ map name_and_bytes files.old.items ++ (string_bytes name, table.bytes) ∷ []) }
+    ensures files { OnOk result (map name_and_bytes files.new.items ≡ map name_and_bytes files.old.items
+        ++ (string_bytes name, table.bytes) ∷ []) }
     ensures text { OnOk result (text.new.items ≡ text.old.items ++ table_line (string_bytes name) table.signature (length table.bytes)) }
 {
     let line = table_line(
@@ -76,7 +78,8 @@ fn push_due(
     table: Table,
 ) -> Result<(), AllocError>
     requires { stem.now ≡ stem_of table.signature }
-    ensures files { OnOk result (map name_and_bytes files.new.items ≡ map name_and_bytes files.old.items ++ file_of (asked_by choice.entry) (number, dumped table)) }
+    ensures files { OnOk result (map name_and_bytes files.new.items ≡ map name_and_bytes files.old.items ++ file_of (asked_by choice.entry)
+        (number, dumped table)) }
     ensures text { OnOk result (text.new.items ≡ text.old.items ++ line_of (asked_by choice.entry) (number, dumped table)) }
 {
     if let Choice::Listing = choice {
@@ -172,7 +175,9 @@ pub(crate) fn decide<F: Files>(
     words: &[String],
     files: &mut F,
 ) -> Result<Due<'static>, Stop>
-    ensures { Decides (answer_for (map string_bytes words.now)) result (files_seen (F.contents files.old) (F.faults files.old) (F.absents files.old)) (files_seen (F.contents files.new) (F.faults files.new) (F.absents files.new)) }
+    ensures { Decides (answer_for (map string_bytes words.now)) result
+        (files_seen (F.contents files.old) (F.faults files.old) (F.absents files.old))
+        (files_seen (F.contents files.new) (F.faults files.new) (F.absents files.new)) }
 {
     let Some(wish) = wish_of(words) else {
         return Ok(usage(alloc)?);

@@ -3,7 +3,8 @@ ghost use Rattle.std.specs.Prelude.{◌≡◌, ◌+◌, ◌^◌, ◌<◌, List, 
 ghost use Rattle.std.specs.declared.result.Result.{Result};
 ghost use Rattle.iasl_messages.specs.Cut.{lines_of};
 ghost use Rattle.acpi_extract.specs.Lines.{is_signature};
-ghost use Rattle.acpi_extract.specs.Dump.{Dumped, Fault, dump_of, bytes_of, tells_length, told_length, Numbered, Block, Cut, table_of, then_all, all_of, blocks_of, numbered_from};
+ghost use Rattle.acpi_extract.specs.Dump.{Dumped, Fault, dump_of, bytes_of, tells_length, told_length, Numbered, Block, Cut, table_of};
+ghost use Rattle.acpi_extract.specs.Dump.{then_all, all_of, blocks_of, numbered_from};
 ghost use Rattle.acpi_extract.specs.Table.{dumped, message_of, Refuses, Answers};
 ghost use Rattle.acpi_extract.specs.Grammar.{IsDump, HasFault, Explains};
 ghost use Rattle.acpi_extract.specs.Reading.{Halts};
@@ -97,7 +98,9 @@ impl Reader {
 
     // Ends the table whose lines are being read, if there is one.
     fn close(&mut self) -> Result<(), Halt>
-        ensures closed { OnOk result ((rest : Result (List Dumped) Fault) → after (map dumped self.old.done) (closed_then self.old.unfinished rest) ≡ after (map dumped self.new.done) rest) }
+        ensures closed { OnOk result
+            ((rest : Result (List Dumped) Fault) → after (map dumped self.old.done) (closed_then self.old.unfinished rest) ≡ after
+            (map dumped self.new.done) rest) }
         ensures none { OnOk result (self.new.unfinished ≡ None) }
         ensures number { self.new.number ≡ self.old.number }
         ensures refused { IfErr result (λ halt. (rest : Result (List Dumped) Fault) → Halts halt (closed_then self.old.unfinished rest)) }
@@ -118,7 +121,10 @@ impl Reader {
     // Takes a header line with this signature.
     fn take_header(&mut self, signature: &[u8]) -> Result<(), Halt>
         requires { IsTrue (is_signature signature.now) }
-        ensures taken { OnOk result ((cut : Cut) → after (map dumped self.old.done) (closed_then self.old.unfinished (then_all (table_of self.old.number signature.now (bytes_of [] cut.0)) (all_of cut.1))) ≡ after (map dumped self.new.done) (answer_from self.new.unfinished cut)) }
+        ensures taken { OnOk result
+            ((cut : Cut) → after (map dumped self.old.done)
+            (closed_then self.old.unfinished (then_all (table_of self.old.number signature.now (bytes_of [] cut.0)) (all_of cut.1))) ≡ after
+            (map dumped self.new.done) (answer_from self.new.unfinished cut)) }
         ensures number { self.new.number ≡ self.old.number }
         ensures refused { IfErr result (λ halt. (rest : Result (List Dumped) Fault) → Halts halt (closed_then self.old.unfinished rest)) }
     {
@@ -129,10 +135,13 @@ impl Reader {
 
     // Takes a line under a header.
     fn take_row(&mut self, line: &[u8]) -> Result<(), Halt>
-        ensures taken { OnOk result ((rows : List Numbered) (blocks : List Block) → answer_from self.old.unfinished ((self.old.number, line.now) ∷ rows, blocks) ≡ answer_from self.new.unfinished (rows, blocks)) }
+        ensures taken { OnOk result
+            ((rows : List Numbered) (blocks : List Block) → answer_from self.old.unfinished ((self.old.number, line.now) ∷ rows, blocks) ≡
+            answer_from self.new.unfinished (rows, blocks)) }
         ensures done { self.new.done ≡ self.old.done }
         ensures number { self.new.number ≡ self.old.number }
-        ensures refused { IfErr result (λ halt. (rows : List Numbered) (blocks : List Block) → Halts halt (answer_from self.old.unfinished ((self.old.number, line.now) ∷ rows, blocks))) }
+        ensures refused { IfErr result (λ halt. (rows : List Numbered) (blocks : List Block) →
+            Halts halt (answer_from self.old.unfinished ((self.old.number, line.now) ∷ rows, blocks))) }
     {
         let Some(mut table) = self.unfinished.take() else {
             return Err(Halt::At(BAD_HEADER_LINE, self.number));
@@ -237,7 +246,8 @@ pub fn tables(alloc: Global, text: &[u8]) -> Result<Tables, Stage>
     ensures tables { IfOk result (λ tables. dump_of text.now ≡ Ok (map dumped tables)) }
     ensures refused { IfErr result (λ stage. Refuses stage (dump_of text.now)) }
 
-    // The lines are a dump of these tables by the grammar, and of no others: where they are one of some, these are found, unless memory runs out.
+    // The lines are a dump of these tables by the grammar, and of no others: where they are one of some, these are
+    // found, unless memory runs out.
     ensures found { IfOk result (λ tables. IsDump (lines_of text.now) (map dumped tables)) }
     ensures only { (others : List Dumped) → IsDump (lines_of text.now) others → Answers result (Ok others) }
 

@@ -1,5 +1,6 @@
 // A line of bytes: blanks, an offset, a colon, and pairs of hexadecimal digits.
-ghost use Rattle.std.specs.Prelude.{◌≡◌, ◌++◌, ◌^◌, ◌-◌, IfOk, IfSome, IsTrue, Some, None, MatchOption, cond, min, OnOk, ◌&&◌, nat_lt, ◌≤◌, length};
+ghost use Rattle.std.specs.Prelude.{◌≡◌, ◌++◌, ◌^◌, ◌-◌, IfOk, IfSome, IsTrue, Some, None, MatchOption, cond, min, OnOk, ◌&&◌, nat_lt, ◌≤◌};
+ghost use Rattle.std.specs.Prelude.{length};
 ghost use Rattle.std.specs.Option.{option_map};
 ghost use Rattle.hex_text.specs.Blanks.{is_blank};
 ghost use Rattle.acpi_extract.specs.Rows.{pairs_of, row_of};
@@ -45,7 +46,8 @@ fn next_pair(room: usize, text: &[u8]) -> Next<'_>
 
 // Adds the bytes of the pairs that stand behind a colon, and says whether they have their form.
 pub(crate) fn add_pairs(bytes: &mut Vec<u8>, text: &[u8]) -> Result<bool, AllocError>
-    ensures { IfOk result (λ formed. option_map (λ more. bytes.old.items ++ more) (pairs_of 16 text.now) ≡ cond formed (Some bytes.new.items) None) }
+    ensures { IfOk result (λ formed. option_map (λ more. bytes.old.items ++ more) (pairs_of 16 text.now) ≡ cond formed
+        (Some bytes.new.items) None) }
 {
     let mut rest = text;
     let mut room: usize = 16;

@@ -37,9 +37,11 @@ pub fn extract<F: Files, O: Outputs, C: Sink>(
         (world (files_seen (F.contents files.old) (F.faults files.old) (F.absents files.old)) (outputs_seen (O.written outs.old) (O.faults outs.old)) (console_seen (C.told console.old) (C.faults console.old)))
         (world (files_seen (F.contents files.new) (F.faults files.new) (F.absents files.new)) (outputs_seen (O.written outs.new) (O.faults outs.new)) (console_seen (C.told console.new) (C.faults console.new))) }
 
-    // 0, 1 and 2 come only of what the words and the file call for: words that are no command line, a text that is too large or has a first fault, or the
-    // tables of a dump. Then the outputs gained the files of that and nothing else, and the console its text.
-    ensures sound { result ≤ 2 → ForSome (F.contents files.old) (λ told. (answer : Option Answer) × IsAnswer (map string_bytes words.now) told answer
+    // 0, 1 and 2 come only of what the words and the file call for: words that are no command line, a text that is too
+    // large or has a first fault, or the tables of a dump. Then the outputs gained the files of that and nothing else,
+    // and the console its text.
+    ensures sound { result ≤ 2 →
+        ForSome (F.contents files.old) (λ told. (answer : Option Answer) × IsAnswer (map string_bytes words.now) told answer
         × EndsWith answer result (O.written outs.old) (O.written outs.new) (C.told console.old) (C.told console.new)) }
 
     // And where no count rose, the call ends with whatever these call for, 3 for a file that is absent among that, or with 4.
@@ -50,7 +52,8 @@ pub fn extract<F: Files, O: Outputs, C: Sink>(
         → EndsWith answer result (O.written outs.old) (O.written outs.new) (C.told console.old) (C.told console.new) ⊎ (result ≡ 4)) }
 
     // A list puts no file, whatever the status.
-    ensures list { IsSomeAnd (request_of (map string_bytes words.now)) (λ request. request.asked ≡ Listing) → ForSome (F.contents files.old) (λ told. Gains (O.written outs.old) (O.written outs.new) []) }
+    ensures list { IsSomeAnd (request_of (map string_bytes words.now)) (λ request. request.asked ≡ Listing) →
+        ForSome (F.contents files.old) (λ told. Gains (O.written outs.old) (O.written outs.new) []) }
 {
     let decided = decide(alloc, words, files);
     finish(outs, console, decided, STOP_TEXTS)

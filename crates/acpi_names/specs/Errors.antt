@@ -1,19 +1,25 @@
 -- What is wrong with the names of a block, in the order of its terms.
-use Rattle.std.specs.Prelude.{ℕ, suc, Bool, true, false, not, nat_eq, nat_le, ◌&&◌, ◌||◌, if◌then◌else◌, List, [], ◌∷◌, ◌++◌, length, Option, Some, None, is_some}
+use Rattle.std.specs.Prelude.{ℕ, suc, Bool, true, false, not, nat_eq, nat_le, ◌&&◌, ◌||◌, if◌then◌else◌, List, [], ◌∷◌, ◌++◌, length}
+use Rattle.std.specs.Prelude.{Option, Some, None, is_some}
 use Rattle.acpi_values.specs.Paths.{NameSeg, AbsolutePath, is_same_path}
 use Rattle.acpi_values.specs.Operators.{Letter, Valued, Kept, Placed, Used, Row, row_of}
 use Rattle.acpi_values.specs.Operators as L
 use Rattle.acpi_values.specs.declared.operator.Plain.{Plain}
 use Rattle.acpi_values.specs.declared.operator.EventOp.TheVariants as EventOp
-use Rattle.acpi_state.specs.Objects.{Object, MethodObject, ContainerObject, MutexObject, EventObject, RegionObject, UnitObject, ExternalObject, ExternalData, ExternalOther, lookup, operand_count, is_method}
+use Rattle.acpi_state.specs.Objects.{Object, MethodObject, ContainerObject, MutexObject, EventObject, RegionObject, UnitObject}
+use Rattle.acpi_state.specs.Objects.{ExternalObject, ExternalData, ExternalOther, lookup, operand_count, is_method}
 use Rattle.acpi_state.specs.Outcomes.{choose}
 use Rattle.asl_tree.specs.declared.path.Path.{Path}
 use Rattle.asl_tree.specs.Names.{Known, end_of, place_of, denoted}
-use Rattle.asl_meaning.specs.Declarations.{As, ExternalType, Declarations, nothing_declared, in_root, is_named, scope_path, with_declared, declare, declarations, calls_all, called, known_of, declare_item}
+use Rattle.asl_meaning.specs.Declarations.{As, ExternalType, Declarations, nothing_declared, in_root, is_named, scope_path, with_declared}
+use Rattle.asl_meaning.specs.Declarations.{declare, declarations, calls_all, called, known_of, declare_item}
 use Rattle.asl_meaning.specs.Meaning.{SpotForm, OfResult, OfInside, NoSpot, spot_form}
 use Rattle.acpi_state.specs.FieldActs.{region_letters, field_letters}
 use Rattle.asl_tree.specs.FieldItems.{FieldItem, UnitItem, SkipItem, OffsetItem, AccessItem, ConnectionItem, Connected, ToName, ToBytes}
-use Rattle.asl_tree.specs.Tree.{At, Tree, Use, Call, Apply, Buffer, Package, VarPackage, CondRefOf, Return, Name, Alias, External, Method, Mutex, Event, Container', Scope, Trees, no_trees, tree, count, OperationRegion, Field, IndexField, BankField, CreateField, UnitName, If, ElseIf, Else, While, Operated, Assigned, AssignedBy, Switch, Case, Default}
+use Rattle.asl_tree.specs.Tree.{At, Tree, Use, Call, Apply, Buffer, Package, VarPackage, CondRefOf, Return, Name, Alias, External, Method}
+use Rattle.asl_tree.specs.Tree.{Mutex, Event, Container', Scope, Trees, no_trees, tree, count, OperationRegion, Field, IndexField}
+use Rattle.asl_tree.specs.Tree.{BankField, CreateField, UnitName, If, ElseIf, Else, While, Operated, Assigned, AssignedBy, Switch, Case}
+use Rattle.asl_tree.specs.Tree.{Default}
 
 -- an error at a node, with the path that is declared or the name as it is written
 pub data NameError : Type 0 where
@@ -47,7 +53,8 @@ pub record Whole : Type 0 where
 
 abbrev pub whole_of : Trees → Whole
 whole_of program =
-    let d = declarations program in record { all = d; known = known_of program; calls = called (calls_all (is_named d) program [] nothing_declared) }
+    let d = declarations program in
+    record { all = d; known = known_of program; calls = called (calls_all (is_named d) program [] nothing_declared) }
 
 -- no more steps up than scopes
 abbrev pub step_errors : At → Path → AbsolutePath → List NameError
@@ -124,12 +131,15 @@ module _ (whole : Whole) where
   abbrev pub declared_errors : At → Path → AbsolutePath → Declarations → List NameError
   declared_errors at name scope d =
       let path = place_of name scope in
-      unless (is_new d path) (Twice at path) ++ (step_errors at name scope ++ (unless (has_parent whole.all path) (Missing at name) ++ length_errors at name path))
+      unless (is_new d path) (Twice at path)
+      ++ (step_errors at name scope ++ (unless (has_parent whole.all path) (Missing at name) ++ length_errors at name path))
 
   abbrev pub external_errors : At → At → Path → ExternalType → AbsolutePath → Declarations → List NameError
   external_errors here at name e scope d =
       let path = place_of name scope in
-      unless (not (is_some (lookup whole.all.declared path))) (DeclaredHere at path) ++ (step_errors at name scope ++ (length_errors at name path ++ unless (agrees_with (lookup d.external path) e) (Differs here name)))
+      unless (not (is_some (lookup whole.all.declared path))) (DeclaredHere at path)
+      ++
+      (step_errors at name scope ++ (length_errors at name path ++ unless (agrees_with (lookup d.external path) e) (Differs here name)))
 
   abbrev pub use_errors : At → Path → AbsolutePath → List NameError
   use_errors at name scope = step_errors at name scope ++ unless (is_some (denoted (is_named whole.all) name scope)) (Missing at name)
@@ -137,7 +147,8 @@ module _ (whole : Whole) where
   -- the calls of an External that does not say how many arguments it takes are as the first one
   abbrev pub call_errors : At → Path → ℕ → AbsolutePath → List NameError
   call_errors at name n scope =
-      choose (denoted (is_named whole.all) name scope) [] (λ path. if is_open (lookup whole.all.external path) then unless (is_first (lookup whole.calls path)) (Differs at name) else [])
+      choose (denoted (is_named whole.all) name scope) [] (λ path. if is_open (lookup whole.all.external path) then
+      unless (is_first (lookup whole.calls path)) (Differs at name) else [])
     where
       is_open : Option ExternalType → Bool
       is_open None = false
@@ -150,7 +161,8 @@ module _ (whole : Whole) where
   -- a Scope opens a container, and the same one where it stands as over the whole block
   abbrev pub scope_errors : At → At → Path → AbsolutePath → Declarations → List NameError
   scope_errors here at name scope d =
-      choose (denoted (is_named whole.all) name scope) [] (λ path. unless (is_same_path path (scope_path d name scope)) (Missing at name) ++ unless (is_container (final whole.known path)) (NoContainer here name))
+      choose (denoted (is_named whole.all) name scope) [] (λ path. unless (is_same_path path (scope_path d name scope)) (Missing at name)
+      ++ unless (is_container (final whole.known path)) (NoContainer here name))
 
   -- what the units of a field are connected to
   abbrev pub connected_errors : Connected → AbsolutePath → List NameError
@@ -192,7 +204,8 @@ module _ (whole : Whole) where
     names (External here at name type parameters) scope d =
         external_errors here at name (record { type = type; parameters = parameters }) scope d
     names (Method at name flags body) scope d =
-        declared_errors at name scope d ++ names_all body (place_of name scope) (with_declared (place_of name scope) (As (MethodObject flags)) d)
+        declared_errors at name scope d ++ names_all body (place_of name scope)
+        (with_declared (place_of name scope) (As (MethodObject flags)) d)
     names (Mutex at name level) scope d = declared_errors at name scope d
     names (Event at name) scope d = declared_errors at name scope d
     names (If test body) scope d = names test scope d ++ names_all body scope d
@@ -210,8 +223,10 @@ module _ (whole : Whole) where
         use_errors from region scope ++ (use_errors to bank scope ++ (names value scope d ++ items_errors items scope d))
     names (CreateField form args at name) scope d = names_all args scope d ++ declared_errors at name scope d
     names (Container' kind at name body) scope d =
-        declared_errors at name scope d ++ names_all body (place_of name scope) (with_declared (place_of name scope) (As (ContainerObject kind)) d)
-    names (Scope here at name body) scope d = (use_errors at name scope ++ scope_errors here at name scope d) ++ names_all body (scope_path d name scope) d
+        declared_errors at name scope d ++ names_all body (place_of name scope)
+        (with_declared (place_of name scope) (As (ContainerObject kind)) d)
+    names (Scope here at name body) scope d = (use_errors at name scope ++ scope_errors here at name scope d)
+        ++ names_all body (scope_path d name scope) d
     names term scope d = []
 
     pub names_all : Trees → AbsolutePath → Declarations → List NameError
@@ -276,7 +291,8 @@ module _ (whole : Whole) where
     types (Default body) scope = types_all body scope
     types (OperationRegion at name space args) scope = operand_types Anything region_letters args scope
     types (Field here from region flags items) scope = asked_types (ARegion here) from region scope
-    types (IndexField here from index to register flags items) scope = asked_types AUnit from index scope ++ asked_types AUnit to register scope
+    types (IndexField here from index to register flags items) scope = asked_types AUnit from index scope
+        ++ asked_types AUnit to register scope
     types (BankField here from region to bank value flags items) scope =
         asked_types (ARegion here) from region scope ++ (asked_types AUnit to bank scope ++ types value scope)
     types (CreateField form args at name) scope = operand_types Anything (field_letters form) args scope
@@ -290,7 +306,8 @@ module _ (whole : Whole) where
     -- a term that stands for a place
     pub spot_types : Tree → AbsolutePath → List NameError
     spot_types (Apply op args targets) scope =
-        spot_form_types (spot_form op) (operand_types (asked_by op) (row_of op).operands args scope ++ spot_types_all targets scope) (first_types args scope)
+        spot_form_types (spot_form op) (operand_types (asked_by op) (row_of op).operands args scope ++ spot_types_all targets scope)
+        (first_types args scope)
     spot_types (Operated op args) scope =
         spot_form_types (spot_form op) (operand_types (asked_by op) (row_of op).operands args scope) (first_types args scope)
     spot_types t scope = []

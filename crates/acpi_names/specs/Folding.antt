@@ -14,12 +14,16 @@ use Rattle.acpi_names.specs.Shown.{all_shown, spot_as}
 use Rattle.acpi_names.specs.Walked.{part_mentions}
 
 -- mentions are added, for any declarations before with which the flags agree, and any paths behind
-abbrev pub TellsIn : List AbsolutePath → List Bool → List AbsolutePath → List Mention → List Mention → (Declarations → List M.Mention) → Type 0
+abbrev pub TellsIn : List AbsolutePath → List Bool → List AbsolutePath → List Mention → List Mention → (Declarations → List M.Mention) →
+    Type 0
 TellsIn paths named more old new told =
-    (d : Declarations) → Agrees paths named d → (all : List AbsolutePath) → Extends more all → all_shown all new ≡ all_shown all old ++ told d
+    (d : Declarations) → Agrees paths named d → (all : List AbsolutePath) → Extends more all → all_shown all new ≡ all_shown all old
+    ++ told d
 
 abbrev pub LeadsBy : List AbsolutePath → List Bool → List AbsolutePath → List Bool → Part → Trees → Trees → AbsolutePath → Type 0
 LeadsBy paths named more flags part args body scope = Leads paths named more flags (declare_part part args body scope)
 
-abbrev pub TellsBy : List AbsolutePath → List Bool → List AbsolutePath → List Mention → List Mention → Part → Spot → Op → Trees → Trees → AbsolutePath → Type 0
-TellsBy paths named more old new part here op args body scope = TellsIn paths named more old new (part_mentions part (spot_as here) op args body scope)
+abbrev pub TellsBy : List AbsolutePath → List Bool → List AbsolutePath → List Mention → List Mention → Part → Spot → Op → Trees → Trees →
+    AbsolutePath → Type 0
+TellsBy paths named more old new part here op args body scope =
+    TellsIn paths named more old new (part_mentions part (spot_as here) op args body scope)

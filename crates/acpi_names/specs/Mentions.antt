@@ -10,11 +10,17 @@ use Rattle.acpi_state.specs.Outcomes.{choose}
 use Rattle.asl_tree.specs.declared.path.Path.{Path}
 use Rattle.asl_tree.specs.FieldItems.{FieldItem, UnitItem, SkipItem, OffsetItem, AccessItem, ConnectionItem, Connected, ToName, ToBytes}
 use Rattle.asl_tree.specs.Names.{place_of, denoted}
-use Rattle.asl_tree.specs.Tree.{At, Tree, Use, Call, Apply, Buffer, Package, VarPackage, CondRefOf, Return, Name, Alias, External, Method, Mutex, Event, Container', Scope, Trees, no_trees, tree, count, OperationRegion, Field, IndexField, BankField, CreateField, UnitName, If, ElseIf, Else, While, Operated, Assigned, AssignedBy, Switch, Case, Default}
-use Rattle.asl_meaning.specs.Declarations.{Declared, As, AliasOf, ExternalType, Declarations, in_root, is_named, with_declared, with_external, scope_path, declare, as_unit, as_buffer_field}
+use Rattle.asl_tree.specs.Tree.{At, Tree, Use, Call, Apply, Buffer, Package, VarPackage, CondRefOf, Return, Name, Alias, External, Method}
+use Rattle.asl_tree.specs.Tree.{Mutex, Event, Container', Scope, Trees, no_trees, tree, count, OperationRegion, Field, IndexField}
+use Rattle.asl_tree.specs.Tree.{BankField, CreateField, UnitName, If, ElseIf, Else, While, Operated, Assigned, AssignedBy, Switch, Case}
+use Rattle.asl_tree.specs.Tree.{Default}
+use Rattle.asl_meaning.specs.Declarations.{Declared, As, AliasOf, ExternalType, Declarations, in_root, is_named, with_declared}
+use Rattle.asl_meaning.specs.Declarations.{with_external, scope_path, declare, as_unit, as_buffer_field}
 use Rattle.asl_meaning.specs.Meaning.{SpotForm, OfResult, OfInside, NoSpot, spot_form}
 use Rattle.acpi_state.specs.FieldActs.{region_letters, field_letters}
-use Rattle.acpi_names.specs.Errors.{NameError, Missing, NoContainer, WrongCount, Asked, Anything, AValue, AUnit, ARegion, asked_by, unless, Whole, final, is_container, takes, unit_path, step_errors, use_errors, call_errors, declared_errors, external_errors, name_end, asked_types}
+use Rattle.acpi_names.specs.Errors.{NameError, Missing, NoContainer, WrongCount, Asked, Anything, AValue, AUnit, ARegion, asked_by, unless}
+use Rattle.acpi_names.specs.Errors.{Whole, final, is_container, takes, unit_path, step_errors, use_errors, call_errors, declared_errors}
+use Rattle.acpi_names.specs.Errors.{external_errors, name_end, asked_types}
 
 -- `asked` says what is asked of a used name, and of a called one whether it stands where a value is asked for
 pub data Mention : Type 0 where
@@ -76,7 +82,8 @@ abbrev mutual
   pub mentions : Bool → Tree → AbsolutePath → List Mention
   mentions asked (Use at name) scope = Used' (asked_value asked) at name scope ∷ []
   mentions asked (Call at name args) scope = Called asked at name (count args) scope ∷ mentions_all asked args scope
-  mentions asked (Apply op args targets) scope = operand_mentions asked (asked_use asked op) (row_of op).operands args scope ++ target_mentions asked targets scope
+  mentions asked (Apply op args targets) scope = operand_mentions asked (asked_use asked op) (row_of op).operands args scope
+      ++ target_mentions asked targets scope
   mentions asked (Operated op args) scope = operand_mentions asked (asked_use asked op) (row_of op).operands args scope
   mentions asked (Assigned target value) scope = mentions asked value scope ++ mentions (asked && is_spot target) target scope
   mentions asked (AssignedBy op target value) scope = mentions asked target scope ++ mentions asked value scope
@@ -127,14 +134,18 @@ abbrev mutual
   term_mentions (Return value) scope d = mentions true value scope
   term_mentions (Name at name value) scope d = Declares at name (As DataObject) scope ∷ mentions true value scope
   term_mentions (Alias from source at name) scope d = Used' Anything from source scope ∷ Declares at name (AliasOf source scope) scope ∷ []
-  term_mentions (External here at name type parameters) scope d = Outside here at name (record { type = type; parameters = parameters }) scope ∷ []
+  term_mentions (External here at name type parameters) scope d = Outside here at name (record { type = type; parameters = parameters })
+      scope ∷ []
   term_mentions (Method at name flags body) scope d =
-      Declares at name (As (MethodObject flags)) scope ∷ block_mentions body (place_of name scope) (with_declared (place_of name scope) (As (MethodObject flags)) d)
+      Declares at name (As (MethodObject flags)) scope ∷ block_mentions body (place_of name scope)
+      (with_declared (place_of name scope) (As (MethodObject flags)) d)
   term_mentions (Mutex at name level) scope d = Declares at name (As (MutexObject level)) scope ∷ []
   term_mentions (Event at name) scope d = Declares at name (As EventObject) scope ∷ []
   term_mentions (Container' kind at name body) scope d =
-      Declares at name (As (ContainerObject kind)) scope ∷ block_mentions body (place_of name scope) (with_declared (place_of name scope) (As (ContainerObject kind)) d)
-  term_mentions (Scope here at name body) scope d = Opens here at name scope (scope_path d name scope) ∷ block_mentions body (scope_path d name scope) d
+      Declares at name (As (ContainerObject kind)) scope ∷ block_mentions body (place_of name scope)
+      (with_declared (place_of name scope) (As (ContainerObject kind)) d)
+  term_mentions (Scope here at name body) scope d = Opens here at name scope (scope_path d name scope) ∷ block_mentions body
+      (scope_path d name scope) d
   term_mentions (If test body) scope d = mentions true test scope ++ block_mentions body scope d
   term_mentions (ElseIf test body) scope d = mentions true test scope ++ block_mentions body scope d
   term_mentions (Else body) scope d = block_mentions body scope d
@@ -142,12 +153,15 @@ abbrev mutual
   term_mentions (Switch value cases) scope d = mentions true value scope ++ block_mentions cases scope d
   term_mentions (Case value body) scope d = mentions true value scope ++ block_mentions body scope d
   term_mentions (Default body) scope d = block_mentions body scope d
-  term_mentions (OperationRegion at name space args) scope d = Declares at name (As (RegionObject space 0 0)) scope ∷ operand_mentions true Anything region_letters args scope
+  term_mentions (OperationRegion at name space args) scope d = Declares at name (As (RegionObject space 0 0)) scope ∷ operand_mentions true
+      Anything region_letters args scope
   term_mentions (Field here from region flags items) scope d = Used' (ARegion here) from region scope ∷ item_mentions items scope
-  term_mentions (IndexField here from index to register flags items) scope d = Used' AUnit from index scope ∷ Used' AUnit to register scope ∷ item_mentions items scope
+  term_mentions (IndexField here from index to register flags items) scope d = Used' AUnit from index scope ∷ Used' AUnit to register scope
+      ∷ item_mentions items scope
   term_mentions (BankField here from region to bank value flags items) scope d =
       Used' (ARegion here) from region scope ∷ Used' AUnit to bank scope ∷ (mentions true value scope ++ item_mentions items scope)
-  term_mentions (CreateField form args at name) scope d = operand_mentions true Anything (field_letters form) args scope ++ Declares at name as_buffer_field scope ∷ []
+  term_mentions (CreateField form args at name) scope d = operand_mentions true Anything (field_letters form) args scope
+      ++ Declares at name as_buffer_field scope ∷ []
   term_mentions t scope d = mentions true t scope
 
   pub block_mentions : Trees → AbsolutePath → Declarations → List Mention
@@ -177,7 +191,8 @@ module _ (whole : Whole) where
   -- a Scope opens a container, and the same one where it stands as over the whole block
   abbrev pub opening_errors : At → At → Path → AbsolutePath → AbsolutePath → List NameError
   opening_errors here at name scope inner =
-      choose (denoted (is_named whole.all) name scope) [] (λ path. unless (is_same_path path inner) (Missing at name) ++ unless (is_container (final whole.known path)) (NoContainer here name))
+      choose (denoted (is_named whole.all) name scope) [] (λ path. unless (is_same_path path inner) (Missing at name)
+      ++ unless (is_container (final whole.known path)) (NoContainer here name))
 
   abbrev pub mention_errors : Mention → Declarations → List NameError
   mention_errors (Used' asked at name scope) d = use_errors whole at name scope

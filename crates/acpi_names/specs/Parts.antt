@@ -1,7 +1,8 @@
 -- What a form is for the names of a block.
 use Rattle.std.specs.Prelude.{◌≡◌, ◌||◌, ◌+◌, ℕ, zero, suc, Bool, true, false, ◌&&◌, List, [], ◌∷◌, Option, Some, None, if◌then◌else◌}
 use Rattle.acpi_values.specs.Paths.{NameSeg, AbsolutePath, is_same_path}
-use Rattle.acpi_state.specs.Objects.{Object, DataObject, MethodObject, ContainerObject, MutexObject, EventObject, RegionObject, UnitObject, BufferFieldObject, Device, ThermalZone, PowerResource, Processor}
+use Rattle.acpi_state.specs.Objects.{Object, DataObject, MethodObject, ContainerObject, MutexObject, EventObject, RegionObject, UnitObject}
+use Rattle.acpi_state.specs.Objects.{BufferFieldObject, Device, ThermalZone, PowerResource, Processor}
 use Rattle.acpi_state.specs.FieldUnits.{OfOtherTable, OverItsOwn}
 use Rattle.acpi_state.specs.Outcomes.{choose}
 use Rattle.asl_tree.specs.declared.path.Path.{Path}
@@ -12,7 +13,8 @@ use Rattle.asl_tree.specs.declared.term.Term as D
 use Rattle.asl_tree.specs.Literals.{word_number}
 use Rattle.asl_tree.specs.declared.term.Declaration.TheVariants as Declaration
 use Rattle.asl_tree.specs.declared.term.Control.TheVariants as Control
-use Rattle.asl_meaning.specs.Declarations.{is_named, As, AliasOf, Declarations, with_declared, with_external, in_root, scope_path, declare_all, declare_items}
+use Rattle.asl_meaning.specs.Declarations.{is_named, As, AliasOf, Declarations, with_declared, with_external, in_root, scope_path}
+use Rattle.asl_meaning.specs.Declarations.{declare_all, declare_items}
 use Rattle.asl_tree.specs.Names.{place_of}
 use Rattle.asl_tree.specs.View.{item_in, items_in}
 use Rattle.asl_tree.specs.FieldItems.{FieldItem}
@@ -99,27 +101,51 @@ external_part args body type =
     else with_number (number_at 2 args) (λ n. fitting (are 3 args && are 0 body) (P.External type (Some n)))
 
 abbrev pub part_of : Op → Trees → Trees → Part
-part_of (Op.Declaration Declaration.Name) args body = fitting (is_there (name_at 0 args) && (are 2 args && are 0 body)) (P.Declares 0 W.Data false)
-part_of (Op.Declaration Declaration.Alias) args body = fitting (is_there (name_at 0 args) && (is_there (name_at 1 args) && (are 2 args && are 0 body))) P.Alias
-part_of (Op.Declaration Declaration.External) args body = if is_there (name_at 0 args) then with_number (number_at 1 args) (external_part args body) else P.Nothing
-part_of (Op.Declaration Declaration.Method) args body = if is_there (name_at 0 args) then with_number (number_at 1 args) (λ flags. fitting (are 2 args) (P.Declares 0 (W.Method flags) true)) else P.Nothing
-part_of (Op.Declaration Declaration.Mutex) args body = if is_there (name_at 0 args) then with_number (number_at 1 args) (λ level. fitting (are 2 args && are 0 body) (P.Declares 0 (W.Mutex level) false)) else P.Nothing
-part_of (Op.Declaration Declaration.Event) args body = fitting (is_there (name_at 0 args) && (are 1 args && are 0 body)) (P.Declares 0 W.Event false)
+part_of (Op.Declaration Declaration.Name) args body = fitting (is_there (name_at 0 args) && (are 2 args && are 0 body))
+    (P.Declares 0 W.Data false)
+part_of (Op.Declaration Declaration.Alias) args body =
+    fitting (is_there (name_at 0 args) && (is_there (name_at 1 args) && (are 2 args && are 0 body))) P.Alias
+part_of (Op.Declaration Declaration.External) args body = if is_there (name_at 0 args) then
+    with_number (number_at 1 args) (external_part args body) else P.Nothing
+part_of (Op.Declaration Declaration.Method) args body = if is_there (name_at 0 args) then
+    with_number (number_at 1 args) (λ flags. fitting (are 2 args) (P.Declares 0 (W.Method flags) true)) else P.Nothing
+part_of (Op.Declaration Declaration.Mutex) args body = if is_there (name_at 0 args) then
+    with_number (number_at 1 args) (λ level. fitting (are 2 args && are 0 body) (P.Declares 0 (W.Mutex level) false)) else P.Nothing
+part_of (Op.Declaration Declaration.Event) args body = fitting (is_there (name_at 0 args) && (are 1 args && are 0 body))
+    (P.Declares 0 W.Event false)
 part_of (Op.Declaration Declaration.Device) args body = fitting (is_there (name_at 0 args) && are 1 args) (P.Declares 0 W.Device true)
-part_of (Op.Declaration Declaration.ThermalZone) args body = fitting (is_there (name_at 0 args) && are 1 args) (P.Declares 0 W.ThermalZone true)
-part_of (Op.Declaration Declaration.PowerResource) args body = if is_there (name_at 0 args) then with_number (number_at 1 args) (λ level. with_number (number_at 2 args) (λ order. fitting (are 3 args) (P.Declares 0 (W.PowerResource level order) true))) else P.Nothing
-part_of (Op.Declaration Declaration.Processor) args body = if is_there (name_at 0 args) then with_number (number_at 1 args) (λ number. with_number (number_at 2 args) (λ address. with_number (number_at 3 args) (λ size. fitting (are 4 args) (P.Declares 0 (W.Processor number address size) true)))) else P.Nothing
+part_of (Op.Declaration Declaration.ThermalZone) args body = fitting (is_there (name_at 0 args) && are 1 args)
+    (P.Declares 0 W.ThermalZone true)
+part_of (Op.Declaration Declaration.PowerResource) args body = if is_there (name_at 0 args) then
+    with_number (number_at 1 args)
+    (λ level. with_number (number_at 2 args) (λ order. fitting (are 3 args) (P.Declares 0 (W.PowerResource level order) true))) else
+    P.Nothing
+part_of (Op.Declaration Declaration.Processor) args body = if is_there (name_at 0 args) then
+    with_number (number_at 1 args)
+    (λ number. with_number (number_at 2 args)
+    (λ address. with_number (number_at 3 args) (λ size. fitting (are 4 args) (P.Declares 0 (W.Processor number address size) true)))) else
+    P.Nothing
 part_of (Op.Declaration Declaration.Scope) args body = fitting (is_there (name_at 0 args) && are 1 args) P.Scope
-part_of (Op.Declaration Declaration.OperationRegion) args body = if is_there (name_at 0 args) then with_number (number_at 1 args) (λ space. fitting (are 4 args && are 0 body) (P.Declares 0 (W.Region space) false)) else P.Nothing
-part_of (Op.Declaration Declaration.CreateField) args body = fitting (is_there (name_at 3 args) && (are 4 args && are 0 body)) (P.Declares 3 W.BufferField false)
-part_of (Op.Declaration Declaration.CreateBitField) args body = fitting (is_there (name_at 2 args) && (are 3 args && are 0 body)) (P.Declares 2 W.BufferField false)
-part_of (Op.Declaration Declaration.CreateByteField) args body = fitting (is_there (name_at 2 args) && (are 3 args && are 0 body)) (P.Declares 2 W.BufferField false)
-part_of (Op.Declaration Declaration.CreateWordField) args body = fitting (is_there (name_at 2 args) && (are 3 args && are 0 body)) (P.Declares 2 W.BufferField false)
-part_of (Op.Declaration Declaration.CreateDWordField) args body = fitting (is_there (name_at 2 args) && (are 3 args && are 0 body)) (P.Declares 2 W.BufferField false)
-part_of (Op.Declaration Declaration.CreateQWordField) args body = fitting (is_there (name_at 2 args) && (are 3 args && are 0 body)) (P.Declares 2 W.BufferField false)
-part_of (Op.Declaration Declaration.Field) args body = if is_there (name_at 0 args) then with_number (number_at 1 args) (λ flags. fitting (are 2 args) (P.Units O.Region)) else P.Nothing
-part_of (Op.Declaration Declaration.IndexField) args body = if is_there (name_at 0 args) && is_there (name_at 1 args) then with_number (number_at 2 args) (λ flags. fitting (are 3 args) (P.Units O.Index)) else P.Nothing
-part_of (Op.Declaration Declaration.BankField) args body = if is_there (name_at 0 args) && is_there (name_at 1 args) then with_number (number_at 3 args) (λ flags. fitting (are 4 args) (P.Units O.Bank)) else P.Nothing
+part_of (Op.Declaration Declaration.OperationRegion) args body = if is_there (name_at 0 args) then
+    with_number (number_at 1 args) (λ space. fitting (are 4 args && are 0 body) (P.Declares 0 (W.Region space) false)) else P.Nothing
+part_of (Op.Declaration Declaration.CreateField) args body = fitting (is_there (name_at 3 args) && (are 4 args && are 0 body))
+    (P.Declares 3 W.BufferField false)
+part_of (Op.Declaration Declaration.CreateBitField) args body = fitting (is_there (name_at 2 args) && (are 3 args && are 0 body))
+    (P.Declares 2 W.BufferField false)
+part_of (Op.Declaration Declaration.CreateByteField) args body = fitting (is_there (name_at 2 args) && (are 3 args && are 0 body))
+    (P.Declares 2 W.BufferField false)
+part_of (Op.Declaration Declaration.CreateWordField) args body = fitting (is_there (name_at 2 args) && (are 3 args && are 0 body))
+    (P.Declares 2 W.BufferField false)
+part_of (Op.Declaration Declaration.CreateDWordField) args body = fitting (is_there (name_at 2 args) && (are 3 args && are 0 body))
+    (P.Declares 2 W.BufferField false)
+part_of (Op.Declaration Declaration.CreateQWordField) args body = fitting (is_there (name_at 2 args) && (are 3 args && are 0 body))
+    (P.Declares 2 W.BufferField false)
+part_of (Op.Declaration Declaration.Field) args body = if is_there (name_at 0 args) then
+    with_number (number_at 1 args) (λ flags. fitting (are 2 args) (P.Units O.Region)) else P.Nothing
+part_of (Op.Declaration Declaration.IndexField) args body = if is_there (name_at 0 args) && is_there (name_at 1 args) then
+    with_number (number_at 2 args) (λ flags. fitting (are 3 args) (P.Units O.Index)) else P.Nothing
+part_of (Op.Declaration Declaration.BankField) args body = if is_there (name_at 0 args) && is_there (name_at 1 args) then
+    with_number (number_at 3 args) (λ flags. fitting (are 4 args) (P.Units O.Bank)) else P.Nothing
 part_of (Op.Control Control.If) args body = fitting (are 1 args) P.Within
 part_of (Op.Control Control.ElseIf) args body = fitting (are 1 args) P.Within
 part_of (Op.Control Control.Else) args body = fitting (are 0 args) P.Within
@@ -139,11 +165,13 @@ opened false body path d = d
 abbrev pub declare_part : Part → Trees → Trees → AbsolutePath → Declarations → Declarations
 declare_part P.Nothing args body scope d = d
 declare_part (P.Declares n what opens) args body scope d =
-    choose (name_at n args) d (λ name. opened opens body (place_of name scope) (with_declared (place_of name scope) (As (object_of what)) d))
+    choose (name_at n args) d
+    (λ name. opened opens body (place_of name scope) (with_declared (place_of name scope) (As (object_of what)) d))
 declare_part P.Alias args body scope d =
     choose (name_at 0 args) d (λ source. choose (name_at 1 args) d (λ name. with_declared (place_of name scope) (AliasOf source scope) d))
 declare_part (P.External type parameters) args body scope d =
-    choose (name_at 0 args) d (λ name. with_external (in_root (place_of name scope)) (place_of name scope) (record { type = type; parameters = parameters }) d)
+    choose (name_at 0 args) d
+    (λ name. with_external (in_root (place_of name scope)) (place_of name scope) (record { type = type; parameters = parameters }) d)
 declare_part P.Scope args body scope d = choose (name_at 0 args) d (λ name. declare_all body (scope_path d name scope) d)
 declare_part P.Returns args body scope d = d
 declare_part P.Within args body scope d = declare_all body scope d
@@ -174,7 +202,8 @@ Agrees paths named d = (path : AbsolutePath) → is_named_in paths named path �
 
 -- the flags name one path more
 abbrev pub Marks : List AbsolutePath → List Bool → List AbsolutePath → List Bool → AbsolutePath → Type 0
-Marks paths named more flags new = (path : AbsolutePath) → is_named_in more flags path ≡ (is_same_path path new || is_named_in paths named path)
+Marks paths named more flags new = (path : AbsolutePath) →
+    is_named_in more flags path ≡ (is_same_path path new || is_named_in paths named path)
 
 -- the flags name the same
 abbrev pub Keeps : List AbsolutePath → List Bool → List AbsolutePath → List Bool → Type 0

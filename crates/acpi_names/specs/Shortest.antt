@@ -30,7 +30,8 @@ last_alone (seg ∷ outer) = record { root = false; up = 0; segs = seg ∷ [] } 
 -- a path's segments below each scope around it, with the `^`s that lead there; the fewest come first
 abbrev pub upward : List NameSeg → AbsolutePath → AbsolutePath → List Path
 upward segs [] scope = []
-upward segs (seg ∷ outer) scope = record { root = false; up = length scope - length outer; segs = seg ∷ segs } ∷ upward (seg ∷ segs) outer scope
+upward segs (seg ∷ outer) scope = record { root = false; up = length scope - length outer; segs = seg ∷ segs } ∷ upward (seg ∷ segs) outer
+    scope
 
 -- those that need no search: a single segment has a `^` there
 abbrev pub unsearched : AbsolutePath → AbsolutePath → List Path

@@ -56,7 +56,8 @@ module _ (paths : List AbsolutePath) where
   shown (Mention.Declares at name what scope) = M.Declares (spot_as at) (written_as name) (declared_as what) (get_or paths scope [])
   shown (Mention.Outside here at name object parameters scope) =
       M.Outside (spot_as here) (spot_as at) name.now (record { type = object; parameters = parameters }) (get_or paths scope [])
-  shown (Mention.Opens here at name scope inner) = M.Opens (spot_as here) (spot_as at) name.now (get_or paths scope []) (get_or paths inner [])
+  shown (Mention.Opens here at name scope inner) = M.Opens (spot_as here) (spot_as at) name.now (get_or paths scope [])
+      (get_or paths inner [])
 
   abbrev pub all_shown : List Mention → List M.Mention
   all_shown mentions = map shown mentions

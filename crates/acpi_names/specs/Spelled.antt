@@ -7,7 +7,9 @@ use Rattle.asl_tree.specs.Names.{place_of, denoted, spelled_name}
 use Rattle.asl_meaning.specs.Declarations.{ExternalType}
 use Rattle.acpi_names.specs.Shortest.{spelled_use, spelled_item}
 use Rattle.asl_tree.specs.FieldItems.{FieldItem, ConnectionItem, Connected, ToName, ToBytes}
-use Rattle.asl_tree.specs.Tree.{Tree, UnitName, Item, Use, Call, Apply, Buffer, Package, VarPackage, CondRefOf, Return, Name, Alias, External, Method, Container', Scope, Trees, no_trees, tree, OperationRegion, Field, IndexField, BankField, CreateField, If, ElseIf, Else, While, Operated, Assigned, AssignedBy, Switch, Case, Default}
+use Rattle.asl_tree.specs.Tree.{Tree, UnitName, Item, Use, Call, Apply, Buffer, Package, VarPackage, CondRefOf, Return, Name, Alias}
+use Rattle.asl_tree.specs.Tree.{External, Method, Container', Scope, Trees, no_trees, tree, OperationRegion, Field, IndexField, BankField}
+use Rattle.asl_tree.specs.Tree.{CreateField, If, ElseIf, Else, While, Operated, Assigned, AssignedBy, Switch, Case, Default}
 
 module _ (has : AbsolutePath → Bool) where
   -- the scope of a Scope's terms
@@ -56,11 +58,14 @@ module _ (shorten : Bool) (has : AbsolutePath → Bool) (says : AbsolutePath →
     spelled (Case value body) scope = Case (spelled value scope) (spelled_all body scope)
     spelled (Default body) scope = Default (spelled_all body scope)
     spelled (OperationRegion at name space args) scope = OperationRegion at name space (spelled_all args scope)
-    spelled (Field here from region flags items) scope = Field here from (spelled_use has shorten region scope) flags (items_spelled shorten has items scope)
+    spelled (Field here from region flags items) scope = Field here from (spelled_use has shorten region scope) flags
+        (items_spelled shorten has items scope)
     spelled (IndexField here from index to register flags items) scope =
-        IndexField here from (spelled_use has shorten index scope) to (spelled_use has shorten register scope) flags (items_spelled shorten has items scope)
+        IndexField here from (spelled_use has shorten index scope) to (spelled_use has shorten register scope) flags
+        (items_spelled shorten has items scope)
     spelled (BankField here from region to bank value flags items) scope =
-        BankField here from (spelled_use has shorten region scope) to (spelled_use has shorten bank scope) (spelled value scope) flags (items_spelled shorten has items scope)
+        BankField here from (spelled_use has shorten region scope) to (spelled_use has shorten bank scope) (spelled value scope) flags
+        (items_spelled shorten has items scope)
     spelled (CreateField form args at name) scope = CreateField form (spelled_all args scope) at name
     spelled (Return value) scope = Return (spelled value scope)
     spelled (Name at name value) scope = Name at name (spelled value scope)

@@ -1,6 +1,8 @@
 -- Where expressions stand and where terms: no term that declares, and no statement, stands inside an expression.
 use Rattle.std.specs.Prelude.{Bool, true, false, ◌&&◌}
-use Rattle.asl_tree.specs.Tree.{Tree, Call, Apply, Buffer, Package, VarPackage, CondRefOf, Return, Name, Alias, External, Method, Mutex, Event, Container', Scope, Trees, no_trees, tree, OperationRegion, Field, IndexField, BankField, CreateField, If, ElseIf, Else, While, Operated, Assigned, AssignedBy, Switch, Case, Default}
+use Rattle.asl_tree.specs.Tree.{Tree, Call, Apply, Buffer, Package, VarPackage, CondRefOf, Return, Name, Alias, External, Method, Mutex}
+use Rattle.asl_tree.specs.Tree.{Event, Container', Scope, Trees, no_trees, tree, OperationRegion, Field, IndexField, BankField}
+use Rattle.asl_tree.specs.Tree.{CreateField, If, ElseIf, Else, While, Operated, Assigned, AssignedBy, Switch, Case, Default}
 use Rattle.asl_meaning.specs.Meaning.{SpotForm, OfInside, spot_form}
 
 -- an operator that leads to the place which its operand refers to has no targets

@@ -27,7 +27,9 @@ use Rattle.acpi_names.specs.declared.part.Over.TheVariants as O
 use Rattle.acpi_names.specs.declared.part.ValueForm.{ValueForm}
 use Rattle.acpi_names.specs.declared.part.ValueForm.TheVariants as V
 use Rattle.acpi_names.specs.Errors.{Asked, Anything, AUnit, ARegion}
-use Rattle.acpi_names.specs.Mentions.{Mention, Used', Called, is_place_form, Declares, Outside, Opens, is_spot, asks, asked_value, asked_use, letter_mention, cond_place, mentions, mentions_all, element_mentions, item_mentions, block_mentions}
+use Rattle.acpi_names.specs.Mentions.{Mention, Used', Called, is_place_form, Declares, Outside, Opens, is_spot, asks, asked_value}
+use Rattle.acpi_names.specs.Mentions.{asked_use, letter_mention, cond_place, mentions, mentions_all, element_mentions, item_mentions}
+use Rattle.acpi_names.specs.Mentions.{block_mentions}
 use Rattle.acpi_names.specs.Parts.{are, object_of, nodes_size}
 use Rattle.acpi_names.specs.Shown.{named_at}
 
@@ -59,18 +61,21 @@ optional_mentions asked uses (Some letter) t scope = letter_mentions asked uses 
 abbrev pub argument_mentions : Bool → Asked → List Letter → Trees → AbsolutePath → List Mention
 argument_mentions asked uses letters no_trees scope = []
 argument_mentions asked uses [] (tree t ts) scope = mentions (asked && is_spot t) t scope ++ argument_mentions asked uses [] ts scope
-argument_mentions asked uses (letter ∷ letters) (tree t ts) scope = letter_mentions asked uses letter t scope ++ argument_mentions asked uses letters ts scope
+argument_mentions asked uses (letter ∷ letters) (tree t ts) scope = letter_mentions asked uses letter t scope
+    ++ argument_mentions asked uses letters ts scope
 
 abbrev pub cond_mention : Bool → Tree → AbsolutePath → List Mention
 cond_mention asked place scope = cond_place place (mentions (asked && is_spot place) place scope) scope
 
 abbrev pub cond_mentions : Bool → Trees → AbsolutePath → List Mention
-cond_mentions asked (tree place (tree target no_trees)) scope = cond_mention asked place scope ++ mentions (asked && is_spot target) target scope
+cond_mentions asked (tree place (tree target no_trees)) scope = cond_mention asked place scope ++ mentions (asked && is_spot target) target
+    scope
 cond_mentions asked _ scope = []
 
 -- the value and then the target of `X = E`
 abbrev pub assign_mentions : Bool → Trees → AbsolutePath → List Mention
-assign_mentions asked (tree target (tree value no_trees)) scope = mentions asked value scope ++ mentions (asked && is_spot target) target scope
+assign_mentions asked (tree target (tree value no_trees)) scope = mentions asked value scope ++ mentions (asked && is_spot target) target
+    scope
 assign_mentions asked _ scope = []
 
 abbrev pub value_mentions : ValueForm → Bool → Trees → Trees → AbsolutePath → List Mention
@@ -102,7 +107,8 @@ abbrev pub field_mentions : Over → At → Trees → AbsolutePath → List Ment
 field_mentions O.Region here args scope = name_mention (ARegion here) 0 args scope
 field_mentions O.Index here args scope = name_mention AUnit 0 args scope ++ name_mention AUnit 1 args scope
 field_mentions O.Bank here args scope =
-    name_mention (ARegion here) 0 args scope ++ (name_mention AUnit 1 args scope ++ mentions_all true (first_trees 1 (later_trees 2 args)) scope)
+    name_mention (ARegion here) 0 args scope
+    ++ (name_mention AUnit 1 args scope ++ mentions_all true (first_trees 1 (later_trees 2 args)) scope)
 
 abbrev pub opened_mentions : Bool → Trees → AbsolutePath → Declarations → List Mention
 opened_mentions true body path d = block_mentions body path d
@@ -112,17 +118,20 @@ abbrev pub part_mentions : Part → At → Op → Trees → Trees → AbsolutePa
 part_mentions P.Nothing here op args body scope d = value_mentions (value_form_of op args body) true args body scope
 part_mentions (P.Declares n what opens) here op args body scope d =
     choose (named_at n args) [] (λ m.
-    mentions_all true (first_trees n args) scope ++ (Declares m.0 m.1 (As (object_of what)) scope ∷ (mentions_all true (later_trees (suc n) args) scope
+    mentions_all true (first_trees n args) scope
+    ++ (Declares m.0 m.1 (As (object_of what)) scope ∷ (mentions_all true (later_trees (suc n) args) scope
     ++ opened_mentions opens body (place_of m.1 scope) (with_declared (place_of m.1 scope) (As (object_of what)) d))))
 part_mentions P.Alias here op args body scope d =
-    choose (named_at 0 args) [] (λ s. choose (named_at 1 args) [] (λ m. Used' Anything s.0 s.1 scope ∷ Declares m.0 m.1 (AliasOf s.1 scope) scope ∷ []))
+    choose (named_at 0 args) []
+    (λ s. choose (named_at 1 args) [] (λ m. Used' Anything s.0 s.1 scope ∷ Declares m.0 m.1 (AliasOf s.1 scope) scope ∷ []))
 part_mentions (P.External type parameters) here op args body scope d =
     choose (named_at 0 args) [] (λ m. Outside here m.0 m.1 (record { type = type; parameters = parameters }) scope ∷ [])
 part_mentions P.Scope here op args body scope d =
     choose (named_at 0 args) [] (λ m. Opens here m.0 m.1 scope (scope_path d m.1 scope) ∷ block_mentions body (scope_path d m.1 scope) d)
 part_mentions P.Within here op args body scope d = mentions_all true args scope ++ block_mentions body scope d
 part_mentions P.Returns here op args body scope d = mentions_all true args scope
-part_mentions (P.Units over) here op args body scope d = choose (items_in body) [] (λ items. field_mentions over here args scope ++ item_mentions items scope)
+part_mentions (P.Units over) here op args body scope d =
+    choose (items_in body) [] (λ items. field_mentions over here args scope ++ item_mentions items scope)
 
 -- what a term is for names
 pub data TermShape : Type 0 where

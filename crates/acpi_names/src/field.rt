@@ -64,7 +64,8 @@ fn declared_unit(index: &mut Index, segment: NameSeg, scope: usize) -> Result<()
     requires all { length index.old.named.items ≡ length index.old.paths }
     ensures size { OnOk result (length index.new.named.items ≡ length index.new.paths) }
     ensures others { OnOk result (Extends index.old.paths index.new.paths) }
-    ensures names { OnOk result (Marks index.old.paths index.old.named.items index.new.paths index.new.named.items (segment ∷ get_or index.old.paths scope [])) }
+    ensures names { OnOk result (Marks index.old.paths index.old.named.items index.new.paths index.new.named.items
+        (segment ∷ get_or index.old.paths scope [])) }
 {
     let number = reach(index, scope, &[segment])?;
     let count = index.paths.len();
@@ -105,7 +106,8 @@ fn fold_item<'a>(
     requires all { length index.old.named.items ≡ length index.old.paths }
     ensures size { OnOk result (length index.new.named.items ≡ length index.new.paths) }
     ensures others { OnOk result (Extends index.old.paths index.new.paths) }
-    ensures names { OnOk result (Leads index.old.paths index.old.named.items index.new.paths index.new.named.items (declare_unit (unit_in (node_tree node.now)) (get_or index.old.paths scope []))) }
+    ensures names { OnOk result (Leads index.old.paths index.old.named.items index.new.paths index.new.named.items
+        (declare_unit (unit_in (node_tree node.now)) (get_or index.old.paths scope []))) }
     ensures told { OnOk result (Tells out.old.items out.new.items (λ paths. entry_mentions (node_tree node.now) (get_or paths scope []))) }
 {
     match segment_in(&node.term) {
@@ -137,8 +139,10 @@ fn fold_items<'a>(
     requires all { length index.old.named.items ≡ length index.old.paths }
     ensures size { OnOk result (length index.new.named.items ≡ length index.new.paths) }
     ensures others { OnOk result (Extends index.old.paths index.new.paths) }
-    ensures names { OnOk result (Leads index.old.paths index.old.named.items index.new.paths index.new.named.items (declare_items (listed_items (trees_of nodes.now)) (get_or index.old.paths scope []))) }
-    ensures told { OnOk result (Tells out.old.items out.new.items (λ paths. item_mentions (listed_items (trees_of nodes.now)) (get_or paths scope []))) }
+    ensures names { OnOk result (Leads index.old.paths index.old.named.items index.new.paths index.new.named.items
+        (declare_items (listed_items (trees_of nodes.now)) (get_or index.old.paths scope []))) }
+    ensures told { OnOk result
+        (Tells out.old.items out.new.items (λ paths. item_mentions (listed_items (trees_of nodes.now)) (get_or paths scope []))) }
 {
     for node in nodes {
         fold_item(index, out, node, scope)?;
@@ -154,7 +158,8 @@ fn use_at<'a>(
     asked: Asked,
     scope: usize,
 ) -> Result<(), AllocError>
-    ensures { OnOk result (Tells out.old.items out.new.items (λ paths. name_mention (asked_as asked) place (trees_of args.now) (get_or paths scope []))) }
+    ensures { OnOk result
+        (Tells out.old.items out.new.items (λ paths. name_mention (asked_as asked) place (trees_of args.now) (get_or paths scope []))) }
 {
     match name_at(args, place) {
         Some(found) => {
@@ -178,7 +183,8 @@ fn field_uses<'a>(
     args: &'a [Node],
     scope: usize,
 ) -> Result<(), AllocError>
-    ensures { OnOk result (Tells out.old.items out.new.items (λ paths. field_mentions over (spot_as here) (trees_of args.now) (get_or paths scope []))) }
+    ensures { OnOk result
+        (Tells out.old.items out.new.items (λ paths. field_mentions over (spot_as here) (trees_of args.now) (get_or paths scope []))) }
 {
     match over {
         Over::Region => {
@@ -213,8 +219,10 @@ pub(crate) fn fold_field<'a>(
     requires all { length index.old.named.items ≡ length index.old.paths }
     ensures size { OnOk result (length index.new.named.items ≡ length index.new.paths) }
     ensures others { OnOk result (Extends index.old.paths index.new.paths) }
-    ensures names { OnOk result (LeadsBy index.old.paths index.old.named.items index.new.paths index.new.named.items (P.Units over) (trees_of args.now) (trees_of body.now) (get_or index.old.paths scope [])) }
-    ensures told { OnOk result ((op : Op) → TellsBy index.old.paths index.old.named.items index.new.paths out.old.items out.new.items (P.Units over) here op (trees_of args.now) (trees_of body.now) (get_or index.old.paths scope [])) }
+    ensures names { OnOk result (LeadsBy index.old.paths index.old.named.items index.new.paths index.new.named.items (P.Units over)
+        (trees_of args.now) (trees_of body.now) (get_or index.old.paths scope [])) }
+    ensures told { OnOk result ((op : Op) → TellsBy index.old.paths index.old.named.items index.new.paths out.old.items out.new.items
+        (P.Units over) here op (trees_of args.now) (trees_of body.now) (get_or index.old.paths scope [])) }
 {
     if !are_items(body) {
         return Ok(());

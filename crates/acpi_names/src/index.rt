@@ -66,7 +66,8 @@ fn declared(index: &mut Index, name: &Path, scope: usize) -> Result<usize, Alloc
     ensures within { IfOk result (λ n. n < length index.new.paths) }
     ensures path { IfOk result (λ n. get_or index.new.paths n [] ≡ place_of name.now (get_or index.old.paths scope [])) }
     ensures others { OnOk result (Extends index.old.paths index.new.paths) }
-    ensures names { OnOk result (Marks index.old.paths index.old.named.items index.new.paths index.new.named.items (place_of name.now (get_or index.old.paths scope []))) }
+    ensures names { OnOk result (Marks index.old.paths index.old.named.items index.new.paths index.new.named.items
+        (place_of name.now (get_or index.old.paths scope []))) }
 {
     let outer = prefixed(&index.paths, name, scope);
     let number = reach(index, outer, name.segs.as_slice())?;
@@ -81,7 +82,8 @@ fn opened_scope(index: &mut Index, name: &Path, scope: usize) -> Result<usize, A
     requires all { length index.old.named.items ≡ length index.old.paths }
     ensures size { OnOk result (length index.new.named.items ≡ length index.new.paths) }
     ensures within { IfOk result (λ n. n < length index.new.paths) }
-    ensures path { IfOk result (λ n. (d : Declarations) → Agrees index.old.paths index.old.named.items d → get_or index.new.paths n [] ≡ scope_path d name.now (get_or index.old.paths scope [])) }
+    ensures path { IfOk result (λ n. (d : Declarations) → Agrees index.old.paths index.old.named.items d →
+        get_or index.new.paths n [] ≡ scope_path d name.now (get_or index.old.paths scope [])) }
     ensures others { OnOk result (Extends index.old.paths index.new.paths) }
     ensures names { OnOk result (Keeps index.old.paths index.old.named.items index.new.paths index.new.named.items) }
 {
@@ -146,8 +148,10 @@ pub fn fold<'a>(
     requires all { length index.old.named.items ≡ length index.old.paths }
     ensures size { OnOk result (length index.new.named.items ≡ length index.new.paths) }
     ensures others { OnOk result (Extends index.old.paths index.new.paths) }
-    ensures names { OnOk result (Leads index.old.paths index.old.named.items index.new.paths index.new.named.items (declare_all (trees_of nodes.now) (get_or index.old.paths scope []))) }
-    ensures told { OnOk result (TellsIn index.old.paths index.old.named.items index.new.paths out.old.items out.new.items (block_mentions (trees_of nodes.now) (get_or index.old.paths scope []))) }
+    ensures names { OnOk result (Leads index.old.paths index.old.named.items index.new.paths index.new.named.items
+        (declare_all (trees_of nodes.now) (get_or index.old.paths scope []))) }
+    ensures told { OnOk result (TellsIn index.old.paths index.old.named.items index.new.paths out.old.items out.new.items
+        (block_mentions (trees_of nodes.now) (get_or index.old.paths scope []))) }
 {
     for node in nodes {
         fold_term(index, out, node, scope)?;
@@ -166,8 +170,10 @@ fn fold_term<'a>(
     requires all { length index.old.named.items ≡ length index.old.paths }
     ensures size { OnOk result (length index.new.named.items ≡ length index.new.paths) }
     ensures others { OnOk result (Extends index.old.paths index.new.paths) }
-    ensures names { OnOk result (Leads index.old.paths index.old.named.items index.new.paths index.new.named.items (declare (node_tree node.now) (get_or index.old.paths scope []))) }
-    ensures told { OnOk result (TellsIn index.old.paths index.old.named.items index.new.paths out.old.items out.new.items (term_mentions (node_tree node.now) (get_or index.old.paths scope []))) }
+    ensures names { OnOk result (Leads index.old.paths index.old.named.items index.new.paths index.new.named.items
+        (declare (node_tree node.now) (get_or index.old.paths scope []))) }
+    ensures told { OnOk result (TellsIn index.old.paths index.old.named.items index.new.paths out.old.items out.new.items
+        (term_mentions (node_tree node.now) (get_or index.old.paths scope []))) }
 {
     match shape_of(&node.term) {
         Shape::Form(op, args, body) => {
@@ -195,8 +201,11 @@ fn fold_form<'a>(
     requires all { length index.old.named.items ≡ length index.old.paths }
     ensures size { OnOk result (length index.new.named.items ≡ length index.new.paths) }
     ensures others { OnOk result (Extends index.old.paths index.new.paths) }
-    ensures names { OnOk result (LeadsBy index.old.paths index.old.named.items index.new.paths index.new.named.items (part_of op (trees_of args.now) (trees_of body.now)) (trees_of args.now) (trees_of body.now) (get_or index.old.paths scope [])) }
-    ensures told { OnOk result (TellsBy index.old.paths index.old.named.items index.new.paths out.old.items out.new.items (part_of op (trees_of args.now) (trees_of body.now)) here op (trees_of args.now) (trees_of body.now) (get_or index.old.paths scope [])) }
+    ensures names { OnOk result (LeadsBy index.old.paths index.old.named.items index.new.paths index.new.named.items
+        (part_of op (trees_of args.now) (trees_of body.now)) (trees_of args.now) (trees_of body.now) (get_or index.old.paths scope [])) }
+    ensures told { OnOk result (TellsBy index.old.paths index.old.named.items index.new.paths out.old.items out.new.items
+        (part_of op (trees_of args.now) (trees_of body.now)) here op (trees_of args.now) (trees_of body.now)
+        (get_or index.old.paths scope [])) }
 {
     match part_for(op, args, body) {
         Part::Nothing => {
@@ -251,8 +260,10 @@ fn fold_declared<'a>(
     requires all { length index.old.named.items ≡ length index.old.paths }
     ensures size { OnOk result (length index.new.named.items ≡ length index.new.paths) }
     ensures others { OnOk result (Extends index.old.paths index.new.paths) }
-    ensures names { OnOk result (LeadsBy index.old.paths index.old.named.items index.new.paths index.new.named.items (P.Declares place what opens) (trees_of args.now) (trees_of body.now) (get_or index.old.paths scope [])) }
-    ensures told { OnOk result ((here : Spot) (op : Op) → TellsBy index.old.paths index.old.named.items index.new.paths out.old.items out.new.items (P.Declares place what opens) here op (trees_of args.now) (trees_of body.now) (get_or index.old.paths scope [])) }
+    ensures names { OnOk result (LeadsBy index.old.paths index.old.named.items index.new.paths index.new.named.items
+        (P.Declares place what opens) (trees_of args.now) (trees_of body.now) (get_or index.old.paths scope [])) }
+    ensures told { OnOk result ((here : Spot) (op : Op) → TellsBy index.old.paths index.old.named.items index.new.paths out.old.items
+        out.new.items (P.Declares place what opens) here op (trees_of args.now) (trees_of body.now) (get_or index.old.paths scope [])) }
 {
     match name_at(args, place) {
         Some(found) => {
@@ -284,8 +295,10 @@ fn fold_alias<'a>(
     requires all { length index.old.named.items ≡ length index.old.paths }
     ensures size { OnOk result (length index.new.named.items ≡ length index.new.paths) }
     ensures others { OnOk result (Extends index.old.paths index.new.paths) }
-    ensures names { OnOk result ((body : Trees) → LeadsBy index.old.paths index.old.named.items index.new.paths index.new.named.items P.Alias (trees_of args.now) body (get_or index.old.paths scope [])) }
-    ensures told { OnOk result ((here : Spot) (op : Op) (body : Trees) → TellsBy index.old.paths index.old.named.items index.new.paths out.old.items out.new.items P.Alias here op (trees_of args.now) body (get_or index.old.paths scope [])) }
+    ensures names { OnOk result ((body : Trees) → LeadsBy index.old.paths index.old.named.items index.new.paths index.new.named.items P.Alias
+        (trees_of args.now) body (get_or index.old.paths scope [])) }
+    ensures told { OnOk result ((here : Spot) (op : Op) (body : Trees) → TellsBy index.old.paths index.old.named.items index.new.paths
+        out.old.items out.new.items P.Alias here op (trees_of args.now) body (get_or index.old.paths scope [])) }
 {
     match name_at(args, 0) {
         Some(source) => match name_at(args, 1) {
@@ -327,8 +340,10 @@ fn fold_external<'a>(
     requires all { length index.old.named.items ≡ length index.old.paths }
     ensures size { OnOk result (length index.new.named.items ≡ length index.new.paths) }
     ensures others { OnOk result (Extends index.old.paths index.new.paths) }
-    ensures names { OnOk result ((body : Trees) → LeadsBy index.old.paths index.old.named.items index.new.paths index.new.named.items (P.External object parameters) (trees_of args.now) body (get_or index.old.paths scope [])) }
-    ensures told { OnOk result ((op : Op) (body : Trees) → TellsBy index.old.paths index.old.named.items index.new.paths out.old.items out.new.items (P.External object parameters) here op (trees_of args.now) body (get_or index.old.paths scope [])) }
+    ensures names { OnOk result ((body : Trees) → LeadsBy index.old.paths index.old.named.items index.new.paths index.new.named.items
+        (P.External object parameters) (trees_of args.now) body (get_or index.old.paths scope [])) }
+    ensures told { OnOk result ((op : Op) (body : Trees) → TellsBy index.old.paths index.old.named.items index.new.paths out.old.items
+        out.new.items (P.External object parameters) here op (trees_of args.now) body (get_or index.old.paths scope [])) }
 {
     match name_at(args, 0) {
         Some(found) => {
@@ -360,8 +375,10 @@ fn fold_scope<'a>(
     requires all { length index.old.named.items ≡ length index.old.paths }
     ensures size { OnOk result (length index.new.named.items ≡ length index.new.paths) }
     ensures others { OnOk result (Extends index.old.paths index.new.paths) }
-    ensures names { OnOk result (LeadsBy index.old.paths index.old.named.items index.new.paths index.new.named.items P.Scope (trees_of args.now) (trees_of body.now) (get_or index.old.paths scope [])) }
-    ensures told { OnOk result ((op : Op) → TellsBy index.old.paths index.old.named.items index.new.paths out.old.items out.new.items P.Scope here op (trees_of args.now) (trees_of body.now) (get_or index.old.paths scope [])) }
+    ensures names { OnOk result (LeadsBy index.old.paths index.old.named.items index.new.paths index.new.named.items P.Scope (trees_of args.now)
+        (trees_of body.now) (get_or index.old.paths scope [])) }
+    ensures told { OnOk result ((op : Op) → TellsBy index.old.paths index.old.named.items index.new.paths out.old.items out.new.items P.Scope
+        here op (trees_of args.now) (trees_of body.now) (get_or index.old.paths scope [])) }
 {
     match name_at(args, 0) {
         Some(found) => {
@@ -404,7 +421,8 @@ pub fn denoted_by(index: &Index, name: &Path, scope: usize) -> Option<usize>
     requires scope_in { scope < length index.now.paths }
     requires all { length index.now.named.items ≡ length index.now.paths }
     ensures within { IfSome result (λ n. n < length index.now.paths) }
-    ensures path { (d : Declarations) → Agrees index.now.paths index.now.named.items d → path_with index.now.paths result ≡ denoted (is_named d) name.now (get_or index.now.paths scope []) }
+    ensures path { (d : Declarations) → Agrees index.now.paths index.now.named.items d → path_with index.now.paths result ≡ denoted
+        (is_named d) name.now (get_or index.now.paths scope []) }
 {
     denotes(&index.paths, &index.named, name, scope)
 }

@@ -3,9 +3,11 @@ ghost use Rattle.std.specs.Prelude.{◌≡◌, false, [], ◌∷◌, get_or, not
 ghost use Rattle.asl_tree.specs.View.{trees_of};
 ghost use Rattle.asl_operators.specs.Letters.{letters_as};
 ghost use Rattle.acpi_names.specs.Errors.{asked_by as asks_by};
-ghost use Rattle.acpi_names.specs.Mentions.{is_spot as spot_is, is_use as use_is, asked_value as value_asked, asked_use as use_asked, letter_mention, mentions, mentions_all, element_mentions};
+ghost use Rattle.acpi_names.specs.Mentions.{is_spot as spot_is, is_use as use_is, asked_value as value_asked, asked_use as use_asked};
+ghost use Rattle.acpi_names.specs.Mentions.{letter_mention, mentions, mentions_all, element_mentions};
 ghost use Rattle.acpi_values.specs.Operators as L;
-ghost use Rattle.acpi_names.specs.Walked.{value_form_of, value_mentions, optional_mentions, argument_mentions, cond_mention, node_tree, assign_mentions};
+ghost use Rattle.acpi_names.specs.Walked.{value_form_of, value_mentions, optional_mentions, argument_mentions, cond_mention, node_tree};
+ghost use Rattle.acpi_names.specs.Walked.{assign_mentions};
 ghost use Rattle.acpi_names.specs.Shown.{Tells, asked_as};
 
 use crate::mention::{Asked, Mention, spot_of};
@@ -131,7 +133,9 @@ pub(crate) fn form<'a>(
     scope: usize,
     asked: bool,
 ) -> Result<(), AllocError>
-    ensures { OnOk result (Tells out.old.items out.new.items (λ paths. value_mentions (value_form_of op (trees_of args.now) (trees_of body.now)) asked (trees_of args.now) (trees_of body.now) (get_or paths scope []))) }
+    ensures { OnOk result
+        (Tells out.old.items out.new.items (λ paths. value_mentions (value_form_of op (trees_of args.now) (trees_of body.now)) asked
+        (trees_of args.now) (trees_of body.now) (get_or paths scope []))) }
 {
     match value_form_for(op, args, body) {
         ValueForm::Nothing => Ok(()),
@@ -196,7 +200,9 @@ fn operands<'a>(
     scope: usize,
     asked: bool,
 ) -> Result<(), AllocError>
-    ensures { OnOk result (Tells out.old.items out.new.items (λ paths. argument_mentions asked (asked_as uses) (letters_as letters.now) (trees_of nodes.now) (get_or paths scope []))) }
+    ensures { OnOk result
+        (Tells out.old.items out.new.items (λ paths. argument_mentions asked (asked_as uses) (letters_as letters.now) (trees_of nodes.now)
+        (get_or paths scope []))) }
 {
     for (index, node) in nodes.iter().enumerate() {
         argument(out, letter_at(letters, index), uses, node, scope, asked)?;
@@ -214,7 +220,9 @@ fn argument<'a>(
     scope: usize,
     asked: bool,
 ) -> Result<(), AllocError>
-    ensures { OnOk result (Tells out.old.items out.new.items (λ paths. optional_mentions asked (asked_as uses) letter (node_tree node.now) (get_or paths scope []))) }
+    ensures { OnOk result
+        (Tells out.old.items out.new.items
+        (λ paths. optional_mentions asked (asked_as uses) letter (node_tree node.now) (get_or paths scope []))) }
 {
     match letter {
         Some(Letter::Valued) | Some(Letter::Kept) => {
@@ -241,7 +249,10 @@ fn used<'a>(
     scope: usize,
     uses: Asked,
 ) -> Result<(), AllocError>
-    ensures { OnOk result (Tells out.old.items out.new.items (λ paths. letter_mention L.Used (asked_as uses) (node_tree node.now) (mentions false (node_tree node.now) (get_or paths scope [])) (get_or paths scope []))) }
+    ensures { OnOk result
+        (Tells out.old.items out.new.items
+        (λ paths. letter_mention L.Used (asked_as uses) (node_tree node.now) (mentions false (node_tree node.now) (get_or paths scope []))
+        (get_or paths scope []))) }
 {
     match shape_of(&node.term) {
         Shape::Name(name) => {
@@ -269,7 +280,9 @@ fn spot<'a>(
     scope: usize,
     asked: bool,
 ) -> Result<(), AllocError>
-    ensures { OnOk result (Tells out.old.items out.new.items (λ paths. mentions (asked && spot_is (node_tree node.now)) (node_tree node.now) (get_or paths scope []))) }
+    ensures { OnOk result
+        (Tells out.old.items out.new.items
+        (λ paths. mentions (asked && spot_is (node_tree node.now)) (node_tree node.now) (get_or paths scope []))) }
 {
     value(out, node, scope, asks_spot(asked, node))?;
     Ok(())

@@ -50,4 +50,11 @@ pub record IsHeader (bytes : List ℕ) (fields : HeaderFields) : Type 0 where
   pub compiler_revision : little_number 4 (slice_range bytes 32 36) ≡ 0x20210105
 
 abbrev pub fields_of : Block → HeaderFields
-fields_of block = record { signature = block.signature; revision = block.revision; oem_id = block.oem_id; table_id = block.table_id; oem_revision = block.oem_revision }
+fields_of block = record {
+  signature = block.signature;
+  revision = block.revision;
+  oem_id = block.oem_id;
+  table_id =
+      block.table_id;
+  oem_revision = block.oem_revision;
+}

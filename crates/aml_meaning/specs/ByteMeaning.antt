@@ -9,9 +9,11 @@ use Rattle.acpi_values.specs.Values.{Value, Data, Reference, Elements, no_elemen
 use Rattle.acpi_values.specs.declared.fault.Fault.TheVariants.{WrongType}
 use Rattle.acpi_values.specs.Operators.{Letter, Valued, Kept, Placed, Used, Raw, row_of}
 use Rattle.acpi_values.specs.Integers.{wrapped}
-use Rattle.acpi_state.specs.Objects.{Object, DataObject, MethodObject, ContainerObject, MutexObject, EventObject, AliasObject, Container, Device, ThermalZone, PowerResource, Processor, operand_count}
+use Rattle.acpi_state.specs.Objects.{Object, DataObject, MethodObject, ContainerObject, MutexObject, EventObject, AliasObject, Container}
+use Rattle.acpi_state.specs.Objects.{Device, ThermalZone, PowerResource, Processor, operand_count}
 use Rattle.acpi_state.specs.Finds.{first_there, reached, existing, reach}
-use Rattle.acpi_state.specs.Outcomes.{Flow, Normal, Gives, Return, Unfinished, Broken, Run, done, stop, fault, then_run, act, choose, value_of, on_flow, Break, Continue}
+use Rattle.acpi_state.specs.Outcomes.{Flow, Normal, Gives, Return, Unfinished, Broken, Run, done, stop, fault, then_run, act, choose}
+use Rattle.acpi_state.specs.Outcomes.{value_of, on_flow, Break, Continue}
 use Rattle.acpi_state.specs.Loops.{is_true, loop}
 use Rattle.acpi_state.specs.Actions.{computed, write_named}
 use Rattle.acpi_state.specs.Activations.{create, keep_body, body_at, activation}
@@ -26,8 +28,13 @@ use Rattle.asl_meaning.specs.FieldTerms.{Cursor, first_unit, behind_bits, access
 use Rattle.asl_tree.specs.Names.{place_of, is_searched, search_path}
 use Rattle.asl_tree.specs.declared.path.Path.{Path}
 use Rattle.asl_meaning.specs.Meaning.{SpotForm, OfResult, OfInside, NoSpot, spot_form}
-use Rattle.aml_code.specs.Fronts.{Front, number_front, package_front, integer_front, name_front, text_front, begins_name, bit_count_front, segment_front}
-use Rattle.aml_meaning.specs.Codes.{Code, PlainCode, SlotCode, DebugCode, OmittedCode, StringCode, BufferCode, PackageCode, VarPackageCode, CondRefOfCode, NameCode, AliasCode, ScopeCode, MethodCode, ExternalCode, MutexCode, EventCode, ReturnCode, DeviceCode, ThermalZoneCode, PowerResourceCode, ProcessorCode, code_front, slot_front, OperationRegionCode, FieldCode, IndexFieldCode, BankFieldCode, CreateFieldCode, IfCode, ElseCode, WhileCode, BreakCode, ContinueCode}
+use Rattle.aml_code.specs.Fronts.{Front, number_front, package_front, integer_front, name_front, text_front, begins_name, bit_count_front}
+use Rattle.aml_code.specs.Fronts.{segment_front}
+use Rattle.aml_meaning.specs.Codes.{Code, PlainCode, SlotCode, DebugCode, OmittedCode, StringCode, BufferCode, PackageCode, VarPackageCode}
+use Rattle.aml_meaning.specs.Codes.{CondRefOfCode, NameCode, AliasCode, ScopeCode, MethodCode, ExternalCode, MutexCode, EventCode}
+use Rattle.aml_meaning.specs.Codes.{ReturnCode, DeviceCode, ThermalZoneCode, PowerResourceCode, ProcessorCode, code_front, slot_front}
+use Rattle.aml_meaning.specs.Codes.{OperationRegionCode, FieldCode, IndexFieldCode, BankFieldCode, CreateFieldCode, IfCode, ElseCode}
+use Rattle.aml_meaning.specs.Codes.{WhileCode, BreakCode, ContinueCode}
 
 -- a run that keeps the bodies of methods as bytes
 abbrev pub ByteRun : Type 0 → Type 0
@@ -90,7 +97,8 @@ named_spot scope name rest = followed_by rest (then_run (found name scope) (λ e
 -- the place at the front
 abbrev pub spot : Walk → List ℕ → AbsolutePath → ByteRun (Spot × List ℕ)
 spot w bytes scope =
-    if begins_name bytes then with_front (name_front bytes) (named_spot scope) else with_front (code_front bytes) (spot_of_code w bytes scope)
+    if begins_name bytes then with_front (name_front bytes) (named_spot scope) else
+    with_front (code_front bytes) (spot_of_code w bytes scope)
 
 abbrev pub place_of_name : AbsolutePath → Path → List ℕ → ByteRun (Option Place)
 place_of_name scope name rest = then_run (found name scope) (λ e. done (if_data e.1 (Some (Named e.0)) None))
@@ -107,7 +115,8 @@ used_name scope name rest = followed_by rest (then_run (found name scope) (λ e.
 -- the operand at the front, as its letter asks
 abbrev pub lettered : Walk → Letter → List ℕ → AbsolutePath → ByteRun (Operand × List ℕ)
 lettered w Valued bytes scope = then_run (operand w bytes scope) (λ r. done (OfValue r.0, r.1))
-lettered w Kept bytes scope = then_run (place_at bytes scope) (λ place. then_run (operand w bytes scope) (λ r. done (OfKept place r.0, r.1)))
+lettered w Kept bytes scope =
+    then_run (place_at bytes scope) (λ place. then_run (operand w bytes scope) (λ r. done (OfKept place r.0, r.1)))
 lettered w Placed bytes scope = then_run (spot w bytes scope) (λ r. done (OfSpot r.0, r.1))
 lettered w Used bytes scope = with_front (name_front bytes) (used_name scope)
 lettered w (Raw size) bytes scope = with_front (number_front size bytes) (λ number rest. done (OfNumber number, rest))
@@ -128,7 +137,8 @@ module _ (width : Width) where
   -- a plain operator: its operands, what it does, and then its targets
   abbrev pub plain_term : Walk → List Letter → ℕ → Plain → List ℕ → AbsolutePath → ByteRun (Flow × List ℕ)
   plain_term w letters targets op bytes scope =
-      then_run (operands w letters bytes scope) (λ r. then_run (act (act_of op width r.0)) (λ rs. then_run (store_all w targets rs r.1 scope) (λ rest. done (last_of rs, rest))))
+      then_run (operands w letters bytes scope)
+      (λ r. then_run (act (act_of op width r.0)) (λ rs. then_run (store_all w targets rs r.1 scope) (λ rest. done (last_of rs, rest))))
 
   -- the number at the front
   abbrev pub size_of : Walk → List ℕ → AbsolutePath → ByteRun (ℕ × List ℕ)
@@ -141,7 +151,8 @@ module _ (width : Width) where
   -- the path of a name in a Package
   abbrev pub element_name : AbsolutePath → Path → List ℕ → ByteRun (Value × List ℕ)
   element_name scope name rest =
-      followed_by rest (if is_searched name then then_run (find name scope) (λ path. done (Reference (Named path))) else done (Reference (Named (place_of name scope))))
+      followed_by rest (if is_searched name then then_run (find name scope) (λ path. done (Reference (Named path))) else
+      done (Reference (Named (place_of name scope))))
 
   abbrev pub element_at : Walk → List ℕ → AbsolutePath → ByteRun (Value × List ℕ)
   element_at w bytes scope =
@@ -172,11 +183,13 @@ module _ (width : Width) where
   -- the place at the front, of which a name may lead nowhere
   abbrev pub cond_spot : Walk → List ℕ → AbsolutePath → ByteRun (Option Spot × List ℕ)
   cond_spot w bytes scope =
-      if begins_name bytes then with_front (name_front bytes) (cond_name scope) else then_run (spot w bytes scope) (λ r. done (Some r.0, r.1))
+      if begins_name bytes then with_front (name_front bytes) (cond_name scope) else
+      then_run (spot w bytes scope) (λ r. done (Some r.0, r.1))
 
   abbrev pub cond_ref_of_term : Walk → AbsolutePath → List ℕ → ByteRun (Flow × List ℕ)
   cond_ref_of_term w scope bytes =
-      then_run (cond_spot w bytes scope) (λ r. then_run (spot w r.1 scope) (λ q. followed_by q.1 (then_run (act (cond_ref_of width r.0 q.0)) (λ v. done (Gives v)))))
+      then_run (cond_spot w bytes scope)
+      (λ r. then_run (spot w r.1 scope) (λ q. followed_by q.1 (then_run (act (cond_ref_of width r.0 q.0)) (λ v. done (Gives v)))))
 
 -- a list of at most n terms
 abbrev pub walk_all : Walk → ℕ → List ℕ → AbsolutePath → Bool → ByteRun Flow
@@ -186,12 +199,14 @@ walk_all w (suc n) (byte ∷ bytes) scope due = then_run (w (byte ∷ bytes) sco
 
 abbrev pub name_term : Walk → AbsolutePath → AbsolutePath → List ℕ → ByteRun (Flow × List ℕ)
 name_term w scope path bytes =
-    then_run (operand w bytes scope) (λ r. followed_by r.1 (then_run (create path DataObject) (λ u. then_run (act (write_named path r.0)) (λ u. done (Normal false)))))
+    then_run (operand w bytes scope)
+    (λ r. followed_by r.1 (then_run (create path DataObject) (λ u. then_run (act (write_named path r.0)) (λ u. done (Normal false)))))
 
 -- the byte of flags, and then the body
 abbrev pub method_term : AbsolutePath → List ℕ → ByteRun Flow
 method_term path [] = stop Broken
-method_term path (flags ∷ body) = then_run (create path (MethodObject flags)) (λ u. then_run (keep_body path body) (λ u. done (Normal false)))
+method_term path (flags ∷ body) = then_run (create path (MethodObject flags))
+    (λ u. then_run (keep_body path body) (λ u. done (Normal false)))
 
 -- a new object that is its term alone
 abbrev pub created_term : AbsolutePath → Object → ByteRun Flow
@@ -215,9 +230,12 @@ abbrev pub container_front : Code → List ℕ → Front Container
 container_front DeviceCode bytes = Some (Device, bytes)
 container_front ThermalZoneCode bytes = Some (ThermalZone, bytes)
 container_front PowerResourceCode bytes =
-    choose (number_front 1 bytes) None (λ level. choose (number_front 2 level.1) None (λ order. Some (PowerResource level.0 order.0, order.1)))
+    choose (number_front 1 bytes) None
+    (λ level. choose (number_front 2 level.1) None (λ order. Some (PowerResource level.0 order.0, order.1)))
 container_front ProcessorCode bytes =
-    choose (number_front 1 bytes) None (λ number. choose (number_front 4 number.1) None (λ address. choose (number_front 1 address.1) None (λ size. Some (Processor number.0 address.0 size.0, size.1))))
+    choose (number_front 1 bytes) None
+    (λ number. choose (number_front 4 number.1) None
+    (λ address. choose (number_front 1 address.1) None (λ size. Some (Processor number.0 address.0 size.0, size.1))))
 container_front _ bytes = None
 
 -- all terms of a body
@@ -229,7 +247,9 @@ container_term w path kind body = then_run (create path (ContainerObject kind)) 
 
 abbrev pub container_of_code : Walk → AbsolutePath → Code → List ℕ → ByteRun (Flow × List ℕ)
 container_of_code w scope code bytes =
-    with_front (package_front bytes) (λ content after. followed_by after (with_front (name_front content) (λ name rest. with_front (container_front code rest) (container_term w (place_of name scope)))))
+    with_front (package_front bytes)
+    (λ content after. followed_by after
+    (with_front (name_front content) (λ name rest. with_front (container_front code rest) (container_term w (place_of name scope)))))
 
 -- the region that the name at the front leads to, and the register
 abbrev pub region_named : AbsolutePath → Path → List ℕ → ByteRun (AbsolutePath × List ℕ)
@@ -264,7 +284,8 @@ resource_link width content =
 abbrev pub buffer_link : Width → List ℕ → ByteRun (Connection × List ℕ)
 buffer_link width [] = stop Broken
 buffer_link width (code ∷ bytes) =
-    if nat_eq code 0x11 then with_front (package_front bytes) (λ content after. followed_by after (resource_link width content)) else stop Broken
+    if nat_eq code 0x11 then with_front (package_front bytes) (λ content after. followed_by after (resource_link width content)) else
+    stop Broken
 
 abbrev pub link_at : Width → AbsolutePath → List ℕ → ByteRun (Connection × List ℕ)
 link_at width scope bytes = if begins_name bytes then with_front (name_front bytes) (object_link scope) else buffer_link width bytes
@@ -275,14 +296,17 @@ pub data ItemCode : Type 0 where
 
 abbrev pub item_code : ℕ → ItemCode
 item_code byte =
-    if nat_eq byte 0x00 then GapCode else if nat_eq byte 0x01 then AccessCode else if nat_eq byte 0x02 then ConnectionCode else if nat_eq byte 0x03 then LongAccessCode else UnitCode
+    if nat_eq byte 0x00 then GapCode else if nat_eq byte 0x01 then AccessCode else if nat_eq byte 0x02 then ConnectionCode else
+    if nat_eq byte 0x03 then LongAccessCode else UnitCode
 
 -- an item, of which `bytes` follow the first byte, and then the items behind it
-abbrev pub walk_item : Width → (Extent → FieldUnit) → AbsolutePath → Cursor → (Cursor → List ℕ → ByteRun Flow) → ItemCode → List ℕ → List ℕ → ByteRun Flow
+abbrev pub walk_item : Width → (Extent → FieldUnit) → AbsolutePath → Cursor → (Cursor → List ℕ → ByteRun Flow) → ItemCode → List ℕ →
+    List ℕ → ByteRun Flow
 walk_item width unit scope c go GapCode whole bytes = with_front (bit_count_front bytes) (λ bits rest. go (behind_bits c bits) rest)
 walk_item width unit scope c go AccessCode whole bytes = with_front (access_front bytes) (λ a rest. go (accessed c a.0 a.1 0) rest)
 walk_item width unit scope c go ConnectionCode whole bytes = then_run (link_at width scope bytes) (λ r. go (connected_to c r.0) r.1)
-walk_item width unit scope c go LongAccessCode whole bytes = with_front (long_access_front bytes) (λ a rest. go (accessed c a.0 a.1 a.2) rest)
+walk_item width unit scope c go LongAccessCode whole bytes = with_front (long_access_front bytes)
+    (λ a rest. go (accessed c a.0 a.1 a.2) rest)
 walk_item width unit scope c go UnitCode whole bytes =
     with_front (segment_front whole) (λ name rest. with_front (bit_count_front rest)
     (λ bits rest. then_run (create_unit unit scope c name bits) (λ u. go (behind_bits c bits) rest)))
@@ -291,7 +315,8 @@ walk_item width unit scope c go UnitCode whole bytes =
 abbrev pub walk_items : Width → ℕ → (Extent → FieldUnit) → AbsolutePath → Cursor → List ℕ → ByteRun Flow
 walk_items width n unit scope c [] = done (Normal false)
 walk_items width zero unit scope c (byte ∷ bytes) = stop Broken
-walk_items width (suc n) unit scope c (byte ∷ bytes) = walk_item width unit scope c (walk_items width n unit scope) (item_code byte) (byte ∷ bytes) bytes
+walk_items width (suc n) unit scope c (byte ∷ bytes) = walk_item width unit scope c (walk_items width n unit scope) (item_code byte)
+    (byte ∷ bytes) bytes
 
 -- the flags of a field, and its list
 abbrev pub field_list : Width → (Extent → FieldUnit) → AbsolutePath → List ℕ → ByteRun Flow
@@ -301,7 +326,8 @@ field_list width unit scope (flags ∷ items) = walk_items width (length items) 
 -- the byte of the space, and then the offset and the length
 abbrev pub region_term : Width → Walk → AbsolutePath → AbsolutePath → List ℕ → ByteRun (Flow × List ℕ)
 region_term width w scope path [] = stop Broken
-region_term width w scope path (space ∷ bytes) = then_run (operands w region_letters bytes scope) (λ r. followed_by r.1 (make_region width path space r.0))
+region_term width w scope path (space ∷ bytes) = then_run (operands w region_letters bytes scope)
+    (λ r. followed_by r.1 (make_region width path space r.0))
 
 abbrev pub field_term : Width → AbsolutePath → List ℕ → ByteRun Flow
 field_term width scope content = then_run (region_at content scope) (λ r. field_list width (InRegion r.0) scope r.1)
@@ -312,16 +338,20 @@ index_field_term width scope content =
 
 abbrev pub bank_field_term : Width → Walk → AbsolutePath → List ℕ → ByteRun Flow
 bank_field_term width w scope content =
-    then_run (region_at content scope) (λ r. then_run (register_at r.1 scope) (λ b. then_run (size_of width w b.1 scope) (λ n. field_list width (InBank r.0 b.0 n.0) scope n.1)))
+    then_run (region_at content scope)
+    (λ r. then_run (register_at r.1 scope)
+    (λ b. then_run (size_of width w b.1 scope) (λ n. field_list width (InBank r.0 b.0 n.0) scope n.1)))
 
 -- the operands, and then the name
 abbrev pub buffer_field_term : Width → Walk → AbsolutePath → FieldForm → List ℕ → ByteRun (Flow × List ℕ)
 buffer_field_term width w scope form bytes =
-    then_run (operands w (field_letters form) bytes scope) (λ r. with_front (name_front r.1) (λ name rest. followed_by rest (make_buffer_field width form (place_of name scope) r.0)))
+    then_run (operands w (field_letters form) bytes scope)
+    (λ r. with_front (name_front r.1) (λ name rest. followed_by rest (make_buffer_field width form (place_of name scope) r.0)))
 
 -- a test, and then the terms that it guards
 abbrev pub if_term : Width → Walk → AbsolutePath → List ℕ → ByteRun Flow
-if_term width w scope content = then_run (size_of width w content scope) (λ r. if is_true r.0 then body_terms w scope r.1 else done (Normal true))
+if_term width w scope content = then_run (size_of width w content scope) (λ r. if is_true r.0 then body_terms w scope r.1 else
+    done (Normal true))
 
 -- the test is read from the bytes in every turn
 abbrev pub while_term : Width → ℕ → Walk → AbsolutePath → List ℕ → ByteRun Flow
@@ -335,7 +365,8 @@ module _ (width : Width) (turns : ℕ) (call : AbsolutePath → List Value → B
   -- a name in the place of an operand or a statement, with as many operands as what is found there has
   abbrev pub use_name : Walk → AbsolutePath → Path → List ℕ → ByteRun (Flow × List ℕ)
   use_name w scope name rest =
-      then_run (found name scope) (λ e. then_run (values w (operand_count e.1) rest scope) (λ r. followed_by r.1 (use_object width call e.0 e.1 r.0)))
+      then_run (found name scope)
+      (λ e. then_run (values w (operand_count e.1) rest scope) (λ r. followed_by r.1 (use_object width call e.0 e.1 r.0)))
 
   -- a term behind its opcode, where w walks the terms inside it and `due` says whether an Else is to run
   abbrev pub term_of_code : Walk → Bool → AbsolutePath → Code → List ℕ → ByteRun (Flow × List ℕ)
@@ -354,37 +385,51 @@ module _ (width : Width) (turns : ℕ) (call : AbsolutePath → List Value → B
   term_of_code w due scope CondRefOfCode bytes = cond_ref_of_term width w scope bytes
   term_of_code w due scope NameCode bytes = with_front (name_front bytes) (λ name rest. name_term w scope (place_of name scope) rest)
   term_of_code w due scope MethodCode bytes =
-      with_front (package_front bytes) (λ content after. followed_by after (with_front (name_front content) (λ name rest. method_term (place_of name scope) rest)))
+      with_front (package_front bytes)
+      (λ content after. followed_by after (with_front (name_front content) (λ name rest. method_term (place_of name scope) rest)))
   term_of_code w due scope MutexCode bytes = with_front (name_front bytes) (mutex_term scope)
-  term_of_code w due scope EventCode bytes = with_front (name_front bytes) (λ name rest. followed_by rest (created_term (place_of name scope) EventObject))
+  term_of_code w due scope EventCode bytes =
+      with_front (name_front bytes) (λ name rest. followed_by rest (created_term (place_of name scope) EventObject))
   term_of_code w due scope ReturnCode bytes = then_run (operand w bytes scope) (λ r. done (Return r.0, r.1))
   term_of_code w due scope AliasCode bytes =
-      with_front (name_front bytes) (λ source rest. with_front (name_front rest) (λ name after. followed_by after (alias_term source scope (place_of name scope))))
+      with_front (name_front bytes)
+      (λ source rest. with_front (name_front rest) (λ name after. followed_by after (alias_term source scope (place_of name scope))))
   term_of_code w due scope ExternalCode bytes = with_front (name_front bytes) (λ name rest. external_term rest)
   term_of_code w due scope ScopeCode bytes =
-      with_front (package_front bytes) (λ content after. followed_by after (with_front (name_front content) (λ name body. then_run (find name scope) (λ path. body_terms w path body))))
-  term_of_code w due scope IfCode bytes = with_front (package_front bytes) (λ content after. followed_by after (if_term width w scope content))
-  term_of_code w due scope ElseCode bytes = with_front (package_front bytes) (λ content after. followed_by after (else_term w due scope content))
-  term_of_code w due scope WhileCode bytes = with_front (package_front bytes) (λ content after. followed_by after (while_term width turns w scope content))
+      with_front (package_front bytes)
+      (λ content after. followed_by after
+      (with_front (name_front content) (λ name body. then_run (find name scope) (λ path. body_terms w path body))))
+  term_of_code w due scope IfCode bytes =
+      with_front (package_front bytes) (λ content after. followed_by after (if_term width w scope content))
+  term_of_code w due scope ElseCode bytes =
+      with_front (package_front bytes) (λ content after. followed_by after (else_term w due scope content))
+  term_of_code w due scope WhileCode bytes =
+      with_front (package_front bytes) (λ content after. followed_by after (while_term width turns w scope content))
   term_of_code w due scope BreakCode bytes = done (Break, bytes)
   term_of_code w due scope ContinueCode bytes = done (Continue, bytes)
-  term_of_code w due scope OperationRegionCode bytes = with_front (name_front bytes) (λ name rest. region_term width w scope (place_of name scope) rest)
-  term_of_code w due scope FieldCode bytes = with_front (package_front bytes) (λ content after. followed_by after (field_term width scope content))
-  term_of_code w due scope IndexFieldCode bytes = with_front (package_front bytes) (λ content after. followed_by after (index_field_term width scope content))
-  term_of_code w due scope BankFieldCode bytes = with_front (package_front bytes) (λ content after. followed_by after (bank_field_term width w scope content))
+  term_of_code w due scope OperationRegionCode bytes =
+      with_front (name_front bytes) (λ name rest. region_term width w scope (place_of name scope) rest)
+  term_of_code w due scope FieldCode bytes =
+      with_front (package_front bytes) (λ content after. followed_by after (field_term width scope content))
+  term_of_code w due scope IndexFieldCode bytes =
+      with_front (package_front bytes) (λ content after. followed_by after (index_field_term width scope content))
+  term_of_code w due scope BankFieldCode bytes =
+      with_front (package_front bytes) (λ content after. followed_by after (bank_field_term width w scope content))
   term_of_code w due scope (CreateFieldCode form) bytes = buffer_field_term width w scope form bytes
   term_of_code w due scope code bytes = container_of_code w scope code bytes
 
   -- a term that is no integer constant: a name, or an opcode
   abbrev pub other_term : Walk → Bool → AbsolutePath → List ℕ → ByteRun (Flow × List ℕ)
   other_term w due scope bytes =
-      if begins_name bytes then with_front (name_front bytes) (use_name w scope) else with_front (code_front bytes) (term_of_code w due scope)
+      if begins_name bytes then with_front (name_front bytes) (use_name w scope) else
+      with_front (code_front bytes) (term_of_code w due scope)
 
   -- terms stand in one another at most n deep
   abbrev pub walk : ℕ → Walk
   walk zero bytes scope due = stop Broken
   walk (suc n) bytes scope due =
-      choose (integer_front width bytes) (other_term (walk n) due scope bytes) (λ r. done (Gives (Data (V.Integer (wrapped width r.0))), r.1))
+      choose (integer_front width bytes) (other_term (walk n) due scope bytes)
+      (λ r. done (Gives (Data (V.Integer (wrapped width r.0))), r.1))
 
   -- the terms of a list; it has no more terms, and no more terms in one another, than bytes
   abbrev pub walk_list : List ℕ → AbsolutePath → ByteRun Flow

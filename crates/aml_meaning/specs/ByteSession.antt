@@ -33,6 +33,7 @@ byte_session bytes there n answers requests =
 -- the same outcomes, objects, values, events and answers left, and no walk meets bytes that start no term.
 pub record IsFaithful (width : Width) (known : Known) (externals : Names) (terms : Trees) (bytes : List ℕ) : Type 0 where
   pub same : (present : List AbsolutePath) (n : ℕ) (answers : List Value) (requests : List Request) → IsAsked width n answers requests →
-      source_session width known terms (present_ones externals present) n answers requests ≡ byte_session bytes (present_ones externals present) n answers requests
+      source_session width known terms (present_ones externals present) n answers requests ≡ byte_session bytes
+      (present_ones externals present) n answers requests
   pub whole : (present : List AbsolutePath) (n : ℕ) (answers : List Value) (requests : List Request) → IsAsked width n answers requests →
       AreWhole (byte_session bytes (present_ones externals present) n answers requests)

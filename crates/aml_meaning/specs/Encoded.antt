@@ -5,10 +5,18 @@ use Rattle.acpi_values.specs.declared.width.Width.{Width}
 use Rattle.acpi_values.specs.Integers.{wrapped}
 use Rattle.acpi_values.specs.Revisions.{width_of}
 use Rattle.asl_tree.specs.declared.term.Literal.{Literal}
-use Rattle.asl_tree.specs.FieldItems.{FieldItem, UnitItem, SkipItem, OffsetItem, AccessItem, ConnectionItem, Connected, ToName, ToBytes, behind_item}
-use Rattle.asl_tree.specs.Tree.{Tree, Integer, Constant, String, InSlot, Debug, Omitted, Raw, Use, Call, Apply, Buffer, Package, VarPackage, CondRefOf, Return, Name, Alias, External, Method, Mutex, Event, Container', Scope, Fill, Misshapen, Operated, Assigned, AssignedBy, Trees, no_trees, tree, UnitName, OperationRegion, Field, IndexField, BankField, CreateField, If, ElseIf, Else, While, Break, Continue, Item, Switch, Case, Default}
+use Rattle.asl_tree.specs.FieldItems.{FieldItem, UnitItem, SkipItem, OffsetItem, AccessItem, ConnectionItem, Connected, ToName, ToBytes}
+use Rattle.asl_tree.specs.FieldItems.{behind_item}
+use Rattle.asl_tree.specs.Tree.{Tree, Integer, Constant, String, InSlot, Debug, Omitted, Raw, Use, Call, Apply, Buffer, Package}
+use Rattle.asl_tree.specs.Tree.{VarPackage, CondRefOf, Return, Name, Alias, External, Method, Mutex, Event, Container', Scope, Fill}
+use Rattle.asl_tree.specs.Tree.{Misshapen, Operated, Assigned, AssignedBy, Trees, no_trees, tree, UnitName, OperationRegion, Field}
+use Rattle.asl_tree.specs.Tree.{IndexField, BankField, CreateField, If, ElseIf, Else, While, Break, Continue, Item, Switch, Case, Default}
 use Rattle.acpi_state.specs.Objects.{Container, ThermalZone, PowerResource, Processor}
-use Rattle.aml_meaning.specs.Codes.{Code, PlainCode, SlotCode, DebugCode, OmittedCode, StringCode, BufferCode, PackageCode, VarPackageCode, CondRefOfCode, NameCode, AliasCode, ScopeCode, MethodCode, ExternalCode, MutexCode, EventCode, ReturnCode, DeviceCode, ThermalZoneCode, PowerResourceCode, ProcessorCode, code_bytes, OperationRegionCode, FieldCode, IndexFieldCode, BankFieldCode, CreateFieldCode, IfCode, ElseCode, WhileCode, BreakCode, ContinueCode}
+use Rattle.aml_meaning.specs.Codes.{Code, PlainCode, SlotCode, DebugCode, OmittedCode, StringCode, BufferCode, PackageCode, VarPackageCode}
+use Rattle.aml_meaning.specs.Codes.{CondRefOfCode, NameCode, AliasCode, ScopeCode, MethodCode, ExternalCode, MutexCode, EventCode}
+use Rattle.aml_meaning.specs.Codes.{ReturnCode, DeviceCode, ThermalZoneCode, PowerResourceCode, ProcessorCode, code_bytes}
+use Rattle.aml_meaning.specs.Codes.{OperationRegionCode, FieldCode, IndexFieldCode, BankFieldCode, CreateFieldCode, IfCode, ElseCode}
+use Rattle.aml_meaning.specs.Codes.{WhileCode, BreakCode, ContinueCode}
 use Rattle.aml_code.specs.Encoding.{bit_count_bytes, packed, integer_bytes, prefixed_bytes, name_bytes}
 use Rattle.aml_code.specs.Header.{table_bytes, fields_of}
 use Rattle.asl_tree.specs.declared.program.Block.{Block}
@@ -106,7 +114,8 @@ abbrev mutual
       code_bytes IndexFieldCode ++ packed (name_bytes index ++ (name_bytes register ++ field_bytes flags items))
   encoded width short (BankField here from region to bank value flags items) =
       code_bytes BankFieldCode ++ packed (name_bytes region ++ (name_bytes bank ++ (encoded width short value ++ field_bytes flags items)))
-  encoded width short (CreateField form args at name) = code_bytes (CreateFieldCode form) ++ (encoded_all width short args ++ name_bytes name)
+  encoded width short (CreateField form args at name) = code_bytes (CreateFieldCode form)
+      ++ (encoded_all width short args ++ name_bytes name)
   encoded width short (Item item) = []
   encoded width short (Fill bytes) = []
   encoded width short (Operated op args) = []

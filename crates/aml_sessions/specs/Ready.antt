@@ -3,15 +3,21 @@ use Rattle.std.specs.Prelude.{ℕ, ◌≡◌, ◌<◌, ◌≤◌, ◌^◌, Bool,
 use Rattle.acpi_values.specs.Paths.{AbsolutePath}
 use Rattle.acpi_values.specs.Operators.{Letter, Valued, Kept, Placed, Used, Row, row_of}
 use Rattle.acpi_values.specs.Operators as L
-use Rattle.acpi_state.specs.Objects.{Object, DataObject, MethodObject, MutexObject, EventObject, ContainerObject, Container, OfRoot, PowerResource, Processor, operand_count, is_method, RegionObject, UnitObject, BufferFieldObject}
+use Rattle.acpi_state.specs.Objects.{Object, DataObject, MethodObject, MutexObject, EventObject, ContainerObject, Container, OfRoot}
+use Rattle.acpi_state.specs.Objects.{PowerResource, Processor, operand_count, is_method, RegionObject, UnitObject, BufferFieldObject}
 use Rattle.asl_tree.specs.declared.path.Path.{Path}
 use Rattle.asl_tree.specs.declared.program.Block.{Block}
 use Rattle.asl_tree.specs.Names.{Kind, Is, AliasTo, Known, is_known, kind_at, end_of, is_searched, place_of, search_path, candidates}
 use Rattle.asl_meaning.specs.Meaning.{SpotForm, OfResult, OfInside, NoSpot, spot_form}
 use Rattle.acpi_state.specs.FieldUnits.{OfOtherTable, OverItsOwn}
 use Rattle.acpi_state.specs.FieldActs.{region_letters, field_letters}
-use Rattle.asl_tree.specs.FieldItems.{FieldItem, UnitItem, SkipItem, OffsetItem, AccessItem, ConnectionItem, Connected, ToName, ToBytes, behind_item}
-use Rattle.asl_tree.specs.Tree.{Tree, Integer, Constant, String, InSlot, Debug, Omitted, Raw, Use, Call, Apply, Buffer, Package, VarPackage, CondRefOf, Return, Name, Alias, External, Method, Mutex, Event, Container', Scope, Fill, Misshapen, Operated, Assigned, AssignedBy, Trees, no_trees, tree, count, OperationRegion, Field, IndexField, BankField, CreateField, UnitName, If, ElseIf, Else, While, Break, Continue, Item, Switch, Case, Default}
+use Rattle.asl_tree.specs.FieldItems.{FieldItem, UnitItem, SkipItem, OffsetItem, AccessItem, ConnectionItem, Connected, ToName, ToBytes}
+use Rattle.asl_tree.specs.FieldItems.{behind_item}
+use Rattle.asl_tree.specs.Tree.{Tree, Integer, Constant, String, InSlot, Debug, Omitted, Raw, Use, Call, Apply, Buffer, Package}
+use Rattle.asl_tree.specs.Tree.{VarPackage, CondRefOf, Return, Name, Alias, External, Method, Mutex, Event, Container', Scope, Fill}
+use Rattle.asl_tree.specs.Tree.{Misshapen, Operated, Assigned, AssignedBy, Trees, no_trees, tree, count, OperationRegion, Field}
+use Rattle.asl_tree.specs.Tree.{IndexField, BankField, CreateField, UnitName, If, ElseIf, Else, While, Break, Continue, Item, Switch, Case}
+use Rattle.asl_tree.specs.Tree.{Default}
 use Rattle.asl_tree.specs.View.{trees_of}
 use Rattle.aml_code.specs.Fronts.{IsName, IsUsedName, is_segment}
 use Rattle.aml_meaning.specs.Codes.{HasOwnCode, IsSlot}
@@ -145,7 +151,8 @@ module _ (known : Known) where
   -- the units of a field are known as such, and its connections are found
   abbrev pub AreUnits : List (FieldItem UnitName) → AbsolutePath → Type 0
   AreUnits [] scope = Unit {0}
-  AreUnits (UnitItem name bits ∷ items) scope = (kind_at known (name.segment ∷ scope) ≡ Some (Is (UnitObject (OfOtherTable [])))) × AreUnits items scope
+  AreUnits (UnitItem name bits ∷ items) scope = (kind_at known (name.segment ∷ scope) ≡ Some (Is (UnitObject (OfOtherTable []))))
+      × AreUnits items scope
   AreUnits (SkipItem bits ∷ items) scope = AreUnits items scope
   AreUnits (OffsetItem bytes ∷ items) scope = AreUnits items scope
   AreUnits (AccessItem access attribute length ∷ items) scope = AreUnits items scope
@@ -216,13 +223,16 @@ module _ (known : Known) where
     IsReady Continue scope = Unit {0}
     IsReady (OperationRegion at name space args) scope =
         Declares known name scope (Is (RegionObject space 0 0)) × (space < 256) × AreOperands region_letters args scope
-    IsReady (Field here from region flags items) scope = IsFound known region scope × (flags < 256) × AreItems 0 items × AreUnits known items scope
+    IsReady (Field here from region flags items) scope = IsFound known region scope × (flags < 256) × AreItems 0 items
+        × AreUnits known items scope
     IsReady (IndexField here from index to register flags items) scope =
         IsFound known index scope × IsFound known register scope × (flags < 256) × AreItems 0 items × AreUnits known items scope
     IsReady (BankField here from region to bank value flags items) scope =
-        IsFound known region scope × IsFound known bank scope × (is_expression value ≡ true) × IsReady value scope × (flags < 256) × AreItems 0 items × AreUnits known items scope
+        IsFound known region scope × IsFound known bank scope × (is_expression value ≡ true) × IsReady value scope × (flags < 256)
+        × AreItems 0 items × AreUnits known items scope
     IsReady (CreateField form args at name) scope =
-        AreOperands (field_letters form) args scope × Declares known name scope (Is (BufferFieldObject (record { source = OverItsOwn; at = 0; bits = 0 })))
+        AreOperands (field_letters form) args scope × Declares known name scope
+        (Is (BufferFieldObject (record { source = OverItsOwn; at = 0; bits = 0 })))
     IsReady (Item item) scope = ⊥
     IsReady (Fill bytes) scope = ⊥
     IsReady (Operated op args) scope = ⊥
@@ -241,7 +251,8 @@ module _ (known : Known) where
     IsSpot (InSlot slot) scope = IsSlot slot
     IsSpot (Use at name) scope = (path : AbsolutePath) × Denotes known name scope path
     IsSpot (Apply op args targets) scope =
-        HasOwnCode op × SpotReady (spot_form op) (AreOperands (row_of op).operands args scope × (count targets ≡ (row_of op).targets) × AreSpots targets scope) (IsAlone args targets scope)
+        HasOwnCode op × SpotReady (spot_form op) (AreOperands (row_of op).operands args scope × (count targets ≡ (row_of op).targets)
+        × AreSpots targets scope) (IsAlone args targets scope)
     IsSpot _ scope = ⊥
 
     -- one operand and no target

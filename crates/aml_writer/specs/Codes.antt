@@ -9,7 +9,10 @@ use Rattle.asl_tree.specs.declared.term.Op.{Op}
 use Rattle.asl_tree.specs.declared.term.Declaration.{Declaration}
 use Rattle.asl_tree.specs.declared.term.Control.{Control}
 use Rattle.asl_tree.specs.declared.term.Special.{Special}
-use Rattle.aml_meaning.specs.Codes.{BufferCode, PackageCode, CondRefOfCode, NameCode, AliasCode, ScopeCode, MethodCode, ExternalCode, MutexCode, EventCode, ReturnCode, IfCode, ElseCode, WhileCode, BreakCode, ContinueCode, DeviceCode, ThermalZoneCode, PowerResourceCode, ProcessorCode, OperationRegionCode, FieldCode, IndexFieldCode, BankFieldCode, CreateFieldCode, code_bytes}
+use Rattle.aml_meaning.specs.Codes.{BufferCode, PackageCode, CondRefOfCode, NameCode, AliasCode, ScopeCode, MethodCode, ExternalCode}
+use Rattle.aml_meaning.specs.Codes.{MutexCode, EventCode, ReturnCode, IfCode, ElseCode, WhileCode, BreakCode, ContinueCode, DeviceCode}
+use Rattle.aml_meaning.specs.Codes.{ThermalZoneCode, PowerResourceCode, ProcessorCode, OperationRegionCode, FieldCode, IndexFieldCode}
+use Rattle.aml_meaning.specs.Codes.{BankFieldCode, CreateFieldCode, code_bytes}
 use Rattle.aml_meaning.specs.Encoded.{literal_bytes}
 
 -- three comparisons are LNot of another

@@ -1,5 +1,6 @@
--- The parts of a table by the tree of its terms: the header, and for each term of the term lists, in preorder, its encoding up to that of the
--- first term inside it; and its pieces, in which an Else is one with the If that begins it where both stand at one place.
+-- The parts of a table by the tree of its terms: the header, and for each term of the term lists, in preorder, its
+-- encoding up to that of the first term inside it; and its pieces, in which an Else is one with the If that begins it
+-- where both stand at one place.
 use Rattle.std.specs.Prelude.{◌≡◌, ℕ, ◌+◌, ◌%◌, Bool, true, false, List, [], ◌∷◌, ◌++◌, length}
 use Rattle.iasl_messages.specs.declared.place.Place.{Place}
 use Rattle.iasl_messages.specs.declared.place.Line.{Line}
@@ -20,7 +21,8 @@ use Rattle.aml_writer.specs.Pieces.{Part, put_before}
 
 -- a package up to the terms in it: its opcode, its length and what stands before them
 abbrev pub opening : Width → Bool → Code → List ℕ → Trees → List ℕ
-opening width short code front body = code_bytes code ++ (package_length_bytes (length front + length (encoded_all width short body)) ++ front)
+opening width short code front body = code_bytes code
+    ++ (package_length_bytes (length front + length (encoded_all width short body)) ++ front)
 
 -- whether terms begin with an If
 abbrev pub if_begins : Trees → Bool
@@ -34,8 +36,10 @@ plain_part bytes = record { bytes = bytes; opens = false }
 abbrev mutual
   -- the parts of a term
   pub cut : Width → Bool → Tree → List Part
-  cut width short (Method at name flags body) = plain_part (opening width short MethodCode (name_bytes name ++ (flags % 256) ∷ []) body) ∷ cut_all width short body
-  cut width short (Container' kind at name body) = plain_part (opening width short (container_code kind) (name_bytes name ++ container_bytes kind) body) ∷ cut_all width short body
+  cut width short (Method at name flags body) = plain_part (opening width short MethodCode (name_bytes name ++ (flags % 256) ∷ []) body) ∷
+      cut_all width short body
+  cut width short (Container' kind at name body) =
+      plain_part (opening width short (container_code kind) (name_bytes name ++ container_bytes kind) body) ∷ cut_all width short body
   cut width short (Scope here at name body) = plain_part (opening width short ScopeCode (name_bytes name) body) ∷ cut_all width short body
   cut width short (If test body) = plain_part (opening width short IfCode (encoded width short test) body) ∷ cut_all width short body
   cut width short (Else body) = record { bytes = opening width short ElseCode [] body; opens = if_begins body } ∷ cut_all width short body
@@ -53,7 +57,8 @@ header_of fields content =
 
 -- the header, and then the terms of a core
 abbrev pub table_parts : HeaderFields → Bool → Trees → List Part
-table_parts fields short core = let width = width_of fields.revision in plain_part (header_of fields (encoded_all width short core)) ∷ cut_all width short core
+table_parts fields short core = let width = width_of fields.revision in plain_part (header_of fields (encoded_all width short core)) ∷
+    cut_all width short core
 
 -- the pieces of parts that stand at these places
 abbrev pub pieces_with : List Line → List Place → List Part → List Piece
@@ -65,7 +70,8 @@ pub record ArePieces (lines : List Line) (places : List Place) (parts : List Par
   pub as_many : length places ≡ length parts
   pub are : pieces ≡ pieces_with lines places parts
 
--- whatever is known of the block's paths, the pieces of its table where its terms are ready: the header at the block's place, and the terms at
--- theirs
+-- whatever is known of the block's paths, the pieces of its table where its terms are ready: the header at the block's
+-- place, and the terms at theirs
 pub record IsCut (lines : List Line) (block : Block) (short : Bool) (pieces : List Piece) : Type 0 where
-  pub cut : (known : Known) → AreReady known (trees_of block.terms.items) [] → ArePieces lines (block.place ∷ places_of block.terms.items) (table_parts (fields_of block) short (trees_of block.terms.items)) pieces
+  pub cut : (known : Known) → AreReady known (trees_of block.terms.items) [] → ArePieces lines (block.place ∷ places_of block.terms.items)
+      (table_parts (fields_of block) short (trees_of block.terms.items)) pieces

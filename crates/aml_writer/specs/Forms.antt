@@ -24,10 +24,12 @@ is_plain op = not (has_own_rule op || is_package op)
 
 module _ (style : IntegerStyle) where
   abbrev pub form_bytes : Op → List Node → List Node → List ℕ
-  form_bytes op args body = whole_form style op (leaves_of args) (nodes_bytes style (letters_of op) args) (leaves_of body) (nodes_bytes style [] body) (written_items 0 body)
+  form_bytes op args body = whole_form style op (leaves_of args) (nodes_bytes style (letters_of op) args) (leaves_of body)
+      (nodes_bytes style [] body) (written_items 0 body)
 
   -- the lengths of its packages
   abbrev pub form_lengths : Op → List Node → List Node → List ℕ
   form_lengths op args body =
-      front_lengths style op (leaves_of args) (nodes_bytes style (letters_of op) args) (nodes_lengths style (letters_of op) args) (length (leaves_of body)) (length (body_part style op (leaves_of body) (nodes_bytes style [] body) (written_items 0 body)))
+      front_lengths style op (leaves_of args) (nodes_bytes style (letters_of op) args) (nodes_lengths style (letters_of op) args)
+      (length (leaves_of body)) (length (body_part style op (leaves_of body) (nodes_bytes style [] body) (written_items 0 body)))
       ++ body_lengths op (nodes_lengths style [] body) (items_lengths body)

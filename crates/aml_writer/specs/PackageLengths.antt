@@ -58,7 +58,8 @@ module _ (style : IntegerStyle) where
   -- of a form that is a package, by its arguments, their bytes, and the number of nodes and of bytes of its body
   abbrev pub own_length : Op → List Leaf → List ℕ → ℕ → ℕ → List ℕ
   own_length (Op.Special Special.Buffer) args front nodes size = package_length (length (buffer_size style args size front) + size) ∷ []
-  own_length (Op.Special Special.Package) args front nodes size = package_length (length (count_bytes style (stated_count args nodes) front) + size) ∷ []
+  own_length (Op.Special Special.Package) args front nodes size =
+      package_length (length (count_bytes style (stated_count args nodes) front) + size) ∷ []
   own_length op args front nodes size = if is_package op then package_length (length front + size) ∷ [] else []
 
   abbrev pub front_lengths : Op → List Leaf → List ℕ → List ℕ → ℕ → ℕ → List ℕ
@@ -71,22 +72,26 @@ module _ (style : IntegerStyle) where
         let arg_nodes = D.items-the_row-Node _ args in
         let body_nodes = D.items-the_row-Node _ body in
         let part = body_part style op (leaves_of body_nodes) (row_bytes style [] body) (written_items 0 body_nodes) in
-        front_lengths op (leaves_of arg_nodes) (row_bytes style (letters_of op) args) (row_lengths (letters_of op) args) (length (leaves_of body_nodes)) (length part) ++ body_lengths op (row_lengths [] body) (items_lengths body_nodes)
+        front_lengths op (leaves_of arg_nodes) (row_bytes style (letters_of op) args) (row_lengths (letters_of op) args)
+        (length (leaves_of body_nodes)) (length part) ++ body_lengths op (row_lengths [] body) (items_lengths body_nodes)
     term_lengths _ = []
 
     -- of some nodes, each as its letter asks
     pub row_lengths : List Letter → {m : _} → D.Row_of-Node m → List ℕ
     row_lengths letters D.end_of-Node = []
-    row_lengths letters (D.more_of-Node id place term rest) = operand_lengths (first_letter letters) (term_lengths term) ++ row_lengths (letters_behind letters) rest
+    row_lengths letters (D.more_of-Node id place term rest) = operand_lengths (first_letter letters) (term_lengths term)
+        ++ row_lengths (letters_behind letters) rest
 
   unfoldable pub nodes_lengths : List Letter → List Node → List ℕ
   nodes_lengths letters [] = []
-  nodes_lengths letters (node ∷ nodes) = operand_lengths (first_letter letters) (term_lengths node.term) ++ nodes_lengths (letters_behind letters) nodes
+  nodes_lengths letters (node ∷ nodes) = operand_lengths (first_letter letters) (term_lengths node.term)
+      ++ nodes_lengths (letters_behind letters) nodes
 
 -- of a form whose body is a list of terms
 abbrev pub container_lengths : IntegerStyle → Op → List Node → List Node → List ℕ
 container_lengths style op args body =
-    (if is_package op then package_length (length (nodes_bytes style (letters_of op) args) + length (nodes_bytes style [] body)) ∷ [] else [])
+    (if is_package op then package_length (length (nodes_bytes style (letters_of op) args) + length (nodes_bytes style [] body)) ∷ [] else
+    [])
     ++ (nodes_lengths style (letters_of op) args ++ nodes_lengths style [] body)
 
 -- lengths that were noted from the last to the first, if any were

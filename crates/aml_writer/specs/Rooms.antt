@@ -38,22 +38,26 @@ nodes_parts style nodes = map bytes_of (nodes_pieces style [] nodes)
 
 -- the bytes of the pieces of a form that begins a piece of its own: before its terms, and those of them
 abbrev pub own_parts : IntegerStyle → Op → List Node → List Node → List (List ℕ)
-own_parts style op args body = head_bytes op (nodes_bytes style (letters_of op) args) (length (nodes_bytes style [] body)) ∷ nodes_parts style body
+own_parts style op args body = head_bytes op (nodes_bytes style (letters_of op) args) (length (nodes_bytes style [] body)) ∷ nodes_parts
+    style body
 
--- the bytes of the pieces of an Else that is one piece with the If that begins it: before the terms of the If, those of them, and those behind the If
+-- the bytes of the pieces of an Else that is one piece with the If that begins it: before the terms of the If, those of
+-- them, and those behind the If
 abbrev pub else_if_parts : IntegerStyle → Op → List Node → Op → List Node → List Node → List Node → List (List ℕ)
 else_if_parts style op args first_op first_args inner rest =
-    else_if_bytes op (nodes_bytes style (letters_of op) args) first_op (nodes_bytes style (letters_of first_op) first_args) (length (nodes_bytes style [] inner)) (length (nodes_bytes style [] rest))
+    else_if_bytes op (nodes_bytes style (letters_of op) args) first_op (nodes_bytes style (letters_of first_op) first_args)
+    (length (nodes_bytes style [] inner)) (length (nodes_bytes style [] rest))
     ∷ (nodes_parts style inner ++ nodes_parts style rest)
 
 abbrev pub else_if_size : IntegerStyle → Op → List Node → Op → List Node → List Node → List Node → ℕ
 else_if_size style op args first_op first_args inner rest =
     let inner_size = length (nodes_bytes style [] inner) in
     let rest_size = length (nodes_bytes style [] rest) in
-    length (else_if_bytes op (nodes_bytes style (letters_of op) args) first_op (nodes_bytes style (letters_of first_op) first_args) inner_size rest_size) + (inner_size + rest_size)
+    length (else_if_bytes op (nodes_bytes style (letters_of op) args) first_op (nodes_bytes style (letters_of first_op) first_args)
+    inner_size rest_size) + (inner_size + rest_size)
 
--- the room of a block's table: each piece with its place and source, without bytes, and with room for as many as it will have; and the lengths of
--- the packages
+-- the room of a block's table: each piece with its place and source, without bytes, and with room for as many as it
+-- will have; and the lengths of the packages
 pub record IsRoomOf (lines : List Line) (block : Block) (short : Bool) (room : Room) : Type 0 where
   pub pieces : room.pieces ≡ map blank (table_pieces (style_of block short) lines block)
   pub spaces : room.spaces ≡ map size_of (table_pieces (style_of block short) lines block)
@@ -87,7 +91,8 @@ joined_parts (part ∷ parts) = part ++ joined_parts parts
 -- a block's header before so many bytes, which are these
 abbrev pub header_for : Block → ℕ → List (List ℕ) → List ℕ
 header_for block size parts =
-    header_with (fields_of block) (header_length + size) (checksum_of (header_with (fields_of block) (header_length + size) 0 ++ joined_parts parts))
+    header_with (fields_of block) (header_length + size)
+    (checksum_of (header_with (fields_of block) (header_length + size) 0 ++ joined_parts parts))
 
 -- the last rooms are those of some parts
 pub record EndsIn (spaces : List ℕ) (parts : List (List ℕ)) : Type 0 where

@@ -13,7 +13,8 @@ use Rattle.asl_tree.specs.Literals.{word_number}
 use Rattle.aml_meaning.specs.Codes.{DebugCode, OmittedCode, StringCode, BufferCode, PackageCode, VarPackageCode, code_bytes}
 use Rattle.aml_code.specs.Encoding.{integer_bytes, package_length_bytes}
 use Rattle.aml_writer.specs.declared.style.IntegerStyle.{IntegerStyle}
-use Rattle.aml_writer.specs.Leaves.{Leaf, leaf_of, leaves_of, operand_bytes, first_letter, letters_behind, fill_bytes, is_first_left_out, stated_count}
+use Rattle.aml_writer.specs.Leaves.{Leaf, leaf_of, leaves_of, operand_bytes, first_letter, letters_behind, fill_bytes, is_first_left_out}
+use Rattle.aml_writer.specs.Leaves.{stated_count}
 use Rattle.aml_writer.specs.Codes.{code_of, letters_of}
 pub use Rattle.aml_writer.specs.Items.{written_name}
 use Rattle.aml_writer.specs.Items.{written_items}
@@ -77,7 +78,8 @@ module _ (style : IntegerStyle) where
   front_part (Op.Special Special.Package) args front nodes size =
       let count = stated_count args nodes in
       let own = count_bytes count front in package_code count ++ (package_length_bytes (length own + size) ++ own)
-  front_part (Op.Declaration Declaration.External) args front nodes size = head_bytes (Op.Declaration Declaration.External) front 0 ++ missing_bytes (length args)
+  front_part (Op.Declaration Declaration.External) args front nodes size = head_bytes (Op.Declaration Declaration.External) front 0
+      ++ missing_bytes (length args)
   front_part op args front nodes size = head_bytes op front size
 
   -- a form by its arguments, their bytes, its body, and the body's bytes as terms and as the list of a field
@@ -102,13 +104,16 @@ module _ (style : IntegerStyle) where
     term_bytes (D.Name path) = written_name path
     term_bytes (D.Call' path shape args) = written_name path ++ row_bytes [] args
     term_bytes (D.Form' op shape args shape' body) =
-        whole_form op (leaves_of (D.items-the_row-Node _ args)) (row_bytes (letters_of op) args) (leaves_of (D.items-the_row-Node _ body)) (row_bytes [] body) (written_items 0 (D.items-the_row-Node _ body))
+        whole_form op (leaves_of (D.items-the_row-Node _ args)) (row_bytes (letters_of op) args) (leaves_of (D.items-the_row-Node _ body))
+        (row_bytes [] body) (written_items 0 (D.items-the_row-Node _ body))
 
     -- the bytes of some nodes, each as its letter asks
     pub row_bytes : List Letter → {m : _} → D.Row_of-Node m → List ℕ
     row_bytes letters D.end_of-Node = []
-    row_bytes letters (D.more_of-Node id place term rest) = operand_bytes (first_letter letters) (leaf_of term) (term_bytes term) ++ row_bytes (letters_behind letters) rest
+    row_bytes letters (D.more_of-Node id place term rest) = operand_bytes (first_letter letters) (leaf_of term) (term_bytes term)
+        ++ row_bytes (letters_behind letters) rest
 
   unfoldable pub nodes_bytes : List Letter → List Node → List ℕ
   nodes_bytes letters [] = []
-  nodes_bytes letters (node ∷ nodes) = operand_bytes (first_letter letters) (leaf_of node.term) (term_bytes node.term) ++ nodes_bytes (letters_behind letters) nodes
+  nodes_bytes letters (node ∷ nodes) = operand_bytes (first_letter letters) (leaf_of node.term) (term_bytes node.term)
+      ++ nodes_bytes (letters_behind letters) nodes

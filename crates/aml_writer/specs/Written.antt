@@ -40,10 +40,11 @@ pub record IsTableOf (known : Known) (externals : Names) (block : Block) (short 
 
 -- whatever is known of the block's paths and of other tables, its table where it is ready
 pub record IsTable (block : Block) (short : Bool) (bytes : List ℕ) : Type 0 where
-  pub table : (known : Known) (externals : Names) → IsKnownStart known externals → IsReadyBlock known block → IsTableOf known externals block short bytes
+  pub table : (known : Known) (externals : Names) → IsKnownStart known externals → IsReadyBlock known block →
+      IsTableOf known externals block short bytes
 
--- how many bytes the table of a block has: as many as its pieces joined, whatever the lines of these, which is as many as its encoding where the
--- block is ready, and no more than 16 MiB
+-- how many bytes the table of a block has: as many as its pieces joined, whatever the lines of these, which is as many
+-- as its encoding where the block is ready, and no more than 16 MiB
 pub record IsTableSize (block : Block) (short : Bool) (size : ℕ) : Type 0 where
   pub joined : (lines : List Line) → size ≡ length (joined_pieces (table_pieces (style_of block short) lines block))
   pub encoded : (known : Known) → IsReadyBlock known block → size ≡ length (encoded_block short block)

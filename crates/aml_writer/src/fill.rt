@@ -5,8 +5,10 @@ ghost use Rattle.aml_code.specs.Header.{header_with, fields_of};
 ghost use Rattle.aml_writer.specs.Styles.{style_of as style_for};
 ghost use Rattle.aml_writer.specs.Codes.{letters_of};
 ghost use Rattle.aml_writer.specs.TermBytes.{head_bytes, term_bytes, nodes_bytes};
-ghost use Rattle.aml_writer.specs.Pieces.{is_container, is_else_if as is_else_if_form, else_if_bytes, container_bytes, container_pieces, term_pieces};
-ghost use Rattle.aml_writer.specs.Rooms.{bytes_of, with_bytes, nodes_parts, own_parts, else_if_parts, else_if_size, filled, table_parts_of, EndsIn, Fills, HasRoom, header_for};
+ghost use Rattle.aml_writer.specs.Pieces.{is_container, is_else_if as is_else_if_form, else_if_bytes, container_bytes, container_pieces};
+ghost use Rattle.aml_writer.specs.Pieces.{term_pieces};
+ghost use Rattle.aml_writer.specs.Rooms.{bytes_of, with_bytes, nodes_parts, own_parts, else_if_parts, else_if_size, filled, table_parts_of};
+ghost use Rattle.aml_writer.specs.Rooms.{EndsIn, Fills, HasRoom, header_for};
 ghost use Rattle.aml_writer.specs.Written.{AtBlock};
 
 use crate::codes::holds_terms;
@@ -105,10 +107,15 @@ fn put_else_if(
     style: IntegerStyle,
 ) -> usize
     requires size { length (head_bytes first_op (nodes_bytes style (letters_of first_op) first_args.now) inner) + inner + later < 2 ^ 63 }
-    requires room { length (else_if_bytes op (nodes_bytes style (letters_of op) args.now) first_op (nodes_bytes style (letters_of first_op) first_args.now) inner later) ≤ at }
+    requires room { length
+        (else_if_bytes op (nodes_bytes style (letters_of op) args.now) first_op (nodes_bytes style (letters_of first_op) first_args.now)
+        inner later) ≤ at }
     requires within { at ≤ length out.old }
-    ensures at { result + length (else_if_bytes op (nodes_bytes style (letters_of op) args.now) first_op (nodes_bytes style (letters_of first_op) first_args.now) inner later) ≡ at }
-    ensures bytes { drop result out.new ≡ else_if_bytes op (nodes_bytes style (letters_of op) args.now) first_op (nodes_bytes style (letters_of first_op) first_args.now) inner later ++ drop at out.old }
+    ensures at { result + length
+        (else_if_bytes op (nodes_bytes style (letters_of op) args.now) first_op (nodes_bytes style (letters_of first_op) first_args.now)
+        inner later) ≡ at }
+    ensures bytes { drop result out.new ≡ else_if_bytes op (nodes_bytes style (letters_of op) args.now) first_op
+        (nodes_bytes style (letters_of first_op) first_args.now) inner later ++ drop at out.old }
 {
     let to = put_head(out, at, first_op, first_args, inner, style);
     put_head(out, to, op, args, at - to + inner + later, style)
@@ -124,8 +131,11 @@ fn few_of_else_if(
     style: IntegerStyle,
 ) -> Text
     requires size { length (head_bytes first_op (nodes_bytes style (letters_of first_op) first_args.now) inner) + inner + later < 2 ^ 63 }
-    requires room { length (else_if_bytes op (nodes_bytes style (letters_of op) args.now) first_op (nodes_bytes style (letters_of first_op) first_args.now) inner later) ≤ 14 }
-    ensures { result ≡ else_if_bytes op (nodes_bytes style (letters_of op) args.now) first_op (nodes_bytes style (letters_of first_op) first_args.now) inner later }
+    requires room { length
+        (else_if_bytes op (nodes_bytes style (letters_of op) args.now) first_op (nodes_bytes style (letters_of first_op) first_args.now)
+        inner later) ≤ 14 }
+    ensures { result ≡ else_if_bytes op (nodes_bytes style (letters_of op) args.now) first_op
+        (nodes_bytes style (letters_of first_op) first_args.now) inner later }
 {
     let mut bytes = [0u8; FEW];
     let at = put_else_if(
@@ -146,8 +156,11 @@ fn many_of_else_if(
     style: IntegerStyle,
 ) -> Text
     requires size { length (head_bytes first_op (nodes_bytes style (letters_of first_op) first_args.now) inner) + inner + later < 2 ^ 63 }
-    requires room { length (else_if_bytes op (nodes_bytes style (letters_of op) args.now) first_op (nodes_bytes style (letters_of first_op) first_args.now) inner later) ≡ length bytes.items }
-    ensures { result ≡ else_if_bytes op (nodes_bytes style (letters_of op) args.now) first_op (nodes_bytes style (letters_of first_op) first_args.now) inner later }
+    requires room { length
+        (else_if_bytes op (nodes_bytes style (letters_of op) args.now) first_op (nodes_bytes style (letters_of first_op) first_args.now)
+        inner later) ≡ length bytes.items }
+    ensures { result ≡ else_if_bytes op (nodes_bytes style (letters_of op) args.now) first_op
+        (nodes_bytes style (letters_of first_op) first_args.now) inner later }
 {
     let mut bytes = bytes;
     let end = bytes.len();
@@ -169,8 +182,11 @@ fn text_of_else_if(
     style: IntegerStyle,
 ) -> Text
     requires size { length (head_bytes first_op (nodes_bytes style (letters_of first_op) first_args.now) inner) + inner + later < 2 ^ 63 }
-    requires room { space ≡ length (else_if_bytes op (nodes_bytes style (letters_of op) args.now) first_op (nodes_bytes style (letters_of first_op) first_args.now) inner later) }
-    ensures { result ≡ else_if_bytes op (nodes_bytes style (letters_of op) args.now) first_op (nodes_bytes style (letters_of first_op) first_args.now) inner later }
+    requires room { space ≡ length
+        (else_if_bytes op (nodes_bytes style (letters_of op) args.now) first_op (nodes_bytes style (letters_of first_op) first_args.now)
+        inner later) }
+    ensures { result ≡ else_if_bytes op (nodes_bytes style (letters_of op) args.now) first_op
+        (nodes_bytes style (letters_of first_op) first_args.now) inner later }
 {
     match space.store {
         Store::Few(_) => few_of_else_if(op, args, first_op, first_args, inner, later, style),
@@ -249,7 +265,8 @@ impl Filling {
         requires count { length self.old.spaces.items < length self.old.pieces.items }
         requires within { self.old.size + sum self.old.spaces.items + length bytes ≤ 16777216 }
         ensures spaces { self.new.spaces.items ≡ self.old.spaces.items }
-        ensures pieces { (d : Piece) → self.new.pieces.items ≡ set self.old.pieces.items (length self.old.spaces.items) (with_bytes (get_or self.old.pieces.items (length self.old.spaces.items) d) bytes) }
+        ensures pieces { (d : Piece) → self.new.pieces.items ≡ set self.old.pieces.items (length self.old.spaces.items)
+            (with_bytes (get_or self.old.pieces.items (length self.old.spaces.items) d) bytes) }
         ensures size { self.new.size ≡ self.old.size + length bytes }
     {
         self.size += bytes.as_bytes().len();
@@ -260,7 +277,8 @@ impl Filling {
 // All of a term.
 fn fill_whole(filling: &mut Filling, term: &Term, style: IntegerStyle)
     requires { EndsIn filling.old.spaces.items (term_bytes style term.now ∷ []) }
-    ensures fills { Fills (term_bytes style term.now ∷ []) filling.old.spaces.items filling.new.spaces.items filling.old.pieces.items filling.new.pieces.items }
+    ensures fills { Fills (term_bytes style term.now ∷ []) filling.old.spaces.items filling.new.spaces.items filling.old.pieces.items
+        filling.new.pieces.items }
     ensures size { filling.new.size ≡ filling.old.size + length (term_bytes style term.now) }
 {
     let space = filling.next();
@@ -272,7 +290,8 @@ fn fill_whole(filling: &mut Filling, term: &Term, style: IntegerStyle)
 fn fill_alone(filling: &mut Filling, node: &Node, style: IntegerStyle)
     requires alone { is_container node.now.term ≡ false }
     requires ends { EndsIn filling.old.spaces.items (map bytes_of (term_pieces style [] node.now.place node.now.term)) }
-    ensures fills { Fills (map bytes_of (term_pieces style [] node.now.place node.now.term)) filling.old.spaces.items filling.new.spaces.items filling.old.pieces.items filling.new.pieces.items }
+    ensures fills { Fills (map bytes_of (term_pieces style [] node.now.place node.now.term)) filling.old.spaces.items
+        filling.new.spaces.items filling.old.pieces.items filling.new.pieces.items }
     ensures size { filling.new.size ≡ filling.old.size + length (term_bytes style node.now.term) }
 {
     fill_whole(filling, &node.term, style);
@@ -282,7 +301,8 @@ fn fill_alone(filling: &mut Filling, node: &Node, style: IntegerStyle)
 fn fill_head(filling: &mut Filling, op: Op, args: &[Node], body: usize, style: IntegerStyle)
     requires ends { EndsIn filling.old.spaces.items (head_bytes op (nodes_bytes style (letters_of op) args.now) body ∷ []) }
     requires size { body < 2 ^ 63 }
-    ensures fills { Fills (head_bytes op (nodes_bytes style (letters_of op) args.now) body ∷ []) filling.old.spaces.items filling.new.spaces.items filling.old.pieces.items filling.new.pieces.items }
+    ensures fills { Fills (head_bytes op (nodes_bytes style (letters_of op) args.now) body ∷ []) filling.old.spaces.items
+        filling.new.spaces.items filling.old.pieces.items filling.new.pieces.items }
     ensures size { filling.new.size ≡ filling.old.size + length (head_bytes op (nodes_bytes style (letters_of op) args.now) body) }
 {
     let space = filling.next();
@@ -310,10 +330,16 @@ fn fill_else_if_head(
     later: usize,
     style: IntegerStyle,
 )
-    requires ends { EndsIn filling.old.spaces.items (else_if_bytes op (nodes_bytes style (letters_of op) args.now) first_op (nodes_bytes style (letters_of first_op) first_args.now) inner later ∷ []) }
+    requires ends { EndsIn filling.old.spaces.items
+        (else_if_bytes op (nodes_bytes style (letters_of op) args.now) first_op (nodes_bytes style (letters_of first_op) first_args.now)
+        inner later ∷ []) }
     requires size { inner + later < 2 ^ 62 }
-    ensures fills { Fills (else_if_bytes op (nodes_bytes style (letters_of op) args.now) first_op (nodes_bytes style (letters_of first_op) first_args.now) inner later ∷ []) filling.old.spaces.items filling.new.spaces.items filling.old.pieces.items filling.new.pieces.items }
-    ensures size { filling.new.size ≡ filling.old.size + length (else_if_bytes op (nodes_bytes style (letters_of op) args.now) first_op (nodes_bytes style (letters_of first_op) first_args.now) inner later) }
+    ensures fills { Fills
+        (else_if_bytes op (nodes_bytes style (letters_of op) args.now) first_op (nodes_bytes style (letters_of first_op) first_args.now)
+        inner later ∷ []) filling.old.spaces.items filling.new.spaces.items filling.old.pieces.items filling.new.pieces.items }
+    ensures size { filling.new.size ≡ filling.old.size + length
+        (else_if_bytes op (nodes_bytes style (letters_of op) args.now) first_op (nodes_bytes style (letters_of first_op) first_args.now)
+        inner later) }
 {
     let space = filling.next();
     let bytes = text_of_else_if(space, op, args, first_op, first_args, inner, later, style);
@@ -333,7 +359,8 @@ fn fill_else_if(
     style: IntegerStyle,
 )
     requires { EndsIn filling.old.spaces.items (else_if_parts style op args.now first_op first_args.now inner.now rest.now) }
-    ensures fills { Fills (else_if_parts style op args.now first_op first_args.now inner.now rest.now) filling.old.spaces.items filling.new.spaces.items filling.old.pieces.items filling.new.pieces.items }
+    ensures fills { Fills (else_if_parts style op args.now first_op first_args.now inner.now rest.now) filling.old.spaces.items
+        filling.new.spaces.items filling.old.pieces.items filling.new.pieces.items }
     ensures size { filling.new.size ≡ filling.old.size + else_if_size style op args.now first_op first_args.now inner.now rest.now }
 {
     let before = filling.size;
@@ -356,7 +383,8 @@ fn fill_else_if(
 #[cycle(fill)]
 fn fill_own(filling: &mut Filling, op: Op, body: &[Node], args: &[Node], style: IntegerStyle)
     requires { EndsIn filling.old.spaces.items (own_parts style op args.now body.now) }
-    ensures fills { Fills (own_parts style op args.now body.now) filling.old.spaces.items filling.new.spaces.items filling.old.pieces.items filling.new.pieces.items }
+    ensures fills { Fills (own_parts style op args.now body.now) filling.old.spaces.items filling.new.spaces.items filling.old.pieces.items
+        filling.new.pieces.items }
     ensures size { filling.new.size ≡ filling.old.size + length (container_bytes style [] op args.now body.now) }
 {
     let before = filling.size;
@@ -376,7 +404,8 @@ fn fill_container(
     style: IntegerStyle,
 )
     requires { EndsIn filling.old.spaces.items (map bytes_of (container_pieces style [] place op args.now body.now)) }
-    ensures fills { Fills (map bytes_of (container_pieces style [] place op args.now body.now)) filling.old.spaces.items filling.new.spaces.items filling.old.pieces.items filling.new.pieces.items }
+    ensures fills { Fills (map bytes_of (container_pieces style [] place op args.now body.now)) filling.old.spaces.items
+        filling.new.spaces.items filling.old.pieces.items filling.new.pieces.items }
     ensures size { filling.new.size ≡ filling.old.size + length (container_bytes style [] op args.now body.now) }
 {
     if is_else_if(place, op, body) {
@@ -398,7 +427,8 @@ fn fill_opened(
 )
     requires opens { is_else_if_form place op body.now ≡ true }
     requires ends { EndsIn filling.old.spaces.items (map bytes_of (container_pieces style [] place op args.now body.now)) }
-    ensures fills { Fills (map bytes_of (container_pieces style [] place op args.now body.now)) filling.old.spaces.items filling.new.spaces.items filling.old.pieces.items filling.new.pieces.items }
+    ensures fills { Fills (map bytes_of (container_pieces style [] place op args.now body.now)) filling.old.spaces.items
+        filling.new.spaces.items filling.old.pieces.items filling.new.pieces.items }
     ensures size { filling.new.size ≡ filling.old.size + length (container_bytes style [] op args.now body.now) }
 {
     match body {
@@ -418,7 +448,8 @@ fn fill_opened(
 #[cycle(fill)]
 fn fill_term(filling: &mut Filling, node: &Node, style: IntegerStyle)
     requires { EndsIn filling.old.spaces.items (map bytes_of (term_pieces style [] node.now.place node.now.term)) }
-    ensures fills { Fills (map bytes_of (term_pieces style [] node.now.place node.now.term)) filling.old.spaces.items filling.new.spaces.items filling.old.pieces.items filling.new.pieces.items }
+    ensures fills { Fills (map bytes_of (term_pieces style [] node.now.place node.now.term)) filling.old.spaces.items
+        filling.new.spaces.items filling.old.pieces.items filling.new.pieces.items }
     ensures size { filling.new.size ≡ filling.old.size + length (term_bytes style node.now.term) }
 {
     match &node.term {
@@ -437,7 +468,8 @@ fn fill_term(filling: &mut Filling, node: &Node, style: IntegerStyle)
 #[cycle(fill)]
 fn fill_terms(filling: &mut Filling, nodes: &[Node], style: IntegerStyle)
     requires { EndsIn filling.old.spaces.items (nodes_parts style nodes.now) }
-    ensures fills { Fills (nodes_parts style nodes.now) filling.old.spaces.items filling.new.spaces.items filling.old.pieces.items filling.new.pieces.items }
+    ensures fills { Fills (nodes_parts style nodes.now) filling.old.spaces.items filling.new.spaces.items filling.old.pieces.items
+        filling.new.pieces.items }
     ensures size { filling.new.size ≡ filling.old.size + length (nodes_bytes style [] nodes.now) }
 {
     let mut left = nodes.len();
@@ -449,8 +481,10 @@ fn fill_terms(filling: &mut Filling, nodes: &[Node], style: IntegerStyle)
 
 // The header before the terms, which have their bytes.
 fn fill_header(filling: &mut Filling, block: &Block)
-    requires ends { EndsIn filling.old.spaces.items (header_for block.now filling.old.size (map bytes_of (drop (length filling.old.spaces.items) filling.old.pieces.items)) ∷ []) }
-    ensures { Fills (header_for block.now filling.old.size (map bytes_of (drop (length filling.old.spaces.items) filling.old.pieces.items)) ∷ []) filling.old.spaces.items filling.new.spaces.items filling.old.pieces.items filling.new.pieces.items }
+    requires ends { EndsIn filling.old.spaces.items
+        (header_for block.now filling.old.size (map bytes_of (drop (length filling.old.spaces.items) filling.old.pieces.items)) ∷ []) }
+    ensures { Fills (header_for block.now filling.old.size (map bytes_of (drop (length filling.old.spaces.items) filling.old.pieces.items))
+        ∷ []) filling.old.spaces.items filling.new.spaces.items filling.old.pieces.items filling.new.pieces.items }
 {
     let size = (HEADER_BYTES + filling.size) as u32;
     let unchecked = header(block, size, 0);

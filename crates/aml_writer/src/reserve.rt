@@ -67,11 +67,14 @@ fn reserve_container(
     args: &[Node],
     style: IntegerStyle,
 ) -> Result<(), DraftStop>
-    ensures pieces { OnOk result (draft.new.pieces.items ≡ draft.old.pieces.items ++ blanks (container_pieces style lines.now place op args.now body.now)) }
-    ensures spaces { OnOk result (draft.new.spaces.items ≡ draft.old.spaces.items ++ sizes (container_pieces style lines.now place op args.now body.now)) }
+    ensures pieces { OnOk result
+        (draft.new.pieces.items ≡ draft.old.pieces.items ++ blanks (container_pieces style lines.now place op args.now body.now)) }
+    ensures spaces { OnOk result
+        (draft.new.spaces.items ≡ draft.old.spaces.items ++ sizes (container_pieces style lines.now place op args.now body.now)) }
     ensures size { OnOk result (draft.new.size ≡ draft.old.size + length (container_bytes style lines.now op args.now body.now)) }
     ensures lengths { OnOk result (Noted (container_lengths style op args.now body.now) draft.old.notes draft.new.notes) }
-    ensures too_long { IsErrOf result DraftStop.TooLong → most_content_bytes < draft.old.size + length (container_bytes style lines.now op args.now body.now) }
+    ensures too_long { IsErrOf result DraftStop.TooLong → most_content_bytes < draft.old.size + length
+        (container_bytes style lines.now op args.now body.now) }
 {
     let before = draft.size;
     reserve_terms(alloc, draft, lines, body, style)?;
@@ -93,8 +96,10 @@ fn reserve_term(
     node: &Node,
     style: IntegerStyle,
 ) -> Result<(), DraftStop>
-    ensures pieces { OnOk result (draft.new.pieces.items ≡ draft.old.pieces.items ++ blanks (term_pieces style lines.now node.now.place node.now.term)) }
-    ensures spaces { OnOk result (draft.new.spaces.items ≡ draft.old.spaces.items ++ sizes (term_pieces style lines.now node.now.place node.now.term)) }
+    ensures pieces { OnOk result
+        (draft.new.pieces.items ≡ draft.old.pieces.items ++ blanks (term_pieces style lines.now node.now.place node.now.term)) }
+    ensures spaces { OnOk result
+        (draft.new.spaces.items ≡ draft.old.spaces.items ++ sizes (term_pieces style lines.now node.now.place node.now.term)) }
     ensures size { OnOk result (draft.new.size ≡ draft.old.size + length (term_bytes style node.now.term)) }
     ensures lengths { OnOk result (Noted (term_lengths style node.now.term) draft.old.notes draft.new.notes) }
     ensures too_long { IsErrOf result DraftStop.TooLong → most_content_bytes < draft.old.size + length (term_bytes style node.now.term) }

@@ -6,9 +6,11 @@ ghost use Rattle.aml_writer.specs.Capped.{capped, framed};
 ghost use Rattle.aml_writer.specs.Leaves.{leaf_of, leaves_of, raw_bytes, operand_bytes, fill_bytes, stated_count as stated};
 ghost use Rattle.aml_writer.specs.Codes.{code_of, letters_of};
 ghost use Rattle.aml_writer.specs.Items.{written_name, written_items};
-ghost use Rattle.aml_writer.specs.TermBytes.{number_bytes, is_package, head_bytes, missing_bytes, buffer_size, count_bytes, front_part, body_part, term_bytes, nodes_bytes};
+ghost use Rattle.aml_writer.specs.TermBytes.{number_bytes, is_package, head_bytes, missing_bytes, buffer_size, count_bytes, front_part};
+ghost use Rattle.aml_writer.specs.TermBytes.{body_part, term_bytes, nodes_bytes};
 ghost use Rattle.aml_writer.specs.Forms.{form_bytes, form_lengths};
-ghost use Rattle.aml_writer.specs.PackageLengths.{package_length, items_lengths, operand_lengths, count_lengths, argument_lengths, body_lengths, front_lengths, term_lengths, nodes_lengths, Noted};
+ghost use Rattle.aml_writer.specs.PackageLengths.{package_length, items_lengths, operand_lengths, count_lengths, argument_lengths};
+ghost use Rattle.aml_writer.specs.PackageLengths.{body_lengths, front_lengths, term_lengths, nodes_lengths, Noted};
 
 use crate::codes::{is_packed, is_plain, letters, no_letters, opcode};
 use crate::items::{items_size, note_items};
@@ -98,7 +100,8 @@ pub(crate) fn nodes_size(
 fn framed_size(notes: &mut Notes, opcode: usize, packed: bool, own: usize, body: usize) -> usize
     requires { opcode ≤ 2 }
     ensures size { result ≡ framed opcode packed (capped (own + body)) }
-    ensures lengths { (content : ℕ) → capped (own + body) ≡ capped content → Noted (if packed then package_length content ∷ [] else []) notes.old notes.new }
+    ensures lengths { (content : ℕ) → capped (own + body) ≡ capped content → Noted (if packed then package_length content ∷ [] else [])
+        notes.old notes.new }
 {
     let content = own.saturating_add(body);
     if packed {
@@ -120,7 +123,9 @@ pub(crate) fn headed_size(
     style: IntegerStyle,
 ) -> usize
     ensures size { result ≡ capped (length (head_bytes op (nodes_bytes style (letters_of op) args.now) body) + body) }
-    ensures lengths { (whole : ℕ) → body ≡ capped whole → Noted ((if is_package op then package_length (length (nodes_bytes style (letters_of op) args.now) + whole) ∷ [] else []) ++ nodes_lengths style (letters_of op) args.now) notes.old notes.new }
+    ensures lengths { (whole : ℕ) → body ≡ capped whole →
+        Noted ((if is_package op then package_length (length (nodes_bytes style (letters_of op) args.now) + whole) ∷ [] else [])
+        ++ nodes_lengths style (letters_of op) args.now) notes.old notes.new }
 {
     let own = nodes_size(notes, letters(op), args, style);
     framed_size(notes, opcode_size(op), is_packed(op), own, body)
@@ -130,7 +135,8 @@ pub(crate) fn headed_size(
 #[cycle(size)]
 fn buffer_size_size(notes: &mut Notes, args: &[Node], size: usize, style: IntegerStyle) -> usize
     ensures size { result ≡ capped (length (buffer_size style (leaves_of args.now) size (nodes_bytes style [] args.now))) }
-    ensures lengths { Noted (argument_lengths (Op.Special Special.Buffer) (leaves_of args.now) 0 (nodes_lengths style [] args.now)) notes.old notes.new }
+    ensures lengths { Noted (argument_lengths (Op.Special Special.Buffer) (leaves_of args.now) 0 (nodes_lengths style [] args.now))
+        notes.old notes.new }
 {
     if is_left_out(args) {
         integer_size(size as u64, style)
@@ -142,8 +148,11 @@ fn buffer_size_size(notes: &mut Notes, args: &[Node], size: usize, style: Intege
 // A Buffer with its bytes, which are so many.
 #[cycle(size)]
 fn sized_buffer(notes: &mut Notes, args: &[Node], size: usize, style: IntegerStyle) -> usize
-    ensures size { result ≡ capped (length (front_part style (Op.Special Special.Buffer) (leaves_of args.now) (nodes_bytes style [] args.now) 0 size) + size) }
-    ensures lengths { (whole : ℕ) → size ≡ capped whole → Noted (front_lengths style (Op.Special Special.Buffer) (leaves_of args.now) (nodes_bytes style [] args.now) (nodes_lengths style [] args.now) 0 whole) notes.old notes.new }
+    ensures size { result ≡ capped
+        (length (front_part style (Op.Special Special.Buffer) (leaves_of args.now) (nodes_bytes style [] args.now) 0 size) + size) }
+    ensures lengths { (whole : ℕ) → size ≡ capped whole →
+        Noted (front_lengths style (Op.Special Special.Buffer) (leaves_of args.now) (nodes_bytes style [] args.now)
+        (nodes_lengths style [] args.now) 0 whole) notes.old notes.new }
 {
     let own = buffer_size_size(notes, args, size, style);
     framed_size(notes, 1, true, own, size)
@@ -171,8 +180,11 @@ fn sized_package(
     size: usize,
     style: IntegerStyle,
 ) -> usize
-    ensures size { result ≡ capped (length (front_part style (Op.Special Special.Package) (leaves_of args.now) (nodes_bytes style [] args.now) elements size) + size) }
-    ensures lengths { (whole : ℕ) → size ≡ capped whole → Noted (front_lengths style (Op.Special Special.Package) (leaves_of args.now) (nodes_bytes style [] args.now) (nodes_lengths style [] args.now) elements whole) notes.old notes.new }
+    ensures size { result ≡ capped
+        (length (front_part style (Op.Special Special.Package) (leaves_of args.now) (nodes_bytes style [] args.now) elements size) + size) }
+    ensures lengths { (whole : ℕ) → size ≡ capped whole →
+        Noted (front_lengths style (Op.Special Special.Package) (leaves_of args.now) (nodes_bytes style [] args.now)
+        (nodes_lengths style [] args.now) elements whole) notes.old notes.new }
 {
     let count = stated_count(args, elements);
     let own = count_size(notes, args, count, style);
@@ -192,7 +204,10 @@ fn missing_size(args: usize) -> usize
 
 #[cycle(size)]
 fn sized_external(notes: &mut Notes, args: &[Node], size: usize, style: IntegerStyle) -> usize
-    ensures size { result ≡ capped (length (head_bytes (Op.Declaration Declaration.External) (nodes_bytes style (letters_of (Op.Declaration Declaration.External)) args.now) 0 ++ missing_bytes (length args.now)) + size) }
+    ensures size { result ≡ capped
+        (length
+        (head_bytes (Op.Declaration Declaration.External) (nodes_bytes style (letters_of (Op.Declaration Declaration.External)) args.now) 0
+        ++ missing_bytes (length args.now)) + size) }
     ensures lengths { Noted (nodes_lengths style (letters_of (Op.Declaration Declaration.External)) args.now) notes.old notes.new }
 {
     let own = nodes_size(
@@ -216,8 +231,11 @@ fn sized_form(
     size: usize,
     style: IntegerStyle,
 ) -> usize
-    ensures size { result ≡ capped (length (front_part style op (leaves_of args.now) (nodes_bytes style (letters_of op) args.now) nodes size) + size) }
-    ensures lengths { (whole : ℕ) → size ≡ capped whole → Noted (front_lengths style op (leaves_of args.now) (nodes_bytes style (letters_of op) args.now) (nodes_lengths style (letters_of op) args.now) nodes whole) notes.old notes.new }
+    ensures size { result ≡ capped (length (front_part style op (leaves_of args.now) (nodes_bytes style (letters_of op) args.now) nodes size) +
+        size) }
+    ensures lengths { (whole : ℕ) → size ≡ capped whole →
+        Noted (front_lengths style op (leaves_of args.now) (nodes_bytes style (letters_of op) args.now)
+        (nodes_lengths style (letters_of op) args.now) nodes whole) notes.old notes.new }
 {
     match op {
         Op::Special(Special::Buffer) => sized_buffer(notes, args, size, style),

@@ -20,4 +20,5 @@ text_value known text = option_and_then value_of (tokens_of known text)
 -- expression, has too much open at once, or divides by 0.
 unfoldable pub condition_of : History → List ℕ → Option ℕ
 condition_of history text =
-    if nat_lt most_bytes (length (replaced InCondition history false text)) then None else text_value (is_known history) (replaced InCondition history false text)
+    if nat_lt most_bytes (length (replaced InCondition history false text)) then None else
+    text_value (is_known history) (replaced InCondition history false text)

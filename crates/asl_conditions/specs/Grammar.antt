@@ -30,19 +30,27 @@ pub data SpellsPhrase : ℕ → ConditionPhrase → List ConditionToken → List
   -- a name that stands after replacement is 0
   a_name : {open_most : ℕ} {b : Bool} {rest : List ConditionToken} → SpellsPhrase open_most (part 0) (t.Name b ∷ rest) rest
   -- `defined X`, where X may be the word `defined` too
-  a_defined : {open_most : ℕ} {b c : Bool} {rest : List ConditionToken} → SpellsPhrase open_most (part (truth b)) (t.Defined c ∷ t.Name b ∷ rest) rest
-  a_defined_word : {open_most : ℕ} {b c : Bool} {rest : List ConditionToken} → SpellsPhrase open_most (part (truth b)) (t.Defined c ∷ t.Defined b ∷ rest) rest
+  a_defined : {open_most : ℕ} {b c : Bool} {rest : List ConditionToken} → SpellsPhrase open_most (part (truth b))
+      (t.Defined c ∷ t.Name b ∷ rest) rest
+  a_defined_word : {open_most : ℕ} {b c : Bool} {rest : List ConditionToken} → SpellsPhrase open_most (part (truth b))
+      (t.Defined c ∷ t.Defined b ∷ rest) rest
   -- `defined (X)`
-  in_parentheses : {open_most : ℕ} {b c : Bool} {rest : List ConditionToken} → SpellsPhrase (suc open_most) (part (truth b)) (t.Defined c ∷ t.Open ∷ t.Name b ∷ t.Close ∷ rest) rest
-  word_in_parentheses : {open_most : ℕ} {b c : Bool} {rest : List ConditionToken} → SpellsPhrase (suc open_most) (part (truth b)) (t.Defined c ∷ t.Open ∷ t.Defined b ∷ t.Close ∷ rest) rest
-  a_prefix : {open_most x : ℕ} {o : ConditionPrefix} {ms rest : List ConditionToken} → SpellsPhrase open_most (part x) ms rest → SpellsPhrase (suc open_most) (part (apply_prefix o x)) (t.Prefix o ∷ ms) rest
+  in_parentheses : {open_most : ℕ} {b c : Bool} {rest : List ConditionToken} → SpellsPhrase (suc open_most) (part (truth b))
+      (t.Defined c ∷ t.Open ∷ t.Name b ∷ t.Close ∷ rest) rest
+  word_in_parentheses : {open_most : ℕ} {b c : Bool} {rest : List ConditionToken} → SpellsPhrase (suc open_most) (part (truth b))
+      (t.Defined c ∷ t.Open ∷ t.Defined b ∷ t.Close ∷ rest) rest
+  a_prefix : {open_most x : ℕ} {o : ConditionPrefix} {ms rest : List ConditionToken} → SpellsPhrase open_most (part x) ms rest →
+      SpellsPhrase (suc open_most) (part (apply_prefix o x)) (t.Prefix o ∷ ms) rest
   -- a row in parentheses
-  a_group : {open_most x last : ℕ} {xs : List Operand} {ms rest : List ConditionToken} → SpellsPhrase open_most (row xs last) ms (t.Close ∷ rest) → IsWorth 10 xs last x
+  a_group : {open_most x last : ℕ} {xs : List Operand} {ms rest : List ConditionToken} → SpellsPhrase open_most (row xs last) ms
+      (t.Close ∷ rest) → IsWorth 10 xs last x
       → SpellsPhrase (suc open_most) (part x) (t.Open ∷ ms) rest
   no_operand : {open_most : ℕ} {ms : List ConditionToken} → SpellsPhrase open_most (front []) ms ms
-  one_more : {open_most x : ℕ} {o : ConditionInfix} {xs : List Operand} {ms mid rest : List ConditionToken} → SpellsPhrase open_most (front xs) ms mid → SpellsPhrase open_most (part x) mid (t.Infix o ∷ rest)
+  one_more : {open_most x : ℕ} {o : ConditionInfix} {xs : List Operand} {ms mid rest : List ConditionToken} →
+      SpellsPhrase open_most (front xs) ms mid → SpellsPhrase open_most (part x) mid (t.Infix o ∷ rest)
       → SpellsPhrase open_most (front (xs ++ operand x o ∷ [])) ms rest
-  a_row : {open_most x : ℕ} {xs : List Operand} {ms mid rest : List ConditionToken} → SpellsPhrase open_most (front xs) ms mid → SpellsPhrase open_most (part x) mid rest → SpellsPhrase open_most (row xs x) ms rest
+  a_row : {open_most x : ℕ} {xs : List Operand} {ms mid rest : List ConditionToken} → SpellsPhrase open_most (front xs) ms mid →
+      SpellsPhrase open_most (part x) mid rest → SpellsPhrase open_most (row xs x) ms rest
 
 -- The tokens are an expression of this value, in which at most 128 parentheses and prefix operators are open at once.
 pub record IsValue (tokens : List ConditionToken) (value : ℕ) : Type 0 where

@@ -1,5 +1,6 @@
 -- The numbers of the language.
-use Rattle.std.specs.Prelude.{ℕ, ◌+◌, ◌*◌, ◌^◌, ◌==◌, ◌&&◌, not, if◌then◌else◌, nat_lt, nat_eq, List, length, drop, codes, Option, Some, None, Bool}
+use Rattle.std.specs.Prelude.{ℕ, ◌+◌, ◌*◌, ◌^◌, ◌==◌, ◌&&◌, not, if◌then◌else◌, nat_lt, nat_eq, List, length, drop, codes, Option, Some}
+use Rattle.std.specs.Prelude.{None, Bool}
 use Rattle.std.specs.List.{fold, list_all, starts_with}
 use Rattle.std.specs.Char.{digit_value, is_digit}
 
@@ -17,4 +18,5 @@ numeral base text = if are_digits base text && nat_lt (value_in base text) (2 ^ 
 
 -- a number: hexadecimal behind `0x`, octal with a leading 0, else decimal
 abbrev pub number_of : List ℕ → Option ℕ
-number_of text = if starts_with nat_eq text (codes "0x") then numeral 16 (drop 2 text) else (if starts_with nat_eq text (codes "0") then numeral 8 text else numeral 10 text)
+number_of text = if starts_with nat_eq text (codes "0x") then numeral 16 (drop 2 text) else
+    (if starts_with nat_eq text (codes "0") then numeral 8 text else numeral 10 text)

@@ -1,5 +1,6 @@
 -- The operators of a condition, on unsigned numbers of 64 bits that wrap, and what a row of operands is worth.
-use Rattle.std.specs.Prelude.{ℕ, zero, suc, ◌+◌, ◌-◌, ◌*◌, ◌/◌, ◌%◌, ◌^◌, ◌==◌, ◌&&◌, ◌||◌, not, if◌then◌else◌, nat_lt, nat_le, bit_and, bit_or, bit_xor, Bool, List, [], ◌∷◌, Option, Some, None}
+use Rattle.std.specs.Prelude.{ℕ, zero, suc, ◌+◌, ◌-◌, ◌*◌, ◌/◌, ◌%◌, ◌^◌, ◌==◌, ◌&&◌, ◌||◌, not, if◌then◌else◌, nat_lt, nat_le, bit_and}
+use Rattle.std.specs.Prelude.{bit_or, bit_xor, Bool, List, [], ◌∷◌, Option, Some, None}
 use Rattle.std.specs.Option.{option_map, option_and_then}
 use Rattle.asl_conditions.specs.declared.operators.ConditionPrefix.{ConditionPrefix}
 use Rattle.asl_conditions.specs.declared.operators.ConditionPrefix.TheVariants.{Not, Complement}
@@ -78,7 +79,8 @@ pass level left (x ∷ row) last =
 -- so many levels, one after another
 unfoldable pub passes : ℕ → ℕ → List Operand → ℕ → Option ℕ
 passes zero level row last = Some last
-passes (suc levels) level row last = option_and_then (λ (r : List Operand × ℕ). passes levels (level + 1) r.0 r.1) (pass level None row last)
+passes (suc levels) level row last = option_and_then (λ (r : List Operand × ℕ). passes levels (level + 1) r.0 r.1)
+    (pass level None row last)
 
 -- what a row is worth: the operators of each level are applied from the left, the tightest level first
 abbrev pub row_value : List Operand → ℕ → Option ℕ

@@ -1,5 +1,6 @@
 -- The value of a condition's tokens, read one after another.
-use Rattle.std.specs.Prelude.{◌≡◌, ℕ, if◌then◌else◌, nat_lt, Bool, true, false, List, [], ◌∷◌, ◌++◌, length, Option, Some, None, Result, Ok, Err}
+use Rattle.std.specs.Prelude.{◌≡◌, ℕ, if◌then◌else◌, nat_lt, Bool, true, false, List, [], ◌∷◌, ◌++◌, length, Option, Some, None, Result}
+use Rattle.std.specs.Prelude.{Ok, Err}
 use Rattle.std.specs.Option.{option_and_then, option_map}
 use Rattle.asl_conditions.specs.declared.operators.Operand.{Operand}
 use Rattle.asl_conditions.specs.declared.tokens.ConditionToken.{ConditionToken}

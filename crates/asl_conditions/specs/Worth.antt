@@ -10,5 +10,6 @@ use Rattle.asl_conditions.specs.Operators.{apply, level_of, operand}
 pub data IsWorth : ℕ → List Operand → ℕ → ℕ → Type 0 where
   alone : {level x : ℕ} → IsWorth level [] x x
   tighter : {level last value : ℕ} {xs : List Operand} → IsWorth level xs last value → IsWorth (suc level) xs last value
-  applied : {level x last u v value : ℕ} (o : ConditionInfix) (xs ys : List Operand) → level_of o ≡ suc level → IsWorth (suc level) xs x u → IsWorth level ys last v → apply o u v ≡ Some value
+  applied : {level x last u v value : ℕ} (o : ConditionInfix) (xs ys : List Operand) → level_of o ≡ suc level → IsWorth (suc level) xs x u →
+      IsWorth level ys last v → apply o u v ≡ Some value
       → IsWorth (suc level) (xs ++ operand x o ∷ ys) last value

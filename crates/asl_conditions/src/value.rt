@@ -52,7 +52,8 @@ pub fn condition(alloc: Global, macros: &Macros, text: &[u8]) -> Result<u64, Con
     // The text is a condition of this value, and of no other: where it is one of some value, that is found,
     // unless memory runs out.
     ensures found { (history : History) → Tells macros.now history → IfOk result (λ value. IsCondition history text.now value) }
-    ensures only { (history : History) (value : ℕ) → Tells macros.now history → IsCondition history text.now value → Gives result (Some value) }
+    ensures only { (history : History) (value : ℕ) → Tells macros.now history → IsCondition history text.now value →
+        Gives result (Some value) }
 {
     replaced_value(alloc, macros, text)
 }

@@ -12,7 +12,8 @@ is_read branches = list_all (λ b. b.now) branches
 -- branches will be.
 abbrev pub opened : ℕ → ℕ → Bool → List Branch → List Branch
 opened line column value branches =
-    record { line = line; column = column; taken = not (is_read branches) || value; now = is_read branches && value; last = false } ∷ branches
+    record { line = line; column = column; taken = not (is_read branches) || value; now = is_read branches && value; last = false } ∷
+    branches
 
 -- Whether an `#elif` asks for the value of its condition: where no earlier branch was taken. None where no `#if` is
 -- open, or its `#else` has come.

@@ -23,7 +23,8 @@ with_bracket_behind cut = option_and_then (λ rest. cond (is_blank_text rest) (S
 -- `("TEXT")`, where nothing but blanks stands around each part
 abbrev pub in_brackets : List ℕ → Option (List ℕ)
 in_brackets text =
-    option_and_then (λ inner. option_and_then (λ string. option_and_then with_bracket_behind (split_at_mark 34 string)) (behind_mark 34 inner)) (behind_mark 40 text)
+    option_and_then (λ inner. option_and_then (λ string. option_and_then with_bracket_behind (split_at_mark 34 string))
+    (behind_mark 34 inner)) (behind_mark 40 text)
 
 -- `#undef NAME`, `#ifdef NAME`, `#ifndef NAME`: one identifier and nothing else
 abbrev pub name_in : List ℕ → Option (List ℕ)
@@ -39,7 +40,8 @@ is_ended (c ∷ cs) = is_blank c
 
 -- `#define NAME TEXT`: an identifier that is ended so, and the text without the blanks at its ends
 abbrev pub definition_in : List ℕ → Option (List ℕ × List ℕ)
-definition_in text = cond (is_identifier (word_of text) && is_ended (behind_word text)) (Some (word_of text, trimmed (behind_word text))) None
+definition_in text = cond (is_identifier (word_of text) && is_ended (behind_word text)) (Some (word_of text, trimmed (behind_word text)))
+    None
 
 abbrev pub definition_of : List ℕ → Option (List ℕ × List ℕ)
 definition_of text = definition_in (past_blanks text)

@@ -12,7 +12,9 @@ use Rattle.acpi_state.specs.Forms.{LocalSlot}
 use Rattle.acpi_state.specs.Outcomes.{choose}
 use Rattle.asl_tree.specs.Constants.{is_unary}
 use Rattle.asl_tree.specs.Literals.{literal_number}
-use Rattle.asl_tree.specs.Tree.{Tree, Integer, Constant, InSlot, Omitted, Call, Apply, Buffer, Package, VarPackage, CondRefOf, Return, Name, Method, Container', Scope, If, ElseIf, Else, While, OperationRegion, BankField, CreateField, Operated, Assigned, AssignedBy, Trees, no_trees, tree, Switch, Case, Default}
+use Rattle.asl_tree.specs.Tree.{Tree, Integer, Constant, InSlot, Omitted, Call, Apply, Buffer, Package, VarPackage, CondRefOf, Return}
+use Rattle.asl_tree.specs.Tree.{Name, Method, Container', Scope, If, ElseIf, Else, While, OperationRegion, BankField, CreateField}
+use Rattle.asl_tree.specs.Tree.{Operated, Assigned, AssignedBy, Trees, no_trees, tree, Switch, Case, Default}
 use Rattle.asl_tree.specs.View.{counted}
 use Rattle.asl_fold.specs.declared.fate.Fate.{Fate}
 
@@ -52,7 +54,8 @@ fate_with statement many targets n = Fate.Stays
 -- what becomes of an integer operator
 abbrev pub fate_of : Width → Bool → IntOp → Trees → Trees → Fate
 fate_of width statement op args targets =
-    choose (result_on width op (is_unary op) (constants width args)) Fate.Stays (fate_with statement (row_of (Plain.Number op)).targets targets)
+    choose (result_on width op (is_unary op) (constants width args)) Fate.Stays
+    (fate_with statement (row_of (Plain.Number op)).targets targets)
 
 abbrev pub last_of : Trees → Trees
 last_of no_trees = no_trees
@@ -101,7 +104,8 @@ module _ (width : Width) where
     folded statement (Case value body) = Case (folded false value) (folded_all body)
     folded statement (Default body) = Default (folded_all body)
     folded statement (OperationRegion at name space args) = OperationRegion at name space (folded_args args)
-    folded statement (BankField here from region to bank value flags items) = BankField here from region to bank (folded false value) flags items
+    folded statement (BankField here from region to bank value flags items) = BankField here from region to bank (folded false value) flags
+        items
     folded statement (CreateField form args at name) = CreateField form (folded_args args) at name
     folded statement term = term
 

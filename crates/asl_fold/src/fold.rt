@@ -38,7 +38,8 @@ fn stored(
     number: u64,
     args: Vec<Node>,
 ) -> Result<Term, AllocError>
-    ensures tree { IfOk result (λ made. (at : At) → tree_of at made ≡ Apply (P.Data DataOp.Store) (tree (Integer number) (last_of (trees_of args.items))) no_trees) }
+    ensures tree { IfOk result
+        (λ made. (at : At) → tree_of at made ≡ Apply (P.Data DataOp.Store) (tree (Integer number) (last_of (trees_of args.items))) no_trees) }
     ensures places { IfOk result (λ made. inner_places made ≡ []) }
 {
     let mut left = args;
@@ -68,7 +69,8 @@ fn reduce(
     args: Vec<Node>,
     body: Vec<Node>,
 ) -> Result<Term, AllocError>
-    ensures tree { IfOk result (λ made. (at : At) → tree_of at made ≡ reduced_form width statement op (trees_of args.items) (trees_of body.items)) }
+    ensures tree { IfOk result (λ made. (at : At) → tree_of at made ≡ reduced_form width statement op (trees_of args.items)
+        (trees_of body.items)) }
     ensures places { IfOk result (λ made. inner_places made ≡ []) }
 {
     match fate_in(width, statement, op, &args, &body) {
@@ -199,7 +201,8 @@ fn fold_form(
     args: Vec<Node>,
     body: Vec<Node>,
 ) -> Result<Term, AllocError>
-    ensures tree { IfOk result (λ made. (at : At) → tree_of at made ≡ folded width statement (form at op (trees_of args.items) (trees_of body.items))) }
+    ensures tree { IfOk result
+        (λ made. (at : At) → tree_of at made ≡ folded width statement (form at op (trees_of args.items) (trees_of body.items))) }
     ensures places { IfOk result (λ made. inner_places made ≡ (if holds_terms op then places_of body.items else [])) }
 {
     let args = fold_nodes(alloc, width, Listing::Arguments(op), args)?;

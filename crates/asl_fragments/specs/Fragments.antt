@@ -1,5 +1,6 @@
 -- A line in fragments: identifiers, numbers, strings, comments, and the bytes that stand outside these.
-use Rattle.std.specs.Prelude.{ℕ, zero, suc, ◌+◌, ◌-◌, ◌==◌, ◌&&◌, Bool, true, false, not, if◌then◌else◌, List, [], ◌∷◌, length, take, replicate}
+use Rattle.std.specs.Prelude.{ℕ, zero, suc, ◌+◌, ◌-◌, ◌==◌, ◌&&◌, Bool, true, false, not, if◌then◌else◌, List, [], ◌∷◌, length, take}
+use Rattle.std.specs.Prelude.{replicate}
 use Rattle.std.specs.List.{prefix_len, flat_map}
 use Rattle.std.specs.Char.{is_ascii_digit}
 use Rattle.asl_fragments.specs.Bytes.{begins_identifier, in_identifier}
@@ -31,7 +32,8 @@ made kind length left_open = record { kind = kind; length = length; left_open = 
 unfoldable pub fragment_of_slash : List ℕ → Fragment
 fragment_of_slash [] = made Other 1 false
 fragment_of_slash (b ∷ bs) =
-    if b == 47 then made Comment (2 + length bs) false else (if b == 42 then made Comment (2 + block_length false bs) (block_is_open false bs) else made Other 1 false)
+    if b == 47 then made Comment (2 + length bs) false else
+    (if b == 42 then made Comment (2 + block_length false bs) (block_is_open false bs) else made Other 1 false)
 
 -- what a byte begins, by what stands behind it
 unfoldable pub fragment_of : ℕ → List ℕ → Fragment

@@ -25,7 +25,8 @@ fn plain_length(text: &[u8]) -> usize
 // all before the next string or comment, or a fragment.
 fn first_part(text: &[u8], in_comment: bool) -> (usize, bool)
     requires { 0 < length text.now }
-    ensures open_ { (before : Bool) → spec.open_behind before (spec.fragments in_comment text.now) ≡ spec.open_behind result.1 (spec.fragments false (drop result.0 text.now)) }
+    ensures open_ { (before : Bool) → spec.open_behind before (spec.fragments in_comment text.now) ≡ spec.open_behind result.1
+        (spec.fragments false (drop result.0 text.now)) }
     ensures forward { 0 < result.0 }
     ensures within { result.0 ≤ length text.now }
 {

@@ -32,7 +32,8 @@ fn past_alone(text: &[u8]) -> &[u8]
 /// comment or does not; what stands behind the identifier does not.
 pub fn first_identifier(text: &[u8], in_comment: bool) -> Option<(&[u8], &[u8])>
     ensures shorter { IfSome result (λ cut. length cut.1.now < length text.now) }
-    ensures first { MatchOption result (spec.identifiers (spec.fragments in_comment text.now) ≡ []) (λ cut. spec.identifiers (spec.fragments in_comment text.now) ≡ cut.0.now ∷ spec.identifiers (spec.fragments false cut.1.now)) }
+    ensures first { MatchOption result (spec.identifiers (spec.fragments in_comment text.now) ≡ [])
+        (λ cut. spec.identifiers (spec.fragments in_comment text.now) ≡ cut.0.now ∷ spec.identifiers (spec.fragments false cut.1.now)) }
 {
     let mut rest = text;
     let mut inside = in_comment;

@@ -71,4 +71,5 @@ marks_behind l i = marks_from l.file l.number (i + 1) (drop i l.text)
 -- Whatever lines stand behind the line, the reading comes over so many of these bytes of it to this mode and these tokens.
 abbrev pub Passes : Place → List ℕ → ℕ → Mode → List Token → Mode → List Token → Type 0
 Passes at bytes width mode old next new = (rest : List MarkedByte) → AtBreak rest
-    → scan (marks_from at.file at.line at.column bytes ++ rest) mode old ≡ scan (marks_from at.file at.line (at.column + width) (drop width bytes) ++ rest) next new
+    → scan (marks_from at.file at.line at.column bytes ++ rest) mode old ≡ scan
+    (marks_from at.file at.line (at.column + width) (drop width bytes) ++ rest) next new

@@ -1,5 +1,6 @@
 -- The tokens of marked bytes, by one step for each.
-use Rattle.std.specs.Prelude.{◌≡◌, ℕ, ◌+◌, ◌*◌, ◌-◌, ◌^◌, min, Bool, true, false, ◌&&◌, ◌==◌, nat_lt, nat_le, if◌then◌else◌, List, [], ◌∷◌, ◌++◌, length, Option, Some, None, Result, Ok, Err}
+use Rattle.std.specs.Prelude.{◌≡◌, ℕ, ◌+◌, ◌*◌, ◌-◌, ◌^◌, min, Bool, true, false, ◌&&◌, ◌==◌, nat_lt, nat_le, if◌then◌else◌, List, [], ◌∷◌}
+use Rattle.std.specs.Prelude.{◌++◌, length, Option, Some, None, Result, Ok, Err}
 use Rattle.std.specs.Char.{digit_value, is_digit, to_ascii_uppercase}
 use Rattle.iasl_messages.specs.declared.place.Place.{Place}
 use Rattle.asl_lexer.specs.declared.class.Class.{Class}
@@ -129,8 +130,10 @@ first_of (p ∷ ps) last = p
 
 abbrev pub carets_by : Class → List Place → Place → Place → ℕ → List Token → Moved
 carets_by c.Caret before last at b done = Ok (m.Carets (before ++ last ∷ []) at, done)
-carets_by c.Letter before last at b done = Ok (m.Name (first_of before last) true (caret_text before ++ 94 ∷ to_ascii_uppercase b ∷ []), done)
-carets_by c.Underscore before last at b done = Ok (m.Name (first_of before last) true (caret_text before ++ 94 ∷ to_ascii_uppercase b ∷ []), done)
+carets_by c.Letter before last at b done =
+    Ok (m.Name (first_of before last) true (caret_text before ++ 94 ∷ to_ascii_uppercase b ∷ []), done)
+carets_by c.Underscore before last at b done =
+    Ok (m.Name (first_of before last) true (caret_text before ++ 94 ∷ to_ascii_uppercase b ∷ []), done)
 carets_by c.Equals before last at b done = Ok (m.Between, with_symbol (with_carets done before) last (94 ∷ 61 ∷ []))
 carets_by _ before last at b done = begin at b (with_symbol (with_carets done before) last (94 ∷ []))
 
@@ -150,7 +153,8 @@ abbrev pub more : ℕ → Radix → ℕ → ℕ
 more value radix b = value * base_of radix + digit_value b
 
 abbrev pub number_by : Bool → Place → Radix → ℕ → ℕ → Place → ℕ → List Token → Moved
-number_by true from radix value end at b done = digit_by (nat_lt (more value radix b) (2 ^ 64)) from radix (more value radix b) (end_at at) done
+number_by true from radix value end at b done = digit_by (nat_lt (more value radix b) (2 ^ 64)) from radix (more value radix b)
+    (end_at at) done
 number_by false from radix value end at b done = behind_by (class_of b) from value end at b done
 
 abbrev pub zero_by : Bool → Bool → Place → Place → ℕ → List Token → Moved
@@ -216,7 +220,8 @@ value_by true from text slash value at b done = text_by (class_of b) from (text 
 value_by false from text slash value at b done = broken_by (class_of b) from (bad_escape slash) done
 
 abbrev pub escape_digit_by : Bool → Place → List ℕ → Place → Radix → ℕ → ℕ → Place → ℕ → List Token → Moved
-escape_digit_by true from text slash radix value left at b done = Ok (m.Digits from text slash radix (min (more value radix b) 255) (left - 1), done)
+escape_digit_by true from text slash radix value left at b done =
+    Ok (m.Digits from text slash radix (min (more value radix b) 255) (left - 1), done)
 escape_digit_by false from text slash radix value left at b done = value_by (is_plain value) from text slash value at b done
 
 abbrev pub slash_by : Class → Place → Place → ℕ → List Token → Moved

@@ -133,7 +133,8 @@ fn over_runs(
 ) -> Result<usize, AllocError>
     requires { length line.now.text < 2 ^ 32 }
     ensures within { IfOk result (λ index. from ≤ index) }
-    ensures passes { IfOk result (λ index. (rest : AList MarkedByte) → AtBreak rest → spec.scan (marks_behind line.now from ++ rest) mode.now tokens.old ≡ spec.scan (marks_behind line.now index ++ rest) mode.now tokens.new) }
+    ensures passes { IfOk result (λ index. (rest : AList MarkedByte) → AtBreak rest → spec.scan (marks_behind line.now from ++ rest) mode.now
+        tokens.old ≡ spec.scan (marks_behind line.now index ++ rest) mode.now tokens.new) }
 {
     let bytes = line.text.as_bytes();
     if from >= bytes.len() {
@@ -158,7 +159,8 @@ fn scan_behind(
     from: usize,
 ) -> Result<Mode, LexerStop>
     requires { length line.now.text < 2 ^ 32 }
-    ensures { (rest : AList MarkedByte) → AtBreak rest → Leads result tokens.new rest (spec.scan (marks_behind line.now from ++ rest) mode tokens.old) }
+    ensures { (rest : AList MarkedByte) → AtBreak rest →
+        Leads result tokens.new rest (spec.scan (marks_behind line.now from ++ rest) mode tokens.old) }
 {
     let bytes = line.text.as_bytes();
     let mut index = from;
@@ -177,7 +179,8 @@ fn scan_behind(
 #[inline(always)]
 fn scan_line(alloc: Global, tokens: &mut Tokens, mode: Mode, line: &Line) -> Result<Mode, LexerStop>
     requires { length line.now.text < 2 ^ 32 }
-    ensures { (rest : AList MarkedByte) → AtBreak rest → Leads result tokens.new rest (spec.scan (line_marks line.now ++ rest) mode tokens.old) }
+    ensures { (rest : AList MarkedByte) → AtBreak rest →
+        Leads result tokens.new rest (spec.scan (line_marks line.now ++ rest) mode tokens.old) }
 {
     let index = over_runs(alloc, tokens, &mode, line, 0)?;
     if index >= line.text.as_bytes().len() {
@@ -190,7 +193,8 @@ fn scan_line(alloc: Global, tokens: &mut Tokens, mode: Mode, line: &Line) -> Res
 #[inline(always)]
 fn next_line(alloc: Global, tokens: &mut Tokens, mode: Mode, line: &Line) -> Result<Mode, LexerStop>
     requires { length line.now.text < 2 ^ 32 }
-    ensures { (rest : AList MarkedByte) → AtBreak rest → Leads result tokens.new rest (spec.scan (break_mark line.now ∷ line_marks line.now ++ rest) mode tokens.old) }
+    ensures { (rest : AList MarkedByte) → AtBreak rest →
+        Leads result tokens.new rest (spec.scan (break_mark line.now ∷ line_marks line.now ++ rest) mode tokens.old) }
 {
     if let Mode::Between = mode {
         return scan_line(alloc, tokens, Mode::Between, line);

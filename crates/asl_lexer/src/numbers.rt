@@ -52,7 +52,8 @@ pub fn number(
     at: Place,
     byte: u8,
 ) -> Result<Mode, LexerStop>
-    ensures { Moves result tokens.new (spec.number_by (is_digit byte (base_by numeral.radix)) numeral.from numeral.radix numeral.value numeral.end at byte tokens.old) }
+    ensures { Moves result tokens.new
+        (spec.number_by (is_digit byte (base_by numeral.radix)) numeral.from numeral.radix numeral.value numeral.end at byte tokens.old) }
 {
     let Numeral {
         from,

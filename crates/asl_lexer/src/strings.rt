@@ -208,7 +208,8 @@ pub fn escape_digit(
     at: Place,
     byte: u8,
 ) -> Result<Mode, LexerStop>
-    ensures { Moves result tokens.new (spec.escape_digit_by (nat_lt 0 code.left && is_digit byte (base_by code.radix)) front.from front.text front.slash code.radix code.value code.left at byte tokens.old) }
+    ensures { Moves result tokens.new (spec.escape_digit_by (nat_lt 0 code.left && is_digit byte (base_by code.radix)) front.from front.text
+        front.slash code.radix code.value code.left at byte tokens.old) }
 {
     let digit = value_of(byte);
     let base = base_of(code.radix);

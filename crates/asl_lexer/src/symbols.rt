@@ -76,7 +76,8 @@ pub fn sign(
     at: Place,
     byte: u8,
 ) -> Result<Mode, LexerStop>
-    ensures { Moves result tokens.new (spec.sign_by (byte == 61 && takes_equals_by first) (byte == first && doubles_by first) from first at byte tokens.old) }
+    ensures { Moves result tokens.new
+        (spec.sign_by (byte == 61 && takes_equals_by first) (byte == first && doubles_by first) from first at byte tokens.old) }
 {
     if byte == b'=' && takes_equals(first) {
         add_symbol(alloc, tokens, from, &[first, b'='])?;

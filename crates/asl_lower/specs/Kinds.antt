@@ -24,7 +24,8 @@ tree_kind _ = Kind.Other
 abbrev pub shape_kind : TermShape → Kind
 shape_kind (OfForm (Op.Control Control.ElseIf) args body) = flagged (are 1 args) Kind.ElseIf
 shape_kind (OfForm (Op.Control Control.Else) args body) = flagged (are 0 args) Kind.Else
-shape_kind (OfForm (Op.Symbolic (Symbolic.Operator op)) args body) = flagged (are 0 body && fits (row_of op).operands args) (flagged (takes_target op) (Kind.Operated op))
+shape_kind (OfForm (Op.Symbolic (Symbolic.Operator op)) args body) = flagged (are 0 body && fits (row_of op).operands args)
+    (flagged (takes_target op) (Kind.Operated op))
 shape_kind _ = Kind.Other
 
 -- the arguments of a form

@@ -9,7 +9,9 @@ use Rattle.asl_tree.specs.declared.term.Declaration.TheVariants as Declaration
 use Rattle.asl_tree.specs.declared.term.Op.{Op}
 use Rattle.asl_tree.specs.declared.term.Special.TheVariants as Special
 use Rattle.asl_tree.specs.Symbols.{compound_operator}
-use Rattle.asl_tree.specs.Tree.{Tree, Omitted, Call, Apply, Buffer, Package, VarPackage, CondRefOf, Return, Name, Method, Container', Scope, If, ElseIf, Else, While, OperationRegion, BankField, CreateField, Operated, Assigned, AssignedBy, Misshapen, Trees, no_trees, tree, Switch, Case, Default}
+use Rattle.asl_tree.specs.Tree.{Tree, Omitted, Call, Apply, Buffer, Package, VarPackage, CondRefOf, Return, Name, Method, Container'}
+use Rattle.asl_tree.specs.Tree.{Scope, If, ElseIf, Else, While, OperationRegion, BankField, CreateField, Operated, Assigned, AssignedBy}
+use Rattle.asl_tree.specs.Tree.{Misshapen, Trees, no_trees, tree, Switch, Case, Default}
 use Rattle.asl_meaning.specs.Meaning.{target_operator}
 
 -- an operand that is left out has no value

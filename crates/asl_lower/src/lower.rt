@@ -12,7 +12,8 @@ ghost use Rattle.asl_tree.specs.declared.term.Symbolic.TheVariants as S;
 ghost use Rattle.asl_lower.specs.Kinds.{shape_args};
 ghost use Rattle.asl_lower.specs.Nests.{joined};
 ghost use Rattle.asl_lower.specs.Nodes.{given as given_tree, last_target, named, named_args, named_all, named_body};
-ghost use Rattle.asl_lower.specs.Places.{form_places, has_terms, lowered_at, lowered_places, nested_at, nested_places, StandsAlone, TakesPlacesOf};
+ghost use Rattle.asl_lower.specs.Places.{form_places, has_terms, lowered_at, lowered_places, nested_at, nested_places, StandsAlone};
+ghost use Rattle.asl_lower.specs.Places.{TakesPlacesOf};
 ghost use Rattle.term_places.specs.Places.{places_of};
 
 use crate::copy::copied;
@@ -200,7 +201,8 @@ fn lower_form(
     body: Vec<Node>,
 ) -> Result<Term, AllocError>
     ensures tree { IfOk result (λ made. (at : At) → tree_of at made ≡ named (form at op (trees_of args.items) (trees_of body.items))) }
-    ensures places { IfOk result (λ made. (here : Here) → nested_at here made ≡ form_places op (trees_of args.items) here (lowered_places body.items)) }
+    ensures places { IfOk result (λ made. (here : Here) → nested_at here made ≡ form_places op (trees_of args.items) here
+        (lowered_places body.items)) }
 {
     match op {
         Op::Symbolic(symbol) => {
@@ -260,7 +262,8 @@ fn lower_symbol(
     args: Vec<Node>,
     body: Vec<Node>,
 ) -> Result<Term, AllocError>
-    ensures tree { IfOk result (λ made. (at : At) → tree_of at made ≡ named (form at (O.Symbolic symbol) (trees_of args.items) (trees_of body.items))) }
+    ensures tree { IfOk result
+        (λ made. (at : At) → tree_of at made ≡ named (form at (O.Symbolic symbol) (trees_of args.items) (trees_of body.items))) }
     ensures alone { IfOk result StandsAlone }
 {
     if !body.is_empty() {
@@ -294,7 +297,8 @@ fn lower_operator(
     op: Plain,
     args: Vec<Node>,
 ) -> Result<Term, AllocError>
-    ensures tree { IfOk result (λ made. (at : At) → tree_of at made ≡ named (form at (O.Symbolic (S.Operator op)) (trees_of args.items) no_trees)) }
+    ensures tree { IfOk result
+        (λ made. (at : At) → tree_of at made ≡ named (form at (O.Symbolic (S.Operator op)) (trees_of args.items) no_trees)) }
     ensures alone { IfOk result StandsAlone }
 {
     if !fit(op, &args) {
@@ -338,7 +342,8 @@ fn lower_assignment(alloc: Global, args: Vec<Node>) -> Result<Term, AllocError>
 // `X op= Y`: the operator on X and Y with the target X.
 #[cycle(lower)]
 fn lower_compound(alloc: Global, op: Compound, args: Vec<Node>) -> Result<Term, AllocError>
-    ensures tree { IfOk result (λ made. (at : At) → tree_of at made ≡ named (form at (O.Symbolic (S.AssignBy op)) (trees_of args.items) no_trees)) }
+    ensures tree { IfOk result
+        (λ made. (at : At) → tree_of at made ≡ named (form at (O.Symbolic (S.AssignBy op)) (trees_of args.items) no_trees)) }
     ensures alone { IfOk result StandsAlone }
 {
     if args.len() != 2 {

@@ -35,7 +35,8 @@ fn as_if(term: Term) -> Term
 fn take_else(made: &mut Vec<Node>, inner: &mut Vec<Node>) -> Result<(), AllocError>
     ensures rest { OnOk result (backwards made.new.items ≡ behind_else (backwards made.old.items)) }
     ensures taken { OnOk result (trees_of inner.new.items ≡ joined (trees_of inner.old.items) (first_else (backwards made.old.items))) }
-    ensures places { OnOk result (places_of inner.new.items ++ places_of (reverse made.new.items) ≡ places_of inner.old.items ++ places_of (reverse made.old.items)) }
+    ensures places { OnOk result (places_of inner.new.items ++ places_of (reverse made.new.items) ≡ places_of inner.old.items
+        ++ places_of (reverse made.old.items)) }
 {
     match made.pop() {
         Some(node) => match kind_of(&node.term) {

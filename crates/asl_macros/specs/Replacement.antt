@@ -1,5 +1,6 @@
 -- The replacement of defined names by their texts.
-use Rattle.std.specs.Prelude.{◌≡◌, ℕ, zero, suc, ◌<◌, ◌≤◌, ◌&&◌, Bool, true, false, not, if◌then◌else◌, List, [], ◌∷◌, ◌++◌, length, codes, Option, Result, Ok, Err, Vec}
+use Rattle.std.specs.Prelude.{◌≡◌, ℕ, zero, suc, ◌<◌, ◌≤◌, ◌&&◌, Bool, true, false, not, if◌then◌else◌, List, [], ◌∷◌, ◌++◌, length, codes}
+use Rattle.std.specs.Prelude.{Option, Result, Ok, Err, Vec}
 use Rattle.std.specs.declared.alloc.Global.{Global}
 use Rattle.std.specs.Option.{option_map_or}
 use Rattle.std.specs.List.{list_any}
@@ -49,7 +50,8 @@ is_name within context kind text = is_identifier kind && is_name_at within conte
 -- anywhere else.
 abbrev pub context_behind : FragmentContext → FragmentKind → List ℕ → FragmentContext
 context_behind Anywhere kind text = if is_identifier kind && is_defined text then BehindDefined else Anywhere
-context_behind BehindDefined kind text = if stands_for_blanks kind text then BehindDefined else (if is_parenthesis text then BehindParenthesis else Anywhere)
+context_behind BehindDefined kind text = if stands_for_blanks kind text then BehindDefined else
+    (if is_parenthesis text then BehindParenthesis else Anywhere)
 context_behind BehindParenthesis kind text = if stands_for_blanks kind text then BehindParenthesis else Anywhere
 
 -- ---- replacement
@@ -62,7 +64,8 @@ value_or_itself value false text = text
 abbrev pub with_values : Within → (List ℕ → List ℕ) → FragmentContext → List Piece → List ℕ
 with_values within value context [] = []
 with_values within value context (piece ∷ pieces) =
-    value_or_itself value (is_name within context piece.kind piece.text) piece.text ++ with_values within value (context_behind context piece.kind piece.text) pieces
+    value_or_itself value (is_name within context piece.kind piece.text) piece.text ++ with_values within value
+    (context_behind context piece.kind piece.text) pieces
 
 -- the same of a text
 unfoldable pub text_with_values : Within → (List ℕ → List ℕ) → Bool → List ℕ → List ℕ
@@ -77,7 +80,9 @@ is_active active name = list_any (λ other. bytes_eq other name) active
 unfoldable pub value_of : ℕ → Within → (List ℕ → Option (List ℕ)) → List (List ℕ) → List ℕ → List ℕ
 value_of zero within text_of active name = name
 value_of (suc levels) within text_of active name =
-    if is_active active name then name else option_map_or (λ text. text_with_values within (value_of levels within text_of (active ++ name ∷ [])) false text) (text_of name) name
+    if is_active active name then name else
+    option_map_or (λ text. text_with_values within (value_of levels within text_of (active ++ name ∷ [])) false text)
+    (text_of name) name
 
 -- how deep names are replaced in texts of names
 abbrev pub nesting : ℕ

@@ -90,7 +90,8 @@ fn add_value<'a>(
     name: &'a [u8],
 ) -> Result<(), ReplaceStop>
     requires { length out.old.items ≤ rule.now.limit }
-    ensures added { Adds result rule.now.limit out.old.items out.new.items (spec.value_of levels rule.now.within (text_at rule.now.macros.now) (map (λ other. other.now) active.old.items) name.now) }
+    ensures added { Adds result rule.now.limit out.old.items out.new.items
+        (spec.value_of levels rule.now.within (text_at rule.now.macros.now) (map (λ other. other.now) active.old.items) name.now) }
     ensures active { OnOk result (active.new.items ≡ active.old.items) }
 {
     if levels == 0 {
@@ -122,7 +123,9 @@ fn add_piece<'a>(
     piece: &'a [u8],
 ) -> Result<(), ReplaceStop>
     requires { length out.old.items ≤ rule.now.limit }
-    ensures added { Adds result rule.now.limit out.old.items out.new.items (spec.value_or_itself (spec.value_of levels rule.now.within (text_at rule.now.macros.now) (map (λ other. other.now) active.old.items)) named piece.now) }
+    ensures added { Adds result rule.now.limit out.old.items out.new.items
+        (spec.value_or_itself
+        (spec.value_of levels rule.now.within (text_at rule.now.macros.now) (map (λ other. other.now) active.old.items)) named piece.now) }
     ensures active { OnOk result (active.new.items ≡ active.old.items) }
 {
     if named {
@@ -143,7 +146,10 @@ fn add_text<'a>(
     in_comment: bool,
 ) -> Result<(), ReplaceStop>
     requires { length out.old.items ≤ rule.now.limit }
-    ensures added { Adds result rule.now.limit out.old.items out.new.items (spec.text_with_values rule.now.within (spec.value_of levels rule.now.within (text_at rule.now.macros.now) (map (λ other. other.now) active.old.items)) in_comment text.now) }
+    ensures added { Adds result rule.now.limit out.old.items out.new.items
+        (spec.text_with_values rule.now.within
+        (spec.value_of levels rule.now.within (text_at rule.now.macros.now) (map (λ other. other.now) active.old.items)) in_comment
+        text.now) }
     ensures active { OnOk result (active.new.items ≡ active.old.items) }
 {
     let mut rest = text;
@@ -192,7 +198,8 @@ fn names_first(macros: &Macros, text: &[u8]) -> bool
 // The same where the text stands behind a byte in whose word its first byte may go on.
 fn names_behind(macros: &Macros, before: u8, text: &[u8]) -> bool
     requires { 0 < length text.now }
-    ensures { result ≡ false → (in_identifier_by before && in_identifier_by (slice_index text.now 0)) ≡ false → FirstIsFree (text_at macros.now) text.now }
+    ensures { result ≡ false → (in_identifier_by before && in_identifier_by (slice_index text.now 0)) ≡ false →
+        FirstIsFree (text_at macros.now) text.now }
 {
     !(in_identifier(before) && in_identifier(text[0])) && names_first(macros, text)
 }
@@ -200,7 +207,8 @@ fn names_behind(macros: &Macros, before: u8, text: &[u8]) -> bool
 // Whether a text has four bytes with none of which a defined name begins.
 fn passes_four(macros: &Macros, text: &[u8]) -> bool
     ensures within { result ≡ true → 4 ≤ length text.now }
-    ensures clear { result ≡ true → (before : ℕ) → IsClear (text_at macros.now) (slice_index text.now 3) (drop 4 text.now) → IsClear (text_at macros.now) before text.now }
+    ensures clear { result ≡ true → (before : ℕ) → IsClear (text_at macros.now) (slice_index text.now 3) (drop 4 text.now) →
+        IsClear (text_at macros.now) before text.now }
 {
     match text {
         [a, b, c, d, ..] => !macros.may_begin_any(*a, *b, *c, *d),
@@ -232,7 +240,8 @@ fn is_clear(macros: &Macros, text: &[u8]) -> bool
 
 /// Whether none of the names of a text is defined, so that it stays as it is.
 pub fn stays(macros: &Macros, text: &[u8], in_comment: bool) -> bool
-    ensures { result ≡ true → (within : Within) (history : History) → Tells macros.now history → spec.replaced within history in_comment text.now ≡ text.now }
+    ensures { result ≡ true → (within : Within) (history : History) → Tells macros.now history →
+        spec.replaced within history in_comment text.now ≡ text.now }
 {
     is_clear(macros, text) || is_free(macros, text, in_comment)
 }

@@ -13,7 +13,8 @@ use Rattle.acpi_values.specs.Operators.{Letter, Valued, Kept, Placed, Used, Row,
 use Rattle.acpi_values.specs.Operators as L
 use Rattle.acpi_values.specs.Integers.{wrapped}
 use Rattle.acpi_state.specs.Objects.{Object, DataObject, MethodObject, ContainerObject, MutexObject, EventObject, AliasObject}
-use Rattle.acpi_state.specs.Outcomes.{Flow, Normal, Gives, Stop, Unfinished, Broken, Run, done, stop, fault, then_run, act, choose, value_of, on_flow}
+use Rattle.acpi_state.specs.Outcomes.{Flow, Normal, Gives, Stop, Unfinished, Broken, Run, done, stop, fault, then_run, act, choose}
+use Rattle.acpi_state.specs.Outcomes.{value_of, on_flow}
 use Rattle.acpi_state.specs.Outcomes as O
 use Rattle.acpi_state.specs.Loops.{is_true, loop}
 use Rattle.acpi_state.specs.Actions.{computed, write_named}
@@ -31,7 +32,10 @@ use Rattle.asl_meaning.specs.FieldTerms.{first_unit, create_units}
 use Rattle.asl_tree.specs.Literals.{literal_number}
 use Rattle.asl_tree.specs.Names.{Known, is_known, place_of, denoted, element_path}
 use Rattle.asl_tree.specs.Symbols.{compound_operator, takes_target}
-use Rattle.asl_tree.specs.Tree.{Tree, Integer, Constant, String, InSlot, Debug, Omitted, Raw, Use, Call, Apply, Buffer, Package, VarPackage, CondRefOf, Return, Name, Alias, External, Method, Mutex, Event, Container', Scope, Fill, Misshapen, Trees, no_trees, tree, OperationRegion, Field, IndexField, BankField, CreateField, If, ElseIf, Else, While, Break, Continue, Item, Operated, Assigned, AssignedBy, Switch, Case, Default}
+use Rattle.asl_tree.specs.Tree.{Tree, Integer, Constant, String, InSlot, Debug, Omitted, Raw, Use, Call, Apply, Buffer, Package}
+use Rattle.asl_tree.specs.Tree.{VarPackage, CondRefOf, Return, Name, Alias, External, Method, Mutex, Event, Container', Scope, Fill}
+use Rattle.asl_tree.specs.Tree.{Misshapen, Trees, no_trees, tree, OperationRegion, Field, IndexField, BankField, CreateField, If, ElseIf}
+use Rattle.asl_tree.specs.Tree.{Else, While, Break, Continue, Item, Operated, Assigned, AssignedBy, Switch, Case, Default}
 
 -- a run that keeps the bodies of methods as trees
 abbrev pub SourceRun : Type 0 → Type 0
@@ -98,7 +102,8 @@ module _ (known : Known) where
 
   -- the same, of a name that may lead nowhere
   abbrev pub sought : Path → AbsolutePath → SourceRun (Option (AbsolutePath × Object))
-  sought name scope s = done (choose (choose (denoted (is_known known) name scope) None (λ path. first_there s.names (path ∷ []))) None (reached s.names)) s
+  sought name scope s =
+      done (choose (choose (denoted (is_known known) name scope) None (λ path. first_there s.names (path ∷ []))) None (reached s.names)) s
 
   -- the path of the region, or of what a connection's name leads to, and the register
   abbrev pub region_at : Path → AbsolutePath → SourceRun AbsolutePath
@@ -174,25 +179,33 @@ module _ (width : Width) (known : Known) where
           apply_with width op (operands (row_of op).operands args scope) (λ rs. store_all targets rs scope)
       run (Operated op args) scope due = operate width op (λ letters. operands letters args scope) (done Nowhere)
       run (Assigned target value) scope due =
-          assign_with width (target_operator value) (λ letters. inner_operands letters value scope) (then_run (run value scope false) value_of) (spot target scope)
+          assign_with width (target_operator value) (λ letters. inner_operands letters value scope)
+          (then_run (run value scope false) value_of) (spot target scope)
       run (AssignedBy op target value) scope due =
-          operate width (compound_operator op) (λ letters. two_values (then_run (run target scope false) value_of) (then_run (run value scope false) value_of)) (spot target scope)
+          operate width (compound_operator op)
+          (λ letters. two_values (then_run (run target scope false) value_of) (then_run (run value scope false) value_of))
+          (spot target scope)
       run (Buffer size bytes) scope due =
           then_run (size_by (run size scope false)) (λ n. then_run (act (computed (buffer_of n bytes))) (λ v. done (Gives v)))
       run (Package count items) scope due =
           then_run (elements items scope) (λ es. then_run (act (computed (package_of count es))) (λ v. done (Gives v)))
       run (VarPackage count items) scope due =
-          then_run (size_by (run count scope false)) (λ n. then_run (elements items scope) (λ es. then_run (act (computed (package_of n es))) (λ v. done (Gives v))))
+          then_run (size_by (run count scope false))
+          (λ n. then_run (elements items scope) (λ es. then_run (act (computed (package_of n es))) (λ v. done (Gives v))))
       run (CondRefOf place target) scope due =
-          then_run (cond_by place (spot place scope) scope) (λ o. then_run (spot target scope) (λ t. then_run (act (cond_ref_of width o t)) (λ v. done (Gives v))))
+          then_run (cond_by place (spot place scope) scope)
+          (λ o. then_run (spot target scope) (λ t. then_run (act (cond_ref_of width o t)) (λ v. done (Gives v))))
       run (Return value) scope due = then_run (then_run (run value scope false) value_of) (λ v. done (O.Return v))
       run (Name at name value) scope due =
-          then_run (then_run (run value scope false) value_of) (λ v. then_run (create (place_of name scope) DataObject) (λ u. then_run (act (write_named (place_of name scope) v)) (λ u. done (Normal false))))
+          then_run (then_run (run value scope false) value_of)
+          (λ v. then_run (create (place_of name scope) DataObject)
+          (λ u. then_run (act (write_named (place_of name scope) v)) (λ u. done (Normal false))))
       run (Alias from source at name) scope due =
           then_run (found known source scope) (λ e. then_run (create (place_of name scope) (AliasObject e.0)) (λ u. done (Normal false)))
       run (External here at name type parameters) scope due = done (Normal false)
       run (Method at name flags body) scope due =
-          then_run (create (place_of name scope) (MethodObject flags)) (λ u. then_run (keep_body (place_of name scope) body) (λ u. done (Normal false)))
+          then_run (create (place_of name scope) (MethodObject flags))
+          (λ u. then_run (keep_body (place_of name scope) body) (λ u. done (Normal false)))
       run (Mutex at name level) scope due = then_run (create (place_of name scope) (MutexObject level)) (λ u. done (Normal false))
       run (Event at name) scope due = then_run (create (place_of name scope) EventObject) (λ u. done (Normal false))
       run (Container' kind at name body) scope due =
@@ -201,12 +214,14 @@ module _ (width : Width) (known : Known) where
       run (If test body) scope due =
           then_run (size_by (run test scope false)) (λ n. if is_true n then run_all body scope false else done (Normal true))
       run (ElseIf test body) scope due =
-          if due then then_run (size_by (run test scope false)) (λ n. if is_true n then run_all body scope false else done (Normal true)) else done (Normal false)
+          if due then then_run (size_by (run test scope false)) (λ n. if is_true n then run_all body scope false else done (Normal true))
+          else done (Normal false)
       run (Else body) scope due = if due then run_all body scope false else done (Normal false)
       run (While test body) scope due =
           loop {X = Unit {0}} turns (then_run (size_by (run test scope false)) (λ n. done (is_true n, tt))) (λ u. run_all body scope false)
       run (Switch value cases) scope due =
-          then_run (then_run (run value scope false) value_of) (λ v. then_run (run_cases cases v scope (run_default cases scope)) leave_switch)
+          then_run (then_run (run value scope false) value_of)
+          (λ v. then_run (run_cases cases v scope (run_default cases scope)) leave_switch)
       run (Case value body) scope due = stop Broken
       run (Default body) scope due = stop Broken
       run Break scope due = done O.Break
@@ -214,12 +229,16 @@ module _ (width : Width) (known : Known) where
       run (OperationRegion at name space args) scope due =
           then_run (operands region_letters args scope) (λ os. make_region width (place_of name scope) space os)
       run (Field here from region flags items) scope due =
-          then_run (region_at known region scope) (λ r. create_units (λ name. region_at known name scope) (InRegion r) scope (first_unit flags) items)
+          then_run (region_at known region scope)
+          (λ r. create_units (λ name. region_at known name scope) (InRegion r) scope (first_unit flags) items)
       run (IndexField here from index to register flags items) scope due =
-          then_run (register_at known index scope) (λ i. then_run (register_at known register scope) (λ r. create_units (λ name. region_at known name scope) (BehindIndex i r) scope (first_unit flags) items))
+          then_run (register_at known index scope)
+          (λ i. then_run (register_at known register scope)
+          (λ r. create_units (λ name. region_at known name scope) (BehindIndex i r) scope (first_unit flags) items))
       run (BankField here from region to bank value flags items) scope due =
           then_run (region_at known region scope) (λ r. then_run (register_at known bank scope) (λ b.
-          then_run (size_by (run value scope false)) (λ n. create_units (λ name. region_at known name scope) (InBank r b n) scope (first_unit flags) items)))
+          then_run (size_by (run value scope false))
+          (λ n. create_units (λ name. region_at known name scope) (InBank r b n) scope (first_unit flags) items)))
       run (CreateField form args at name) scope due =
           then_run (operands (field_letters form) args scope) (λ os. make_buffer_field width form (place_of name scope) os)
       run (Item item) scope due = stop Broken
@@ -233,7 +252,8 @@ module _ (width : Width) (known : Known) where
       spot (InSlot slot) scope = then_run (act (slot_here slot)) (λ place. done (At place))
       spot (Use at name) scope = then_run (found known name scope) (λ e. done (At (Named e.0)))
       spot (Apply op args targets) scope =
-          spot_by (spot_form op) (apply_with width op (operands (row_of op).operands args scope) (λ rs. store_all targets rs scope)) (first_value args scope)
+          spot_by (spot_form op) (apply_with width op (operands (row_of op).operands args scope) (λ rs. store_all targets rs scope))
+          (first_value args scope)
       spot (Operated op args) scope =
           spot_by (spot_form op) (operate width op (λ letters. operands letters args scope) (done Nowhere)) (first_value args scope)
       spot _ scope = stop Broken
@@ -246,10 +266,12 @@ module _ (width : Width) (known : Known) where
       pub operands : List Letter → Trees → AbsolutePath → SourceRun (List Operand)
       operands [] no_trees scope = done []
       operands (letter ∷ letters) (tree t ts) scope =
-          then_run (operand_by letter t (run t scope false) (spot t scope) scope) (λ o. then_run (operands letters ts scope) (λ os. done (o ∷ os)))
+          then_run (operand_by letter t (run t scope false) (spot t scope) scope)
+          (λ o. then_run (operands letters ts scope) (λ os. done (o ∷ os)))
       operands _ _ scope = stop Broken
 
-      -- whether a value is that of a Case, which `alone` compares; of a Package all members are compared instead, also behind one that is equal
+      -- whether a value is that of a Case, which `alone` compares; of a Package all members are compared instead, also
+      -- behind one that is equal
       pub hits : Tree → SourceRun Bool → Value → AbsolutePath → SourceRun Bool
       hits (Package count members) alone v scope = hits_any members v scope
       hits (VarPackage count members) alone v scope = hits_any members v scope
@@ -258,13 +280,15 @@ module _ (width : Width) (known : Known) where
       pub hits_any : Trees → Value → AbsolutePath → SourceRun Bool
       hits_any no_trees v scope = done false
       hits_any (tree t ts) v scope =
-          then_run (equals v (then_run (run t scope false) value_of)) (λ first. then_run (hits_any ts v scope) (λ others. done (first || others)))
+          then_run (equals v (then_run (run t scope false) value_of))
+          (λ first. then_run (hits_any ts v scope) (λ others. done (first || others)))
 
       -- the first Case of a value, or else another run
       pub run_cases : Trees → Value → AbsolutePath → SourceRun Flow → SourceRun Flow
       run_cases no_trees v scope otherwise = otherwise
       run_cases (tree (Case value body) cases) v scope otherwise =
-          then_run (hits value (equals v (then_run (run value scope false) value_of)) v scope) (λ hit. if hit then run_all body scope false else run_cases cases v scope otherwise)
+          then_run (hits value (equals v (then_run (run value scope false) value_of)) v scope)
+          (λ hit. if hit then run_all body scope false else run_cases cases v scope otherwise)
       run_cases (tree _ cases) v scope otherwise = run_cases cases v scope otherwise
 
       -- the Default, wherever it stands among the Cases
@@ -291,7 +315,8 @@ module _ (width : Width) (known : Known) where
       -- the elements of a Package
       pub elements : Trees → AbsolutePath → SourceRun Elements
       elements no_trees scope = done no_elements
-      elements (tree t ts) scope = then_run (element_by t (run t scope false) scope) (λ v. then_run (elements ts scope) (λ vs. done (element v vs)))
+      elements (tree t ts) scope = then_run (element_by t (run t scope false) scope)
+          (λ v. then_run (elements ts scope) (λ vs. done (element v vs)))
 
       -- the terms of a list, until one leaves it
       pub run_all : Trees → AbsolutePath → Bool → SourceRun Flow
@@ -302,4 +327,5 @@ module _ (width : Width) (known : Known) (turns : ℕ) where
   -- a call of the method at a path, where calls may nest so many deep, this one counted
   abbrev pub call_method : ℕ → AbsolutePath → List Value → SourceRun Flow
   call_method zero path args = stop Unfinished
-  call_method (suc depth) path args = then_run (body_at path) (λ body. activation args (run_all width known turns (call_method depth) body path false))
+  call_method (suc depth) path args =
+      then_run (body_at path) (λ body. activation args (run_all width known turns (call_method depth) body path false))

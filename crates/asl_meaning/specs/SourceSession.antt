@@ -12,4 +12,5 @@ use Rattle.asl_meaning.specs.Meaning.{run_all, call_method}
 -- the objects of other tables that are there, `n` bounds turns and nesting, and `answers` are those of the hardware
 abbrev pub source_session : Width → Known → Trees → Names → ℕ → List Value → List Request → List Report
 source_session width known terms there n answers requests =
-    session (run_all width known n (call_method width known n n) terms [] false) (call_method width known n n) (initial there answers) requests
+    session (run_all width known n (call_method width known n n) terms [] false) (call_method width known n n) (initial there answers)
+    requests

@@ -16,7 +16,8 @@ use Rattle.asl_parser.specs.Trees.{Tree, Trees, TreeGroup, none, more, absent}
 use Rattle.asl_parser.specs.Trees as t
 use Rattle.asl_parser.specs.Grow.{no_subtrees, joined, grown, grown_all, grown_in}
 use Rattle.asl_parser.specs.Machine.{room}
-use Rattle.asl_parser.specs.Grammar.{sign, word, expression, arguments, before, argument, member, members, sequence, all, MayFollow, Reads, IsSource}
+use Rattle.asl_parser.specs.Grammar.{sign, word, expression, arguments, before, argument, member, members, sequence, all, MayFollow, Reads}
+use Rattle.asl_parser.specs.Grammar.{IsSource}
 
 abbrev pub TakesList : List Frame → Type 0
 TakesList (f.Args p w done ∷ fs) = Unit {0}
@@ -30,19 +31,29 @@ TakesExpression _ = Unit {0}
 
 -- the tokens of the first list, up to those of the second, are a front that leaves these frames open
 pub data LeavesOpen : List Frame → List Mark → List Mark → Type 0 where
-  in_source : {done : Trees} {last : Option Tree} {ms rest : List Mark} → Reads (sequence 0 done last) ms rest → MayFollow last rest → LeavesOpen (f.Unit (grown_all (all done last)) ∷ []) ms rest
+  in_source : {done : Trees} {last : Option Tree} {ms rest : List Mark} → Reads (sequence 0 done last) ms rest → MayFollow last rest →
+      LeavesOpen (f.Unit (grown_all (all done last)) ∷ []) ms rest
   in_arguments : {p q : Spot} {path : Bool} {w : List ℕ} {done : Trees} {fs : List Frame} {ms mid rest : List Mark} → TakesExpression fs
-      → LeavesOpen fs ms (word p path w ∷ sign q s.LeftParen ∷ mid) → Reads (before done) mid rest → LeavesOpen (f.Args p w (grown_all done) ∷ fs) ms rest
-  in_body : {p q : Spot} {path : Bool} {w : List ℕ} {args : TreeGroup} {done : Trees} {last : Option Tree} {fs : List Frame} {ms mid then rest : List Mark} → TakesExpression fs
-      → LeavesOpen fs ms (word p path w ∷ mid) → Reads (arguments args) mid (sign q s.LeftBrace ∷ then) → Reads (sequence 13 done last) then rest → MayFollow last rest
+      → LeavesOpen fs ms (word p path w ∷ sign q s.LeftParen ∷ mid) → Reads (before done) mid rest →
+      LeavesOpen (f.Args p w (grown_all done) ∷ fs) ms rest
+  in_body : {p q : Spot} {path : Bool} {w : List ℕ} {args : TreeGroup} {done : Trees} {last : Option Tree} {fs : List Frame}
+      {ms mid then rest : List Mark} → TakesExpression fs
+      → LeavesOpen fs ms (word p path w ∷ mid) → Reads (arguments args) mid (sign q s.LeftBrace ∷ then) → Reads (sequence 13 done last) then
+      rest → MayFollow last rest
       → LeavesOpen (f.Body p w (grown_in args) (grown_all (all done last)) ∷ fs) ms rest
-  in_bracket : {q : Spot} {fs : List Frame} {ms rest : List Mark} → 1 ≤ room fs → LeavesOpen fs ms (sign q s.LeftParen ∷ rest) → LeavesOpen (f.Bracket ∷ fs) ms rest
-  in_index : {p : Spot} {a : Tree} {fs : List Frame} {ms mid rest : List Mark} → 1 ≤ room fs → LeavesOpen fs ms mid → Reads (expression 1 a) mid (sign p s.LeftBracket ∷ rest)
+  in_bracket : {q : Spot} {fs : List Frame} {ms rest : List Mark} → 1 ≤ room fs → LeavesOpen fs ms (sign q s.LeftParen ∷ rest) →
+      LeavesOpen (f.Bracket ∷ fs) ms rest
+  in_index : {p : Spot} {a : Tree} {fs : List Frame} {ms mid rest : List Mark} → 1 ≤ room fs → LeavesOpen fs ms mid →
+      Reads (expression 1 a) mid (sign p s.LeftBracket ∷ rest)
       → LeavesOpen (f.Index p (grown a) ∷ fs) ms rest
-  in_prefix : {p : Spot} {o : Infix} {fs : List Frame} {ms rest : List Mark} → 2 ≤ room fs → LeavesOpen fs ms (sign p (s.Prefix o) ∷ rest) → LeavesOpen (f.Pending 2 2 p o no_subtrees ∷ fs) ms rest
-  in_infix : {p : Spot} {i : Infix} {o : Strength} {a : Tree} {fs : List Frame} {ms mid rest : List Mark} → strength i ≡ Some o → o.level ≤ room fs → LeavesOpen fs ms mid
-      → Reads (expression o.pull a) mid (sign p (s.Binary i) ∷ rest) → LeavesOpen (f.Pending o.level o.room p i (joined no_subtrees (grown a)) ∷ fs) ms rest
-  in_list : {p : Spot} {done : Trees} {fs : List Frame} {ms mid rest : List Mark} → TakesList fs → LeavesOpen fs ms (sign p s.LeftBrace ∷ mid) → Reads (members done) mid rest
+  in_prefix : {p : Spot} {o : Infix} {fs : List Frame} {ms rest : List Mark} → 2 ≤ room fs → LeavesOpen fs ms (sign p (s.Prefix o) ∷ rest) →
+      LeavesOpen (f.Pending 2 2 p o no_subtrees ∷ fs) ms rest
+  in_infix : {p : Spot} {i : Infix} {o : Strength} {a : Tree} {fs : List Frame} {ms mid rest : List Mark} → strength i ≡ Some o →
+      o.level ≤ room fs → LeavesOpen fs ms mid
+      → Reads (expression o.pull a) mid (sign p (s.Binary i) ∷ rest) →
+      LeavesOpen (f.Pending o.level o.room p i (joined no_subtrees (grown a)) ∷ fs) ms rest
+  in_list : {p : Spot} {done : Trees} {fs : List Frame} {ms mid rest : List Mark} → TakesList fs →
+      LeavesOpen fs ms (sign p s.LeftBrace ∷ mid) → Reads (members done) mid rest
       → LeavesOpen (f.List p (grown_all done) ∷ fs) ms rest
 
 -- a member of what is open
@@ -61,17 +72,21 @@ TakesArgument _ = ⊥
 
 -- directly behind the parenthesis that opens arguments
 pub data FirstArgument : List Frame → List Mark → List Mark → Type 0 where
-  first_argument : {p q : Spot} {path : Bool} {w : List ℕ} {fs : List Frame} {ms rest : List Mark} → TakesExpression fs → LeavesOpen fs ms (word p path w ∷ sign q s.LeftParen ∷ rest)
+  first_argument : {p q : Spot} {path : Bool} {w : List ℕ} {fs : List Frame} {ms rest : List Mark} → TakesExpression fs →
+      LeavesOpen fs ms (word p path w ∷ sign q s.LeftParen ∷ rest)
       → FirstArgument (f.Args p w no_subtrees ∷ fs) ms rest
 
 -- directly behind the brace that opens a list
 pub data FirstElement : List Frame → List Mark → List Mark → Type 0 where
-  first_element : {p : Spot} {fs : List Frame} {ms rest : List Mark} → TakesList fs → LeavesOpen fs ms (sign p s.LeftBrace ∷ rest) → FirstElement (f.List p no_subtrees ∷ fs) ms rest
+  first_element : {p : Spot} {fs : List Frame} {ms rest : List Mark} → TakesList fs → LeavesOpen fs ms (sign p s.LeftBrace ∷ rest) →
+      FirstElement (f.List p no_subtrees ∷ fs) ms rest
 
 -- behind a comma of arguments
 pub data NextArgument : List Frame → List Mark → List Mark → Type 0 where
-  next_argument : {p q : Spot} {path : Bool} {w : List ℕ} {done : Trees} {x : Tree} {fs : List Frame} {ms mid rest : List Mark} → TakesExpression fs
-      → LeavesOpen fs ms (word p path w ∷ sign q s.LeftParen ∷ mid) → Reads (before (more done x)) mid rest → NextArgument (f.Args p w (grown_all (more done x)) ∷ fs) ms rest
+  next_argument : {p q : Spot} {path : Bool} {w : List ℕ} {done : Trees} {x : Tree} {fs : List Frame} {ms mid rest : List Mark} →
+      TakesExpression fs
+      → LeavesOpen fs ms (word p path w ∷ sign q s.LeftParen ∷ mid) → Reads (before (more done x)) mid rest →
+      NextArgument (f.Args p w (grown_all (more done x)) ∷ fs) ms rest
 
 -- an expression, no operator of which is applied yet that one behind it could take a part of
 pub record Ready (n : ℕ) (e : Tree) (fs : List Frame) (ms rest : List Mark) : Type 0 where

@@ -6,7 +6,8 @@ use Rattle.asl_parser.specs.declared.raw.Raw.TheVariants as raw
 use Rattle.asl_parser.specs.declared.mark.Spot.{Spot}
 use Rattle.asl_parser.specs.declared.subtree.Subtree.{Subtree}
 use Rattle.asl_parser.specs.declared.subtree.Subtrees.{Subtrees}
-use Rattle.asl_parser.specs.Trees.{Tree, a_number, a_text, an_item, a_prefix, a_postfix, a_pair, a_list, a_comma, a_semicolon, an_empty, Trees, none, more, TreeGroup, absent, given}
+use Rattle.asl_parser.specs.Trees.{Tree, a_number, a_text, an_item, a_prefix, a_postfix, a_pair, a_list, a_comma, a_semicolon, an_empty}
+use Rattle.asl_parser.specs.Trees.{Trees, none, more, TreeGroup, absent, given}
 
 -- no node stands under more than so many others, and no more constructs may be open
 abbrev pub limit : ℕ
@@ -86,7 +87,8 @@ item_raw p w (Some args) (Some inner) = Some (raw.Item p.place w args inner)
 item_raw p w _ _ = None
 
 unfoldable pub item : Spot → List ℕ → Option Subtrees → Option Subtrees → Subtree
-item p w args inner = node_over p.token (item_raw p w (raws_given args) (raws_given inner)) (merged (levels_given args) (levels_given inner))
+item p w args inner = node_over p.token (item_raw p w (raws_given args) (raws_given inner))
+    (merged (levels_given args) (levels_given inner))
 
 -- ---- what grows of a tree
 

@@ -1,5 +1,6 @@
 -- One step for each token.
-use Rattle.std.specs.Prelude.{ℕ, ◌+◌, Bool, true, false, nat_le, nat_eq, if◌then◌else◌, List, [], ◌∷◌, Option, Some, None, Result, Ok, Err, ◌≡◌}
+use Rattle.std.specs.Prelude.{ℕ, ◌+◌, Bool, true, false, nat_le, nat_eq, if◌then◌else◌, List, [], ◌∷◌, Option, Some, None, Result, Ok, Err}
+use Rattle.std.specs.Prelude.{◌≡◌}
 use Rattle.asl_parser.specs.declared.sign.Sign.{Sign}
 use Rattle.asl_parser.specs.declared.sign.Sign.TheVariants as s
 use Rattle.asl_parser.specs.declared.sign.Strength.{Strength}

@@ -1,5 +1,6 @@
 -- What is open, as the code keeps it: the nodes of all lists on one list, of each what is open those from its start on.
-use Rattle.std.specs.Prelude.{◌≡◌, ℕ, ◌+◌, ◌≤◌, Bool, true, false, nat_eq, if◌then◌else◌, List, [], ◌∷◌, Option, Some, None, length, take, drop}
+use Rattle.std.specs.Prelude.{◌≡◌, ℕ, ◌+◌, ◌≤◌, Bool, true, false, nat_eq, if◌then◌else◌, List, [], ◌∷◌, Option, Some, None, length, take}
+use Rattle.std.specs.Prelude.{drop}
 use Rattle.asl_parser.specs.declared.raw.Raw.{Raw}
 use Rattle.asl_parser.specs.declared.subtree.Subtree.{Subtree}
 use Rattle.asl_parser.specs.declared.subtree.Subtrees.{Subtrees}

@@ -14,4 +14,5 @@ first_place = record { file = 0; line = 1; column = 1 }
 
 -- the place of the token of this number, or behind the last where there is none, or the first character
 abbrev pub place_at : List Token → ℕ → Place
-place_at tokens number = option_map_or (λ token. token.place) (slice_get tokens number) (option_map_or place_behind (slice_get tokens (length tokens - 1)) first_place)
+place_at tokens number = option_map_or (λ token. token.place) (slice_get tokens number)
+    (option_map_or place_behind (slice_get tokens (length tokens - 1)) first_place)

@@ -36,7 +36,8 @@ signs = row (codes "(") s.LeftParen ∷ row (codes ")") s.RightParen ∷ row (co
     ∷ row (codes "&") (s.Binary op.And) ∷ row (codes "^") (s.Binary op.Xor) ∷ row (codes "|") (s.Binary op.Or)
     ∷ row (codes "&&") (s.Binary op.LogicalAnd) ∷ row (codes "||") (s.Binary op.LogicalOr)
     ∷ row (codes "=") (s.Binary op.Assign) ∷ row (codes "+=") (s.Binary op.AddAssign) ∷ row (codes "-=") (s.Binary op.SubtractAssign)
-    ∷ row (codes "*=") (s.Binary op.MultiplyAssign) ∷ row (codes "/=") (s.Binary op.DivideAssign) ∷ row (codes "%=") (s.Binary op.ModuloAssign)
+    ∷ row (codes "*=") (s.Binary op.MultiplyAssign) ∷ row (codes "/=") (s.Binary op.DivideAssign) ∷ row (codes "%=")
+    (s.Binary op.ModuloAssign)
     ∷ row (codes "<<=") (s.Binary op.ShiftLeftAssign) ∷ row (codes ">>=") (s.Binary op.ShiftRightAssign)
     ∷ row (codes "&=") (s.Binary op.AndAssign) ∷ row (codes "|=") (s.Binary op.OrAssign) ∷ row (codes "^=") (s.Binary op.XorAssign) ∷ []
 

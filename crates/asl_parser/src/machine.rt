@@ -7,7 +7,8 @@ ghost use Rattle.asl_parser.specs.Machine as spec;
 ghost use Rattle.asl_parser.specs.Machine.{Finishes};
 ghost use Rattle.asl_parser.specs.Opens.{IsOne, tree_of, kind_of, added, lists};
 ghost use Rattle.asl_parser.specs.Stages.{state_of, Holds, StepsTo, begins as stage_begins};
-ghost use Rattle.asl_parser.specs.Steps.{is_args, is_list, is_index, binds as binds_by, applied_once, args_closed, list_closed, index_closed, omitted as omitted_by};
+ghost use Rattle.asl_parser.specs.Steps.{is_args, is_list, is_index, binds as binds_by, applied_once, args_closed, list_closed};
+ghost use Rattle.asl_parser.specs.Steps.{index_closed, omitted as omitted_by};
 ghost use Rattle.asl_parser.specs.declared.mark.Lexeme.TheVariants as lexemes;
 ghost use Rattle.asl_parser.specs.declared.raw.Raw.TheVariants as raws;
 ghost use Rattle.asl_parser.specs.declared.sign.Sign.TheVariants as signs;
@@ -387,7 +388,8 @@ fn open_index(stack: &mut Stack, stage: &mut Stage, spot: Spot) -> Result<(), Re
 #[inline(never)]
 fn postfix(stack: &mut Stack, stage: &mut Stage, spot: Spot, op: Infix) -> Result<(), Refusal>
     requires one { IsOne stack.old.0 }
-    ensures { StepsTo result stage.new stack.new (spec.after_lexeme spot (lexemes.Sign (signs.Postfix op)) (tree_of stack.old.0) stack.old.1) }
+    ensures { StepsTo result stage.new stack.new
+        (spec.after_lexeme spot (lexemes.Sign (signs.Postfix op)) (tree_of stack.old.0) stack.old.1) }
 {
     if stack.room() < 1 {
         return Err(Refusal::Refused);
@@ -433,7 +435,8 @@ fn operator(
     strength: Strength,
 ) -> Result<(), Refusal>
     requires one { IsOne stack.old.0 }
-    ensures { StepsTo result stage.new stack.new (spec.operator spot op strength (spec.settle strength.pull (tree_of stack.old.0) stack.old.1)) }
+    ensures { StepsTo result stage.new stack.new
+        (spec.operator spot op strength (spec.settle strength.pull (tree_of stack.old.0) stack.old.1)) }
 {
     settle(stack, strength.pull)?;
     if stack.room() < strength.level {
@@ -709,7 +712,8 @@ pub fn word_on(
     requires number { number + 1 < 2 ^ 32 }
     requires none { stack.old.0 ≡ no_subtrees }
     requires look { lexeme_of look second.now ≡ lexeme second.now }
-    ensures { StepsTo result stage.new stack.new (spec.step (mark (suc number) second.now) (states.Word (mark number first.now).spot first.now.text) stack.old.1) }
+    ensures { StepsTo result stage.new stack.new
+        (spec.step (mark (suc number) second.now) (states.Word (mark number first.now).spot first.now.text) stack.old.1) }
 {
     let place = Spot {
         token: number,

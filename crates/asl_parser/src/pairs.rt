@@ -78,7 +78,8 @@ fn argument_goes(
     requires args { is_args (kind_of stack.old.1) ≡ true }
     requires begins { IsArgument (state_of stage.old stack.old.0) }
     requires comma { lexeme second.now ≡ lexemes.Sign signs.Comma }
-    ensures passes { IfOk result (λ is_read. MayPass is_read (mark number first.now ∷ mark (suc number) second.now ∷ []) (state_of stage.old stack.old.0, stack.old.1) (state_of stage.new stack.new.0, stack.new.1)) }
+    ensures passes { IfOk result (λ is_read. MayPass is_read (mark number first.now ∷ mark (suc number) second.now ∷ [])
+        (state_of stage.old stack.old.0, stack.old.1) (state_of stage.new stack.new.0, stack.new.1)) }
     ensures holds { OnOk result (Holds stage.new stack.new.0) }
 {
     if add_plain(stack, number, first)? {
@@ -102,7 +103,8 @@ fn argument_ends(
     requires args { is_args (kind_of stack.old.1) ≡ true }
     requires begins { IsArgument (state_of stage.old stack.old.0) }
     requires end { lexeme second.now ≡ lexemes.Sign signs.RightParen }
-    ensures passes { IfOk result (λ is_read. MayPass is_read (mark number first.now ∷ mark (suc number) second.now ∷ []) (state_of stage.old stack.old.0, stack.old.1) (state_of stage.new stack.new.0, stack.new.1)) }
+    ensures passes { IfOk result (λ is_read. MayPass is_read (mark number first.now ∷ mark (suc number) second.now ∷ [])
+        (state_of stage.old stack.old.0, stack.old.1) (state_of stage.new stack.new.0, stack.new.1)) }
     ensures holds { OnOk result (Holds stage.new stack.new.0) }
 {
     if add_plain(stack, number, first)? {
@@ -127,7 +129,8 @@ fn member_goes(
     requires none { stack.old.0 ≡ no_subtrees }
     requires body { is_body (kind_of stack.old.1) ≡ true }
     requires comma { lexeme second.now ≡ lexemes.Sign signs.Comma }
-    ensures passes { IfOk result (λ is_read. MayPass is_read (mark number first.now ∷ mark (suc number) second.now ∷ []) (states.Sequence, stack.old.1) (states.Sequence, stack.new.1)) }
+    ensures passes { IfOk result (λ is_read. MayPass is_read (mark number first.now ∷ mark (suc number) second.now ∷ [])
+        (states.Sequence, stack.old.1) (states.Sequence, stack.new.1)) }
     ensures holds { OnOk result (stack.new.0 ≡ no_subtrees) }
 {
     if add_plain(stack, number, first)? {
@@ -149,7 +152,8 @@ fn arguments(
     requires none { stack.old.0 ≡ no_subtrees }
     requires begins { IsArgument (state_of stage.old stack.old.0) }
     requires look { lexeme_of look second.now ≡ lexeme second.now }
-    ensures passes { IfOk result (λ is_read. MayPass is_read (mark number first.now ∷ mark (suc number) second.now ∷ []) (state_of stage.old stack.old.0, stack.old.1) (state_of stage.new stack.new.0, stack.new.1)) }
+    ensures passes { IfOk result (λ is_read. MayPass is_read (mark number first.now ∷ mark (suc number) second.now ∷ [])
+        (state_of stage.old stack.old.0, stack.old.1) (state_of stage.new stack.new.0, stack.new.1)) }
     ensures holds { OnOk result (Holds stage.new stack.new.0) }
 {
     match stack.kind() {
@@ -173,7 +177,8 @@ fn body(
     requires number { number + 1 < 2 ^ 32 }
     requires none { stack.old.0 ≡ no_subtrees }
     requires look { lexeme_of look second.now ≡ lexeme second.now }
-    ensures passes { IfOk result (λ is_read. MayPass is_read (mark number first.now ∷ mark (suc number) second.now ∷ []) (states.Sequence, stack.old.1) (states.Sequence, stack.new.1)) }
+    ensures passes { IfOk result (λ is_read. MayPass is_read (mark number first.now ∷ mark (suc number) second.now ∷ [])
+        (states.Sequence, stack.old.1) (states.Sequence, stack.new.1)) }
     ensures holds { OnOk result (stack.new.0 ≡ no_subtrees) }
 {
     match look {
@@ -200,7 +205,8 @@ pub fn skip_pair(
     requires holds { Holds stage.old stack.old.0 }
     // How the token behind it looks.
     requires look { lexeme_of look second.now ≡ lexeme second.now }
-    ensures passes { IfOk result (λ is_read. MayPass is_read (mark number first.now ∷ mark (suc number) second.now ∷ []) (state_of stage.old stack.old.0, stack.old.1) (state_of stage.new stack.new.0, stack.new.1)) }
+    ensures passes { IfOk result (λ is_read. MayPass is_read (mark number first.now ∷ mark (suc number) second.now ∷ [])
+        (state_of stage.old stack.old.0, stack.old.1) (state_of stage.new stack.new.0, stack.new.1)) }
     ensures holds { OnOk result (Holds stage.new stack.new.0) }
 {
     match stage {

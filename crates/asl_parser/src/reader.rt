@@ -90,7 +90,8 @@ fn single(
     requires within { at < length tokens.now }
     requires holds { Holds stage.old stack.old.0 }
     requires low { spec.depth stack.old.1 ≤ limit }
-    ensures advances { IfOk result (λ next. Advances (marks 0 tokens.now) at next (state_of stage.old stack.old.0, stack.old.1) (state_of stage.new stack.new.0, stack.new.1)) }
+    ensures advances { IfOk result (λ next. Advances (marks 0 tokens.now) at next (state_of stage.old stack.old.0, stack.old.1)
+        (state_of stage.new stack.new.0, stack.new.1)) }
     ensures holds { OnOk result (Holds stage.new stack.new.0) }
     ensures fails { IfErr result (λ fault. FailsAt fault (marks 0 tokens.now) at (state_of stage.old stack.old.0, stack.old.1)) }
 {
@@ -105,7 +106,8 @@ fn ahead(stack: &mut Stack, stage: &mut Stage, tokens: &[Token], at: usize) -> R
     requires within { at + 1 < length tokens.now }
     requires holds { Holds stage.old stack.old.0 }
     requires low { spec.depth stack.old.1 ≤ limit }
-    ensures advances { IfOk result (λ next. Advances (marks 0 tokens.now) at next (state_of stage.old stack.old.0, stack.old.1) (state_of stage.new stack.new.0, stack.new.1)) }
+    ensures advances { IfOk result (λ next. Advances (marks 0 tokens.now) at next (state_of stage.old stack.old.0, stack.old.1)
+        (state_of stage.new stack.new.0, stack.new.1)) }
     ensures holds { OnOk result (Holds stage.new stack.new.0) }
     ensures fails { IfErr result (λ fault. FailsAt fault (marks 0 tokens.now) at (state_of stage.old stack.old.0, stack.old.1)) }
 {
@@ -136,7 +138,8 @@ fn advance(
     requires within { at < length tokens.now }
     requires holds { Holds stage.old stack.old.0 }
     requires low { spec.depth stack.old.1 ≤ limit }
-    ensures advances { IfOk result (λ next. Advances (marks 0 tokens.now) at next (state_of stage.old stack.old.0, stack.old.1) (state_of stage.new stack.new.0, stack.new.1)) }
+    ensures advances { IfOk result (λ next. Advances (marks 0 tokens.now) at next (state_of stage.old stack.old.0, stack.old.1)
+        (state_of stage.new stack.new.0, stack.new.1)) }
     ensures holds { OnOk result (Holds stage.new stack.new.0) }
     ensures fails { IfErr result (λ fault. FailsAt fault (marks 0 tokens.now) at (state_of stage.old stack.old.0, stack.old.1)) }
 {
@@ -195,7 +198,8 @@ pub fn parse(alloc: Global, tokens: &Tokens) -> Result<RawUnit, Syntax>
     // No other tree spells them.
     ensures one { IfOk result (λ unit. (others : List Raw) → Spells others tokens.now → others ≡ unit.items) }
     // Each node stands in a file in which tokens stand.
-    ensures within { (files : ℕ) → All (λ token. token.place.file < files) tokens.now → IfOk result (λ unit. AreWithin files (writtens unit.items)) }
+    ensures within { (files : ℕ) → All (λ token. token.place.file < files) tokens.now →
+        IfOk result (λ unit. AreWithin files (writtens unit.items)) }
     // Nowhere is more open than may be, and no node stands under more others than may be.
     ensures not_deep { OnOk result (IsShallow limit (marks 0 tokens.now) × IsLow limit (marks 0 tokens.now)) }
     // The stop with no tree and nothing too deep before it, or the first token that is too deep.

@@ -8,7 +8,8 @@ ghost use Rattle.asl_parser.specs.declared.raw.Raw.TheVariants as raws;
 ghost use Rattle.asl_parser.specs.Grow as grow;
 ghost use Rattle.asl_parser.specs.Grow.{no_subtrees, joined, merged};
 ghost use Rattle.asl_parser.specs.Machine as spec;
-ghost use Rattle.asl_parser.specs.Opens.{IsOne, Begins, tree_of, cleared, frame_on, kind_of, done_of, around, added, lists, has_trees, remaining};
+ghost use Rattle.asl_parser.specs.Opens.{IsOne, Begins, tree_of, cleared, frame_on, kind_of, done_of, around, added, lists, has_trees};
+ghost use Rattle.asl_parser.specs.Opens.{remaining};
 
 use crate::levels::Levels;
 use crate::mark::Spot;
@@ -58,7 +59,11 @@ impl Model for Stack {
 
     ghost coded = { coded× subtrees_row.the_row.coded (coded_list frame_row.the_row.coded) };
 
-    ghost view = { λ stack. (trees_of stack.hand stack.nodes.items, frames_of (stack.innermost ∷ reverse stack.outer.items) (take stack.hand.start stack.nodes.items)) };
+    ghost view = { λ stack. (
+      trees_of stack.hand stack.nodes.items,
+      frames_of (stack.innermost ∷ reverse stack.outer.items)
+          (take stack.hand.start stack.nodes.items),
+    ) };
 
     ghost invariant = { λ stack. IsStack stack.nodes.items stack.hand (stack.innermost ∷ reverse stack.outer.items) stack.depth };
 }

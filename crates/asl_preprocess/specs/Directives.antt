@@ -134,7 +134,8 @@ obeyed_or_open left_open kind place rest pass = cond left_open (wrong place pass
 -- where a directive is not read, that counts in a conditional alone
 abbrev pub skipped_or_open : Bool → Option DirectiveKind → Place → List ℕ → Pass → Outcome RowEffect
 skipped_or_open left_open None place rest pass = Ok (Goes pass)
-skipped_or_open left_open (Some kind) place rest pass = cond (left_open && is_conditional kind) (wrong place pass) (skipped kind place rest pass)
+skipped_or_open left_open (Some kind) place rest pass = cond (left_open && is_conditional kind) (wrong place pass)
+    (skipped kind place rest pass)
 
 -- what stands behind the `#`, blanks aside
 abbrev pub directive_text : List ℕ → List ℕ

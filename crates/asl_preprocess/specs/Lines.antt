@@ -61,7 +61,8 @@ asks_for place pass (Some name) = Ok (Asks (record { quoted = true; name = name 
 
 abbrev pub of_asked : Bool → ℕ → ℕ → Bool → List ℕ → Pass → Option (List ℕ) → Outcome RowEffect
 of_asked enabled file n in_comment text pass (Some name) = asks_for (word_place file n text) pass (file_name_of name)
-of_asked enabled file n in_comment text pass None = with_line pass (record { file = file; number = n; text = text_left enabled pass.state.history in_comment text })
+of_asked enabled file n in_comment text pass None =
+    with_line pass (record { file = file; number = n; text = text_left enabled pass.state.history in_comment text })
 
 -- a line of the file with this number
 abbrev pub of_line : Bool → ℕ → ℕ → Bool → List ℕ → Pass → Outcome RowEffect

@@ -1,5 +1,6 @@
 -- What a main file comes to.
-use Rattle.std.specs.Prelude.{ℕ, zero, suc, Bool, cond, nat_lt, List, [], ◌∷◌, ◌++◌, length, map, reverse, codes, Option, Some, None, Ok, Err}
+use Rattle.std.specs.Prelude.{ℕ, zero, suc, Bool, cond, nat_lt, List, [], ◌∷◌, ◌++◌, length, map, reverse, codes, Option, Some, None, Ok}
+use Rattle.std.specs.Prelude.{Err}
 use Rattle.iasl_ports.specs.Gained.{Named}
 use Rattle.iasl_ports.specs.Fetched.{find_file, most_bytes}
 use Rattle.iasl_messages.specs.declared.place.Place.{Place}
@@ -41,7 +42,8 @@ read_found read asked place state (Whole name bytes) =
 -- the file that the file of the name `own` asks for; too deep a one is not looked for
 abbrev pub included : Reading → Setting → List ℕ → IncludedFile → Place → State → Outcome State
 included None setting own asked place state = stopped state 6002 place asked.name
-included (Some read) setting own asked place state = read_found read asked place state (search setting.told (names_for setting.directories own asked))
+included (Some read) setting own asked place state =
+    read_found read asked place state (search setting.told (names_for setting.directories own asked))
 
 abbrev pub in_pass : Pass → Outcome State → Outcome Pass
 in_pass pass (Ok state) = Ok (record { state = state; branches = pass.branches })

@@ -24,13 +24,15 @@ pub record StandsIn (work : Work) (branches : List Branch) (pass : Pass) (before
 
 -- a first stop, which stands in a file that was fetched; or a file that could not be read, or want of memory
 abbrev pub StopsAt : {X : Type 0} → ReadingStop → Option (List Named) → List (List ℕ) → (List Named → Outcome X) → Type 0
-StopsAt (At message) contents files outcome = (message.place.file < length files) × ForSome contents (λ told. outcome told ≡ Err (message, files))
+StopsAt (At message) contents files outcome = (message.place.file < length files)
+    × ForSome contents (λ told. outcome told ≡ Err (message, files))
 StopsAt ReadFault contents files outcome = ⊤
 StopsAt Memory contents files outcome = ⊤
 
 -- Something that this holds of is reached, and where contents are told it is exactly the definition's; or the reading
 -- stops, exactly as the definition's.
-abbrev pub Reaches : {X : Type 0} → Result (Unit {0}) ReadingStop → Option (List Named) → List (List ℕ) → (X → Type 0) → (List Named → Outcome X) → Type 0
+abbrev pub Reaches : {X : Type 0} → Result (Unit {0}) ReadingStop → Option (List Named) → List (List ℕ) → (X → Type 0) →
+    (List Named → Outcome X) → Type 0
 Reaches {X} (Ok u) contents files Is outcome = (later : X) × Is later × ForSome contents (λ told. outcome told ≡ Ok later)
 Reaches (Err stop) contents files Is outcome = StopsAt stop contents files outcome
 

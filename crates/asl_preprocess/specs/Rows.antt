@@ -51,7 +51,8 @@ turn_within start text = turn_joined start text (continued text)
 abbrev pub turn : Bool → Open → ℕ → List ℕ → Turn
 turn enabled (Within start text) n line = turn_within start (text ++ line)
 turn enabled (Between in_comment) n line =
-    cond (enabled && begins_directive in_comment line) (turn_within n line) (Some (Ordinary n in_comment line), Between (ends_in_comment in_comment line))
+    cond (enabled && begins_directive in_comment line) (turn_within n line)
+    (Some (Ordinary n in_comment line), Between (ends_in_comment in_comment line))
 
 -- at the end of a file; a `\` there is dropped
 abbrev pub rows_at_end : Open → List Row

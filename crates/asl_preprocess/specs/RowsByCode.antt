@@ -23,4 +23,5 @@ rows_behind rows = rows_from rows.enabled (Between false) (rows.number + 1) (fil
 -- the rows where a directive's text so far is this
 abbrev pub joined_rows : Rows → ℕ → List ℕ → List Row
 joined_rows rows start text =
-    option_to_list (turn_within start text).0 ++ rows_from rows.enabled (turn_within start text).1 (rows.number + 1) (file_lines rows.rest.now)
+    option_to_list (turn_within start text).0 ++ rows_from rows.enabled (turn_within start text).1 (rows.number + 1)
+    (file_lines rows.rest.now)

@@ -76,14 +76,16 @@ IncludesName (Err stop) place name = Lacks stop (message_at 6003 place []) name
 
 -- a line's stop: it asks for a file in a wrong form; or want of memory
 abbrev pub LacksFile : ReadingStop → Place → Option (List ℕ) → Type 0
-LacksFile (At message) place asked = (name : List ℕ) × (asked ≡ Some name) × (file_name_of name ≡ None) × (message ≡ message_at 6003 place [])
+LacksFile (At message) place asked = (name : List ℕ) × (asked ≡ Some name) × (file_name_of name ≡ None)
+    × (message ≡ message_at 6003 place [])
 LacksFile ReadFault place asked = ⊥
 LacksFile Memory place asked = ⊤
 
 -- the file that a line asks for in quotes, if it asks for one
 abbrev pub AsksByLine : Result (Option Wanted) ReadingStop → Place → Option (List ℕ) → Type 0
 AsksByLine (Ok None) place asked = asked ≡ None
-AsksByLine (Ok (Some wanted)) place asked = (name : List ℕ) × (asked ≡ Some name) × (file_name_of name ≡ Some wanted.name) × (wanted.quoted ≡ true) × (wanted.place ≡ place)
+AsksByLine (Ok (Some wanted)) place asked = (name : List ℕ) × (asked ≡ Some name) × (file_name_of name ≡ Some wanted.name)
+    × (wanted.quoted ≡ true) × (wanted.place ≡ place)
 AsksByLine (Err stop) place asked = LacksFile stop place asked
 
 -- a file is asked for

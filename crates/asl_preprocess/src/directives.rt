@@ -1,6 +1,7 @@
 //! What the directives do.
 ghost use Rattle.std.specs.Prelude.{◌≡◌, ◌≢◌, ◌+◌, ◌^◌, ◌≤◌, [], ℕ, List, IfOk, IfErr, true, false};
-ghost use Rattle.asl_directives.specs.Forms.{name_alone as name_in, definition_of as definition_in, message_of as message_in, include_of as include_in};
+ghost use Rattle.asl_directives.specs.Forms.{name_alone as name_in, definition_of as definition_in, message_of as message_in};
+ghost use Rattle.asl_directives.specs.Forms.{include_of as include_in};
 ghost use Rattle.asl_directives.specs.Branches.{at_else, at_end_if};
 ghost use Rattle.asl_directives.specs.declared.branches.Branch.{Branch};
 ghost use Rattle.asl_preprocess.specs.State.{State, message_at};
@@ -44,7 +45,8 @@ fn unbalanced(alloc: Global, place: Place) -> ReadingStop
 }
 
 fn define(alloc: Global, work: &mut Work, place: Place, rest: &[u8]) -> Result<(), ReadingStop>
-    ensures { (state : State) (branches : List Branch) → Shows work.old state → Steps result work.new branches (spec.defines place (record { state = state; branches = branches }) (definition_in rest.now)) }
+    ensures { (state : State) (branches : List Branch) → Shows work.old state →
+        Steps result work.new branches (spec.defines place (record { state = state; branches = branches }) (definition_in rest.now)) }
 {
     match definition_of(rest) {
         Some((name, text)) => {
@@ -56,7 +58,8 @@ fn define(alloc: Global, work: &mut Work, place: Place, rest: &[u8]) -> Result<(
 }
 
 fn undefine(alloc: Global, work: &mut Work, place: Place, rest: &[u8]) -> Result<(), ReadingStop>
-    ensures { (state : State) (branches : List Branch) → Shows work.old state → Steps result work.new branches (spec.undefines place (record { state = state; branches = branches }) (name_in rest.now)) }
+    ensures { (state : State) (branches : List Branch) → Shows work.old state →
+        Steps result work.new branches (spec.undefines place (record { state = state; branches = branches }) (name_in rest.now)) }
 {
     match name_alone(rest) {
         Some(name) => {
@@ -84,7 +87,8 @@ fn open_branch(
     place: Place,
     value: bool,
 ) -> Result<(), ReadingStop>
-    ensures { (state : State) → Shows work.now state → Steps result work.now branches.new (spec.opens place (record { state = state; branches = branches.old }) value) }
+    ensures { (state : State) → Shows work.now state → Steps result work.now branches.new
+        (spec.opens place (record { state = state; branches = branches.old }) value) }
 {
     branches.open(place.line, place.column, value)?;
     Ok(())
@@ -97,7 +101,8 @@ fn open_if(
     place: Place,
     rest: &[u8],
 ) -> Result<(), ReadingStop>
-    ensures { (state : State) → Shows work.now state → Steps result work.now branches.new (spec.opens_if place (record { state = state; branches = branches.old }) (spec.truth_of state.history rest.now)) }
+    ensures { (state : State) → Shows work.now state → Steps result work.now branches.new
+        (spec.opens_if place (record { state = state; branches = branches.old }) (spec.truth_of state.history rest.now)) }
 {
     match test(alloc, work, place, rest) {
         Ok(value) => open_branch(work, branches, place, value),
@@ -122,7 +127,8 @@ fn open_defined(
     place: Place,
     rest: &[u8],
 ) -> Result<(), ReadingStop>
-    ensures { (state : State) → Shows work.now state → Steps result work.now branches.new (spec.opens_defined sign place (record { state = state; branches = branches.old }) (name_in rest.now)) }
+    ensures { (state : State) → Shows work.now state → Steps result work.now branches.new
+        (spec.opens_defined sign place (record { state = state; branches = branches.old }) (name_in rest.now)) }
 {
     match name_alone(rest) {
         Some(name) => {
@@ -134,7 +140,8 @@ fn open_defined(
 }
 
 fn turn(work: &Work, branches: &mut Branches, value: bool) -> Result<(), ReadingStop>
-    ensures { (state : State) → Shows work.now state → Steps result work.now branches.new (spec.turns_to (record { state = state; branches = branches.old }) value) }
+    ensures { (state : State) → Shows work.now state → Steps result work.now branches.new
+        (spec.turns_to (record { state = state; branches = branches.old }) value) }
 {
     branches.else_if(value)?;
     Ok(())
@@ -147,7 +154,8 @@ fn turn_if(
     place: Place,
     rest: &[u8],
 ) -> Result<(), ReadingStop>
-    ensures { (state : State) → Shows work.now state → Steps result work.now branches.new (spec.turns_if place (record { state = state; branches = branches.old }) (spec.truth_of state.history rest.now)) }
+    ensures { (state : State) → Shows work.now state → Steps result work.now branches.new
+        (spec.turns_if place (record { state = state; branches = branches.old }) (spec.truth_of state.history rest.now)) }
 {
     match test(alloc, work, place, rest) {
         Ok(value) => turn(work, branches, value),
@@ -162,7 +170,8 @@ fn else_if(
     place: Place,
     rest: &[u8],
 ) -> Result<(), ReadingStop>
-    ensures { (state : State) → Shows work.now state → Steps result work.now branches.new (spec.obeyed DirectiveKind.ElseIf place rest.now (record { state = state; branches = branches.old })) }
+    ensures { (state : State) → Shows work.now state → Steps result work.now branches.new
+        (spec.obeyed DirectiveKind.ElseIf place rest.now (record { state = state; branches = branches.old })) }
 {
     match branches.asks() {
         Some(true) => turn_if(alloc, work, branches, place, rest),
@@ -177,7 +186,8 @@ fn else_(
     branches: &mut Branches,
     place: Place,
 ) -> Result<(), ReadingStop>
-    ensures { (state : State) → Shows work.now state → Steps result work.now branches.new (spec.balanced place (record { state = state; branches = branches.old }) (at_else branches.old)) }
+    ensures { (state : State) → Shows work.now state → Steps result work.now branches.new
+        (spec.balanced place (record { state = state; branches = branches.old }) (at_else branches.old)) }
 {
     match branches.else_() {
         Ok(()) => Ok(()),
@@ -192,7 +202,8 @@ fn end_if(
     branches: &mut Branches,
     place: Place,
 ) -> Result<(), ReadingStop>
-    ensures { (state : State) → Shows work.now state → Steps result work.now branches.new (spec.balanced place (record { state = state; branches = branches.old }) (at_end_if branches.old)) }
+    ensures { (state : State) → Shows work.now state → Steps result work.now branches.new
+        (spec.balanced place (record { state = state; branches = branches.old }) (at_end_if branches.old)) }
 {
     if branches.end_if() {
         Ok(())
@@ -202,14 +213,16 @@ fn end_if(
 }
 
 fn warn(alloc: Global, work: &mut Work, place: Place, rest: &[u8]) -> Result<(), ReadingStop>
-    ensures { (state : State) (branches : List Branch) → Shows work.old state → Steps result work.new branches (spec.obeyed DirectiveKind.Warning place rest.now (record { state = state; branches = branches })) }
+    ensures { (state : State) (branches : List Branch) → Shows work.old state →
+        Steps result work.new branches (spec.obeyed DirectiveKind.Warning place rest.now (record { state = state; branches = branches })) }
 {
     work.note(alloc, WARNING_DIRECTIVE, place, trimmed(rest))?;
     Ok(())
 }
 
 fn pragma(alloc: Global, work: &mut Work, place: Place, rest: &[u8]) -> Result<(), ReadingStop>
-    ensures { (state : State) (branches : List Branch) → Shows work.old state → Steps result work.new branches (spec.notes_message place (record { state = state; branches = branches }) (message_in rest.now)) }
+    ensures { (state : State) (branches : List Branch) → Shows work.old state →
+        Steps result work.new branches (spec.notes_message place (record { state = state; branches = branches }) (message_in rest.now)) }
 {
     match message_of(rest) {
         Some(text) => {
@@ -243,7 +256,8 @@ fn step(
     rest: &[u8],
 ) -> Result<(), ReadingStop>
     requires { kind ≢ DirectiveKind.Include }
-    ensures { (state : State) → Shows work.old state → Steps result work.new branches.new (spec.obeyed kind place rest.now (record { state = state; branches = branches.old })) }
+    ensures { (state : State) → Shows work.old state → Steps result work.new branches.new
+        (spec.obeyed kind place rest.now (record { state = state; branches = branches.old })) }
 {
     match kind {
         DirectiveKind::Define => define(alloc, work, place, rest),
@@ -270,7 +284,8 @@ fn obey(
     place: Place,
     rest: &[u8],
 ) -> Result<Option<Wanted>, ReadingStop>
-    ensures { (state : State) → Shows work.old state → Does result work.new branches.new (spec.obeyed kind place rest.now (record { state = state; branches = branches.old })) }
+    ensures { (state : State) → Shows work.old state →
+        Does result work.new branches.new (spec.obeyed kind place rest.now (record { state = state; branches = branches.old })) }
 {
     if kind == DirectiveKind::Include {
         return Ok(Some(include(alloc, place, rest)?));
@@ -288,7 +303,8 @@ fn skip(
     place: Place,
     rest: &[u8],
 ) -> Result<(), ReadingStop>
-    ensures { (state : State) → Shows work.now state → Steps result work.now branches.new (spec.skipped kind place rest.now (record { state = state; branches = branches.old })) }
+    ensures { (state : State) → Shows work.now state → Steps result work.now branches.new
+        (spec.skipped kind place rest.now (record { state = state; branches = branches.old })) }
 {
     match kind {
         DirectiveKind::If | DirectiveKind::IfDefined | DirectiveKind::IfNotDefined => open_branch(
@@ -315,7 +331,9 @@ fn obey_or_refuse(
     place: Place,
     rest: &[u8],
 ) -> Result<Option<Wanted>, ReadingStop>
-    ensures { (state : State) → Shows work.old state → Does result work.new branches.new (spec.obeyed_or_open left_open kind place rest.now (record { state = state; branches = branches.old })) }
+    ensures { (state : State) → Shows work.old state →
+        Does result work.new branches.new
+        (spec.obeyed_or_open left_open kind place rest.now (record { state = state; branches = branches.old })) }
 {
     match kind {
         Some(kind) if !left_open => obey(alloc, work, branches, kind, place, rest),
@@ -332,7 +350,8 @@ fn skip_or_refuse(
     place: Place,
     rest: &[u8],
 ) -> Result<(), ReadingStop>
-    ensures { (state : State) → Shows work.now state → Steps result work.now branches.new (spec.skipped_or_open left_open kind place rest.now (record { state = state; branches = branches.old })) }
+    ensures { (state : State) → Shows work.now state → Steps result work.now branches.new
+        (spec.skipped_or_open left_open kind place rest.now (record { state = state; branches = branches.old })) }
 {
     match kind {
         Some(kind) if left_open && is_conditional(kind) => Err(wrong(alloc, place)),
@@ -372,7 +391,8 @@ fn blanked(
     line: u32,
     text: &[u8],
 ) -> Result<Option<Wanted>, ReadingStop>
-    ensures { (state : State) → Shows work.old state → Does result work.new branches.new (spec.of_blanked left_open file line text.now (record { state = state; branches = branches.old })) }
+    ensures { (state : State) → Shows work.old state →
+        Does result work.new branches.new (spec.of_blanked left_open file line text.now (record { state = state; branches = branches.old })) }
 {
     let place = Place {
         file,
@@ -397,7 +417,8 @@ pub(crate) fn directive(
     line: u32,
     text: &[u8],
 ) -> Result<Option<Wanted>, ReadingStop>
-    ensures { (state : State) → Shows work.old state → Does result work.new branches.new (spec.of_directive file line text.now (record { state = state; branches = branches.old })) }
+    ensures { (state : State) → Shows work.old state →
+        Does result work.new branches.new (spec.of_directive file line text.now (record { state = state; branches = branches.old })) }
 {
     let left_open = ends_in_comment(text, false);
     let text = without_comments(alloc, text, false)?;

@@ -56,7 +56,8 @@ fn may_include(text: &[u8]) -> bool
 // Whether a line may be an `Include ("f")` of its own.
 fn may_ask(in_comment: bool, text: &LineText<'_>) -> bool
     ensures no { result ≡ false → spec.asked_by_line in_comment text.now.whole.now ≡ None }
-    ensures yes { result ≡ true → spec.asked_by_line in_comment text.now.whole.now ≡ include_line_of (without_comments_of false text.now.whole.now) }
+    ensures yes { result ≡ true → spec.asked_by_line in_comment text.now.whole.now ≡ include_line_of
+        (without_comments_of false text.now.whole.now) }
 {
     if text.plain || !may_include(text.whole) {
         return false;
@@ -91,7 +92,8 @@ fn asked_in(
 
 // What a line asks for, comments aside.
 fn asked(alloc: Global, line: &OrdinaryLine<'_>) -> Result<Option<Wanted>, ReadingStop>
-    ensures { AsksByLine result (spec.word_place line.now.file line.now.number line.now.text.whole.now) (spec.asked_by_line line.now.in_comment line.now.text.whole.now) }
+    ensures { AsksByLine result (spec.word_place line.now.file line.now.number line.now.text.whole.now)
+        (spec.asked_by_line line.now.in_comment line.now.text.whole.now) }
 {
     if !may_ask(line.in_comment, &line.text) {
         return Ok(None);
@@ -108,7 +110,9 @@ pub(crate) fn line(
     branches: &Branches,
     line: &OrdinaryLine<'_>,
 ) -> Result<Option<Wanted>, ReadingStop>
-    ensures { (state : State) → Shows work.old state → Does result work.new branches.now (spec.of_line enabled line.now.file line.now.number line.now.in_comment line.now.text.whole.now (record { state = state; branches = branches.now })) }
+    ensures { (state : State) → Shows work.old state →
+        Does result work.new branches.now (spec.of_line enabled line.now.file line.now.number line.now.in_comment line.now.text.whole.now
+        (record { state = state; branches = branches.now })) }
 {
     if !branches.is_read() {
         return Ok(None);

@@ -118,8 +118,13 @@ fn read_main<F: Files>(
     enabled: bool,
 ) -> Result<Preprocessed, PreStop>
     requires { length bytes.now ≤ most_bytes }
-    ensures given { IfOk result (λ it. ForSome (F.contents files.old) (λ told. spec.of_main (spec.setting_of told dirs.now enabled) name.now defines.now bytes.now ≡ spec.Given it.lines.files it.lines.list it.notes)) }
-    ensures stopped { IfErr result (λ stop. ForSome (F.contents files.old) (λ told. IsStop stop (spec.of_main (spec.setting_of told dirs.now enabled) name.now defines.now bytes.now))) }
+    ensures given { IfOk result
+        (λ it. ForSome (F.contents files.old)
+        (λ told. spec.of_main (spec.setting_of told dirs.now enabled) name.now defines.now bytes.now ≡ spec.Given it.lines.files
+        it.lines.list it.notes)) }
+    ensures stopped { IfErr result
+        (λ stop. ForSome (F.contents files.old)
+        (λ told. IsStop stop (spec.of_main (spec.setting_of told dirs.now enabled) name.now defines.now bytes.now))) }
     ensures main { IfOk result (λ it. 1 ≤ length it.lines.files) }
     ensures lines { IfOk result (λ it. All (IsGoodLine (length it.lines.files)) it.lines.list) }
     ensures notes { IfOk result (λ it. All (IsGoodNote (length it.lines.files)) it.notes) }
@@ -192,17 +197,21 @@ pub fn preprocess<F: Files>(
     enabled: bool,
 ) -> Result<Preprocessed, PreStop>
     // Where the files are told, what is given is exactly the definition's, and so is what is refused or absent.
-    ensures given { IfOk result (λ it. ForSome (F.contents files.old) (λ told. spec.preprocessed told name.now dirs.now defines.now enabled ≡ spec.Given it.lines.files it.lines.list it.notes)) }
-    ensures stopped { IfErr result (λ stop. ForSome (F.contents files.old) (λ told. IsStop stop (spec.preprocessed told name.now dirs.now defines.now enabled))) }
+    ensures given { IfOk result
+        (λ it. ForSome (F.contents files.old)
+        (λ told. spec.preprocessed told name.now dirs.now defines.now enabled ≡ spec.Given it.lines.files it.lines.list it.notes)) }
+    ensures stopped { IfErr result
+        (λ stop. ForSome (F.contents files.old) (λ told. IsStop stop (spec.preprocessed told name.now dirs.now defines.now enabled))) }
 
-    // The main file is among those that were fetched. Each line has at most 16 MiB, and what is given or refused stands in a file that was fetched.
+    // The main file is among those that were fetched. Each line has at most 16 MiB, and what is given or refused stands
+    // in a file that was fetched.
     ensures main { IfOk result (λ it. 1 ≤ length it.lines.files) }
     ensures lines { IfOk result (λ it. All (IsGoodLine (length it.lines.files)) it.lines.list) }
     ensures notes { IfOk result (λ it. All (IsGoodNote (length it.lines.files)) it.notes) }
     ensures place { IfErr result HasPlace }
 
-    // A file that could not be read raised the count of faults, an absent main file that of absents, and no other answer, want of memory among them,
-    // left the count of faults otherwise than it was.
+    // A file that could not be read raised the count of faults, an absent main file that of absents, and no other
+    // answer, want of memory among them, left the count of faults otherwise than it was.
     ensures cause { IfErr result (λ stop. Causes stop (F.faults files.old) (F.faults files.new) (F.absents files.old) (F.absents files.new)) }
     ensures faults { OnOk result (F.faults files.new ≡ F.faults files.old) }
     ensures contents { F.contents files.new ≡ F.contents files.old }

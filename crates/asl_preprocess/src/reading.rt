@@ -50,7 +50,8 @@ fn take_row(
     file: u32,
     row: Row<'_>,
 ) -> Result<Option<Wanted>, ReadingStop>
-    ensures { (state : State) → Shows work.old state → Does result work.new branches.new (spec.of_row enabled file (row_by row.entry) (record { state = state; branches = branches.old })) }
+    ensures { (state : State) → Shows work.old state →
+        Does result work.new branches.new (spec.of_row enabled file (row_by row.entry) (record { state = state; branches = branches.old })) }
 {
     match row {
         Row::Directive { line, text } => directive(alloc, work, branches, file, line, &text),
@@ -87,12 +88,16 @@ fn seek<F: Files>(
     work: &mut Work,
     wanted: &Wanted,
 ) -> Result<Fetched, ReadingStop>
-    ensures shows { IfOk result (λ found. (state : State) → Shows work.old state → Shows work.new (with_files state (with_file found.name state.files))) }
+    ensures shows { IfOk result (λ found. (state : State) → Shows work.old state →
+        Shows work.new (with_files state (with_file found.name state.files))) }
     ensures number { IfOk result (λ found. found.number ≡ number_of found.name work.new.files) }
     ensures within { IfOk result (λ found. found.number < length work.new.files) }
     ensures size { IfOk result (λ found. length found.bytes.items ≤ most_bytes) }
-    ensures found { IfOk result (λ found. ForSome (F.contents files.old) (λ told. searched told (names_of directories.now own.now (asked_for wanted.now)) ≡ Whole found.name found.bytes.items)) }
-    ensures refused { IfErr result (λ stop. SeekStops stop wanted.now work.old.files work.new.files (F.contents files.old) (λ told. searched told (names_of directories.now own.now (asked_for wanted.now)))) }
+    ensures found { IfOk result
+        (λ found. ForSome (F.contents files.old)
+        (λ told. searched told (names_of directories.now own.now (asked_for wanted.now)) ≡ Whole found.name found.bytes.items)) }
+    ensures refused { IfErr result (λ stop. SeekStops stop wanted.now work.old.files work.new.files (F.contents files.old)
+        (λ told. searched told (names_of directories.now own.now (asked_for wanted.now)))) }
     ensures fault { IfErr result (λ stop. Counts stop (F.faults files.old) (F.faults files.new)) }
     ensures faults { OnOk result (F.faults files.new ≡ F.faults files.old) }
     ensures contents { F.contents files.new ≡ F.contents files.old }
@@ -138,7 +143,8 @@ fn include<F: Files>(
     ensures reached { (state : State) → Shows work.old state → IsSound state → wanted.now.place.file < length state.files
         → Reaches result (F.contents files.old) work.new.files (λ later. Stands work.new later (length state.files))
         (λ told. spec.included (spec.reading_at (setting_by told setting.now) own.now.levels) (setting_by told setting.now) own.now.name.now (asked_for wanted.now) wanted.now.place state) }
-    ensures fault { (state : State) → Shows work.old state → IsSound state → wanted.now.place.file < length state.files → IfErr result (λ stop. Counts stop (F.faults files.old) (F.faults files.new)) }
+    ensures fault { (state : State) → Shows work.old state → IsSound state → wanted.now.place.file < length state.files →
+        IfErr result (λ stop. Counts stop (F.faults files.old) (F.faults files.new)) }
     ensures faults { OnOk result (F.faults files.new ≡ F.faults files.old) }
     ensures contents { F.contents files.new ≡ F.contents files.old }
     ensures later { F.faults files.old ≤ F.faults files.new }
@@ -178,7 +184,8 @@ fn pass_row<F: Files>(
     ensures reached { (state : State) → Shows work.old state → IsSound state → file.now.number < length state.files
         → Reaches result (F.contents files.old) work.new.files (λ later. StandsIn work.new branches.new later (length state.files))
         (λ told. and_then (spec.of_row setting.now.enabled file.now.number (row_by row.entry) (record { state = state; branches = branches.old })) (spec.done (spec.reading_at (setting_by told setting.now) file.now.levels) (setting_by told setting.now) file.now.name.now)) }
-    ensures fault { (state : State) → Shows work.old state → IsSound state → file.now.number < length state.files → IfErr result (λ stop. Counts stop (F.faults files.old) (F.faults files.new)) }
+    ensures fault { (state : State) → Shows work.old state → IsSound state → file.now.number < length state.files →
+        IfErr result (λ stop. Counts stop (F.faults files.old) (F.faults files.new)) }
     ensures faults { OnOk result (F.faults files.new ≡ F.faults files.old) }
     ensures contents { F.contents files.new ≡ F.contents files.old }
     ensures later { F.faults files.old ≤ F.faults files.new }
@@ -218,10 +225,12 @@ pub(crate) fn read_file<F: Files>(
     work: &mut Work,
 ) -> Result<(), ReadingStop>
     requires { length bytes.now ≤ most_bytes }
-    ensures reached { (state : State) → Shows work.old state → IsSound state → file.now.number < length state.files → file.now.number ≡ number_of file.now.name.now state.files
+    ensures reached { (state : State) → Shows work.old state → IsSound state → file.now.number < length state.files →
+        file.now.number ≡ number_of file.now.name.now state.files
         → Reaches result (F.contents files.old) work.new.files (λ later. Stands work.new later (length state.files))
         (λ told. spec.of_file (setting_by told setting.now) file.now.levels state file.now.name.now bytes.now) }
-    ensures fault { (state : State) → Shows work.old state → IsSound state → file.now.number < length state.files → IfErr result (λ stop. Counts stop (F.faults files.old) (F.faults files.new)) }
+    ensures fault { (state : State) → Shows work.old state → IsSound state → file.now.number < length state.files →
+        IfErr result (λ stop. Counts stop (F.faults files.old) (F.faults files.new)) }
     ensures faults { OnOk result (F.faults files.new ≡ F.faults files.old) }
     ensures contents { F.contents files.new ≡ F.contents files.old }
     ensures later { F.faults files.old ≤ F.faults files.new }

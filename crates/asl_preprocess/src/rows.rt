@@ -1,5 +1,6 @@
 //! The rows of a file: its lines, where a directive that goes on in further lines is one row with them.
-ghost use Rattle.std.specs.Prelude.{◌≡◌, ◌∷◌, ◌++◌, ◌+◌, ◌≤◌, ◌<◌, ◌^◌, ◌==◌, [], ℕ, length, take, position, Some, false, All, IfOk, IfSome, IfNone, OnSome, MatchOption};
+ghost use Rattle.std.specs.Prelude.{◌≡◌, ◌∷◌, ◌++◌, ◌+◌, ◌≤◌, ◌<◌, ◌^◌, ◌==◌, [], ℕ, length, take, position, Some, false, All, IfOk};
+ghost use Rattle.std.specs.Prelude.{IfSome, IfNone, OnSome, MatchOption};
 ghost use Rattle.std.specs.Option.{option_copied};
 ghost use Rattle.iasl_ports.specs.Fetched.{most_bytes};
 ghost use Rattle.iasl_messages.specs.Cut.{without_cr as without_cr_of};
@@ -173,7 +174,8 @@ impl<'a> Rows<'a> {
     // The next line, and whether it is plain.
     fn next_line(&mut self) -> Option<(&'a [u8], bool)>
         requires { self.old.number + lines_left self.old < 2 ^ 32 }
-        ensures line { MatchOption result (spec.file_lines self.old.rest.now ≡ []) (λ line. spec.file_lines self.old.rest.now ≡ line.0.now ∷ spec.file_lines self.new.rest.now) }
+        ensures line { MatchOption result (spec.file_lines self.old.rest.now ≡ [])
+            (λ line. spec.file_lines self.old.rest.now ≡ line.0.now ∷ spec.file_lines self.new.rest.now) }
         ensures closed { IfSome result (λ line. IsClosed line.1 line.0.now) }
         ensures asks_nothing { IfSome result (λ line. AsksNothing line.1 line.0.now) }
         ensures lacks { IfSome result (λ line. self.new.names_own ≡ false → LacksOwnName line.0.now) }
@@ -192,7 +194,8 @@ impl<'a> Rows<'a> {
     // The text of a directive that begins with this line, joined with the lines in which it goes on.
     fn join(&mut self, alloc: Global, line: &[u8]) -> Result<Vec<u8>, AllocError>
         requires { self.old.number + lines_left self.old < 2 ^ 32 }
-        ensures joined { IfOk result (λ text. (start : ℕ) → joined_rows self.old start line.now ≡ Directive start text.items ∷ rows_behind self.new) }
+        ensures joined { IfOk result (λ text. (start : ℕ) → joined_rows self.old start line.now ≡ Directive start text.items ∷ rows_behind
+            self.new) }
         ensures room { self.new.number + lines_left self.new ≡ self.old.number + lines_left self.old }
         ensures in_comment { self.new.in_comment ≡ self.old.in_comment }
         ensures enabled { self.new.enabled ≡ self.old.enabled }
@@ -212,7 +215,8 @@ impl<'a> Rows<'a> {
     /// The next row.
     pub(crate) fn next(&mut self, alloc: Global) -> Result<Option<Row<'a>>, AllocError>
         requires { self.old.number + lines_left self.old < 2 ^ 32 }
-        ensures row { IfOk result (λ row. MatchOption row (rows_left self.old ≡ []) (λ row. rows_left self.old ≡ row_by row ∷ rows_left self.new)) }
+        ensures row { IfOk result
+            (λ row. MatchOption row (rows_left self.old ≡ []) (λ row. rows_left self.old ≡ row_by row ∷ rows_left self.new)) }
         ensures room { self.new.number + lines_left self.new ≡ self.old.number + lines_left self.old }
     {
         let Some((whole, plain)) = self.next_line() else {

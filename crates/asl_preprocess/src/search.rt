@@ -126,7 +126,9 @@ fn fetch<F: Files>(
     files: &mut F,
     name: &Text,
 ) -> Result<Option<SearchResult>, ReadingStop>
-    ensures found { IfOk result (λ found. ForSome (F.contents files.old) (λ told. (rest : spec.SearchResult) → found_or_rest found rest ≡ spec.search_first told name.now rest)) }
+    ensures found { IfOk result
+        (λ found. ForSome (F.contents files.old)
+        (λ told. (rest : spec.SearchResult) → found_or_rest found rest ≡ spec.search_first told name.now rest)) }
     ensures size { IfOk result HasRoom }
     ensures fault { IfErr result (λ stop. SearchStops stop (F.faults files.old) (F.faults files.new)) }
     ensures faults { OnOk result (F.faults files.new ≡ F.faults files.old) }
@@ -179,7 +181,9 @@ pub(crate) fn search_for<F: Files>(
     own: &[u8],
     wanted: &Wanted,
 ) -> Result<SearchResult, ReadingStop>
-    ensures found { IfOk result (λ found. ForSome (F.contents files.old) (λ told. spec.search told (spec.names_for directories.now own.now (asked_for wanted.now)) ≡ found_by found)) }
+    ensures found { IfOk result
+        (λ found. ForSome (F.contents files.old)
+        (λ told. spec.search told (spec.names_for directories.now own.now (asked_for wanted.now)) ≡ found_by found)) }
     ensures size { IfOk result FoundHasRoom }
     ensures fault { IfErr result (λ stop. SearchStops stop (F.faults files.old) (F.faults files.new)) }
     ensures faults { OnOk result (F.faults files.new ≡ F.faults files.old) }

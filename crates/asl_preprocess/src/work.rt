@@ -92,7 +92,8 @@ impl Work {
         name: &[u8],
         text: &[u8],
     ) -> Result<(), AllocError>
-        ensures { OnOk result ((state : State) → Shows self.old state → Shows self.new (with_history state (Defines name.now text.now ∷ state.history))) }
+        ensures { OnOk result
+            ((state : State) → Shows self.old state → Shows self.new (with_history state (Defines name.now text.now ∷ state.history))) }
     {
         self.others |= !is_own(name);
         self.macros.define(alloc, name, text)
@@ -113,7 +114,9 @@ impl Work {
         place: Place,
         name: &[u8],
     ) -> Result<(), AllocError>
-        ensures { OnOk result ((state : State) → Shows self.old state → Shows self.new (with_notes state (state.notes ++ message_at number place name.now ∷ []))) }
+        ensures { OnOk result
+            ((state : State) → Shows self.old state →
+            Shows self.new (with_notes state (state.notes ++ message_at number place name.now ∷ []))) }
     {
         self.notes.push(Message {
             number,
@@ -124,7 +127,8 @@ impl Work {
 
     /// One more file that was fetched: its number.
     pub(crate) fn add_file(&mut self, alloc: Global, name: &[u8]) -> Result<u32, AllocError>
-        ensures shows { OnOk result ((state : State) → Shows self.old state → Shows self.new (with_files state (with_file name.now state.files))) }
+        ensures shows { OnOk result
+            ((state : State) → Shows self.old state → Shows self.new (with_files state (with_file name.now state.files))) }
         ensures number { IfOk result (λ number. number ≡ number_of name.now self.new.files) }
         ensures within { IfOk result (λ number. number < length self.new.files) }
     {
@@ -133,14 +137,16 @@ impl Work {
 
     // Whether a line can have no name that is defined: there is `__IASL__` alone, which does not stand in it.
     fn lacks_names(&self, text: &LineText<'_>) -> bool
-        ensures { result ≡ true → (state : State) (in_comment : Bool) → Shows self.now state → replaced InLine state.history in_comment text.now.whole.now ≡ text.now.whole.now }
+        ensures { result ≡ true → (state : State) (in_comment : Bool) → Shows self.now state →
+            replaced InLine state.history in_comment text.now.whole.now ≡ text.now.whole.now }
     {
         !self.others && !text.names_own
     }
 
     // Whether a line stays as it is.
     fn stays(&self, enabled: bool, line: &OrdinaryLine<'_>) -> bool
-        ensures yes { result ≡ true → (state : State) → Shows self.now state → text_left enabled state.history line.now.in_comment line.now.text.whole.now ≡ line.now.text.whole.now }
+        ensures yes { result ≡ true → (state : State) → Shows self.now state → text_left enabled state.history line.now.in_comment
+            line.now.text.whole.now ≡ line.now.text.whole.now }
         ensures no { result ≡ false → enabled ≡ true }
     {
         !enabled
@@ -156,7 +162,8 @@ impl Work {
         line: &OrdinaryLine<'_>,
         room: usize,
     ) -> Result<Text, ReplaceStop>
-        ensures { (state : State) → Shows self.now state → Leaves result room (text_left enabled state.history line.now.in_comment line.now.text.whole.now) }
+        ensures { (state : State) → Shows self.now state →
+            Leaves result room (text_left enabled state.history line.now.in_comment line.now.text.whole.now) }
     {
         if self.stays(enabled, line) {
             return whole(alloc, line.text.whole, room);
@@ -175,7 +182,8 @@ impl Work {
     // One more line, for which there is room.
     fn push(&mut self, line: Line) -> Result<(), AllocError>
         requires { self.old.size ≤ most_bytes }
-        ensures { OnOk result ((state : State) → Shows self.old state → self.old.size + length line.text ≤ most_bytes → Shows self.new (with_lines state (state.lines ++ line ∷ []))) }
+        ensures { OnOk result ((state : State) → Shows self.old state → self.old.size + length line.text ≤ most_bytes →
+            Shows self.new (with_lines state (state.lines ++ line ∷ []))) }
     {
         let size = line.text.as_bytes().len();
         self.lines.push(line)?;

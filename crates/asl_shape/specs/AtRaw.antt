@@ -21,7 +21,12 @@ use Rattle.asl_words.specs.declared.meaning.Reading.{Reading}
 use Rattle.asl_shape.specs.declared.fields.Due.{Due}
 use Rattle.asl_shape.specs.declared.fields.UnitName.{UnitName}
 use Rattle.asl_parser.specs.Written.{written, writtens, written_in}
-use Rattle.asl_shape.specs.Shapes.{Shaped, fine, takes, none_empty, has_arguments, is_comma, due_after, is_text, bare, run_after, is_call, is_separator, is_listed, byte_slot, skipped, joined, operands, call_args, arguments, arguments_in, contents, members, terms, read_shape, form_shape, within, place_of, nowhere, checked, item_shape, listed_shape, types_shape, is_type, are_types, is_type_or_list, are_all_types, meaning_in, goes_on, is_field_list, field_slot, unit_behind, field_part, due_behind, element_shape, first_place, inner_place, element_place, macro_shape, template_shape, descriptor_shape, elements, begin, cases, default_after}
+use Rattle.asl_shape.specs.Shapes.{Shaped, fine, takes, none_empty, has_arguments, is_comma, due_after, is_text, bare, run_after, is_call}
+use Rattle.asl_shape.specs.Shapes.{is_separator, is_listed, byte_slot, skipped, joined, operands, call_args, arguments, arguments_in}
+use Rattle.asl_shape.specs.Shapes.{contents, members, terms, read_shape, form_shape, within, place_of, nowhere, checked, item_shape}
+use Rattle.asl_shape.specs.Shapes.{listed_shape, types_shape, is_type, are_types, is_type_or_list, are_all_types, meaning_in, goes_on}
+use Rattle.asl_shape.specs.Shapes.{is_field_list, field_slot, unit_behind, field_part, due_behind, element_shape, first_place, inner_place}
+use Rattle.asl_shape.specs.Shapes.{element_place, macro_shape, template_shape, descriptor_shape, elements, begin, cases, default_after}
 use Rattle.asl_words.specs.Meanings.{item_fault, meaning_of, reading_of, slot_as, is_whole}
 use Rattle.asl_words.specs.Operators.{parameters_as, body_as, element_parameters, macro_parameters}
 use Rattle.asl_words.specs.Resources.{descriptor_parameters, descriptor_body}
@@ -87,7 +92,8 @@ default_after_at before raw = default_after before (written raw)
 
 -- a form with its arguments and its braces, read so
 unfoldable pub form_at : Slot → Op → Place → Around → Option (List Raw) → Option (List Raw) → Shaped Plan
-form_at s o place inside args body = form_shape inside.width o place (arguments_at (parameters_as o s) place inside args) (contents_at (body_as o s) (within o inside) place body)
+form_at s o place inside args body = form_shape inside.width o place (arguments_at (parameters_as o s) place inside args)
+    (contents_at (body_as o s) (within o inside) place body)
 
 -- a word of a field's list with its arguments
 unfoldable pub element_at : FieldWord → Place → Around → Option (List Raw) → Shaped Plan
@@ -103,11 +109,14 @@ template_at place inside body = template_shape place (contents_at (braces.Descri
 
 -- a descriptor with its arguments and its braces
 unfoldable pub descriptor_at : Descriptor → Place → Around → Option (List Raw) → Option (List Raw) → Shaped Plan
-descriptor_at d place inside args body = descriptor_shape d place (arguments_at (descriptor_parameters d) place inside args) (contents_at (descriptor_body d) inside place body)
+descriptor_at d place inside args body = descriptor_shape d place (arguments_at (descriptor_parameters d) place inside args)
+    (contents_at (descriptor_body d) inside place body)
 
 -- an item as it is read
 unfoldable pub read_at : Slot → Place → List ℕ → Reading → Around → Option (List Raw) → Option (List Raw) → Shaped Plan
-read_at s place w reading inside args body = read_shape s place w reading (call_at inside args) (λ e. element_at e place inside args) (λ m. macro_at m place inside args) (template_at place inside body) (λ d. descriptor_at d place inside args body) (λ o. form_at s o place inside args body)
+read_at s place w reading inside args body = read_shape s place w reading (call_at inside args) (λ e. element_at e place inside args)
+    (λ m. macro_at m place inside args) (template_at place inside body) (λ d. descriptor_at d place inside args body)
+    (λ o. form_at s o place inside args body)
 
 abbrev pub is_some : Option (List Raw) → Bool
 is_some None = false
@@ -131,7 +140,9 @@ byte_slot_at raws = byte_slot (writtens raws)
 -- an item
 unfoldable pub item_at : Slot → Around → Place → List ℕ → Option (List Raw) → Option (List Raw) → Shaped Plan
 item_at s inside place w args body =
-    item_shape place (item_fault s inside.method (meaning_of w (is_some body)) (has_arguments_at (meaning_of w (is_some body)) (inside_at args)) (is_some body))
+    item_shape place
+    (item_fault s inside.method (meaning_of w (is_some body)) (has_arguments_at (meaning_of w (is_some body)) (inside_at args))
+    (is_some body))
     (read_at s place w (reading_of s (meaning_of w (is_some body)) (is_some args)) inside args body)
 
 unfoldable pub is_text_at : Raw → Bool
@@ -202,18 +213,22 @@ element_place_at raw = element_place (written raw)
 
 -- what a member comes to where this is due
 unfoldable pub part_at : Due → Option UnitName → Around → Raw → Shaped Plans
-part_at due unit inside raw = field_part due unit (element_place_at raw) (is_whole (meaning_at raw)) (is_separator_at raw) (shape_at (field_slot due (meaning_at raw)) inside raw)
+part_at due unit inside raw = field_part due unit (element_place_at raw) (is_whole (meaning_at raw)) (is_separator_at raw)
+    (shape_at (field_slot due (meaning_at raw)) inside raw)
 
 -- the unit of which the number of bits is to come behind it
 unfoldable pub unit_at : Due → Option UnitName → Around → Raw → Option UnitName
-unit_at due unit inside raw = unit_behind due unit (element_place_at raw) (is_whole (meaning_at raw)) (is_separator_at raw) (shape_at (field_slot due (meaning_at raw)) inside raw).made
+unit_at due unit inside raw = unit_behind due unit (element_place_at raw) (is_whole (meaning_at raw)) (is_separator_at raw)
+    (shape_at (field_slot due (meaning_at raw)) inside raw).made
 
 unfoldable pub begin_at : Around → Raw → Shaped Plans
 begin_at inside raw =
-    field_part begin None (element_place_at raw) (is_whole (meaning_at raw)) (is_separator_at raw) (shape_at (slot_as slot.FieldElement (meaning_at raw)) inside raw)
+    field_part begin None (element_place_at raw) (is_whole (meaning_at raw)) (is_separator_at raw)
+    (shape_at (slot_as slot.FieldElement (meaning_at raw)) inside raw)
 
 unfoldable pub comma_at : Option UnitName → Raw → Shaped Plans
 comma_at unit raw = field_part Due.NameComma unit (element_place_at raw) (is_whole (meaning_at raw)) (is_separator_at raw) (fine omitted)
 
 unfoldable pub bits_at : Option UnitName → Around → Raw → Shaped Plans
-bits_at unit inside raw = field_part Due.Bits unit (element_place_at raw) (is_whole (meaning_at raw)) (is_separator_at raw) (shape_at slot.Measure inside raw)
+bits_at unit inside raw = field_part Due.Bits unit (element_place_at raw) (is_whole (meaning_at raw)) (is_separator_at raw)
+    (shape_at slot.Measure inside raw)

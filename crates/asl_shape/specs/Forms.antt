@@ -44,7 +44,8 @@ block_terms args body = terms (outside (width_of (revision_in args))) None (insi
 
 abbrev pub block_errors : Place → WrittenGroup → WrittenGroup → List Message
 block_errors place args body =
-    errors_inside (block_fault (takes block_parameters (inside_of args)) (is_given body)) place ((block_args place args).faults ++ (block_terms (block_args place args).made body).faults)
+    errors_inside (block_fault (takes block_parameters (inside_of args)) (is_given body)) place
+    ((block_args place args).faults ++ (block_terms (block_args place args).made body).faults)
 
 abbrev pub one_error : ℕ → Place → List Message
 one_error number place = fault_at number place ∷ []
@@ -58,7 +59,8 @@ errors_before errors none = errors
 errors_before errors (more w ws) = no_block (place_of start w)
 
 abbrev pub first_errors : Written → Writtens → List Message
-first_errors (item place word args body) rest = if is_block_word word then errors_before (block_errors place args body) rest else no_block place
+first_errors (item place word args body) rest = if is_block_word word then errors_before (block_errors place args body) rest else
+    no_block place
 first_errors w rest = no_block (place_of start w)
 
 -- all errors of a source, in preorder
@@ -113,12 +115,14 @@ errors_in place args body = (args_in place args).faults ++ (terms_in (args_in pl
 
 unfoldable pub block_errors_at : Place → Option (List Raw) → Option (List Raw) → List Message
 block_errors_at place args body =
-    errors_inside (block_fault (takes_at block_parameters (inside_at args)) (is_some body)) place (errors_in place (inside_at args) (inside_at body))
+    errors_inside (block_fault (takes_at block_parameters (inside_at args)) (is_some body)) place
+    (errors_in place (inside_at args) (inside_at body))
 
 unfoldable pub item_errors_at : Place → List ℕ → Option (List Raw) → Option (List Raw) → List Raw → List Message
 item_errors_at place word args body rest =
     if is_block_word word then errors_before (block_errors_at place args body) (writtens rest) else no_block place
 
 unfoldable pub IsItemBlock : Place → Option (List Raw) → Option (List Raw) → List Raw → Block → Type 0
-IsItemBlock place args body [] block = IsBlock place (args_in place (inside_at args)).made (terms_in (args_in place (inside_at args)).made (inside_at body)).made block
+IsItemBlock place args body [] block = IsBlock place (args_in place (inside_at args)).made
+    (terms_in (args_in place (inside_at args)).made (inside_at body)).made block
 IsItemBlock place args body (r ∷ rs) block = ⊥

@@ -1,5 +1,6 @@
 -- What a source comes to: a program's tree, or the errors in it.
-use Rattle.std.specs.Prelude.{ℕ, suc, ◌+◌, ◌*◌, ◌%◌, nat_le, Bool, true, false, not, ◌&&◌, ◌||◌, if◌then◌else◌, List, [], ◌∷◌, ◌++◌, Option, Some, None, Result, Ok, Err}
+use Rattle.std.specs.Prelude.{ℕ, suc, ◌+◌, ◌*◌, ◌%◌, nat_le, Bool, true, false, not, ◌&&◌, ◌||◌, if◌then◌else◌, List, [], ◌∷◌, ◌++◌}
+use Rattle.std.specs.Prelude.{Option, Some, None, Result, Ok, Err}
 use Rattle.acpi_state.specs.Outcomes.{choose}
 use Rattle.iasl_messages.specs.declared.place.Place.{Place}
 use Rattle.iasl_messages.specs.declared.message.Message.{Message}
@@ -37,16 +38,20 @@ use Rattle.asl_tree.specs.declared.term.Word.{Word}
 use Rattle.asl_shape.specs.declared.fields.Due.{Due}
 use Rattle.asl_shape.specs.declared.fields.UnitName.{UnitName}
 use Rattle.asl_parser.specs.Written as piece
-use Rattle.asl_parser.specs.Written.{Written, Writtens, WrittenGroup, item, apply, listed, comma, semicolon, empty, none, more, absent, given}
+use Rattle.asl_parser.specs.Written.{Written, Writtens, WrittenGroup, item, apply, listed, comma, semicolon, empty, none, more, absent}
+use Rattle.asl_parser.specs.Written.{given}
 use Rattle.asl_words.specs.declared.operator.FieldWord.{FieldWord}
 use Rattle.asl_words.specs.Operators.{parameters_of, parameters_as, body_as, role_of, element_parameters, macro_parameters}
 use Rattle.asl_words.specs.Resources.{descriptor_parameters, descriptor_body}
-use Rattle.asl_words.specs.Meanings.{meaning_of, may_end, unfit, item_fault, takes_expression, takes_role, takes_known, reading_of, run_behind, slot_as, is_default, is_whole, is_connection}
+use Rattle.asl_words.specs.Meanings.{meaning_of, may_end, unfit, item_fault, takes_expression, takes_role, takes_known, reading_of}
+use Rattle.asl_words.specs.Meanings.{run_behind, slot_as, is_default, is_whole, is_connection}
 use Rattle.asl_shape.specs.Symbols.{symbol_of}
 use Rattle.asl_words.specs.Texts.{has_form, is_all_text}
 use Rattle.asl_words.specs.Paths.{path_of}
 use Rattle.resource_macros.specs.Identifiers.{eisaid_of, uuid_of, utf16_of}
-use Rattle.asl_shape.specs.Plans.{Plan, an_integer, a_text, a_fill, a_word, a_local, an_arg, debug, omitted, a_name, a_unit, a_skip, an_offset, an_access, a_call, a_form, Plans, no_plans, plan, join, number_of, plan_at, first_plans, first_alone, is_omitted, how_many, constant_of}
+use Rattle.asl_shape.specs.Plans.{Plan, an_integer, a_text, a_fill, a_word, a_local, an_arg, debug, omitted, a_name, a_unit, a_skip}
+use Rattle.asl_shape.specs.Plans.{an_offset, an_access, a_call, a_form, Plans, no_plans, plan, join, number_of, plan_at, first_plans}
+use Rattle.asl_shape.specs.Plans.{first_alone, is_omitted, how_many, constant_of}
 use Rattle.asl_shape.specs.Descriptors.{is_roomy, described, fills_of, names_from}
 
 -- ---- what comes of a part of a source: its errors in order, and its tree, which counts where there are none
@@ -179,7 +184,8 @@ is_case_package n = nat_le 1 n && nat_le n 120
 
 -- the value of a Case: such a member, or a Package of some
 abbrev pub case_value : Width → Place → Plan → Shaped Plan
-case_value width place p = choose (member_count p) (case_member width place p) (λ n. if is_case_package n then fine p else refused 6024 place)
+case_value width place p = choose (member_count p) (case_member width place p)
+    (λ n. if is_case_package n then fine p else refused 6024 place)
 
 -- what the word of a part is, if it has one
 abbrev pub meaning_in : Written → Meaning
@@ -341,7 +347,8 @@ abbrev pub mutex_settled : Place → Plans → Plans
 mutex_settled place ps = join (first_alone ps) (one_plan place (an_integer (number_of (plan_at ps 1) % 16)))
 
 abbrev pub external_settled : Place → Plans → Plans
-external_settled place ps = join (join (first_alone ps) (one_plan place (an_integer (number_of (plan_at ps 1))))) (stated_parameters place (plan_at ps 3))
+external_settled place ps = join (join (first_alone ps) (one_plan place (an_integer (number_of (plan_at ps 1)))))
+    (stated_parameters place (plan_at ps 3))
 
 -- a Return without an argument returns Zero
 abbrev pub return_settled : Place → Plans → Plans
@@ -394,11 +401,13 @@ arranged (Op.Control Control.Switch) ps = default_last ps
 arranged _ ps = ps
 
 abbrev pub form_shape : Width → Op → Place → Shaped Plans → Shaped Plans → Shaped Plan
-form_shape width o place args body = record { faults = args.faults ++ body.faults; made = a_form o (settled width o place args.made) (arranged o body.made) }
+form_shape width o place args body =
+    record { faults = args.faults ++ body.faults; made = a_form o (settled width o place args.made) (arranged o body.made) }
 
 -- what is written with a symbol, by what its operands come to
 abbrev pub symbol_shape : Width → Slot → Place → Op → Shaped Plans → Shaped Plan
-symbol_shape width s place o args = if takes_role s (role_of o) then form_shape width o place args (fine no_plans) else refused (unfit s) place
+symbol_shape width s place o args = if takes_role s (role_of o) then form_shape width o place args (fine no_plans) else
+    refused (unfit s) place
 
 -- ---- the words of a field's list
 
@@ -433,7 +442,11 @@ room_faults false place = fault_at 6024 place ∷ []
 -- a descriptor stands as its bytes, with those of the descriptors in its braces behind them
 abbrev pub descriptor_shape : Descriptor → Place → Shaped Plans → Shaped Plans → Shaped Plan
 descriptor_shape d place args body =
-    record { faults = args.faults ++ body.faults ++ room_faults (is_roomy d args.made body.made) place; made = described d args.made body.made }
+    record {
+      faults = args.faults ++ body.faults ++ room_faults (is_roomy d args.made body.made) place;
+      made =
+          described d args.made body.made;
+    }
 
 -- a template stands as a Buffer of the bytes of its descriptors and the end tag
 abbrev pub template_plan : Place → Plans → Plan
@@ -442,7 +455,8 @@ template_plan place ps = buffer_plan place (fills_of ps ++ 0x79 ∷ 0 ∷ []) (n
 abbrev pub template_shape : Place → Shaped Plans → Shaped Plan
 template_shape place body = record { faults = body.faults; made = template_plan place body.made }
 
-abbrev pub read_shape : Slot → Place → List ℕ → Reading → Shaped Plans → (FieldWord → Shaped Plan) → (TextMacro → Shaped Plan) → Shaped Plan → (Descriptor → Shaped Plan) → (Op → Shaped Plan) → Shaped Plan
+abbrev pub read_shape : Slot → Place → List ℕ → Reading → Shaped Plans → (FieldWord → Shaped Plan) → (TextMacro → Shaped Plan) → Shaped Plan
+    → (Descriptor → Shaped Plan) → (Op → Shaped Plan) → Shaped Plan
 read_shape s place text read.Wrong args element expanded template described form = refused (unfit s) place
 read_shape s place text read.Path args element expanded template described form = path_shape place (path_of text)
 read_shape s place text read.Call args element expanded template described form = call_shape place (path_of text) args
@@ -491,7 +505,8 @@ is_separator _ = false
 
 -- whether an element is to come behind a member: none where it may not stand
 abbrev pub due_after : Bool → Written → Option Bool
-due_after due w = if is_separator w then (if is_comma w then (if due then None else Some true) else None) else (if due then Some false else None)
+due_after due w = if is_separator w then (if is_comma w then (if due then None else Some true) else None) else
+    (if due then Some false else None)
 
 -- elements with commas between them, and one behind the last perhaps; `due` says that an element is to come
 abbrev pub is_listed : Bool → Writtens → Bool
@@ -631,20 +646,27 @@ abbrev mutual
   bare s inside (piece.number place n) = number_shape s place n
   bare s inside (piece.text place bytes) = text_shape s place bytes
   bare s inside (listed place ws) = listed_shape s place ws
-  bare s inside (apply place o ws) = symbol_shape inside.width s place (symbol_of o) (arguments_in (parameters_of (symbol_of o)) place inside ws)
+  bare s inside (apply place o ws) = symbol_shape inside.width s place (symbol_of o)
+      (arguments_in (parameters_of (symbol_of o)) place inside ws)
   bare s inside (item place w args body) =
-      item_shape place (item_fault s inside.method (meaning_of w (is_given body)) (has_arguments (meaning_of w (is_given body)) (inside_of args)) (is_given body))
+      item_shape place
+      (item_fault s inside.method (meaning_of w (is_given body)) (has_arguments (meaning_of w (is_given body)) (inside_of args))
+      (is_given body))
       (read_shape s place w (reading_of s (meaning_of w (is_given body)) (is_given args)) (call_args inside args)
-      (λ e. element_shape e (arguments (element_parameters e) place inside args)) (λ m. macro_shape (arguments (macro_parameters m) place inside args))
+      (λ e. element_shape e (arguments (element_parameters e) place inside args))
+      (λ m. macro_shape (arguments (macro_parameters m) place inside args))
       (template_shape place (contents (braces.Descriptors false) inside place body))
-      (λ d. descriptor_shape d place (arguments (descriptor_parameters d) place inside args) (contents (descriptor_body d) inside place body))
-      (λ o. form_shape inside.width o place (arguments (parameters_as o s) place inside args) (contents (body_as o s) (within o inside) place body)))
+      (λ d. descriptor_shape d place (arguments (descriptor_parameters d) place inside args)
+      (contents (descriptor_body d) inside place body))
+      (λ o. form_shape inside.width o place (arguments (parameters_as o s) place inside args)
+      (contents (body_as o s) (within o inside) place body)))
   bare s inside _ = fine omitted
 
   -- the arguments of a call
   pub operands : Slot → Around → Writtens → Shaped Plans
   operands s inside none = fine no_plans
-  operands s inside (more w ws) = joined (place_of nowhere w) (checked inside.width s (place_of nowhere w) (bare s inside w)) (operands slot.Expression inside ws)
+  operands s inside (more w ws) = joined (place_of nowhere w) (checked inside.width s (place_of nowhere w) (bare s inside w))
+      (operands slot.Expression inside ws)
 
   pub call_args : Around → WrittenGroup → Shaped Plans
   call_args inside absent = fine no_plans
@@ -659,7 +681,9 @@ abbrev mutual
   arguments_in qs place inside none = fine (left_out place qs)
   arguments_in [] place inside (more w ws) = fine no_plans
   arguments_in (q ∷ qs) place inside (more w ws) =
-      joined (place_of place w) (checked inside.width (slot_as q.slot (meaning_in w)) (place_of nowhere w) (bare (slot_as q.slot (meaning_in w)) inside w)) (arguments_in qs place inside ws)
+      joined (place_of place w)
+      (checked inside.width (slot_as q.slot (meaning_in w)) (place_of nowhere w) (bare (slot_as q.slot (meaning_in w)) inside w))
+      (arguments_in qs place inside ws)
 
   -- what stands in braces
   pub contents : Body → Around → Place → WrittenGroup → Shaped Plans
@@ -676,7 +700,8 @@ abbrev mutual
 
   pub members : Slot → Around → Writtens → Shaped Plans
   members s inside none = fine no_plans
-  members s inside (more w ws) = skipped (is_separator w) (place_of nowhere w) (checked inside.width s (place_of nowhere w) (bare s inside w)) (members s inside ws)
+  members s inside (more w ws) = skipped (is_separator w) (place_of nowhere w)
+      (checked inside.width s (place_of nowhere w) (bare s inside w)) (members s inside ws)
 
   -- the elements of a field's list
   pub elements : Due → Option UnitName → Around → Writtens → Shaped Plans
@@ -685,19 +710,23 @@ abbrev mutual
       followed (field_part due unit (element_place w) (is_whole (meaning_in w)) (is_separator w)
       (checked inside.width (field_slot due (meaning_in w)) (place_of nowhere w) (bare (field_slot due (meaning_in w)) inside w)))
       (elements (due_behind due w) (unit_behind due unit (element_place w) (is_whole (meaning_in w)) (is_separator w)
-      (checked inside.width (field_slot due (meaning_in w)) (place_of nowhere w) (bare (field_slot due (meaning_in w)) inside w)).made) inside ws)
+      (checked inside.width (field_slot due (meaning_in w)) (place_of nowhere w) (bare (field_slot due (meaning_in w)) inside w)).made)
+      inside ws)
 
   -- the terms of a list; `run` says how many ElseIfs stand directly before, and before them an If
   pub terms : Around → Option ℕ → Writtens → Shaped Plans
   terms inside run none = fine no_plans
   terms inside run (more w ws) =
-      skipped (is_separator w) (place_of nowhere w) (checked inside.width (slot.Term run) (place_of nowhere w) (bare (slot.Term run) inside w)) (terms inside (run_after run w) ws)
+      skipped (is_separator w) (place_of nowhere w)
+      (checked inside.width (slot.Term run) (place_of nowhere w) (bare (slot.Term run) inside w)) (terms inside (run_after run w) ws)
 
   -- the members of a Switch; `defaulted` says whether a Default stands before
   pub cases : Around → Bool → Writtens → Shaped Plans
   cases inside defaulted none = fine no_plans
   cases inside defaulted (more w ws) =
-      skipped (is_separator w) (place_of nowhere w) (checked inside.width (slot.Branch defaulted) (place_of nowhere w) (bare (slot.Branch defaulted) inside w)) (cases inside (default_after defaulted w) ws)
+      skipped (is_separator w) (place_of nowhere w)
+      (checked inside.width (slot.Branch defaulted) (place_of nowhere w) (bare (slot.Branch defaulted) inside w))
+      (cases inside (default_after defaulted w) ws)
 
 -- a part of a source where it is read so
 abbrev pub shape : Slot → Around → Written → Shaped Plan

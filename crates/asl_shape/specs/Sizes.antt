@@ -1,7 +1,8 @@
 -- How much of a source a part of its tree is.
 use Rattle.std.specs.Prelude.{ℕ, suc, ◌+◌, List, Option}
 use Rattle.asl_parser.specs.declared.raw.Raw.{Raw}
-use Rattle.asl_parser.specs.Written.{Written, item, apply, listed, Writtens, none, more, WrittenGroup, absent, given, written, writtens, written_in}
+use Rattle.asl_parser.specs.Written.{Written, item, apply, listed, Writtens, none, more, WrittenGroup, absent, given, written, writtens}
+use Rattle.asl_parser.specs.Written.{written_in}
 
 -- how many parts there are
 abbrev mutual

@@ -68,8 +68,8 @@ fn connected_to(alloc: Global, term: Term) -> Result<Term, AllocError>
     }
 }
 
-/// What a word of a field's list comes to: the place of the next byte, an access, or what units are connected to; and for an attribute that has
-/// a length an access with it.
+/// What a word of a field's list comes to: the place of the next byte, an access, or what units are connected to; and
+/// for an attribute that has a length an access with it.
 #[tactic(auto, using(crate::proofs::Terms::access_term), unfolding(crate::specs::Plans::plan_of))]
 pub fn element_term(
     alloc: Global,

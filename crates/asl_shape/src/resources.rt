@@ -115,7 +115,8 @@ fn add_names(
 #[tactic(auto, using(crate::proofs::Descriptors::fill_rules), unfolding(crate::specs::Plans::plan_of))]
 fn add_fill(fill: &mut Fill, term: &Term) -> Result<(), AllocError>
     ensures bytes { OnOk result (fill.new.bytes.items ≡ fill.old.bytes.items ++ table.fill_of (plan_of term.now)) }
-    ensures names { OnOk result (fill.new.named.items ≡ fill.old.named.items ++ map (table.moved (length fill.old.bytes.items)) (table.named_of (plan_of term.now))) }
+    ensures names { OnOk result (fill.new.named.items ≡ fill.old.named.items ++ map (table.moved (length fill.old.bytes.items))
+        (table.named_of (plan_of term.now))) }
 {
     match term {
         Term::Fill { bytes, named } => {
@@ -129,7 +130,8 @@ fn add_fill(fill: &mut Fill, term: &Term) -> Result<(), AllocError>
 // Adds the bytes and the names of descriptors, one behind the other.
 fn add_fills(fill: &mut Fill, nodes: &[Node]) -> Result<(), AllocError>
     ensures bytes { OnOk result (fill.new.bytes.items ≡ fill.old.bytes.items ++ table.fills_of (plans_of nodes.now)) }
-    ensures names { OnOk result (fill.new.named.items ≡ fill.old.named.items ++ table.names_from (length fill.old.bytes.items) (plans_of nodes.now)) }
+    ensures names { OnOk result (fill.new.named.items ≡ fill.old.named.items ++ table.names_from (length fill.old.bytes.items)
+        (plans_of nodes.now)) }
 {
     for node in nodes {
         add_fill(fill, &node.term)?;
@@ -226,7 +228,9 @@ pub fn describe(
     args: &[Node],
     body: &[Node],
 ) -> Result<Term, AllocError>
-    ensures faults { OnOk result (work.new.faults.items ≡ work.old.faults.items ++ spec.room_faults (table.is_roomy descriptor (plans_of args.now) (plans_of body.now)) place) }
+    ensures faults { OnOk result
+        (work.new.faults.items ≡ work.old.faults.items
+        ++ spec.room_faults (table.is_roomy descriptor (plans_of args.now) (plans_of body.now)) place) }
     ensures made { IfOk result (λ term. plan_of term ≡ table.described descriptor (plans_of args.now) (plans_of body.now)) }
     ensures reads { OnOk result (table.is_roomy descriptor (plans_of args.now) (plans_of body.now) ≡ true
         → IsResource (row_of descriptor) (table.descriptor_arguments descriptor (plans_of args.now)) (table.member_nodes (plans_of body.now)) (table.own_bytes descriptor (plans_of args.now) (plans_of body.now))) }
@@ -249,7 +253,8 @@ pub fn describe(
     })
 }
 
-/// What a template comes to by its descriptors: a Buffer of their bytes and the end tag, with those that have names (ACPI Specification 6.4,
+/// What a template comes to by its descriptors: a Buffer of their bytes and the end tag, with those that have names
+/// (ACPI Specification 6.4,
 /// 6.4.2.9).
 pub fn template(alloc: Global, place: Place, body: &[Node]) -> Result<Term, AllocError>
     ensures { IfOk result (λ term. plan_of term ≡ spec.template_plan place (plans_of body.now)) }

@@ -111,7 +111,8 @@ fn add(
     raw: &Raw,
 ) -> Result<(), AllocError>
     ensures faults { OnOk result (work.new.faults.items ≡ work.old.faults.items ++ (at.shape_at slot inside raw.now).faults) }
-    ensures made { OnOk result (plans_of nodes.new.items ≡ join (plans_of nodes.old.items) (at.one_at place raw.now (at.shape_at slot inside raw.now).made)) }
+    ensures made { OnOk result
+        (plans_of nodes.new.items ≡ join (plans_of nodes.old.items) (at.one_at place raw.now (at.shape_at slot inside raw.now).made)) }
 {
     let term = shape(alloc, work, slot, inside, raw)?;
     Ok(push(nodes, place_in(place, raw), term)?)
@@ -172,7 +173,8 @@ fn item(
     args: &Option<Raws>,
     body: &Option<Raws>,
 ) -> Result<Term, AllocError>
-    ensures faults { OnOk result (work.new.faults.items ≡ work.old.faults.items ++ (at.item_at slot inside place word.now args.now body.now).faults) }
+    ensures faults { OnOk result
+        (work.new.faults.items ≡ work.old.faults.items ++ (at.item_at slot inside place word.now args.now body.now).faults) }
     ensures made { IfOk result (λ term. plan_of term ≡ (at.item_at slot inside place word.now args.now body.now).made) }
 {
     let meaning = meaning_of(word.as_bytes(), is_given(body));
@@ -206,7 +208,8 @@ fn read(
     args: &Option<Raws>,
     body: &Option<Raws>,
 ) -> Result<Term, AllocError>
-    ensures faults { OnOk result (work.new.faults.items ≡ work.old.faults.items ++ (at.read_at slot place word.now reading inside args.now body.now).faults) }
+    ensures faults { OnOk result
+        (work.new.faults.items ≡ work.old.faults.items ++ (at.read_at slot place word.now reading inside args.now body.now).faults) }
     ensures made { IfOk result (λ term. plan_of term ≡ (at.read_at slot place word.now reading inside args.now body.now).made) }
 {
     match reading {
@@ -235,7 +238,9 @@ fn call(
     word: &Text,
     args: &Option<Raws>,
 ) -> Result<Term, AllocError>
-    ensures faults { OnOk result (work.new.faults.items ≡ work.old.faults.items ++ (spec.call_shape place (Paths.path_of word.now) (at.call_at inside args.now)).faults) }
+    ensures faults { OnOk result
+        (work.new.faults.items ≡ work.old.faults.items
+        ++ (spec.call_shape place (Paths.path_of word.now) (at.call_at inside args.now)).faults) }
     ensures made { IfOk result (λ term. plan_of term ≡ (spec.call_shape place (Paths.path_of word.now) (at.call_at inside args.now)).made) }
 {
     let Some(path) = path_of(alloc, word.as_bytes())? else {
@@ -383,8 +388,12 @@ fn symbol(
     place: Place,
     args: &[Raw],
 ) -> Result<Term, AllocError>
-    ensures faults { OnOk result (work.new.faults.items ≡ work.old.faults.items ++ (spec.symbol_shape inside.width slot place op (at.arguments_in_at (table.parameters_of op) place inside args.now)).faults) }
-    ensures made { IfOk result (λ term. plan_of term ≡ (spec.symbol_shape inside.width slot place op (at.arguments_in_at (table.parameters_of op) place inside args.now)).made) }
+    ensures faults { OnOk result
+        (work.new.faults.items ≡ work.old.faults.items
+        ++ (spec.symbol_shape inside.width slot place op (at.arguments_in_at (table.parameters_of op) place inside args.now)).faults) }
+    ensures made { IfOk result
+        (λ term. plan_of term ≡
+        (spec.symbol_shape inside.width slot place op (at.arguments_in_at (table.parameters_of op) place inside args.now)).made) }
 {
     if takes_role(slot, role_of(op)) {
         Ok(form(
@@ -415,8 +424,14 @@ fn form(
     args: &[Raw],
     body: &Option<Raws>,
 ) -> Result<Term, AllocError>
-    ensures faults { OnOk result (work.new.faults.items ≡ work.old.faults.items ++ (spec.form_shape inside.width op place (at.arguments_in_at (table.parameters_as op slot) place inside args.now) (at.contents_at (table.body_as op slot) (spec.within op inside) place body.now)).faults) }
-    ensures made { IfOk result (λ term. plan_of term ≡ (spec.form_shape inside.width op place (at.arguments_in_at (table.parameters_as op slot) place inside args.now) (at.contents_at (table.body_as op slot) (spec.within op inside) place body.now)).made) }
+    ensures faults { OnOk result
+        (work.new.faults.items ≡ work.old.faults.items
+        ++ (spec.form_shape inside.width op place (at.arguments_in_at (table.parameters_as op slot) place inside args.now)
+        (at.contents_at (table.body_as op slot) (spec.within op inside) place body.now)).faults) }
+    ensures made { IfOk result
+        (λ term. plan_of term ≡
+        (spec.form_shape inside.width op place (at.arguments_in_at (table.parameters_as op slot) place inside args.now)
+        (at.contents_at (table.body_as op slot) (spec.within op inside) place body.now)).made) }
 {
     let parameters = parameters_as(op, slot);
     let mut nodes = Vec::with_capacity(alloc, parameters.len())?;
@@ -453,8 +468,10 @@ fn add_argument(
     args: &[Raw],
     i: usize,
 ) -> Result<(), AllocError>
-    ensures faults { OnOk result (work.new.faults.items ≡ work.old.faults.items ++ (at.argument_at parameter place inside (slice_get args.now i)).faults) }
-    ensures made { OnOk result (plans_of nodes.new.items ≡ join (plans_of nodes.old.items) (at.argument_at parameter place inside (slice_get args.now i)).made) }
+    ensures faults { OnOk result
+        (work.new.faults.items ≡ work.old.faults.items ++ (at.argument_at parameter place inside (slice_get args.now i)).faults) }
+    ensures made { OnOk result
+        (plans_of nodes.new.items ≡ join (plans_of nodes.old.items) (at.argument_at parameter place inside (slice_get args.now i)).made) }
 {
     match args.get(i) {
         Some(raw) => Ok(add(
@@ -482,8 +499,10 @@ pub fn arguments(
     place: Place,
     args: &[Raw],
 ) -> Result<(), AllocError>
-    ensures faults { OnOk result (work.new.faults.items ≡ work.old.faults.items ++ (at.arguments_in_at parameters.now place inside args.now).faults) }
-    ensures made { OnOk result (plans_of nodes.new.items ≡ join (plans_of nodes.old.items) (at.arguments_in_at parameters.now place inside args.now).made) }
+    ensures faults { OnOk result
+        (work.new.faults.items ≡ work.old.faults.items ++ (at.arguments_in_at parameters.now place inside args.now).faults) }
+    ensures made { OnOk result
+        (plans_of nodes.new.items ≡ join (plans_of nodes.old.items) (at.arguments_in_at parameters.now place inside args.now).made) }
 {
     for i in 0..parameters.len() {
         add_argument(alloc, work, nodes, parameters[i], inside, place, args, i)?;
@@ -555,8 +574,12 @@ fn field_list(
     place: Place,
     raws: &[Raw],
 ) -> Result<(), AllocError>
-    ensures faults { OnOk result (work.new.faults.items ≡ work.old.faults.items ++ (spec.list_shape place (at.is_field_list_at spec.begin raws.now) (at.elements_at spec.begin None inside raws.now)).faults) }
-    ensures made { OnOk result (plans_of nodes.new.items ≡ join (plans_of nodes.old.items) (spec.list_shape place (at.is_field_list_at spec.begin raws.now) (at.elements_at spec.begin None inside raws.now)).made) }
+    ensures faults { OnOk result
+        (work.new.faults.items ≡ work.old.faults.items
+        ++ (spec.list_shape place (at.is_field_list_at spec.begin raws.now) (at.elements_at spec.begin None inside raws.now)).faults) }
+    ensures made { OnOk result
+        (plans_of nodes.new.items ≡ join (plans_of nodes.old.items)
+        (spec.list_shape place (at.is_field_list_at spec.begin raws.now) (at.elements_at spec.begin None inside raws.now)).made) }
 {
     if !is_field_list(raws) {
         return Ok(tell(alloc, work, WRONG_ARGUMENT_FORM, place)?);
@@ -574,7 +597,8 @@ fn field_elements(
     raws: &[Raw],
 ) -> Result<(), AllocError>
     ensures faults { OnOk result (work.new.faults.items ≡ work.old.faults.items ++ (at.elements_at spec.begin None inside raws.now).faults) }
-    ensures made { OnOk result (plans_of nodes.new.items ≡ join (plans_of nodes.old.items) (at.elements_at spec.begin None inside raws.now).made) }
+    ensures made { OnOk result
+        (plans_of nodes.new.items ≡ join (plans_of nodes.old.items) (at.elements_at spec.begin None inside raws.now).made) }
 {
     let mut due = Due::Element;
     let mut unit = None;
@@ -692,8 +716,12 @@ fn elements(
     place: Place,
     raws: &[Raw],
 ) -> Result<(), AllocError>
-    ensures faults { OnOk result (work.new.faults.items ≡ work.old.faults.items ++ (spec.list_shape place (at.is_listed_at true raws.now) (at.members_at slot inside raws.now)).faults) }
-    ensures made { OnOk result (plans_of nodes.new.items ≡ join (plans_of nodes.old.items) (spec.list_shape place (at.is_listed_at true raws.now) (at.members_at slot inside raws.now)).made) }
+    ensures faults { OnOk result
+        (work.new.faults.items ≡ work.old.faults.items
+        ++ (spec.list_shape place (at.is_listed_at true raws.now) (at.members_at slot inside raws.now)).faults) }
+    ensures made { OnOk result
+        (plans_of nodes.new.items ≡ join (plans_of nodes.old.items)
+        (spec.list_shape place (at.is_listed_at true raws.now) (at.members_at slot inside raws.now)).made) }
 {
     if !is_listed(raws) {
         return Ok(tell(alloc, work, WRONG_ARGUMENT_FORM, place)?);

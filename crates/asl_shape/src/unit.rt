@@ -136,7 +136,8 @@ fn inside(
     requires { nodes.now.items ≡ [] }
     ensures faults { OnOk result (work.new.faults.items ≡ work.old.faults.items ++ spec.errors_in place args.now body.now) }
     ensures args { OnOk result (plans_of nodes.new.items ≡ (spec.args_in place args.now).made) }
-    ensures terms { OnOk result (plans_of list.new.items ≡ join (plans_of list.old.items) (spec.terms_in (spec.args_in place args.now).made body.now).made) }
+    ensures terms { OnOk result
+        (plans_of list.new.items ≡ join (plans_of list.old.items) (spec.terms_in (spec.args_in place args.now).made body.now).made) }
 {
     let around = outside(Width::W64);
     arguments(alloc, work, nodes, block_parameters(), around, place, args)?;
@@ -146,7 +147,8 @@ fn inside(
 // A block whose arguments and braces are there.
 #[tactic(auto, using(crate::proofs::Units::block_rules))]
 fn shaped(alloc: Global, place: Place, args: &[Raw], body: &[Raw]) -> Result<Block, Stage>
-    ensures formed { IfOk result (λ block. (spec.errors_in place args.now body.now ≡ []) × spec.IsBlock place (spec.args_in place args.now).made (spec.terms_in (spec.args_in place args.now).made body.now).made block) }
+    ensures formed { IfOk result (λ block. (spec.errors_in place args.now body.now ≡ []) × spec.IsBlock place (spec.args_in place args.now).made
+        (spec.terms_in (spec.args_in place args.now).made body.now).made block) }
     ensures refused { IfErr result (λ stage. at.Refuses stage (spec.errors_in place args.now body.now)) }
 {
     let mut work = Work {
@@ -176,7 +178,9 @@ fn block(
     args: &Option<Raws>,
     body: &Option<Raws>,
 ) -> Result<Block, Stage>
-    ensures formed { IfOk result (λ block. (spec.block_errors_at place args.now body.now ≡ []) × spec.IsBlock place (spec.args_in place (at.inside_at args.now)).made (spec.terms_in (spec.args_in place (at.inside_at args.now)).made (at.inside_at body.now)).made block) }
+    ensures formed { IfOk result (λ block. (spec.block_errors_at place args.now body.now ≡ [])
+        × spec.IsBlock place (spec.args_in place (at.inside_at args.now)).made
+        (spec.terms_in (spec.args_in place (at.inside_at args.now)).made (at.inside_at body.now)).made block) }
     ensures refused { IfErr result (λ stage. at.Refuses stage (spec.block_errors_at place args.now body.now)) }
 {
     let has_arguments = takes(block_parameters(), inside_of(args));
@@ -202,7 +206,8 @@ fn item(
     body: &Option<Raws>,
     rest: &[Raw],
 ) -> Result<Block, Stage>
-    ensures formed { IfOk result (λ block. (spec.item_errors_at place word.now args.now body.now rest.now ≡ []) × spec.IsItemBlock place args.now body.now rest.now block) }
+    ensures formed { IfOk result (λ block. (spec.item_errors_at place word.now args.now body.now rest.now ≡ [])
+        × spec.IsItemBlock place args.now body.now rest.now block) }
     ensures refused { IfErr result (λ stage. at.Refuses stage (spec.item_errors_at place word.now args.now body.now rest.now)) }
 {
     if !is_block_word(word) {

@@ -1,5 +1,6 @@
 -- What a source of ASL comes to: its table, or its errors.
-use Rattle.std.specs.Prelude.{ℕ, suc, ◌-◌, nat_le, nat_eq, Bool, false, ◌||◌, ◌&&◌, if◌then◌else◌, List, [], ◌∷◌, ◌++◌, length, All, ◌<◌, ⊤, Result, Ok, Err}
+use Rattle.std.specs.Prelude.{ℕ, suc, ◌-◌, nat_le, nat_eq, Bool, false, ◌||◌, ◌&&◌, if◌then◌else◌, List, [], ◌∷◌, ◌++◌, length, All, ◌<◌}
+use Rattle.std.specs.Prelude.{⊤, Result, Ok, Err}
 use Rattle.iasl_messages.specs.declared.place.Place.{Place}
 use Rattle.iasl_messages.specs.declared.place.Line.{Line}
 use Rattle.iasl_messages.specs.declared.place.Piece.{Piece}
@@ -28,7 +29,8 @@ use Rattle.asl_parser.specs.Written.{writtens}
 use Rattle.std.specs.Str.{IsAscii}
 use Rattle.asl_shape.specs.Plans.{Plans, plan_at, text_of}
 use Rattle.asl_shape.specs.Forms.{errors_at, block_place, args_of}
-use Rattle.program_shapes.specs.Sources.{source_in, plans_in, terms_in, statements_in, layouts_in, regions_in, types_in, sizes_in, values_in, locals_in, notes_in, fields_in, width_in, table_in}
+use Rattle.program_shapes.specs.Sources.{source_in, plans_in, terms_in, statements_in, layouts_in, regions_in, types_in, sizes_in}
+use Rattle.program_shapes.specs.Sources.{values_in, locals_in, notes_in, fields_in, width_in, table_in}
 use Rattle.source_pieces.specs.Places.{core_places}
 use Rattle.source_pieces.specs.Pieces.{pieces_in}
 use Rattle.literal_checks.specs.Literals.{cut_literals_at}
@@ -43,7 +45,8 @@ too_long place = record { number = 6080; place = place; name = [] }
 
 -- a table of these bytes in pieces, if it is not too long, with its signature and the name that its block states for its file
 abbrev pub of_table : Place → List ℕ → List ℕ → List ℕ → List Piece → Compiled
-of_table place signature own bytes pieces = if nat_le (length bytes) most_table_bytes then Table signature own pieces [] else Refused (too_long place ∷ [])
+of_table place signature own bytes pieces = if nat_le (length bytes) most_table_bytes then Table signature own pieces [] else
+    Refused (too_long place ∷ [])
 
 -- the table with this header of these terms, at the width that its revision gives
 abbrev pub table_with : Style → HeaderFields → Trees → List ℕ
@@ -71,7 +74,8 @@ abbrev pub first_told : List Message → List Message → List Message
 first_told [] others = others
 first_told (m ∷ ms) others = m ∷ ms
 
--- what is told of the names of terms as they are written, those of resource descriptors among these, or where nothing is, of what names stand for
+-- what is told of the names of terms as they are written, those of resource descriptors among these, or where nothing
+-- is, of what names stand for
 abbrev pub told_of_names : Plans → List Message
 told_of_names written = first_told (names_told written) (kinds_told written)
 
@@ -90,10 +94,11 @@ abbrev pub of_right : Style → List Line → Place → List Place → List ℕ 
 of_right style lines place inner own fields terms =
     let lowered = lowered_as style fields terms in
     let core = wrapped_where style.wrap lowered in
-    of_table place fields.signature own (table_with style fields core) (its_pieces style lines (place ∷ placed_where style.wrap lowered inner) fields core)
+    of_table place fields.signature own (table_with style fields core)
+    (its_pieces style lines (place ∷ placed_where style.wrap lowered inner) fields core)
 
--- a block of this form that is refused with what is wrong with its names, its statements or the lists of its fields, and where nothing is, with
--- its Switches for which too few Locals are free
+-- a block of this form that is refused with what is wrong with its names, its statements or the lists of its fields,
+-- and where nothing is, with its Switches for which too few Locals are free
 abbrev pub of_terms : Style → List Line → Place → List Place → List ℕ → HeaderFields → (names others few : List Message) → Trees → Compiled
 of_terms style lines place inner own fields names others few terms =
     unless_wrong (with_others names others) (unless_wrong few (of_right style lines place inner own fields terms))
@@ -137,8 +142,8 @@ noted_in items = literals_in items ++ notes_in items
 abbrev pub own_in : List Raw → List ℕ
 own_in items = text_of (plan_at (args_of (writtens items)) 0)
 
--- what is wrong with its statements, then with the lists of its fields and with their accesses, and then with the kinds of its arguments, the
--- lengths of its lists and the values of its Cases
+-- what is wrong with its statements, then with the lists of its fields and with their accesses, and then with the kinds
+-- of its arguments, the lengths of its lists and the values of its Cases
 abbrev pub others_in : List Raw → List Message
 others_in items = statements_in items ++ layouts_in items ++ regions_in items ++ types_in items ++ sizes_in items ++ values_in items
 
@@ -150,7 +155,8 @@ told_in items = first_told (told_of_names (source_in items)) (told_errors (terms
 abbrev pub of_items : Style → List Line → List Raw → Compiled
 of_items style lines items =
     let place = block_place (writtens items) in
-    let told = of_terms style lines place (core_places (plans_in items)) (own_in items) (fields_in items) (told_in items) (others_in items) (locals_in items) (terms_in items) in
+    let told = of_terms style lines place (core_places (plans_in items)) (own_in items) (fields_in items) (told_in items) (others_in items)
+    (locals_in items) (terms_in items) in
     unless_wrong (errors_at items) (with_notes (noted_in items) told)
 
 -- tokens that are a source, or the place where they stop being one or nest too deep

@@ -39,7 +39,9 @@ ghost use Rattle.asl_tables.specs.Ready.{HasRoom, IsCoreOf};
 ghost use Rattle.asl_tables.specs.Findings.{AreNamesOf, FindsFew, Finds};
 ghost use Rattle.asl_tables.specs.declared.compile.Compiled.TheVariants.{Refused};
 ghost use Rattle.name_checks.specs.Messages.{told_errors};
-ghost use Rattle.asl_tables.specs.Compiled.{first_told, are_of_names as are_names, its_table, its_pieces, of_table, of_right, of_terms, is_of_kinds as of_kinds, is_of_names as of_names, with_notes, with_notes_behind, with_others, of_items, of_lines, of_outcome, HasAsciiName, TellsWithin};
+ghost use Rattle.asl_tables.specs.Compiled.{first_told, are_of_names as are_names, its_table, its_pieces, of_table, of_right, of_terms};
+ghost use Rattle.asl_tables.specs.Compiled.{is_of_kinds as of_kinds, is_of_names as of_names, with_notes, with_notes_behind, with_others};
+ghost use Rattle.asl_tables.specs.Compiled.{of_items, of_lines, of_outcome, HasAsciiName, TellsWithin};
 
 use crate::messages::{both, one_message, refusal};
 use crate::resolved::{Resolved, resolve_block};
@@ -143,7 +145,9 @@ fn write_block(
     lines: &Lines,
     block: Block,
 ) -> Result<Compiled, AllocError>
-    ensures { (terms : Trees) → IsCoreOf style.shorten terms block → IfOk result (λ it. it ≡ of_table block.place block.signature block.file (its_table style terms block) (its_pieces style lines.now.list (block.place ∷ places_of block.terms.items) (fields_of block) terms)) }
+    ensures { (terms : Trees) → IsCoreOf style.shorten terms block →
+        IfOk result (λ it. it ≡ of_table block.place block.signature block.file (its_table style terms block)
+        (its_pieces style lines.now.list (block.place ∷ places_of block.terms.items) (fields_of block) terms)) }
 {
     let signature = Text::from_bytes(alloc, block.signature.as_bytes())?;
     let own = Text::from_bytes(alloc, block.file.as_bytes())?;
@@ -185,7 +189,8 @@ fn with_others(errors: Messages, others: Messages) -> Result<Messages, AllocErro
     }
 }
 
-// Terms with loops for their Switches, their symbolic operators named and their ElseIfs nested, and their constants folded where that is asked for.
+// Terms with loops for their Switches, their symbolic operators named and their ElseIfs nested, and their constants
+// folded where that is asked for.
 #[tactic(auto, using(crate::proofs::Given::are_given, source_pieces::proofs::Planned::places_planned))]
 fn lowered_terms(
     alloc: Global,
@@ -210,8 +215,13 @@ fn core_terms(
     terms: Vec<Node>,
 ) -> Result<Vec<Node>, AllocError>
     requires { AreFormed AreNamed (Unit {0}) (Unit {0}) (trees_of terms.items) }
-    ensures terms { IfOk result (λ core. trees_of core.items ≡ wrapped_where style.wrap (folded_where style.fold width (named_all (without_switches (trees_of terms.items))))) }
-    ensures places { AreShaped (folded_where style.fold width (named_all (without_switches (trees_of terms.items)))) → IfOk result (λ core. places_of core.items ≡ placed_where style.wrap (folded_where style.fold width (named_all (without_switches (trees_of terms.items)))) (core_places (plans_of terms.items))) }
+    ensures terms { IfOk result
+        (λ core. trees_of core.items ≡ wrapped_where style.wrap
+        (folded_where style.fold width (named_all (without_switches (trees_of terms.items))))) }
+    ensures places { AreShaped (folded_where style.fold width (named_all (without_switches (trees_of terms.items)))) →
+        IfOk result
+        (λ core. places_of core.items ≡ placed_where style.wrap
+        (folded_where style.fold width (named_all (without_switches (trees_of terms.items)))) (core_places (plans_of terms.items))) }
 {
     let lowered = lowered_terms(alloc, style.fold, width, terms)?;
     let core = wrap_where(alloc, style.wrap, lowered)?;
@@ -221,8 +231,14 @@ fn core_terms(
 // The block with the terms of its core, whose names are not spelled yet.
 fn lowered(alloc: Global, style: Style, block: Block) -> Result<Block, AllocError>
     requires { AreFormed AreNamed (Unit {0}) (Unit {0}) (trees_of block.terms.items) }
-    ensures terms { IfOk result (λ core. trees_of core.terms.items ≡ wrapped_where style.wrap (folded_where style.fold (width_of block.revision) (named_all (without_switches (trees_of block.terms.items))))) }
-    ensures places { AreShaped (folded_where style.fold (width_of block.revision) (named_all (without_switches (trees_of block.terms.items)))) → IfOk result (λ core. places_of core.terms.items ≡ placed_where style.wrap (folded_where style.fold (width_of block.revision) (named_all (without_switches (trees_of block.terms.items)))) (core_places (plans_of block.terms.items))) }
+    ensures terms { IfOk result
+        (λ core. trees_of core.terms.items ≡ wrapped_where style.wrap
+        (folded_where style.fold (width_of block.revision) (named_all (without_switches (trees_of block.terms.items))))) }
+    ensures places { AreShaped (folded_where style.fold (width_of block.revision) (named_all (without_switches (trees_of block.terms.items)))) →
+        IfOk result
+        (λ core. places_of core.terms.items ≡ placed_where style.wrap
+        (folded_where style.fold (width_of block.revision) (named_all (without_switches (trees_of block.terms.items))))
+        (core_places (plans_of block.terms.items))) }
     ensures place { IfOk result (λ core. core.place ≡ block.place) }
     ensures file { IfOk result (λ core. core.file ≡ block.file) }
     ensures fields { IfOk result (λ core. fields_of core ≡ fields_of block) }
@@ -252,8 +268,8 @@ fn right_or_few(alloc: Global, terms: &[Node], names: Names) -> Result<Findings,
     }
 }
 
-// What is wrong with the names of terms, some of which may be told of before, with their statements and the lists of their fields, or else the
-// Switches for which too few Locals are free; and where nothing is, their names.
+// What is wrong with the names of terms, some of which may be told of before, with their statements and the lists of
+// their fields, or else the Switches for which too few Locals are free; and where nothing is, their names.
 fn find(
     alloc: Global,
     terms: &[Node],
@@ -261,7 +277,9 @@ fn find(
     others: Messages,
 ) -> Result<Findings, AllocError>
     requires { are_terms (trees_of terms.now) ≡ true }
-    ensures { IfOk result (λ found. Finds found (first_told told (told_errors (trees_of terms.now))) others (few_locals (trees_of terms.now) (plans_of terms.now)) (trees_of terms.now)) }
+    ensures { IfOk result
+        (λ found. Finds found (first_told told (told_errors (trees_of terms.now))) others
+        (few_locals (trees_of terms.now) (plans_of terms.now)) (trees_of terms.now)) }
 {
     if !told.is_empty() {
         return Ok(Findings::Wrong(with_others(told, others)?));
@@ -273,7 +291,8 @@ fn find(
     }
 }
 
-// The table of a block in which nothing is wrong, whose names are these: with loops for its Switches, its symbols named and its names spelled.
+// The table of a block in which nothing is wrong, whose names are these: with loops for its Switches, its symbols named
+// and its names spelled.
 fn table_of(
     alloc: Global,
     style: Style,
@@ -285,7 +304,8 @@ fn table_of(
     requires formed { AreFormed AreNamed (Unit {0}) (Unit {0}) (trees_of block.terms.items) }
     requires shaped { AreShaped (named_all (without_switches (trees_of block.terms.items))) }
     requires names { AreNamesOf (trees_of block.terms.items) names }
-    ensures { IfOk result (λ it. it ≡ of_right style lines.now.list block.place (core_places (plans_of block.terms.items)) block.file (fields_of block) (trees_of block.terms.items)) }
+    ensures { IfOk result (λ it. it ≡ of_right style lines.now.list block.place (core_places (plans_of block.terms.items)) block.file
+        (fields_of block) (trees_of block.terms.items)) }
 {
     let mut core = lowered(alloc, style, block)?;
     let Names { index, calls } = names;
@@ -295,8 +315,8 @@ fn table_of(
     write_block(alloc, style, lines, core)
 }
 
-// A block whose nodes have their numbers: its table, or what is wrong with its names, some of which may be told of before, its statements and
-// the lists of its fields, or else the Switches for which too few Locals are free.
+// A block whose nodes have their numbers: its table, or what is wrong with its names, some of which may be told of
+// before, its statements and the lists of its fields, or else the Switches for which too few Locals are free.
 fn compile_block(
     alloc: Global,
     style: Style,
@@ -308,7 +328,9 @@ fn compile_block(
     requires room { HasRoom (fields_of block) }
     requires formed { AreFormed AreNamed (Unit {0}) (Unit {0}) (trees_of block.terms.items) }
     requires shaped { others ≡ [] → AreShaped (named_all (without_switches (trees_of block.terms.items))) }
-    ensures { IfOk result (λ it. it ≡ of_terms style lines.now.list block.place (core_places (plans_of block.terms.items)) block.file (fields_of block) (first_told told (told_errors (trees_of block.terms.items))) others (few_locals (trees_of block.terms.items) (plans_of block.terms.items)) (trees_of block.terms.items)) }
+    ensures { IfOk result (λ it. it ≡ of_terms style lines.now.list block.place (core_places (plans_of block.terms.items)) block.file
+        (fields_of block) (first_told told (told_errors (trees_of block.terms.items))) others
+        (few_locals (trees_of block.terms.items) (plans_of block.terms.items)) (trees_of block.terms.items)) }
 {
     match find(alloc, block.terms.as_slice(), told, others)? {
         Findings::Right(names) => table_of(alloc, style, lines, block, names),
@@ -381,7 +403,11 @@ fn compile_noted(
     requires room { HasRoom (fields_of block) }
     requires formed { AreFormed AreNamed (Unit {0}) (Unit {0}) (trees_of block.terms.items) }
     requires shaped { others ≡ [] → AreShaped (named_all (without_switches (trees_of block.terms.items))) }
-    ensures { IfOk result (λ it. it ≡ with_notes (literals ++ name_notes (trees_of block.terms.items)) (of_terms style lines.now.list block.place (core_places (plans_of block.terms.items)) block.file (fields_of block) (first_told told (told_errors (trees_of block.terms.items))) others (few_locals (trees_of block.terms.items) (plans_of block.terms.items)) (trees_of block.terms.items))) }
+    ensures { IfOk result
+        (λ it. it ≡ with_notes (literals ++ name_notes (trees_of block.terms.items))
+        (of_terms style lines.now.list block.place (core_places (plans_of block.terms.items)) block.file (fields_of block)
+        (first_told told (told_errors (trees_of block.terms.items))) others
+        (few_locals (trees_of block.terms.items) (plans_of block.terms.items)) (trees_of block.terms.items))) }
 {
     let notes = both(literals, notes_on_names(alloc, block.terms.as_slice())?)?;
     let it = compile_block(alloc, style, lines, block, told, others)?;
@@ -398,11 +424,13 @@ fn block_of(program: Program) -> Result<Block, AllocError>
     }
 }
 
-// What is wrong with statements, then with the lists of fields and their accesses, and then with the kinds of arguments, the lengths of lists
-// and the values of Cases.
+// What is wrong with statements, then with the lists of fields and their accesses, and then with the kinds of
+// arguments, the lengths of lists and the values of Cases.
 fn other_errors(alloc: Global, width: Width, terms: &[Node]) -> Result<Messages, AllocError>
     requires { are_terms (trees_of terms.now) ≡ true }
-    ensures { IfOk result (λ ms. ms ≡ errors_of_statements (plans_of terms.now) ++ all_errors (plans_of terms.now) ++ region_errors width (trees_of terms.now) (plans_of terms.now) ++ wrong_types (trees_of terms.now) (plans_of terms.now) ++ long_lists width (plans_of terms.now) ++ repeated_values width (plans_of terms.now)) }
+    ensures { IfOk result (λ ms. ms ≡ errors_of_statements (plans_of terms.now) ++ all_errors (plans_of terms.now)
+        ++ region_errors width (trees_of terms.now) (plans_of terms.now) ++ wrong_types (trees_of terms.now) (plans_of terms.now)
+        ++ long_lists width (plans_of terms.now) ++ repeated_values width (plans_of terms.now)) }
 {
     let errors = both(statement_errors(alloc, terms)?, list_faults(alloc, terms)?)?;
     let errors = both(errors, region_faults(alloc, width, terms)?)?;
@@ -486,7 +514,8 @@ fn are_numbered(count: usize) -> bool
     count <= MOST_TOKENS
 }
 
-/// What lines of ASL come to: a table in pieces (ACPI Specification 6.4, 19.6 and 20.2), or errors, of which there is at least one. Each refusal stands in one of their files.
+/// What lines of ASL come to: a table in pieces (ACPI Specification 6.4, 19.6 and 20.2), or errors, of which there is
+/// at least one. Each refusal stands in one of their files.
 #[tactic(auto, using(crate::proofs::Outcomes::fault_is))]
 pub fn compile(alloc: Global, style: Style, lines: &Lines) -> Result<Compiled, AllocError>
     requires short { All (λ line. length line.text < 2 ^ 32) lines.now.list }

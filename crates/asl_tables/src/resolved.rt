@@ -202,7 +202,10 @@ fn told_of(
     uses: Messages,
 ) -> Result<Messages, AllocError>
     requires { are_terms (trees_of terms.now) ≡ true }
-    ensures { IfOk result (λ told. told ≡ first_of (spec.with_uses (filter spec.is_of_names uses) (map message_of (name_errors (trees_of terms.now)) ++ below)) (spec.with_uses uses (map message_of (type_errors (trees_of terms.now))))) }
+    ensures { IfOk result
+        (λ told. told ≡ first_of
+        (spec.with_uses (filter spec.is_of_names uses) (map message_of (name_errors (trees_of terms.now)) ++ below))
+        (spec.with_uses uses (map message_of (type_errors (trees_of terms.now))))) }
 {
     let classes = classes_of(alloc, terms)?;
     let names = both(classes.names, below)?;
@@ -213,7 +216,8 @@ fn told_of(
 fn resolve_terms(alloc: Global, terms: Vec<Node>) -> Result<Described, AllocError>
     requires { AreFormed AreNamed (Unit {0}) (Unit {0}) (numbered_all 0 (plans_of terms.items)) }
     ensures terms { IfOk result (λ d. plans_of d.terms.items ≡ resolved_terms (plans_of terms.items)) }
-    ensures told { IfOk result (λ d. first_of d.told (told_errors (numbered_all 0 (plans_of d.terms.items))) ≡ first_of (told_of_names (plans_of terms.items)) (told_errors (numbered_all 0 (resolved_terms (plans_of terms.items))))) }
+    ensures told { IfOk result (λ d. first_of d.told (told_errors (numbered_all 0 (plans_of d.terms.items))) ≡ first_of
+        (told_of_names (plans_of terms.items)) (told_errors (numbered_all 0 (resolved_terms (plans_of terms.items))))) }
 {
     if !names_descriptors(&terms) {
         return Ok(Described {
@@ -241,7 +245,8 @@ fn describe(alloc: Global, terms: Vec<Node>) -> Result<Described, AllocError>
     requires { AreFormed AreNamed (Unit {0}) (Unit {0}) (numbered_all 0 (plans_of terms.items)) }
     ensures plans { IfOk result (λ d. plans_of d.terms.items ≡ resolved_terms (plans_of terms.items)) }
     ensures trees { IfOk result (λ d. trees_of d.terms.items ≡ numbered_all 0 (plans_of d.terms.items)) }
-    ensures told { IfOk result (λ d. first_of d.told (told_errors (trees_of d.terms.items)) ≡ first_of (told_of_names (plans_of terms.items)) (told_errors (numbered_all 0 (resolved_terms (plans_of terms.items))))) }
+    ensures told { IfOk result (λ d. first_of d.told (told_errors (trees_of d.terms.items)) ≡ first_of (told_of_names (plans_of terms.items))
+        (told_errors (numbered_all 0 (resolved_terms (plans_of terms.items))))) }
 {
     let Described { terms, told } = resolve_terms(alloc, terms)?;
     let terms = numbered(terms)?;
@@ -253,7 +258,8 @@ pub(crate) fn resolve_block(alloc: Global, block: Block) -> Result<Resolved, All
     requires { AreFormed AreNamed (Unit {0}) (Unit {0}) (numbered_all 0 (plans_of block.terms.items)) }
     ensures plans { IfOk result (λ made. plans_of made.block.terms.items ≡ resolved_terms (plans_of block.terms.items)) }
     ensures trees { IfOk result (λ made. trees_of made.block.terms.items ≡ numbered_all 0 (plans_of made.block.terms.items)) }
-    ensures told { IfOk result (λ made. first_of made.told (told_errors (trees_of made.block.terms.items)) ≡ first_of (told_of_names (plans_of block.terms.items)) (told_errors (numbered_all 0 (resolved_terms (plans_of block.terms.items))))) }
+    ensures told { IfOk result (λ made. first_of made.told (told_errors (trees_of made.block.terms.items)) ≡ first_of
+        (told_of_names (plans_of block.terms.items)) (told_errors (numbered_all 0 (resolved_terms (plans_of block.terms.items))))) }
     ensures place { IfOk result (λ made. made.block.place ≡ block.place) }
     ensures file { IfOk result (λ made. made.block.file ≡ block.file) }
     ensures fields { IfOk result (λ made. fields_of made.block ≡ fields_of block) }

@@ -1,6 +1,7 @@
 -- The operators and words of the language (ACPI Specification 6.4, 19.6): the words, and the arguments and braces of
 -- each operator. The operands and targets of the plain operators are those of their own table.
-use Rattle.std.specs.Prelude.{ℕ, ◌-◌, ◌^◌, nat_eq, nat_le, ◌==◌, if◌then◌else◌, List, [], ◌∷◌, ◌++◌, length, take, drop, map, replicate, codes, Bool, true, false, ◌&&◌, Option, Some, None}
+use Rattle.std.specs.Prelude.{ℕ, ◌-◌, ◌^◌, nat_eq, nat_le, ◌==◌, if◌then◌else◌, List, [], ◌∷◌, ◌++◌, length, take, drop, map, replicate}
+use Rattle.std.specs.Prelude.{codes, Bool, true, false, ◌&&◌, Option, Some, None}
 use Rattle.std.specs.List.{find, list_all}
 use Rattle.std.specs.Cmp.Lexicographic.{pointwise}
 use Rattle.acpi_values.specs.declared.operator.IntOp.{IntOp}
@@ -455,13 +456,15 @@ parameters_of (Op.Control Control.Case) = asked slot.CaseValue ∷ []
 parameters_of (Op.Control op) = []
 parameters_of (Op.Declaration Declaration.Name) = declared ∷ expression ∷ []
 parameters_of (Op.Declaration Declaration.Alias) = used ∷ declared ∷ []
-parameters_of (Op.Declaration Declaration.External) = external ∷ optional (slot.Word kind.ObjectType) ∷ optional (slot.Types 7) ∷ optional (slot.Types 7) ∷ []
+parameters_of (Op.Declaration Declaration.External) = external ∷ optional (slot.Word kind.ObjectType) ∷ optional (slot.Types 7) ∷ optional
+    (slot.Types 7) ∷ []
 parameters_of (Op.Declaration Declaration.Method) =
     declared ∷ optional (constant 0 7) ∷ optional (slot.Word kind.Serialize) ∷ optional (constant 0 15)
     ∷ optional (slot.Types 4294967295) ∷ optional (slot.Types 4294967295) ∷ []
 parameters_of (Op.Declaration Declaration.Mutex) = declared ∷ optional (constant 0 15) ∷ []
 parameters_of (Op.Declaration Declaration.PowerResource) = declared ∷ asked (constant 0 255) ∷ asked (constant 0 65535) ∷ []
-parameters_of (Op.Declaration Declaration.Processor) = declared ∷ asked (constant 0 255) ∷ asked (constant 0 4294967295) ∷ asked (constant 0 255) ∷ []
+parameters_of (Op.Declaration Declaration.Processor) = declared ∷ asked (constant 0 255) ∷ asked (constant 0 4294967295) ∷ asked
+    (constant 0 255) ∷ []
 parameters_of (Op.Declaration Declaration.Scope) = used ∷ []
 parameters_of (Op.Declaration Declaration.OperationRegion) = declared ∷ space ∷ expression ∷ expression ∷ []
 parameters_of (Op.Declaration Declaration.Field) = used ∷ access ∷ lock ∷ update ∷ []
@@ -501,7 +504,8 @@ macro_parameters m = asked (slot.MacroText m) ∷ []
 -- the file, the signature, the revision, the OEM's name, that of the table, and its revision
 unfoldable pub block_parameters : List Parameter
 block_parameters =
-    asked (slot.String form.Any) ∷ asked (slot.String form.Signature) ∷ asked (constant 0 255) ∷ asked (slot.String (form.AtMost 6)) ∷ asked (slot.String (form.AtMost 8))
+    asked (slot.String form.Any) ∷ asked (slot.String form.Signature) ∷ asked (constant 0 255) ∷ asked (slot.String (form.AtMost 6)) ∷ asked
+    (slot.String (form.AtMost 8))
     ∷ asked (constant 0 4294967295) ∷ []
 
 -- what stands in the braces of an operator

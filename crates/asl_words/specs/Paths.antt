@@ -1,5 +1,6 @@
 -- Paths as they are written (ACPI Specification 6.4, 19.2.2).
-use Rattle.std.specs.Prelude.{ℕ, zero, suc, ◌==◌, nat_le, nat_lt, not, Bool, true, false, ◌&&◌, ◌||◌, if◌then◌else◌, List, [], ◌∷◌, drop, Option, Some, None}
+use Rattle.std.specs.Prelude.{ℕ, zero, suc, ◌==◌, nat_le, nat_lt, not, Bool, true, false, ◌&&◌, ◌||◌, if◌then◌else◌, List, [], ◌∷◌, drop}
+use Rattle.std.specs.Prelude.{Option, Some, None}
 use Rattle.std.specs.List.{list_any, position_or_len}
 use Rattle.acpi_state.specs.Outcomes.{choose}
 use Rattle.acpi_values.specs.Paths.{NameSeg}
@@ -73,7 +74,8 @@ abbrev pub carets : List ℕ → ℕ
 carets text = position_or_len is_no_caret text
 
 abbrev pub relative_path : List ℕ → Option Path
-relative_path text = if nat_lt (carets text) 4294967296 then path_with false (carets text) (rest_segments (drop (carets text) text)) else None
+relative_path text = if nat_lt (carets text) 4294967296 then path_with false (carets text) (rest_segments (drop (carets text) text)) else
+    None
 
 -- a path: from the root, from so many scopes up, or from where it stands
 abbrev pub path_of : List ℕ → Option Path

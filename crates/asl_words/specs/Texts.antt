@@ -21,7 +21,8 @@ is_oem_signature (a ∷ b ∷ c ∷ d ∷ []) = (a == 79) && ((b == 69) && ((c =
 is_oem_signature _ = false
 
 abbrev pub is_signature : List ℕ → Bool
-is_signature text = bytes_eq text (codes "DSDT") || (bytes_eq text (codes "SSDT") || (bytes_eq text (codes "PSDT") || is_oem_signature text))
+is_signature text = bytes_eq text (codes "DSDT")
+    || (bytes_eq text (codes "SSDT") || (bytes_eq text (codes "PSDT") || is_oem_signature text))
 
 abbrev pub has_form : StringForm → List ℕ → Bool
 has_form form.Any bytes = true

@@ -36,7 +36,8 @@ pub enum StringForm {
     AtMost(u8),
 }
 
-/// A word with arguments in brackets that stands in a field's list alone: an element of it, or an attribute of an access (ACPI Specification
+/// A word with arguments in brackets that stands in a field's list alone: an element of it, or an attribute of an
+/// access (ACPI Specification
 /// 6.4, 19.6.48, 19.6.3 and 19.6.16).
 #[derive(Clone, Copy)]
 pub enum FieldWord {

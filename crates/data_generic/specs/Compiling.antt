@@ -33,7 +33,8 @@ first_bytes (piece ∷ pieces) = piece.bytes
 
 -- the table of a header's pieces and of what stands behind them, or the fault of a data line
 abbrev pub table_by : List Piece → List Message → List DataField → List Message → Answer
-table_by header notes fields [] = Ok (record { pieces = sealed (header ++ map data_piece fields); signature = first_bytes header; notes = notes })
+table_by header notes fields [] =
+    Ok (record { pieces = sealed (header ++ map data_piece fields); signature = first_bytes header; notes = notes })
 table_by header notes fields (fault ∷ faults) = Err (fault ∷ faults)
 
 abbrev pub data_table : List Piece → List Message → DataWalked → Answer
@@ -71,7 +72,8 @@ pub record DataEntry : Type 0 where
 -- labels are no entries
 abbrev pub entry_of : DataField → List DataEntry
 entry_of field =
-    cond (is_label field.form) [] (record { place = field.line.place; form = field.form; size = length (data_bytes field); value = field.value } ∷ [])
+    cond (is_label field.form) []
+    (record { place = field.line.place; form = field.form; size = length (data_bytes field); value = field.value } ∷ [])
 
 abbrev pub entries_of : List DataField → List DataEntry
 entries_of [] = []

@@ -38,7 +38,8 @@ is_name name (Some other) = bytes_eq name other
 abbrev pub label_from : List ℕ → ℕ → Option ℕ → List FieldLine → Option Label
 label_from name index offset [] = None
 label_from name index offset (line ∷ lines) =
-    cond (is_name name (name_of line)) (Some (record { index = index; offset = offset })) (label_from name (index + 1) (behind_line offset line) lines)
+    cond (is_name name (name_of line)) (Some (record { index = index; offset = offset }))
+    (label_from name (index + 1) (behind_line offset line) lines)
 
 -- the first label of a name among the data lines, which stand behind the 36 bytes of the header
 abbrev pub label_of : List FieldLine → List ℕ → Option Label

@@ -39,7 +39,8 @@ DataStands d.Label here = Unit {0}
 abbrev pub ReadsData : List ℕ → ℕ → List DataEntry → Type 0
 ReadsData bytes offset [] = offset ≡ length bytes
 ReadsData bytes offset (entry ∷ entries) =
-    DataStands entry.form (bytes_at bytes offset entry.size) × (entry.value ≡ said entry.form (bytes_at bytes offset entry.size)) × ReadsData bytes (offset + entry.size) entries
+    DataStands entry.form (bytes_at bytes offset entry.size) × (entry.value ≡ said entry.form (bytes_at bytes offset entry.size))
+    × ReadsData bytes (offset + entry.size) entries
 
 -- the place, the type and the size of a value
 abbrev pub form_of : DataEntry → Place × DataType × ℕ

@@ -193,12 +193,14 @@ row_piece table number row = piece_at number (row_line table row) (field_bytes r
 -- a field behind its heading, where it has one, and then the further ones by the numbers of the next line and heading
 abbrev pub behind_heading : Table → ℕ → ℕ → Row → Option (List ℕ) → (ℕ → ℕ → List Piece) → List Piece
 behind_heading table number index row None rest = row_piece table number row ∷ rest (number + 1) index
-behind_heading table number index row (Some name) rest = piece_at number (heading_line name) [] ∷ row_piece table (number + 1) row ∷ rest (number + 1 + 1) (index + 1)
+behind_heading table number index row (Some name) rest = piece_at number (heading_line name) [] ∷ row_piece table (number + 1) row ∷ rest
+    (number + 1 + 1) (index + 1)
 
 -- the pieces of fields, where the next line and the next heading have these numbers
 abbrev pub pieces_from : Table → ℕ → ℕ → List Row → List Piece
 pieces_from table number index [] = []
-pieces_from table number index (row ∷ rows) = behind_heading table number index row (heading_before table index row) (λ next heading. pieces_from table next heading rows)
+pieces_from table number index (row ∷ rows) = behind_heading table number index row (heading_before table index row)
+    (λ next heading. pieces_from table next heading rows)
 
 abbrev pub unsealed_pieces : Table → List Piece
 unsealed_pieces table = pieces_from table 1 0 (rows_of table)

@@ -131,7 +131,8 @@ with_field field w = record { fields = field ∷ w.fields; faults = w.faults }
 -- a field that still has room in the table (6080), and then what comes behind it
 abbrev pub with_room : ℕ → DataField → (ℕ → DataWalked) → DataWalked
 with_room offset field rest =
-    let end = offset + length (data_bytes field) in cond (nat_le end most_bytes) (with_field field (rest end)) (halted (message_at 6080 field.line.place))
+    let end = offset + length (data_bytes field) in cond (nat_le end most_bytes) (with_field field (rest end))
+    (halted (message_at 6080 field.line.place))
 
 abbrev pub after_value : ℕ → FieldLine → DataType → Found → (ℕ → DataWalked) → DataWalked
 after_value offset line form (Err message) rest = halted message
@@ -145,7 +146,8 @@ after_type label index offset line (Some form) rest = after_value offset line fo
 -- these lines, of which the first has this number and stands at this offset
 abbrev pub data_walk : (List ℕ → Option Label) → ℕ → ℕ → List FieldLine → DataWalked
 data_walk label index offset [] = record { fields = []; faults = [] }
-data_walk label index offset (line ∷ lines) = after_type label index offset line (type_of_line line) (λ end. data_walk label (index + 1) end lines)
+data_walk label index offset (line ∷ lines) = after_type label index offset line (type_of_line line)
+    (λ end. data_walk label (index + 1) end lines)
 
 -- the data lines, which stand behind the 36 bytes of the header
 abbrev pub walk_all : List FieldLine → DataWalked

@@ -15,4 +15,5 @@ told writer rows = writer.pieces ++ pieces_from writer.table (next_line writer) 
 
 -- the same, where the heading of the first field is there already
 abbrev pub told_behind_heading : Writer → Row → List Row → List Piece
-told_behind_heading writer row rows = writer.pieces ++ (row_piece writer.table (next_line writer) row ∷ pieces_from writer.table (next_line writer + 1) writer.headings rows)
+told_behind_heading writer row rows = writer.pieces
+    ++ (row_piece writer.table (next_line writer) row ∷ pieces_from writer.table (next_line writer + 1) writer.headings rows)

@@ -3,7 +3,8 @@ ghost use Rattle.std.specs.Prelude.{◌≡◌, ◌<◌, ◌++◌, ℕ, All, IfOk
 ghost use Rattle.data_tables.specs.Compiling.{joined};
 ghost use Rattle.data_tables.specs.Entry.{Entry};
 ghost use Rattle.data_tables.specs.Promise.{Answers, TellsWithin};
-ghost use Rattle.data_generic.specs.Compiling.{compiled_generic, DataEntry, written_header, written_data, data_lines, first_bytes, data_table, generic_text};
+ghost use Rattle.data_generic.specs.Compiling.{compiled_generic, DataEntry, written_header, written_data, data_lines, first_bytes};
+ghost use Rattle.data_generic.specs.Compiling.{data_table, generic_text};
 ghost use Rattle.data_generic.specs.Reading.{ReadsGeneric, forms_of};
 ghost use Rattle.data_generic.specs.Telling.{TellsOne};
 ghost use Rattle.data_generic.specs.Steps.{outcome, so_far};
@@ -47,7 +48,8 @@ fn walk_behind(
     lines: &[FieldLine],
 ) -> Result<(Text, DataWalker), AllocError>
     ensures signature { IfOk result (λ out. out.0 ≡ first_bytes header) }
-    ensures walked { IfOk result (λ out. so_far out.1 ≡ outcome (header ++ map data_piece (walk_all lines.now).fields) (walk_all lines.now).faults) }
+    ensures walked { IfOk result (λ out. so_far out.1 ≡ outcome (header ++ map data_piece (walk_all lines.now).fields)
+        (walk_all lines.now).faults) }
 {
     let signature = signature_of(alloc, header.as_slice())?;
     let labels = labels_of(alloc, lines)?;
@@ -98,7 +100,9 @@ pub fn compile_generic(alloc: Global, lines: &Lines) -> Result<Compiled, Stage>
     ensures reads { IfOk result (λ table. ReadsGeneric (joined table.pieces) (written_header lines.now.list) (written_data lines.now.list)) }
 
     // And by these they read as no others.
-    ensures only { IfOk result (λ table. (header : AList Entry) → (entries : AList DataEntry) → ReadsGeneric (joined table.pieces) header entries → forms_of entries ≡ forms_of (written_data lines.now.list) → (header ≡ written_header lines.now.list) × (entries ≡ written_data lines.now.list)) }
+    ensures only { IfOk result (λ table. (header : AList Entry) → (entries : AList DataEntry) →
+        ReadsGeneric (joined table.pieces) header entries → forms_of entries ≡ forms_of (written_data lines.now.list) →
+        (header ≡ written_header lines.now.list) × (entries ≡ written_data lines.now.list)) }
 
     // A refusal is one message; a note tells a label of the header. Each message stands in column 1 of a line.
     ensures told { TellsOne lines.now.list result }

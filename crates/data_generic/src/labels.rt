@@ -112,7 +112,8 @@ impl Labels {
         offset: Option<u64>,
         line: &FieldLine,
     ) -> Result<Option<u64>, AllocError>
-        ensures { IfOk result (λ behind. (key : List ℕ) (lines : List SpecLine) → told_with self.old key index offset (line.now ∷ lines) ≡ told_with self.new key (index + 1) behind lines) }
+        ensures { IfOk result (λ behind. (key : List ℕ) (lines : List SpecLine) → told_with self.old key index offset (line.now ∷ lines) ≡
+            told_with self.new key (index + 1) behind lines) }
     {
         if let Some(name) = name_of(alloc, line)? {
             self.add(name, Label { index, offset })?;

@@ -126,7 +126,8 @@ fn filled(alloc: Global, width: u64, text: &[u8]) -> Result<Vec<u8>, AllocError>
 
 // The bytes of a field's value that is no number.
 fn plain_bytes(alloc: Global, table: Table, row: &Row) -> Result<Option<Vec<u8>>, AllocError>
-    ensures { IfOk result (λ found. MatchOption found (spec.value_of table row.now ≡ Number (spec.number_of table row.now)) (λ bytes. spec.value_of table row.now ≡ Bytes bytes.items)) }
+    ensures { IfOk result (λ found. MatchOption found (spec.value_of table row.now ≡ Number (spec.number_of table row.now))
+        (λ bytes. spec.value_of table row.now ≡ Bytes bytes.items)) }
 {
     let bytes = match row.kind {
         Kind::Text => filled(alloc, row.width, text_of_width(table, row.width)),
@@ -474,7 +475,8 @@ fn template_of(alloc: Global, table: Table) -> Result<Pieces, AllocError>
     ensures exact { IfOk result (λ pieces. pieces ≡ default_pieces table) }
     ensures compiles { IfOk result (λ pieces. ComesTo (compiled (lines_of pieces)) (joined pieces)) }
     ensures reads { IfOk result (λ pieces. ReadsAs (joined pieces) (written_values (lines_of pieces))) }
-    ensures one { IfOk result (λ pieces. (bytes : List ℕ) → All (λ b. b < 256) bytes → ReadsAs bytes (written_values (lines_of pieces)) → bytes ≡ joined pieces) }
+    ensures one { IfOk result (λ pieces. (bytes : List ℕ) → All (λ b. b < 256) bytes → ReadsAs bytes (written_values (lines_of pieces)) →
+        bytes ≡ joined pieces) }
 {
     seal(alloc, unsealed(alloc, table)?)
 }
@@ -490,7 +492,8 @@ pub fn default_lines(alloc: Global, signature: &[u8]) -> Result<Pieces, AllocErr
 
     // Its bytes read as the values that its lines write, and no other bytes do.
     ensures reads { IfOk result (λ pieces. ReadsAs (joined pieces) (written_values (lines_of pieces))) }
-    ensures one { IfOk result (λ pieces. (bytes : List ℕ) → All (λ b. b < 256) bytes → ReadsAs bytes (written_values (lines_of pieces)) → bytes ≡ joined pieces) }
+    ensures one { IfOk result (λ pieces. (bytes : List ℕ) → All (λ b. b < 256) bytes → ReadsAs bytes (written_values (lines_of pieces)) →
+        bytes ≡ joined pieces) }
 {
     match table_of(signature) {
         Some(table) => template_of(alloc, table),

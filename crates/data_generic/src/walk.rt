@@ -142,7 +142,8 @@ fn two_numbers(
     first: (&[u8], Option<Label>),
     second: (&[u8], Option<Label>),
 ) -> Result<NumberFound, AllocError>
-    ensures { IfOk result (λ found. IsNumberFound found (spec.first_by width line.now first.entry.0.now first.entry.1 second.entry.0.now second.entry.1)) }
+    ensures { IfOk result
+        (λ found. IsNumberFound found (spec.first_by width line.now first.entry.0.now first.entry.1 second.entry.0.now second.entry.1)) }
 {
     let Some(one) = first.1 else {
         return not_found(alloc, line, first.0);
@@ -160,7 +161,8 @@ fn reference_number(
     line: &FieldLine,
     reference: Reference<'_>,
 ) -> Result<NumberFound, AllocError>
-    ensures { IfOk result (λ found. IsNumberFound found (spec.reference_by (label_for labels.now) width line.now (Some (shown reference.entry)))) }
+    ensures { IfOk result
+        (λ found. IsNumberFound found (spec.reference_by (label_for labels.now) width line.now (Some (shown reference.entry)))) }
 {
     match reference {
         Reference::Offset(name) => {
@@ -230,7 +232,8 @@ fn label_line(
     index: usize,
     line: &FieldLine,
 ) -> Result<LineFound, AllocError>
-    ensures { IfOk result (λ found. IsLineFound found d.Label (spec.label_by (label_for labels.now) index line.now (name_in line.now.value))) }
+    ensures { IfOk result
+        (λ found. IsLineFound found d.Label (spec.label_by (label_for labels.now) index line.now (name_in line.now.value))) }
 {
     let Some(name) = name_in(line.value.as_slice()) else {
         return Ok(LineFound::Fault(message_of(alloc, line, BAD_VALUE)));
@@ -306,8 +309,11 @@ impl DataWalker {
 
     // Takes the bytes of a line, and says whether they have room.
     fn add(&mut self, line: &FieldLine, bytes: Text) -> Result<bool, AllocError>
-        ensures taken { IfOk result (λ more. IsTrue more → (self.new.pieces ≡ self.old.pieces ++ piece_at line.now bytes ∷ []) × (self.new.faults ≡ self.old.faults) × (self.new.offset ≡ self.old.offset + length bytes) × (self.old.offset + length bytes ≤ most_bytes)) }
-        ensures halted { IfOk result (λ more. more ≡ false → (self.new.pieces ≡ self.old.pieces) × (self.new.faults ≡ self.old.faults ++ message_at 6080 line.now.place ∷ []) × (most_bytes < self.old.offset + length bytes)) }
+        ensures taken { IfOk result (λ more. IsTrue more → (self.new.pieces ≡ self.old.pieces ++ piece_at line.now bytes ∷ [])
+            × (self.new.faults ≡ self.old.faults) × (self.new.offset ≡ self.old.offset + length bytes)
+            × (self.old.offset + length bytes ≤ most_bytes)) }
+        ensures halted { IfOk result (λ more. more ≡ false → (self.new.pieces ≡ self.old.pieces)
+            × (self.new.faults ≡ self.old.faults ++ message_at 6080 line.now.place ∷ []) × (most_bytes < self.old.offset + length bytes)) }
     {
         let count = bytes.as_bytes().len();
         let end = self.offset.saturating_add(count);
@@ -326,8 +332,10 @@ impl DataWalker {
 
     // Takes the next line, and says whether further lines are looked at.
     fn take(&mut self, labels: &Labels, index: usize, line: &FieldLine) -> Result<bool, AllocError>
-        ensures taken { IfOk result (λ more. IsTrue more → (lines : List SpecLine) → told_with self.old (label_for labels.now) index (line.now ∷ lines) ≡ told_with self.new (label_for labels.now) (index + 1) lines) }
-        ensures halted { IfOk result (λ more. more ≡ false → (lines : List SpecLine) → told_with self.old (label_for labels.now) index (line.now ∷ lines) ≡ so_far self.new) }
+        ensures taken { IfOk result (λ more. IsTrue more → (lines : List SpecLine) → told_with self.old (label_for labels.now) index
+            (line.now ∷ lines) ≡ told_with self.new (label_for labels.now) (index + 1) lines) }
+        ensures halted { IfOk result (λ more. more ≡ false → (lines : List SpecLine) → told_with self.old (label_for labels.now) index
+            (line.now ∷ lines) ≡ so_far self.new) }
     {
         let Some(form) = type_of_line(line) else {
             self.halt(message_of(self.alloc, line, UNKNOWN_DATA_TYPE))?;
@@ -361,7 +369,9 @@ pub(crate) fn walk_data(
     labels: &Labels,
     lines: &[FieldLine],
 ) -> Result<DataWalker, AllocError>
-    ensures { IfOk result (λ walker. so_far walker ≡ outcome (header ++ map data_piece (data_walk (label_for labels.now) 0 36 lines.now).fields) (data_walk (label_for labels.now) 0 36 lines.now).faults) }
+    ensures { IfOk result
+        (λ walker. so_far walker ≡ outcome (header ++ map data_piece (data_walk (label_for labels.now) 0 36 lines.now).fields)
+        (data_walk (label_for labels.now) 0 36 lines.now).faults) }
 {
     let mut walker = DataWalker::new(alloc, header);
     walker.take_all(labels, lines)?;

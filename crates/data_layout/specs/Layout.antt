@@ -10,9 +10,13 @@ use Rattle.data_layout.specs.declared.row.FlagSet.TheVariants as f
 use Rattle.data_layout.specs.declared.table.Table.{Table}
 use Rattle.data_layout.specs.declared.table.Table.TheVariants as t
 use Rattle.data_layout.specs.declared.rows.TheConstants.{HEADER, FACP, APIC, MCFG, HPET, SRAT, SLIT, MCFG_ENTRY, STRUCTURE_TYPE, LOCALITY}
-use Rattle.data_layout.specs.declared.rows.TheConstants.{LOCAL_APIC, IO_APIC, INTERRUPT_SOURCE_OVERRIDE, NMI_SOURCE, LOCAL_APIC_NMI, LOCAL_APIC_ADDRESS_OVERRIDE, LOCAL_X2APIC, LOCAL_X2APIC_NMI, GIC_CPU_INTERFACE, GIC_DISTRIBUTOR, GIC_MSI_FRAME, GIC_REDISTRIBUTOR, GIC_TRANSLATION_SERVICE}
-use Rattle.data_layout.specs.declared.rows.TheConstants.{PROCESSOR_AFFINITY, MEMORY_AFFINITY, X2APIC_AFFINITY, GICC_AFFINITY, TRANSLATION_SERVICE_AFFINITY, INITIATOR_AFFINITY}
-use Rattle.data_layout.specs.declared.rows.TheConstants.{FADT_FLAGS, ARM_FLAGS, MADT_FLAGS, PROCESSOR_FLAGS, INTERRUPT_FLAGS, PAGE_PROTECT_FLAGS, AFFINITY_FLAGS, MEMORY_FLAGS}
+use Rattle.data_layout.specs.declared.rows.TheConstants.{LOCAL_APIC, IO_APIC, INTERRUPT_SOURCE_OVERRIDE, NMI_SOURCE, LOCAL_APIC_NMI}
+use Rattle.data_layout.specs.declared.rows.TheConstants.{LOCAL_APIC_ADDRESS_OVERRIDE, LOCAL_X2APIC, LOCAL_X2APIC_NMI, GIC_CPU_INTERFACE}
+use Rattle.data_layout.specs.declared.rows.TheConstants.{GIC_DISTRIBUTOR, GIC_MSI_FRAME, GIC_REDISTRIBUTOR, GIC_TRANSLATION_SERVICE}
+use Rattle.data_layout.specs.declared.rows.TheConstants.{PROCESSOR_AFFINITY, MEMORY_AFFINITY, X2APIC_AFFINITY, GICC_AFFINITY}
+use Rattle.data_layout.specs.declared.rows.TheConstants.{TRANSLATION_SERVICE_AFFINITY, INITIATOR_AFFINITY}
+use Rattle.data_layout.specs.declared.rows.TheConstants.{FADT_FLAGS, ARM_FLAGS, MADT_FLAGS, PROCESSOR_FLAGS, INTERRUPT_FLAGS}
+use Rattle.data_layout.specs.declared.rows.TheConstants.{PAGE_PROTECT_FLAGS, AFFINITY_FLAGS, MEMORY_FLAGS}
 
 -- the table of a signature
 abbrev pub table_of : List ℕ → Option Table
@@ -31,7 +35,8 @@ header_rows = HEADER.now
 -- how many bytes a FADT of each known revision has
 abbrev pub fadt_bytes : ℕ → Option ℕ
 fadt_bytes revision =
-    cond (revision == 1) (Some 116) (cond (revision == 3 || revision == 4) (Some 244) (cond (revision == 5) (Some 268) (cond (revision == 6) (Some 276) None)))
+    cond (revision == 1) (Some 116)
+    (cond (revision == 3 || revision == 4) (Some 244) (cond (revision == 5) (Some 268) (cond (revision == 6) (Some 276) None)))
 
 -- the first so many bytes of a layout
 abbrev pub first_bytes : ℕ → List Row → List Row
@@ -66,16 +71,21 @@ type_rows = STRUCTURE_TYPE.now
 -- the fields of a structure of the MADT behind its type
 unfoldable pub madt_rows : ℕ → Option (List Row)
 madt_rows n =
-    cond (n == 0) (Some LOCAL_APIC.now) (cond (n == 1) (Some IO_APIC.now) (cond (n == 2) (Some INTERRUPT_SOURCE_OVERRIDE.now) (cond (n == 3) (Some NMI_SOURCE.now) (
-    cond (n == 4) (Some LOCAL_APIC_NMI.now) (cond (n == 5) (Some LOCAL_APIC_ADDRESS_OVERRIDE.now) (cond (n == 9) (Some LOCAL_X2APIC.now) (cond (n == 10) (Some LOCAL_X2APIC_NMI.now) (
-    cond (n == 11) (Some GIC_CPU_INTERFACE.now) (cond (n == 12) (Some GIC_DISTRIBUTOR.now) (cond (n == 13) (Some GIC_MSI_FRAME.now) (cond (n == 14) (Some GIC_REDISTRIBUTOR.now) (
+    cond (n == 0) (Some LOCAL_APIC.now)
+    (cond (n == 1) (Some IO_APIC.now) (cond (n == 2) (Some INTERRUPT_SOURCE_OVERRIDE.now) (cond (n == 3) (Some NMI_SOURCE.now) (
+    cond (n == 4) (Some LOCAL_APIC_NMI.now)
+    (cond (n == 5) (Some LOCAL_APIC_ADDRESS_OVERRIDE.now)
+    (cond (n == 9) (Some LOCAL_X2APIC.now) (cond (n == 10) (Some LOCAL_X2APIC_NMI.now) (
+    cond (n == 11) (Some GIC_CPU_INTERFACE.now)
+    (cond (n == 12) (Some GIC_DISTRIBUTOR.now) (cond (n == 13) (Some GIC_MSI_FRAME.now) (cond (n == 14) (Some GIC_REDISTRIBUTOR.now) (
     cond (n == 15) (Some GIC_TRANSLATION_SERVICE.now) None))))))))))))
 
 -- the fields of a structure of the SRAT behind its type
 unfoldable pub srat_rows : ℕ → Option (List Row)
 srat_rows n =
     cond (n == 0) (Some PROCESSOR_AFFINITY.now) (cond (n == 1) (Some MEMORY_AFFINITY.now) (cond (n == 2) (Some X2APIC_AFFINITY.now) (
-    cond (n == 3) (Some GICC_AFFINITY.now) (cond (n == 4) (Some TRANSLATION_SERVICE_AFFINITY.now) (cond (n == 5) (Some INITIATOR_AFFINITY.now) None)))))
+    cond (n == 3) (Some GICC_AFFINITY.now)
+    (cond (n == 4) (Some TRANSLATION_SERVICE_AFFINITY.now) (cond (n == 5) (Some INITIATOR_AFFINITY.now) None)))))
 
 -- the fields of a structure behind its type, where the table has structures of this type
 abbrev pub structure_rows : Table → ℕ → Option (List Row)

@@ -50,4 +50,5 @@ told_by (Some field) line = told_by_field field line
 -- decoded lines may follow a field line whose label ends in `(decoded below)`
 abbrev pub decoded_of : Row → ℕ → FieldLine → Option Decoded
 decoded_of row number line =
-    cond (ends_with nat_eq line.label (codes "(decodedbelow)")) (Some (record { flags = row.flags; number = number; bracketed = line.bracketed })) None
+    cond (ends_with nat_eq line.label (codes "(decodedbelow)"))
+    (Some (record { flags = row.flags; number = number; bracketed = line.bracketed })) None

@@ -77,7 +77,8 @@ rows_walk end (row ∷ rows) (line ∷ lines) = row_taken row line (value_of any
 -- the header that the first lines write; its first field must be a signature (6090)
 abbrev pub header_walk : Place → List FieldLine → Walked
 header_walk end [] = fault_at end 6091
-header_walk end (line ∷ lines) = cond (is_signature (text_in line.value)) (rows_walk end header_rows (line ∷ lines)) (fault_at line.place 6090)
+header_walk end (line ∷ lines) = cond (is_signature (text_in line.value)) (rows_walk end header_rows (line ∷ lines))
+    (fault_at line.place 6090)
 
 -- ---- what is answered of it
 

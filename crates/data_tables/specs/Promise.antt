@@ -50,5 +50,6 @@ IsPlaceIn (line ∷ lines) place = (place ≡ place_of line) ⊎ IsPlaceIn lines
 -- the notes of a table, or the faults of a refusal, which are some; each stands in column 1 of a line
 abbrev pub TellsOf : List Line → Result Compiled Stage → Type 0
 TellsOf lines (Ok table) = All IsNote table.notes × All (λ (m : Message). IsPlaceIn lines m.place) table.notes
-TellsOf lines (Err (stage.Refused messages)) = (messages ≡ [] → ⊥) × (All IsFault messages × (StopsAtOther messages × All (λ (m : Message). IsPlaceIn lines m.place) messages))
+TellsOf lines (Err (stage.Refused messages)) = (messages ≡ [] → ⊥)
+    × (All IsFault messages × (StopsAtOther messages × All (λ (m : Message). IsPlaceIn lines m.place) messages))
 TellsOf lines (Err stage.Memory) = ⊤

@@ -91,9 +91,16 @@ IsEnough tail = Unit {0}
 -- whose length is the one it states, or the row of a locality, and then further ones.
 pub data IsRest (table : Table) (bytes : List ℕ) : Tail → ℕ → ℕ → List Entry → Type 0 where
   ended : (tail : Tail) (number offset : ℕ) → IsEnough tail → offset ≡ length bytes → IsRest table bytes tail number offset []
-  entry : (number offset : ℕ) (more : List Entry) → Stand bytes offset entry_rows → IsRest table bytes Entries (number + 1) (offset + size_of entry_rows) more → IsRest table bytes Entries number offset (rows_read (number + 1) bytes offset entry_rows ++ more)
-  structure : (number offset : ℕ) (rows : List Row) (more : List Entry) → structure_rows table (number_read bytes offset 1) ≡ Some rows → number_read bytes (offset + 1) 1 ≡ size_of (type_rows ++ rows) → Stand bytes offset (type_rows ++ rows) → IsRest table bytes Structures (number + 1) (offset + size_of (type_rows ++ rows)) more → IsRest table bytes Structures number offset (rows_read (number + 1) bytes offset (type_rows ++ rows) ++ more)
-  locality : (number offset count place : ℕ) (more : List Entry) → place < count → Stand bytes offset (locality_row count place ∷ []) → IsRest table bytes (Localities count (place + 1)) (number + 1) (offset + count) more → IsRest table bytes (Localities count place) number offset (rows_read (number + 1) bytes offset (locality_row count place ∷ []) ++ more)
+  entry : (number offset : ℕ) (more : List Entry) → Stand bytes offset entry_rows → IsRest table bytes Entries (number + 1)
+      (offset + size_of entry_rows) more → IsRest table bytes Entries number offset (rows_read (number + 1) bytes offset entry_rows ++ more)
+  structure : (number offset : ℕ) (rows : List Row) (more : List Entry) → structure_rows table (number_read bytes offset 1) ≡ Some rows →
+      number_read bytes (offset + 1) 1 ≡ size_of (type_rows ++ rows) → Stand bytes offset (type_rows ++ rows) →
+      IsRest table bytes Structures (number + 1) (offset + size_of (type_rows ++ rows)) more → IsRest table bytes Structures number offset
+      (rows_read (number + 1) bytes offset (type_rows ++ rows) ++ more)
+  locality : (number offset count place : ℕ) (more : List Entry) → place < count → Stand bytes offset (locality_row count place ∷ []) →
+      IsRest table bytes (Localities count (place + 1)) (number + 1) (offset + count) more →
+      IsRest table bytes (Localities count place) number offset (rows_read (number + 1) bytes offset (locality_row count place ∷ [])
+      ++ more)
 
 -- what stands behind the fixed part of a table; the SLIT's says there how many localities it has
 abbrev pub rest_of : Table → List ℕ → Tail

@@ -48,7 +48,8 @@ pub data Step : Type 0 where
 
 abbrev pub step_with : Row → Part → FieldLine → Result Value ℕ → Step
 step_with row rest line (Err fault) = Halted fault
-step_with row rest line (Ok value) = Took row value (behind rest row.kind (number_of_value value)) (decoded_of row (number_of_value value) line)
+step_with row rest line (Ok value) = Took row value (behind rest row.kind (number_of_value value))
+    (decoded_of row (number_of_value value) line)
 
 -- a line with a value, where a field is due or none is (6092, 6097)
 abbrev pub step_due : FieldLine → Result Opened ℕ → Step
@@ -91,4 +92,5 @@ fault_if place (Some fault) = fault_at place fault
 -- what these lines come to, where the last line of the text stands at `end`
 abbrev pub walk : Place → Part → Option Decoded → List FieldLine → Walked
 walk end part decoded [] = fault_if end (missing part)
-walk end part decoded (line ∷ lines) = after_step part decoded line (step_of part decoded line) (λ part' decoded'. walk end part' decoded' lines)
+walk end part decoded (line ∷ lines) = after_step part decoded line (step_of part decoded line)
+    (λ part' decoded'. walk end part' decoded' lines)

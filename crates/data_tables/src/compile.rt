@@ -1,7 +1,8 @@
 //! A text of fields to its table.
 ghost use Rattle.std.specs.Prelude.{◌≡◌, ◌<◌, ◌^◌, ℕ, All, IfOk, OnOk, None, length, map, List as AList};
 ghost use Rattle.std.specs.Option.{option_copied};
-ghost use Rattle.data_tables.specs.Compiling.{signature_in, compiled, compiled_text, answer_of, refused, sealed, joined, piece_of, with_text, with_texts};
+ghost use Rattle.data_tables.specs.Compiling.{signature_in, compiled, compiled_text, answer_of, refused, sealed, joined, piece_of};
+ghost use Rattle.data_tables.specs.Compiling.{with_text, with_texts};
 ghost use Rattle.data_tables.specs.Entries.{Entry, fields_of_text, written_values, unsealed_bytes};
 ghost use Rattle.data_tables.specs.Reading.{ReadsAs};
 ghost use Rattle.data_tables.specs.Walk.{walk};
@@ -150,7 +151,8 @@ pub fn compile_data(alloc: Global, lines: &Lines) -> Result<Compiled, Stage>
 
     ensures within { OnOk result (length (unsealed_bytes lines.now.list) < 2 ^ 32) }
 
-    // A refusal tells decoded lines that disagree, and then at most one other fault; notes tell labels. Each message stands in column 1 of a line.
+    // A refusal tells decoded lines that disagree, and then at most one other fault; notes tell labels. Each message
+    // stands in column 1 of a line.
     ensures told { TellsOf lines.now.list result }
 
     // Each message stands in one of the lines' files.

@@ -1,5 +1,6 @@
 // The value of a field, and its bytes.
-ghost use Rattle.std.specs.Prelude.{◌≡◌, ◌≤◌, ◌<◌, ◌^◌, ◌*◌, ◌++◌, ◌∷◌, [], MatchOption, IfOk, OnOk, Some, None, Ok, Err, ℕ, length, nat_lt, replicate};
+ghost use Rattle.std.specs.Prelude.{◌≡◌, ◌≤◌, ◌<◌, ◌^◌, ◌*◌, ◌++◌, ◌∷◌, [], MatchOption, IfOk, OnOk, Some, None, Ok, Err, ℕ, length};
+ghost use Rattle.std.specs.Prelude.{nat_lt, replicate};
 ghost use Rattle.data_text.specs.Values.{number_in, text_in, bytes_in};
 ghost use Rattle.byteorder.specs.Endian.{little_bytes};
 ghost use Rattle.aml_code.specs.Header.{filled};

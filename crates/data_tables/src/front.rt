@@ -5,7 +5,8 @@ ghost use Rattle.std.specs.List.{list_all};
 ghost use Rattle.data_text.specs.Source.{text_of};
 ghost use Rattle.data_text.specs.Values.{text_in};
 ghost use Rattle.data_tables.specs.Compiling.{joined};
-ghost use Rattle.data_tables.specs.Headers.{without_colon, field_lines, lines_by, AnswersLines, header_walk, AnswersPieces, AnswersHeader, header_so_far};
+ghost use Rattle.data_tables.specs.Headers.{without_colon, field_lines, lines_by, AnswersLines, header_walk, AnswersPieces, AnswersHeader};
+ghost use Rattle.data_tables.specs.Headers.{header_so_far};
 ghost use Rattle.data_tables.specs.Headers as spec;
 ghost use Rattle.data_tables.specs.Outcomes.{outcome_of};
 ghost use Rattle.data_tables.specs.Walk as walk_spec;
@@ -90,8 +91,12 @@ impl HeaderWalker {
 
     // Takes the line of a row, and says whether further ones are looked at.
     fn take(&mut self, row: &Row, line: &FieldLine) -> Result<bool, AllocError>
-        ensures taken { IfOk result (λ more. IsTrue more → (w : Walked) → header_told self.old (row_taken row.now line.now (value_of any_table row.now line.now.value) w) ≡ header_told self.new w) }
-        ensures halted { IfOk result (λ more. more ≡ false → (w : Walked) → header_told self.old (row_taken row.now line.now (value_of any_table row.now line.now.value) w) ≡ header_so_far self.new) }
+        ensures taken { IfOk result
+            (λ more. IsTrue more → (w : Walked) →
+            header_told self.old (row_taken row.now line.now (value_of any_table row.now line.now.value) w) ≡ header_told self.new w) }
+        ensures halted { IfOk result
+            (λ more. more ≡ false → (w : Walked) →
+            header_told self.old (row_taken row.now line.now (value_of any_table row.now line.now.value) w) ≡ header_so_far self.new) }
     {
         match given_bytes(self.alloc, Table::Mcfg, row, line)? {
             FieldBytes::Fault(fault) => {

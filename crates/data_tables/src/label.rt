@@ -12,7 +12,8 @@ use itoa::Buffer;
 
 // What stands behind a letter, where a text begins with it.
 fn behind_letter(text: &[u8], letter: u8) -> Option<&[u8]>
-    ensures { MatchOption result ((key : List ℕ) → behind_key text.now (letter ∷ key) ≡ None) (λ rest. (key : List ℕ) → behind_key text.now (letter ∷ key) ≡ behind_key rest.now key) }
+    ensures { MatchOption result ((key : List ℕ) → behind_key text.now (letter ∷ key) ≡ None)
+        (λ rest. (key : List ℕ) → behind_key text.now (letter ∷ key) ≡ behind_key rest.now key) }
 {
     match text {
         [first, rest @ ..] => { if *first == letter { Some(rest) } else { None } }

@@ -1,6 +1,7 @@
 // Which field comes next.
 ghost use Rattle.std.specs.Prelude.{◌≡◌, [], Some, None, Ok, Err, true, false};
-ghost use Rattle.data_tables.specs.Parts.{next_field, first_part, first_of, open_after, next_locality, behind, missing, missing_after, after_fixed};
+ghost use Rattle.data_tables.specs.Parts.{next_field, first_part, first_of, open_after, next_locality, behind, missing, missing_after};
+ghost use Rattle.data_tables.specs.Parts.{after_fixed};
 ghost use Rattle.data_tables.specs.Views.{part_of, IsNext};
 ghost use Rattle.std.specs.Option.{unwrap_or};
 ghost use Rattle.data_layout.specs.Layout.{structure_rows};

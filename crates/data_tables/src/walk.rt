@@ -51,7 +51,8 @@ pub(crate) fn message_at(alloc: Global, number: u16, place: Place) -> Message
 
 // The bytes of a computed field; none of any other.
 fn computed_bytes(alloc: Global, row: &Row) -> Result<Option<Vec<u8>>, AllocError>
-    ensures { IfOk result (λ found. MatchOption found ((value : Given) → field_bytes row.now value ≡ value_bytes row.now.width value) (λ bytes. (value : Given) → field_bytes row.now value ≡ bytes.items)) }
+    ensures { IfOk result (λ found. MatchOption found ((value : Given) → field_bytes row.now value ≡ value_bytes row.now.width value)
+        (λ bytes. (value : Given) → field_bytes row.now value ≡ bytes.items)) }
 {
     let bytes = match row.kind {
         Kind::TableLength | Kind::Checksum => little_bytes(alloc, row.width, 0),

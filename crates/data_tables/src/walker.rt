@@ -128,8 +128,10 @@ impl Walker {
 
     // Takes the next line, and says whether further lines are looked at.
     fn take(&mut self, line: &FieldLine) -> Result<bool, AllocError>
-        ensures taken { IfOk result (λ more. IsTrue more → (end : Place) (lines : AList FieldLine) → told_with self.old end (line.now ∷ lines) ≡ told_with self.new end lines) }
-        ensures halted { IfOk result (λ more. more ≡ false → (end : Place) (lines : AList FieldLine) → told_with self.old end (line.now ∷ lines) ≡ so_far self.new) }
+        ensures taken { IfOk result (λ more. IsTrue more → (end : Place) (lines : AList FieldLine) →
+            told_with self.old end (line.now ∷ lines) ≡ told_with self.new end lines) }
+        ensures halted { IfOk result (λ more. more ≡ false → (end : Place) (lines : AList FieldLine) →
+            told_with self.old end (line.now ∷ lines) ≡ so_far self.new) }
     {
         match step_of(self.alloc, self.part, self.decoded, line)? {
             Step::Passed(told) => {

@@ -11,7 +11,8 @@ use Rattle.data_text.specs.Comments.{uncommented_from, mode_after, at_line_end}
 
 -- the word `Signature` in letters of either case, blanks, and a colon
 abbrev pub is_signature : List ℕ → Bool
-is_signature text = bytes_eq (map to_ascii_lowercase (take 9 text)) (codes "signature") && starts_with nat_eq (drop_blanks (drop 9 text)) (codes ":")
+is_signature text = bytes_eq (map to_ascii_lowercase (take 9 text)) (codes "signature") && starts_with nat_eq (drop_blanks (drop 9 text))
+    (codes ":")
 
 -- the first field of a data table, blanks before it aside
 abbrev pub begins_fields : List ℕ → Bool

@@ -41,8 +41,18 @@ Begun = FieldLine × Bool
 abbrev pub begun_with : Line → Bool → Option (List ℕ × List ℕ) → Begun
 begun_with line bracketed None =
     (record { place = place_of line; bracketed = bracketed; colon = false; label = []; one_word = true; value = [] }, false)
-begun_with line bracketed (Some found) =
-    (record { place = place_of line; bracketed = bracketed; colon = true; label = label_key found.0; one_word = is_one_word found.0; value = (ending found.1).0 }, (ending found.1).1)
+begun_with line bracketed (Some found) = (
+  record {
+    place = place_of line;
+    bracketed = bracketed;
+    colon = true;
+    label = label_key found.0;
+    one_word = is_one_word found.0;
+    value =
+        (ending found.1).0;
+  },
+  (ending found.1).1,
+)
 
 abbrev pub begun_behind : Line → List ℕ × Bool → Begun
 begun_behind line text = begun_with line text.1 (halves (before_remark false text.0))

@@ -48,7 +48,8 @@ text_from mode pending end (line ∷ rest) =
     let bare = uncommented_from mode line.text in
     cond (ends_source bare)
     (record { lines = finished pending; end = end })
-    (with_lines (done_by pending line bare) (text_from (at_line_end (mode_after mode line.text)) (open_by pending line bare) (place_of line) rest))
+    (with_lines (done_by pending line bare)
+    (text_from (at_line_end (mode_after mode line.text)) (open_by pending line bare) (place_of line) rest))
 
 -- where a message stands that has no line: 1:1 of the first file
 abbrev pub first_place : Place

@@ -1,5 +1,6 @@
 //! What the value of a field is.
-ghost use Rattle.std.specs.Prelude.{◌≡◌, ◌≤◌, ◌<◌, ◌^◌, ◌-◌, ◌++◌, ◌∷◌, [], min, MatchOption, IfOk, OnOk, Some, None, length, true, false, List, ℕ};
+ghost use Rattle.std.specs.Prelude.{◌≡◌, ◌≤◌, ◌<◌, ◌^◌, ◌-◌, ◌++◌, ◌∷◌, [], min, MatchOption, IfOk, OnOk, Some, None, length, true, false};
+ghost use Rattle.std.specs.Prelude.{List, ℕ};
 ghost use Rattle.std.specs.Option.{option_copied, option_map};
 ghost use Rattle.hex_text.specs.Digits.{number_of};
 ghost use Rattle.std.specs.List.{prefix_len};
@@ -104,7 +105,10 @@ pub(crate) enum Pair {
 
 // Takes the next byte of pairs: how much of a pair has then been read, or none where the pairs have not their form.
 fn take_byte(bytes: &mut Vec<u8>, pair: Pair, byte: u8) -> Result<Option<Pair>, AllocError>
-    ensures { IfOk result (λ next. MatchOption next ((rest : List ℕ) → bytes_at pair (byte ∷ rest) ≡ None) (λ p. (rest : List ℕ) → option_map (λ more. bytes.old.items ++ more) (bytes_at pair (byte ∷ rest)) ≡ option_map (λ more. bytes.new.items ++ more) (bytes_at p rest))) }
+    ensures { IfOk result
+        (λ next. MatchOption next ((rest : List ℕ) → bytes_at pair (byte ∷ rest) ≡ None)
+        (λ p. (rest : List ℕ) → option_map (λ more. bytes.old.items ++ more) (bytes_at pair (byte ∷ rest)) ≡ option_map
+        (λ more. bytes.new.items ++ more) (bytes_at p rest))) }
 {
     match pair {
         Pair::Ready => {

@@ -58,7 +58,8 @@ segment_path segment = record { root = false; up = 0; segs = segment ∷ [] }
 -- the term that declares a descriptor
 abbrev pub declaration : NamedDescriptor → Plan
 declaration named =
-    a_form (Op.Declaration Declaration.Name) (plan named.place (a_name (segment_path named.name)) (plan named.place (a_fill [] (named ∷ [])) no_plans)) no_plans
+    a_form (Op.Declaration Declaration.Name)
+    (plan named.place (a_name (segment_path named.name)) (plan named.place (a_fill [] (named ∷ [])) no_plans)) no_plans
 
 abbrev pub declarations : List NamedDescriptor → Plans
 declarations [] = no_plans

@@ -1,5 +1,6 @@
 -- Terms in which the fields of descriptors are constants, and what is told of uses of descriptors (ACPI Specification 6.4, 19.2.8).
-use Rattle.std.specs.Prelude.{ℕ, suc, ◌/◌, ◌%◌, nat_eq, nat_lt, Bool, true, false, ◌||◌, if◌then◌else◌, List, [], ◌∷◌, ◌++◌, length, Option, Some, None}
+use Rattle.std.specs.Prelude.{ℕ, suc, ◌/◌, ◌%◌, nat_eq, nat_lt, Bool, true, false, ◌||◌, if◌then◌else◌, List, [], ◌∷◌, ◌++◌, length}
+use Rattle.std.specs.Prelude.{Option, Some, None}
 use Rattle.acpi_values.specs.Paths.{AbsolutePath}
 use Rattle.acpi_state.specs.Objects.{lookup}
 use Rattle.acpi_state.specs.Outcomes.{choose}
@@ -16,7 +17,8 @@ use Rattle.asl_numbers.specs.Numbers.{numbered_all}
 use Rattle.asl_shape.specs.Plans.{Plan, a_word, a_name, a_call, a_form, Plans, no_plans, plan}
 use Rattle.name_checks.specs.Messages.{name_text}
 use Rattle.descriptor_names.specs.Declaring.{has_terms, declared_by, declaring, stripped}
-use Rattle.descriptor_names.specs.Senses.{Sense, ADescriptor, AField, outer_path, sense_of, Position, Value, Spot, AnyPath, APath, Written, position, content_position, in_bits}
+use Rattle.descriptor_names.specs.Senses.{Sense, ADescriptor, AField, outer_path, sense_of, Position, Value, Spot, AnyPath, APath, Written}
+use Rattle.descriptor_names.specs.Senses.{position, content_position, in_bits}
 
 -- ---- one use
 
@@ -59,7 +61,8 @@ abbrev pub told_call : Path → Place → Sense → List Message
 told_call name place (AField bit) = message 6051 place (name_text name)
 told_call name place s = []
 
--- a field by a path with more steps up than scopes stand around it: its name is the path as it is written, also where the field stands for its descriptor
+-- a field by a path with more steps up than scopes stand around it: its name is the path as it is written, also where
+-- the field stands for its descriptor
 abbrev pub leaving : Path → Place → AbsolutePath → Sense → List Message
 leaving name place scope (AField bit) = if nat_lt (length scope) name.up then message 6043 place (name_text name) else []
 leaving name place scope s = []
@@ -106,7 +109,8 @@ module _ (has : AbsolutePath → Bool) where
   -- where the terms of a form stand that has these arguments
   abbrev pub inner : Op → Plans → AbsolutePath → AbsolutePath
   inner (Op.Declaration Declaration.Scope) args scope = choose (first_name args) scope (λ name. scope_of name scope)
-  inner (Op.Declaration declaration) args scope = if has_terms (Op.Declaration declaration) then choose (first_name args) scope (λ name. place_of name scope) else scope
+  inner (Op.Declaration declaration) args scope = if has_terms (Op.Declaration declaration) then
+      choose (first_name args) scope (λ name. place_of name scope) else scope
   inner op args scope = scope
 
   -- the same by its name
@@ -144,9 +148,11 @@ module _ (has : AbsolutePath → Bool) (look : AbsolutePath → Option NamedDesc
   abbrev mutual
     pub resolved : Bool → Position → Plan → AbsolutePath → Plan
     resolved bits p (a_name name) scope = resolved_use bits p name (sense_of has look name scope)
-    resolved bits p (a_call name args) scope = a_call (resolved_call name (sense_of has look name scope)) (resolved_from OfCall 0 bits args scope)
+    resolved bits p (a_call name args) scope = a_call (resolved_call name (sense_of has look name scope))
+        (resolved_from OfCall 0 bits args scope)
     resolved bits p (a_form op args body) scope =
-        let given = resolved_from (Arguments op) 0 bits args scope in a_form op given (resolved_from (Contents op) 0 bits body (inner has op given scope))
+        let given = resolved_from (Arguments op) 0 bits args scope in
+        a_form op given (resolved_from (Contents op) 0 bits body (inner has op given scope))
     resolved bits p q scope = q
 
     -- from the one with this number on
@@ -157,16 +163,20 @@ module _ (has : AbsolutePath → Bool) (look : AbsolutePath → Option NamedDesc
 
   -- what is told of a form with these arguments beside what is told of them
   abbrev pub told_form : Op → Place → Plans → AbsolutePath → List Message
-  told_form op place args scope = if is_scope op then choose (first_name args) [] (λ name. opened name place (sense_of has look name scope)) else []
+  told_form op place args scope = if is_scope op then choose (first_name args) [] (λ name. opened name place (sense_of has look name scope))
+      else []
 
   abbrev mutual
     pub told : Bool → Position → Place → Plan → AbsolutePath → List Message
-    told bits p place (a_name name) scope = let sense = sense_of has look name scope in leaving name place scope sense ++ told_use bits p name place sense
+    told bits p place (a_name name) scope = let sense = sense_of has look name scope in leaving name place scope sense
+        ++ told_use bits p name place sense
     told bits p place (a_call name args) scope =
-        let sense = sense_of has look name scope in leaving name place scope sense ++ (told_call name place sense ++ told_from OfCall 0 bits args scope)
+        let sense = sense_of has look name scope in leaving name place scope sense
+        ++ (told_call name place sense ++ told_from OfCall 0 bits args scope)
     told bits p place (a_form op args body) scope =
         told_form op place args scope
-        ++ (told_from (Arguments op) 0 bits args scope ++ told_from (Contents op) 0 bits body (inner has op (resolved_from (Arguments op) 0 bits args scope) scope))
+        ++ (told_from (Arguments op) 0 bits args scope ++ told_from (Contents op) 0 bits body
+        (inner has op (resolved_from (Arguments op) 0 bits args scope) scope))
     told bits p place q scope = []
 
     pub told_from : Among → ℕ → Bool → Plans → AbsolutePath → List Message

@@ -1,5 +1,6 @@
 -- What a written name denotes where descriptors have names, and where names stand.
-use Rattle.std.specs.Prelude.{ℕ, ◌+◌, ◌*◌, ◌-◌, ◌^◌, ◌≤◌, nat_lt, Bool, false, if◌then◌else◌, List, length, take, slice_get, Option, Some, None}
+use Rattle.std.specs.Prelude.{ℕ, ◌+◌, ◌*◌, ◌-◌, ◌^◌, ◌≤◌, nat_lt, Bool, false, if◌then◌else◌, List, length, take, slice_get, Option, Some}
+use Rattle.std.specs.Prelude.{None}
 use Rattle.acpi_values.specs.Paths.{NameSeg, AbsolutePath}
 use Rattle.acpi_values.specs.Operators.{Letter, Placed, Used, Row, row_of}
 use Rattle.acpi_values.specs.Operators as L
@@ -50,14 +51,16 @@ module _ (look : AbsolutePath → Option NamedDescriptor) where
   -- a name of which the last segment is a field of what the others name
   abbrev pub field_sense : Path → AbsolutePath → Sense
   field_sense name scope =
-      choose (last_segment name.segs) Nothing (λ segment. choose (look (place_of (outer_path name) scope)) Nothing (λ named. field_in named segment))
+      choose (last_segment name.segs) Nothing
+      (λ segment. choose (look (place_of (outer_path name) scope)) Nothing (λ named. field_in named segment))
 
 module _ (has : AbsolutePath → Bool) (look : AbsolutePath → Option NamedDescriptor) where
   -- a name denotes the nearest path that has a name. Where there is none, its one place may be that of a field; a single segment
   -- without a prefix is no field's
   abbrev pub sense_of : Path → AbsolutePath → Sense
   sense_of name scope =
-      choose (denoted has name scope) (if is_searched name then Nothing else field_sense look name scope) (λ path. descriptor_sense (look path))
+      choose (denoted has name scope) (if is_searched name then Nothing else field_sense look name scope)
+      (λ path. descriptor_sense (look path))
 
 -- ---- where a name stands: as an expression, as a place, as a path of any kind, as a path of some kind, or where it is declared
 pub data Position : Type 0 where

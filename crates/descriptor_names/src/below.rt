@@ -27,7 +27,8 @@ use std::alloc::{AllocError, Global};
 // Whether the path with a number is that of a descriptor.
 fn is_descriptor(index: &Index, table: &[Option<NamedDescriptor>], number: usize) -> bool
     requires within { number < length index.now.paths }
-    ensures { (look : AbsolutePath → Option ANamed) → Tabled index.now.paths table.now look → result ≡ is_some (look (get_or index.now.paths number [])) }
+    ensures { (look : AbsolutePath → Option ANamed) → Tabled index.now.paths table.now look →
+        result ≡ is_some (look (get_or index.now.paths number [])) }
 {
     let count = index.paths.len();
     entry(table, Some(number)).is_some()
@@ -36,7 +37,8 @@ fn is_descriptor(index: &Index, table: &[Option<NamedDescriptor>], number: usize
 // Whether the path with a number is directly below a descriptor's.
 fn is_below(index: &Index, table: &[Option<NamedDescriptor>], number: usize) -> bool
     requires within { number < length index.now.paths }
-    ensures { (look : AbsolutePath → Option ANamed) → Tabled index.now.paths table.now look → result ≡ spec.is_below look (get_or index.now.paths number []) }
+    ensures { (look : AbsolutePath → Option ANamed) → Tabled index.now.paths table.now look →
+        result ≡ spec.is_below look (get_or index.now.paths number []) }
 {
     match index.paths.step(number) {
         Some(step) => is_descriptor(index, table, step.0),

@@ -257,7 +257,9 @@ fn add_beside(
     place: Place,
     term: Term,
 ) -> Result<(), AllocError>
-    ensures { OnOk result (plans_of out.new.items ≡ join (plans_of out.old.items) (spec.beside first (spec.declarations names.items) (spec.alone place (plan_of term)))) }
+    ensures { OnOk result
+        (plans_of out.new.items ≡ join (plans_of out.old.items)
+        (spec.beside first (spec.declarations names.items) (spec.alone place (plan_of term)))) }
 {
     if first {
         push(out, place, term)?;

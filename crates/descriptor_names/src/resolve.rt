@@ -134,7 +134,8 @@ fn tell_leaving(
     sense: Sense,
 ) -> Result<(), AllocError>
     requires { scope < length index.now.paths }
-    ensures { OnOk result (faults.new.items ≡ faults.old.items ++ spec.leaving name.now place (get_or index.now.paths scope []) (sense_as sense)) }
+    ensures { OnOk result (faults.new.items ≡ faults.old.items ++ spec.leaving name.now place (get_or index.now.paths scope [])
+        (sense_as sense)) }
 {
     match sense {
         Sense::Field(_) if leaves_root(&index.paths, name.up, scope) => {
@@ -239,7 +240,8 @@ fn tell_form(
 ) -> Result<(), AllocError>
     requires scope_in { scope < length names.now.index.now.paths }
     requires all { length names.now.index.now.named.items ≡ length names.now.index.now.paths }
-    ensures { OnOk result ((d : Declarations) (look : AbsolutePath → Option ANamed) → Agrees names.now.index.now.paths names.now.index.now.named.items d → Tabled names.now.index.now.paths names.now.table.now look
+    ensures { OnOk result ((d : Declarations) (look : AbsolutePath → Option ANamed) →
+        Agrees names.now.index.now.paths names.now.index.now.named.items d → Tabled names.now.index.now.paths names.now.table.now look
         → faults.new.items ≡ faults.old.items ++ spec.told_form (is_named d) look op place (plans_of args.now) (get_or names.now.index.now.paths scope [])) }
 {
     if !is_scope(op) {
@@ -265,9 +267,11 @@ fn resolve_term(
 ) -> Result<Term, AllocError>
     requires scope_in { standing.scope < length names.now.index.now.paths }
     requires all { length names.now.index.now.named.items ≡ length names.now.index.now.paths }
-    ensures made { IfOk result (λ made. (d : Declarations) (look : AbsolutePath → Option ANamed) → Agrees names.now.index.now.paths names.now.index.now.named.items d → Tabled names.now.index.now.paths names.now.table.now look
+    ensures made { IfOk result (λ made. (d : Declarations) (look : AbsolutePath → Option ANamed) →
+        Agrees names.now.index.now.paths names.now.index.now.named.items d → Tabled names.now.index.now.paths names.now.table.now look
         → plan_of made ≡ spec.resolved (is_named d) look standing.bits (position_as standing.position) (plan_of term) (get_or names.now.index.now.paths standing.scope [])) }
-    ensures told { OnOk result ((d : Declarations) (look : AbsolutePath → Option ANamed) → Agrees names.now.index.now.paths names.now.index.now.named.items d → Tabled names.now.index.now.paths names.now.table.now look
+    ensures told { OnOk result ((d : Declarations) (look : AbsolutePath → Option ANamed) →
+        Agrees names.now.index.now.paths names.now.index.now.named.items d → Tabled names.now.index.now.paths names.now.table.now look
         → faults.new.items ≡ faults.old.items ++ spec.told (is_named d) look standing.bits (position_as standing.position) place (plan_of term) (get_or names.now.index.now.paths standing.scope [])) }
 {
     let Standing {
@@ -335,9 +339,11 @@ fn resolve_node(
     requires scope_in { standing.scope < length names.now.index.now.paths }
     requires all { length names.now.index.now.named.items ≡ length names.now.index.now.paths }
     ensures place { IfOk result (λ made. made.place ≡ node.place) }
-    ensures made { IfOk result (λ made. (d : Declarations) (look : AbsolutePath → Option ANamed) → Agrees names.now.index.now.paths names.now.index.now.named.items d → Tabled names.now.index.now.paths names.now.table.now look
+    ensures made { IfOk result (λ made. (d : Declarations) (look : AbsolutePath → Option ANamed) →
+        Agrees names.now.index.now.paths names.now.index.now.named.items d → Tabled names.now.index.now.paths names.now.table.now look
         → plan_of made.term ≡ spec.resolved (is_named d) look standing.bits (position_as standing.position) (plan_of node.term) (get_or names.now.index.now.paths standing.scope [])) }
-    ensures told { OnOk result ((d : Declarations) (look : AbsolutePath → Option ANamed) → Agrees names.now.index.now.paths names.now.index.now.named.items d → Tabled names.now.index.now.paths names.now.table.now look
+    ensures told { OnOk result ((d : Declarations) (look : AbsolutePath → Option ANamed) →
+        Agrees names.now.index.now.paths names.now.index.now.named.items d → Tabled names.now.index.now.paths names.now.table.now look
         → faults.new.items ≡ faults.old.items ++ spec.told (is_named d) look standing.bits (position_as standing.position) node.place (plan_of node.term) (get_or names.now.index.now.paths standing.scope [])) }
 {
     let Node { id, place, term } = node;
@@ -358,9 +364,11 @@ fn resolve_list(
 ) -> Result<Vec<Node>, AllocError>
     requires scope_in { scope < length names.now.index.now.paths }
     requires all { length names.now.index.now.named.items ≡ length names.now.index.now.paths }
-    ensures made { IfOk result (λ made. (d : Declarations) (look : AbsolutePath → Option ANamed) → Agrees names.now.index.now.paths names.now.index.now.named.items d → Tabled names.now.index.now.paths names.now.table.now look
+    ensures made { IfOk result (λ made. (d : Declarations) (look : AbsolutePath → Option ANamed) →
+        Agrees names.now.index.now.paths names.now.index.now.named.items d → Tabled names.now.index.now.paths names.now.table.now look
         → plans_of made.items ≡ spec.resolved_from (is_named d) look (among_as among) 0 bits (plans_of nodes.items) (get_or names.now.index.now.paths scope [])) }
-    ensures told { OnOk result ((d : Declarations) (look : AbsolutePath → Option ANamed) → Agrees names.now.index.now.paths names.now.index.now.named.items d → Tabled names.now.index.now.paths names.now.table.now look
+    ensures told { OnOk result ((d : Declarations) (look : AbsolutePath → Option ANamed) →
+        Agrees names.now.index.now.paths names.now.index.now.named.items d → Tabled names.now.index.now.paths names.now.table.now look
         → faults.new.items ≡ faults.old.items ++ spec.told_from (is_named d) look (among_as among) 0 bits (plans_of nodes.items) (get_or names.now.index.now.paths scope [])) }
 {
     let mut left = nodes;
@@ -392,9 +400,11 @@ pub fn resolve(
     terms: Vec<Node>,
 ) -> Result<Vec<Node>, AllocError>
     requires all { length index.now.named.items ≡ length index.now.paths }
-    ensures made { IfOk result (λ made. (d : Declarations) (look : AbsolutePath → Option ANamed) → Agrees index.now.paths index.now.named.items d → Tabled index.now.paths table.now look
+    ensures made { IfOk result (λ made. (d : Declarations) (look : AbsolutePath → Option ANamed) →
+        Agrees index.now.paths index.now.named.items d → Tabled index.now.paths table.now look
         → plans_of made.items ≡ spec.resolved_from (is_named d) look spec.OfCall 0 false (plans_of terms.items) []) }
-    ensures told { OnOk result ((d : Declarations) (look : AbsolutePath → Option ANamed) → Agrees index.now.paths index.now.named.items d → Tabled index.now.paths table.now look
+    ensures told { OnOk result ((d : Declarations) (look : AbsolutePath → Option ANamed) → Agrees index.now.paths index.now.named.items d →
+        Tabled index.now.paths table.now look
         → faults.new.items ≡ faults.old.items ++ spec.told_from (is_named d) look spec.OfCall 0 false (plans_of terms.items) []) }
 {
     let count = index.paths.len();

@@ -89,8 +89,10 @@ fn field_sense(
     scope: usize,
 ) -> Result<Sense, AllocError>
     requires scope_in { scope < length index.now.paths }
-    ensures sense { IfOk result (λ sense. (look : AbsolutePath → Option ANamed) → Tabled index.now.paths table.now look → sense_as sense ≡ spec.field_sense look name.now (get_or index.now.paths scope [])) }
-    ensures far { IfErr result (λ _. (look : AbsolutePath → Option ANamed) → Tabled index.now.paths table.now look → spec.IsTooFar (spec.field_sense look name.now (get_or index.now.paths scope []))) }
+    ensures sense { IfOk result (λ sense. (look : AbsolutePath → Option ANamed) → Tabled index.now.paths table.now look →
+        sense_as sense ≡ spec.field_sense look name.now (get_or index.now.paths scope [])) }
+    ensures far { IfErr result (λ _. (look : AbsolutePath → Option ANamed) → Tabled index.now.paths table.now look →
+        spec.IsTooFar (spec.field_sense look name.now (get_or index.now.paths scope []))) }
 {
     let Some(segment) = last_segment(name) else {
         return Ok(Sense::Nothing);
@@ -112,8 +114,11 @@ pub fn sense_of(
 ) -> Result<Sense, AllocError>
     requires scope_in { scope < length index.now.paths }
     requires all { length index.now.named.items ≡ length index.now.paths }
-    ensures sense { IfOk result (λ sense. (d : Declarations) (look : AbsolutePath → Option ANamed) → Agrees index.now.paths index.now.named.items d → Tabled index.now.paths table.now look → sense_as sense ≡ spec.sense_of (is_named d) look name.now (get_or index.now.paths scope [])) }
-    ensures far { IfErr result (λ _. (d : Declarations) (look : AbsolutePath → Option ANamed) → Agrees index.now.paths index.now.named.items d → Tabled index.now.paths table.now look → spec.IsTooFar (spec.sense_of (is_named d) look name.now (get_or index.now.paths scope []))) }
+    ensures sense { IfOk result (λ sense. (d : Declarations) (look : AbsolutePath → Option ANamed) →
+        Agrees index.now.paths index.now.named.items d → Tabled index.now.paths table.now look →
+        sense_as sense ≡ spec.sense_of (is_named d) look name.now (get_or index.now.paths scope [])) }
+    ensures far { IfErr result (λ _. (d : Declarations) (look : AbsolutePath → Option ANamed) → Agrees index.now.paths index.now.named.items d →
+        Tabled index.now.paths table.now look → spec.IsTooFar (spec.sense_of (is_named d) look name.now (get_or index.now.paths scope []))) }
 {
     let count = index.paths.len();
     match denoted_by(index, name, scope) {

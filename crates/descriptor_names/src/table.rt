@@ -41,7 +41,8 @@ fn scope_of(index: &Index, name: &Path, scope: usize) -> Result<usize, AllocErro
     requires scope_in { scope < length index.now.paths }
     requires all { length index.now.named.items ≡ length index.now.paths }
     ensures within { IfOk result (λ n. n < length index.now.paths) }
-    ensures path { IfOk result (λ n. (d : Declarations) → Agrees index.now.paths index.now.named.items d → get_or index.now.paths n [] ≡ spec.scope_of (is_named d) name.now (get_or index.now.paths scope [])) }
+    ensures path { IfOk result (λ n. (d : Declarations) → Agrees index.now.paths index.now.named.items d →
+        get_or index.now.paths n [] ≡ spec.scope_of (is_named d) name.now (get_or index.now.paths scope [])) }
 {
     match denoted_by(index, name, scope) {
         Some(number) => Ok(number),
@@ -77,7 +78,8 @@ fn inner_named(index: &Index, op: Op, name: &Path, scope: usize) -> Result<usize
     requires scope_in { scope < length index.now.paths }
     requires all { length index.now.named.items ≡ length index.now.paths }
     ensures within { IfOk result (λ n. n < length index.now.paths) }
-    ensures path { IfOk result (λ n. (d : Declarations) → Agrees index.now.paths index.now.named.items d → get_or index.now.paths n [] ≡ spec.inner_named (is_named d) op name.now (get_or index.now.paths scope [])) }
+    ensures path { IfOk result (λ n. (d : Declarations) → Agrees index.now.paths index.now.named.items d →
+        get_or index.now.paths n [] ≡ spec.inner_named (is_named d) op name.now (get_or index.now.paths scope [])) }
 {
     if is_scope(op) {
         Ok(scope_of(index, name, scope)?)
@@ -94,7 +96,8 @@ pub(crate) fn inner(index: &Index, op: Op, args: &[Node], scope: usize) -> Resul
     requires scope_in { scope < length index.now.paths }
     requires all { length index.now.named.items ≡ length index.now.paths }
     ensures within { IfOk result (λ n. n < length index.now.paths) }
-    ensures path { IfOk result (λ n. (d : Declarations) → Agrees index.now.paths index.now.named.items d → get_or index.now.paths n [] ≡ spec.inner (is_named d) op (plans_of args.now) (get_or index.now.paths scope [])) }
+    ensures path { IfOk result (λ n. (d : Declarations) → Agrees index.now.paths index.now.named.items d →
+        get_or index.now.paths n [] ≡ spec.inner (is_named d) op (plans_of args.now) (get_or index.now.paths scope [])) }
 {
     match name(args, 0) {
         Some(name) => Ok(inner_named(index, op, name, scope)?),
@@ -112,7 +115,8 @@ fn note_at(
     requires within { number < length index.now.paths }
     requires size { length table.old.items ≡ length index.now.paths }
     ensures size { length table.new.items ≡ length index.now.paths }
-    ensures noted { (before : List (AbsolutePath × ANamed)) → Tabled index.now.paths table.old.items (lookup before) → Tabled index.now.paths table.new.items (lookup (before ++ (get_or index.now.paths number [], named) ∷ [])) }
+    ensures noted { (before : List (AbsolutePath × ANamed)) → Tabled index.now.paths table.old.items (lookup before) →
+        Tabled index.now.paths table.new.items (lookup (before ++ (get_or index.now.paths number [], named) ∷ [])) }
 {
     let count = index.paths.len();
     match table[number] {
@@ -131,7 +135,8 @@ fn note(
     requires scope_in { scope < length index.now.paths }
     requires size { length table.old.items ≡ length index.now.paths }
     ensures size { length table.new.items ≡ length index.now.paths }
-    ensures noted { OnOk result ((before : List (AbsolutePath × ANamed)) → Tabled index.now.paths table.old.items (lookup before) → Tabled index.now.paths table.new.items (lookup (before ++ spec.placed (get_or index.now.paths scope []) names.now))) }
+    ensures noted { OnOk result ((before : List (AbsolutePath × ANamed)) → Tabled index.now.paths table.old.items (lookup before) →
+        Tabled index.now.paths table.new.items (lookup (before ++ spec.placed (get_or index.now.paths scope []) names.now))) }
 {
     match names.first() {
         Some(named) => match index.paths.child(scope, named.name) {
@@ -156,7 +161,8 @@ fn note_term(
     requires all { length index.now.named.items ≡ length index.now.paths }
     requires size { length table.old.items ≡ length index.now.paths }
     ensures size { length table.new.items ≡ length index.now.paths }
-    ensures noted { OnOk result ((d : Declarations) (before : List (AbsolutePath × ANamed)) → Agrees index.now.paths index.now.named.items d → Tabled index.now.paths table.old.items (lookup before)
+    ensures noted { OnOk result ((d : Declarations) (before : List (AbsolutePath × ANamed)) → Agrees index.now.paths index.now.named.items d
+        → Tabled index.now.paths table.old.items (lookup before)
         → Tabled index.now.paths table.new.items (lookup (before ++ spec.described_by (is_named d) (plan_of term.now) (get_or index.now.paths scope [])))) }
 {
     match term {
@@ -185,7 +191,8 @@ fn note_all(
     requires all { length index.now.named.items ≡ length index.now.paths }
     requires size { length table.old.items ≡ length index.now.paths }
     ensures size { length table.new.items ≡ length index.now.paths }
-    ensures noted { OnOk result ((d : Declarations) (before : List (AbsolutePath × ANamed)) → Agrees index.now.paths index.now.named.items d → Tabled index.now.paths table.old.items (lookup before)
+    ensures noted { OnOk result ((d : Declarations) (before : List (AbsolutePath × ANamed)) → Agrees index.now.paths index.now.named.items d
+        → Tabled index.now.paths table.old.items (lookup before)
         → Tabled index.now.paths table.new.items (lookup (before ++ spec.described (is_named d) (plans_of nodes.now) (get_or index.now.paths scope [])))) }
 {
     for node in nodes {
@@ -213,7 +220,8 @@ pub fn table_of(
     nodes: &[Node],
 ) -> Result<Vec<Option<NamedDescriptor>>, AllocError>
     requires all { length index.now.named.items ≡ length index.now.paths }
-    ensures { IfOk result (λ table. (d : Declarations) → Agrees index.now.paths index.now.named.items d → Tabled index.now.paths table.items (lookup (spec.described (is_named d) (plans_of nodes.now) []))) }
+    ensures { IfOk result (λ table. (d : Declarations) → Agrees index.now.paths index.now.named.items d → Tabled index.now.paths table.items
+        (lookup (spec.described (is_named d) (plans_of nodes.now) []))) }
 {
     let count = index.paths.len();
     let mut table = blank(alloc, index)?;

@@ -13,8 +13,10 @@ ghost use Rattle.descriptor_names.specs.Declaring.{names_descriptors};
 
 /// Terms that have their forms have them where uses of descriptors are resolved, and those with the declared descriptors are terms.
 pub fn resolved_are_formed()
-    ensures formed { (next : ℕ) (ps : Plans) → AreFormed AreNamed (Unit {0}) (Unit {0}) (numbered_all next ps) → AreFormed AreNamed (Unit {0}) (Unit {0}) (numbered_all next (resolved_terms ps)) }
-    ensures terms { (next : ℕ) (ps : Plans) → AreFormed AreNamed (Unit {0}) (Unit {0}) (numbered_all next ps) → are_terms (checked_trees ps) ≡ true }
+    ensures formed { (next : ℕ) (ps : Plans) → AreFormed AreNamed (Unit {0}) (Unit {0}) (numbered_all next ps) →
+        AreFormed AreNamed (Unit {0}) (Unit {0}) (numbered_all next (resolved_terms ps)) }
+    ensures terms { (next : ℕ) (ps : Plans) → AreFormed AreNamed (Unit {0}) (Unit {0}) (numbered_all next ps) →
+        are_terms (checked_trees ps) ≡ true }
 {}
 
 /// Where no descriptor has a name the terms stay as they are, and nothing is told of descriptors.

@@ -25,7 +25,8 @@ item_in _ = None
 abbrev pub list_errors : ℕ → Plans → List Message
 list_errors at no_plans = []
 list_errors at (plan place p ps) =
-    choose (item_in p) [] (λ item. choose (item_fault at item) (list_errors (behind_item at item) ps) (λ number. fault_at number place ∷ []))
+    choose (item_in p) []
+    (λ item. choose (item_fault at item) (list_errors (behind_item at item) ps) (λ number. fault_at number place ∷ []))
 
 -- a field has a list, and an IndexField has units that are asked here
 abbrev pub field_errors : Op → Plans → Plans → List Message

@@ -24,7 +24,8 @@ serial_item _ = Item.Skip 0
 abbrev pub unit_fault : ℕ → Said → Plans → Option UnitFault
 unit_fault space said no_plans = None
 unit_fault space said (plan place p ps) =
-    choose (item_fault space said (serial_item p)) (unit_fault space (said_behind said (serial_item p)) ps) (λ number. Some (record { place = place; number = number }))
+    choose (item_fault space said (serial_item p)) (unit_fault space (said_behind said (serial_item p)) ps)
+    (λ number. Some (record { place = place; number = number }))
 
 abbrev pub unit_told : Option UnitFault → List Message
 unit_told None = []

@@ -73,9 +73,9 @@ fn serial_item(term: &Term) -> SerialItem
     }
 }
 
-/// The first unit of a list that has a fault in a region of this space (ACPI Specification 6.4, 5.5.2.4.6), where the field has this access:
-/// one that is not accessed as a Buffer where the space asks for it (6073), one that is where it does not (6074), or one without a
-/// connection where the space asks for one (6075).
+/// The first unit of a list that has a fault in a region of this space (ACPI Specification 6.4, 5.5.2.4.6), where the
+/// field has this access: one that is not accessed as a Buffer where the space asks for it (6073), one that is where it
+/// does not (6074), or one without a connection where the space asks for one (6075).
 pub fn unit_fault(space: u8, access: u8, body: &[Node]) -> Option<UnitFault>
     ensures { result ≡ spec.unit_fault space (said_first access) (plans_of body.now) }
 {

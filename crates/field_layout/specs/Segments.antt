@@ -16,13 +16,21 @@ first_said access = record { access = access; attribute = 0; length = 0; connect
 
 -- the last AccessAs and the last Connection count
 abbrev pub said_behind : Said → SerialItem → Said
-said_behind said (Item.AccessAs access attribute length) = record { access = access; attribute = attribute; length = length; connection = said.connection }
-said_behind said (Item.Connection element) = record { access = said.access; attribute = said.attribute; length = said.length; connection = Some element }
+said_behind said (Item.AccessAs access attribute length) =
+    record { access = access; attribute = attribute; length = length; connection = said.connection }
+said_behind said (Item.Connection element) = record {
+  access = said.access;
+  attribute = said.attribute;
+  length = said.length;
+  connection =
+      Some element;
+}
 said_behind said item = said
 
 -- the unit that an item is, if it is one
 abbrev pub segments_of : Said → ℕ → SerialItem → List Segment
-segments_of said place (Item.Unit name bits) = record { unit = place; access = said.access; attribute = said.attribute; length = said.length; connection = said.connection } ∷ []
+segments_of said place (Item.Unit name bits) =
+    record { unit = place; access = said.access; attribute = said.attribute; length = said.length; connection = said.connection } ∷ []
 segments_of said place item = []
 
 abbrev pub segments_from : Said → ℕ → List SerialItem → List Segment

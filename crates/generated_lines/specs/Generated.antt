@@ -8,7 +8,8 @@ upper_digits = codes "0123456789ABCDEF"
 
 -- a number below 4096 in three digits
 abbrev pub three_digits : ℕ → List ℕ
-three_digits number = slice_index upper_digits (number / 256) ∷ slice_index upper_digits (number / 16 % 16) ∷ slice_index upper_digits (number % 16) ∷ []
+three_digits number = slice_index upper_digits (number / 256) ∷ slice_index upper_digits (number / 16 % 16) ∷ slice_index upper_digits
+    (number % 16) ∷ []
 
 -- the device of a number
 abbrev pub device_text : ℕ → List ℕ

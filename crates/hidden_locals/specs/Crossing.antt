@@ -110,4 +110,5 @@ module _ (convert : Trees → Trees) (IsKept : Trees → Type 0) (w : World) (fl
 
   -- the same of a loop that no Continue crosses
   abbrev pub KeepingAll : (low : Bool) → ℕ → Value → Run Trees Flow → Run Trees Flow → Type 0
-  KeepingAll low i v m m' = Goes convert IsKept (λ t. Taken w i flag (FlagIs low) t v) (λ t f. AfterTerm true low t f × NoContinue f) (cross true) m m'
+  KeepingAll low i v m m' = Goes convert IsKept (λ t. Taken w i flag (FlagIs low) t v) (λ t f. AfterTerm true low t f × NoContinue f)
+      (cross true) m m'

@@ -2,7 +2,9 @@
 use Rattle.std.specs.Prelude.{ℕ, Bool, nat_eq, List, [], ◌∷◌, ◌++◌}
 use Rattle.std.specs.List.{list_any}
 use Rattle.acpi_state.specs.Forms.{Slot, LocalSlot, ArgSlot}
-use Rattle.asl_tree.specs.Tree.{Tree, InSlot, Call, Apply, Operated, Assigned, AssignedBy, Buffer, Package, VarPackage, CondRefOf, Return, Name, Method, Container', Scope, If, ElseIf, Else, While, Switch, Case, Default, OperationRegion, BankField, CreateField, Trees, no_trees, tree}
+use Rattle.asl_tree.specs.Tree.{Tree, InSlot, Call, Apply, Operated, Assigned, AssignedBy, Buffer, Package, VarPackage, CondRefOf, Return}
+use Rattle.asl_tree.specs.Tree.{Name, Method, Container', Scope, If, ElseIf, Else, While, Switch, Case, Default, OperationRegion}
+use Rattle.asl_tree.specs.Tree.{BankField, CreateField, Trees, no_trees, tree}
 
 abbrev pub slot_locals : Slot → List ℕ
 slot_locals (LocalSlot i) = i ∷ []

@@ -49,7 +49,8 @@ module _ (convert : Trees → Trees) (IsKept : Trees → Type 0) where
   Ends P (Stopped x) j = Unit {0}
 
   -- two outcomes are the same, the result has the property in the world at its end, and hidden Locals keep what they hold
-  pub record Joint (reach : Reach) {A C : Type 0} (P : World → A → Type 0) (c : A → C) (w : World) (start : List Frame) (o : Outcome Trees A) (o' : Outcome Trees C) : Type 0 where
+  pub record Joint (reach : Reach) {A C : Type 0} (P : World → A → Type 0) (c : A → C) (w : World) (start : List Frame)
+      (o : Outcome Trees A) (o' : Outcome Trees C) : Type 0 where
     pub result : Result A
     pub end : Veiled
     pub later : Later w end.world
@@ -60,5 +61,6 @@ module _ (convert : Trees → Trees) (IsKept : Trees → Type 0) where
     pub right_is : o' ≡ record { result = map_result c result; state = right end }
 
   -- two runs that do the same from each world that is later than this one
-  pub record From (reach : Reach) (w : World) {A C : Type 0} (P : World → A → Type 0) (c : A → C) (m : Run Trees A) (m' : Run Trees C) : Type 0 where
+  pub record From (reach : Reach) (w : World) {A C : Type 0} (P : World → A → Type 0) (c : A → C) (m : Run Trees A) (m' : Run Trees C) :
+      Type 0 where
     pub by : (j : Veiled) → Later w j.world → IsFine j → Joint reach P c j.world j.state.store.frames (m (left j)) (m' (right j))

@@ -44,7 +44,8 @@ module _ (convert : Trees → Trees) (IsKept : Trees → Type 0) where
   EndsAt After (Stopped x) t = Unit {0}
 
   -- two outcomes: the other side gives what `c` makes of the result, and what outer activations hide stays
-  pub record Ended {A C : Type 0} (After : Veiled → A → Type 0) (c : A → C) (w : World) (start : List Frame) (o : Outcome Trees A) (o' : Outcome Trees C) : Type 0 where
+  pub record Ended {A C : Type 0} (After : Veiled → A → Type 0) (c : A → C) (w : World) (start : List Frame) (o : Outcome Trees A)
+      (o' : Outcome Trees C) : Type 0 where
     pub result : Result A
     pub end : Veiled
     pub later : Later w end.world
@@ -55,5 +56,7 @@ module _ (convert : Trees → Trees) (IsKept : Trees → Type 0) where
     pub right_is : o' ≡ record { result = map_result c result; state = right convert IsKept end }
 
   -- from each state of which the one holds two runs go to one of which the other holds
-  pub record Goes {A C : Type 0} (Before : Veiled → Type 0) (After : Veiled → A → Type 0) (c : A → C) (m : Run Trees A) (m' : Run Trees C) : Type 0 where
-    pub by : (j : Veiled) → IsFine convert IsKept j → Before j → Ended After c j.world j.state.store.frames (m (left convert IsKept j)) (m' (right convert IsKept j))
+  pub record Goes {A C : Type 0} (Before : Veiled → Type 0) (After : Veiled → A → Type 0) (c : A → C) (m : Run Trees A) (m' : Run Trees C) :
+      Type 0 where
+    pub by : (j : Veiled) → IsFine convert IsKept j → Before j → Ended After c j.world j.state.store.frames (m (left convert IsKept j))
+        (m' (right convert IsKept j))

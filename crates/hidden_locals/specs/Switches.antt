@@ -1,6 +1,7 @@
 -- A Switch as a loop of one turn, and where it may stand so.
 use Rattle.std.specs.Prelude.{◌≤◌, ◌+◌, ℕ, suc, max, nat_le, Bool, true, false, ◌||◌, if◌then◌else◌, length, Option, Some, None}
-use Rattle.asl_tree.specs.Tree.{Tree, Package, VarPackage, Method, Container', Scope, If, ElseIf, Else, While, Switch, Case, Default, Continue, Trees, no_trees, tree}
+use Rattle.asl_tree.specs.Tree.{Tree, Package, VarPackage, Method, Container', Scope, If, ElseIf, Else, While, Switch, Case, Default}
+use Rattle.asl_tree.specs.Tree.{Continue, Trees, no_trees, tree}
 use Rattle.hidden_locals.specs.Locals.{locals_all}
 use Rattle.hidden_locals.specs.Terms.{UsesShown}
 use Rattle.hidden_locals.specs.Turns.{others, Plan, value_local, equal, test_of, else_of, loop_of, loop_terms, continue_terms}
@@ -79,7 +80,9 @@ abbrev mutual
   pub unswitched_all : Plan → ℕ → Bool → Trees → Trees
   unswitched_all plan level inside no_trees = no_trees
   unswitched_all plan level inside (tree (Switch value cases) rest) =
-      loop_terms plan (have_continue cases) inside (loop_of value (value_local plan level) (chain_of (links plan level cases (default_link plan level cases)))) (unswitched_all plan level inside rest)
+      loop_terms plan (have_continue cases) inside
+      (loop_of value (value_local plan level) (chain_of (links plan level cases (default_link plan level cases))))
+      (unswitched_all plan level inside rest)
   unswitched_all plan level inside (tree Continue rest) = continue_terms plan inside (unswitched_all plan level inside rest)
   unswitched_all plan level inside (tree term rest) = tree (unswitched plan level inside term) (unswitched_all plan level inside rest)
 
@@ -87,7 +90,8 @@ abbrev mutual
   pub links : Plan → ℕ → Trees → Option Trees → Option Trees
   links plan level no_trees default = default
   links plan level (tree (Case value body) rest) default =
-      Some (tree (If (case_test (value_local plan level) value) (unswitched_all plan (suc level) true body)) (else_of (links plan level rest default)))
+      Some (tree (If (case_test (value_local plan level) value) (unswitched_all plan (suc level) true body))
+      (else_of (links plan level rest default)))
   links plan level (tree _ rest) default = links plan level rest default
 
   pub default_link : Plan → ℕ → Trees → Option Trees
@@ -113,7 +117,8 @@ abbrev pub IsFollowed : Tree → Trees → Type 0
 IsFollowed (Switch value cases) terms = StartsNoElse terms
 IsFollowed term terms = Unit {0}
 
--- terms whose Switches become loops: methods stand among statements alone, each with Locals enough, and a Case or a Default stands in a Switch alone
+-- terms whose Switches become loops: methods stand among statements alone, each with Locals enough, and a Case or a
+-- Default stands in a Switch alone
 abbrev mutual
   pub IsStatement : Tree → Type 0
   IsStatement (If test body) = HasNoMethod test × AreStatements body

@@ -1,7 +1,9 @@
 -- Terms that name shown Locals alone.
 use Rattle.std.specs.Prelude.{◌≡◌, ℕ, Bool, true}
 use Rattle.acpi_state.specs.Forms.{Slot, LocalSlot, ArgSlot}
-use Rattle.asl_tree.specs.Tree.{Tree, InSlot, Call, Apply, Operated, Assigned, AssignedBy, Buffer, Package, VarPackage, CondRefOf, Return, Name, Method, Container', Scope, If, ElseIf, Else, While, Switch, Case, Default, OperationRegion, BankField, CreateField, Trees, no_trees, tree}
+use Rattle.asl_tree.specs.Tree.{Tree, InSlot, Call, Apply, Operated, Assigned, AssignedBy, Buffer, Package, VarPackage, CondRefOf, Return}
+use Rattle.asl_tree.specs.Tree.{Name, Method, Container', Scope, If, ElseIf, Else, While, Switch, Case, Default, OperationRegion}
+use Rattle.asl_tree.specs.Tree.{BankField, CreateField, Trees, no_trees, tree}
 use Rattle.hidden_locals.specs.Worlds.{World, shown_here}
 
 abbrev pub IsShownSlot : (ℕ → Bool) → Slot → Type 0

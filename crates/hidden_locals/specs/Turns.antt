@@ -47,7 +47,8 @@ equal a b = Apply (Plain.Number IntOp.LEqual) (tree a (tree b no_trees)) no_tree
 -- the tests of a Local against several members, joined from the left
 abbrev pub joined : Tree → Tree → Trees → Tree
 joined test l no_trees = test
-joined test l (tree member members) = joined (Apply (Plain.Number IntOp.LOr) (tree test (tree (equal l member) no_trees)) no_trees) l members
+joined test l (tree member members) = joined (Apply (Plain.Number IntOp.LOr) (tree test (tree (equal l member) no_trees)) no_trees) l
+    members
 
 abbrev pub test_of : Tree → Trees → Tree
 test_of l no_trees = zero_word
@@ -72,7 +73,8 @@ loop_of value l chain = turn_of (tree (stored value l) chain)
 abbrev pub loop_terms : Plan → Bool → Bool → Tree → Trees → Trees
 loop_terms plan false inside loop rest = tree loop rest
 loop_terms plan true false loop rest =
-    tree (stored zero_word (flag plan)) (tree loop (tree (If (flag plan) (tree (stored zero_word (flag plan)) (tree Continue no_trees))) rest))
+    tree (stored zero_word (flag plan))
+    (tree loop (tree (If (flag plan) (tree (stored zero_word (flag plan)) (tree Continue no_trees))) rest))
 loop_terms plan true true loop rest = tree loop (tree (If (flag plan) (tree Break no_trees)) rest)
 
 -- what stands for a Continue

@@ -1,7 +1,9 @@
 -- Locals that are hidden: which these are depends on the activation, so that all is said in a world.
-use Rattle.std.specs.Prelude.{◌≡◌, ℕ, suc, ◌<◌, ◌≤◌, Bool, true, false, not, nat_eq, if◌then◌else◌, List, [], ◌∷◌, length, Option, Some, None}
+use Rattle.std.specs.Prelude.{◌≡◌, ℕ, suc, ◌<◌, ◌≤◌, Bool, true, false, not, nat_eq, if◌then◌else◌, List, [], ◌∷◌, length, Option, Some}
+use Rattle.std.specs.Prelude.{None}
 use Rattle.acpi_values.specs.Paths.{AbsolutePath}
-use Rattle.acpi_values.specs.Values.{Value, Data, Package, Reference, Elements, no_elements, uninitialized, element, Place, Named, LocalOf, ArgOf, ElementAt, ElementOf}
+use Rattle.acpi_values.specs.Values.{Value, Data, Package, Reference, Elements, no_elements, uninitialized, element, Place, Named, LocalOf}
+use Rattle.acpi_values.specs.Values.{ArgOf, ElementAt, ElementOf}
 use Rattle.acpi_state.specs.State.{Frame, Store}
 use Rattle.acpi_state.specs.FieldUnits.{Source, Over, OverItsOwn}
 use Rattle.acpi_state.specs.Objects.{Object, BufferFieldObject, Names}

@@ -27,7 +27,8 @@ ghost use Rattle.hidden_locals.specs.Rows.{lone, lone_loop, crossed, crossed_loo
 
 /// A plain operator does the same where Locals are hidden, if none of its operands leads to one.
 pub fn operators_are_blind()
-    ensures { (w : World) (op : Plain) (width : Width) (os : List Operand) → ClearOperands w os → Blind w (ClearAll w) (act_of op width os) }
+    ensures { (w : World) (op : Plain) (width : Width) (os : List Operand) → ClearOperands w os →
+        Blind w (ClearAll w) (act_of op width os) }
 {}
 
 /// Every list of terms, and every call, does the same where each activation hides the Locals that its terms do not name.
@@ -57,12 +58,14 @@ pub fn same_sessions()
 
 /// A loop of one turn keeps a value in a hidden Local: its Store, its terms and its Break do what the terms do with the value.
 pub fn values_may_be_kept()
-    ensures crossed { (convert : Trees → Trees) (kept : Trees → Bool) (w : World) (flag : ℕ) (width : Width) (known : Known) (n : ℕ) (call other : AbsolutePath → List Value → Run Trees Flow)
+    ensures crossed { (convert : Trees → Trees) (kept : Trees → Bool) (w : World) (flag : ℕ) (width : Width) (known : Known) (n : ℕ)
+        (call other : AbsolutePath → List Value → Run Trees Flow)
         → (i : ℕ) (value : Tree) (chain : Trees) (scope : AbsolutePath) (due : Bool) → i < 8 → nat_eq flag i ≡ false → AreBegun w w.running → shown_here w i ≡ false
         → From convert (λ body. kept body ≡ true) Everywhere w Clear (λ v. v) (value_at width known (suc n) call value scope) (value_at width known (suc n) other value scope)
         → (with_value : Value → Run Trees Flow) → ((v : Value) → Keeping convert (λ body. kept body ≡ true) w flag i v (with_value v) (run_all width known (suc n) other chain scope false))
         → Looped convert (λ body. kept body ≡ true) w flag (until_break (value_at width known (suc n) call value scope) with_value) (run width known (suc n) other (loop_of value (local i) chain) scope due) }
-    ensures uncrossed { (convert : Trees → Trees) (kept : Trees → Bool) (w : World) (flag : ℕ) (width : Width) (known : Known) (n : ℕ) (call other : AbsolutePath → List Value → Run Trees Flow)
+    ensures uncrossed { (convert : Trees → Trees) (kept : Trees → Bool) (w : World) (flag : ℕ) (width : Width) (known : Known) (n : ℕ)
+        (call other : AbsolutePath → List Value → Run Trees Flow)
         → (inside low : Bool) (i : ℕ) (value : Tree) (chain : Trees) (scope : AbsolutePath) (due : Bool) → i < 8 → nat_eq flag i ≡ false → AreBegun w w.running → shown_here w i ≡ false
         → From convert (λ body. kept body ≡ true) Everywhere w Clear (λ v. v) (value_at width known (suc n) call value scope) (value_at width known (suc n) other value scope)
         → (with_value : Value → Run Trees Flow) → ((v : Value) → KeepingAll convert (λ body. kept body ≡ true) w flag low i v (with_value v) (run_all width known (suc n) other chain scope false))
@@ -71,16 +74,19 @@ pub fn values_may_be_kept()
 
 /// A Continue that crosses loops of one turn leaves them by Break with a hidden flag raised, which is tested behind each.
 pub fn continues_may_cross()
-    ensures leaves { (convert : Trees → Trees) (kept : Trees → Bool) (w : World) (flag : ℕ) (width : Width) (known : Known) (turns : ℕ) (call other : AbsolutePath → List Value → Run Trees Flow)
+    ensures leaves { (convert : Trees → Trees) (kept : Trees → Bool) (w : World) (flag : ℕ) (width : Width) (known : Known) (turns : ℕ)
+        (call other : AbsolutePath → List Value → Run Trees Flow)
         → (low : Bool) (rest behind : Trees) (scope : AbsolutePath) (due : Bool) → flag < 8
         → Crossed convert (λ body. kept body ≡ true) w flag true low (run_all width known turns call (tree Continue rest) scope due) (run_all width known turns other (tree (stored one_word (local flag)) (tree Break behind)) scope due) }
-    ensures inner { (convert : Trees → Trees) (kept : Trees → Bool) (w : World) (flag : ℕ) (width : Width) (known : Known) (turns : ℕ) (call other : AbsolutePath → List Value → Run Trees Flow)
+    ensures inner { (convert : Trees → Trees) (kept : Trees → Bool) (w : World) (flag : ℕ) (width : Width) (known : Known) (turns : ℕ)
+        (call other : AbsolutePath → List Value → Run Trees Flow)
         → (first : Run Trees Flow) (turn : Tree) (rest behind : Trees) (scope : AbsolutePath) (due : Bool) → run_all width known turns other behind scope true ≡ run_all width known turns other behind scope false
         → Looped convert (λ body. kept body ≡ true) w flag first (run width known turns other turn scope due)
         → Crossed convert (λ body. kept body ≡ true) w flag true true (run_all width known turns call rest scope false) (run_all width known turns other behind scope false)
         → Crossed convert (λ body. kept body ≡ true) w flag true true (then_run first (λ f. on_flow f (run_all width known turns call rest scope)))
         (run_all width known turns other (tree turn (tree (If (local flag) (tree Break no_trees)) behind)) scope due) }
-    ensures outer { (convert : Trees → Trees) (kept : Trees → Bool) (w : World) (flag : ℕ) (width : Width) (known : Known) (turns : ℕ) (call other : AbsolutePath → List Value → Run Trees Flow)
+    ensures outer { (convert : Trees → Trees) (kept : Trees → Bool) (w : World) (flag : ℕ) (width : Width) (known : Known) (turns : ℕ)
+        (call other : AbsolutePath → List Value → Run Trees Flow)
         → (low : Bool) (first : Run Trees Flow) (turn : Tree) (rest behind : Trees) (scope : AbsolutePath) (due : Bool) → flag < 8 → run_all width known turns other behind scope true ≡ run_all width known turns other behind scope false
         → Looped convert (λ body. kept body ≡ true) w flag first (run width known turns other turn scope false)
         → Crossed convert (λ body. kept body ≡ true) w flag false low (run_all width known turns call rest scope false) (run_all width known turns other behind scope false)
@@ -90,14 +96,17 @@ pub fn continues_may_cross()
 
 /// Terms that stand in no loop of one turn do what they do, whatever flag they use.
 pub fn flags_are_hidden()
-    ensures { (convert : Trees → Trees) (kept : Trees → Bool) (w : World) (flag : ℕ) (m other : Run Trees Flow) → AreBegun w w.running → shown_here w flag ≡ false
+    ensures { (convert : Trees → Trees) (kept : Trees → Bool) (w : World) (flag : ℕ) (m other : Run Trees Flow) → AreBegun w w.running →
+        shown_here w flag ≡ false
         → Crossed convert (λ body. kept body ≡ true) w flag false false m other → From convert (λ body. kept body ≡ true) Outside w ClearFlow (λ f. f) m other }
 {}
 
 /// No call ends with a Continue, nor do terms that have none.
 pub fn continues_are_written()
-    ensures calls { (width : Width) (known : Known) (turns depth : ℕ) (path : AbsolutePath) (args : List Value) → Lasting (call_method width known turns depth path args) }
-    ensures terms { (width : Width) (known : Known) (turns : ℕ) (call : AbsolutePath → List Value → Run Trees Flow) → ((path : AbsolutePath) (args : List Value) → Lasting (call path args))
+    ensures calls { (width : Width) (known : Known) (turns depth : ℕ) (path : AbsolutePath) (args : List Value) →
+        Lasting (call_method width known turns depth path args) }
+    ensures terms { (width : Width) (known : Known) (turns : ℕ) (call : AbsolutePath → List Value → Run Trees Flow) →
+        ((path : AbsolutePath) (args : List Value) → Lasting (call path args))
         → (terms : Trees) → have_continue terms ≡ false → (scope : AbsolutePath) (due : Bool) → Lasting (run_all width known turns call terms scope due) }
 {}
 
@@ -117,6 +126,7 @@ pub fn loops_declare_the_same()
 
 /// The loops of a Switch alone, of one that a Continue leaves, and of two around each other that a Continue leaves.
 pub fn loops_of_switches()
-    ensures written { (without_switches lone ≡ lone_loop) × (without_switches crossed ≡ crossed_loop) × (without_switches twice ≡ twice_loop) }
+    ensures written { (without_switches lone ≡ lone_loop) × (without_switches crossed ≡ crossed_loop)
+        × (without_switches twice ≡ twice_loop) }
     ensures may { IsUnswitchable lone × IsUnswitchable crossed × IsUnswitchable twice }
 {}

@@ -30,4 +30,5 @@ IsOneOfEach kind_of xs = (kind : Kind) → length (filter (λ x. same_kind kind 
 
 -- the first member of this kind in a list has a property
 abbrev pub FirstOfKind : {X : Type 0} → (X → Kind) → Kind → (X → Type 0) → List X → Type 0
-FirstOfKind {X} kind_of kind Has xs = (at : ℕ) × (x : X) × (at < length xs) × (get_or xs at x ≡ x) × All (λ earlier. kind_of earlier ≢ kind) (take at xs) × (kind_of x ≡ kind) × Has x
+FirstOfKind {X} kind_of kind Has xs = (at : ℕ) × (x : X) × (at < length xs) × (get_or xs at x ≡ x) × All (λ earlier. kind_of earlier ≢ kind)
+    (take at xs) × (kind_of x ≡ kind) × Has x

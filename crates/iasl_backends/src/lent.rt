@@ -88,7 +88,8 @@ fn piece_one(backend: &mut Box<dyn Backend>, piece: &Piece) -> Result<(), AllocE
 /// Gives the next piece to each output. After an error only `clear_all` leads to a known state.
 pub fn piece_all(backends: &mut Vec<Box<dyn Backend>>, piece: &Piece) -> Result<(), AllocError>
     requires { All (λ b. finished b ≡ false) backends.old.items }
-    ensures fed { OnOk result (Each (λ b b2. (kind_of b2 ≡ kind_of b) × (pieces b2 ≡ pieces b ++ piece.now ∷ []) × (finished b2 ≡ false)) backends.old.items backends.new.items) }
+    ensures fed { OnOk result (Each (λ b b2. (kind_of b2 ≡ kind_of b) × (pieces b2 ≡ pieces b ++ piece.now ∷ []) × (finished b2 ≡ false))
+        backends.old.items backends.new.items) }
     ensures kinds { Each (λ b b2. kind_of b2 ≡ kind_of b) backends.old.items backends.new.items }
 {
     for i in 0..backends.len() {
@@ -109,7 +110,8 @@ fn finish_one(backend: &mut Box<dyn Backend>) -> Result<(), AllocError>
 /// Finishes each output. After an error only `clear_all` leads to a known state.
 pub fn finish_all(backends: &mut Vec<Box<dyn Backend>>) -> Result<(), AllocError>
     requires { All (λ b. finished b ≡ false) backends.old.items }
-    ensures done { OnOk result (Each (λ b b2. (kind_of b2 ≡ kind_of b) × (pieces b2 ≡ pieces b) × (finished b2 ≡ true)) backends.old.items backends.new.items) }
+    ensures done { OnOk result (Each (λ b b2. (kind_of b2 ≡ kind_of b) × (pieces b2 ≡ pieces b) × (finished b2 ≡ true)) backends.old.items
+        backends.new.items) }
     ensures kinds { Each (λ b b2. kind_of b2 ≡ kind_of b) backends.old.items backends.new.items }
 {
     for i in 0..backends.len() {
@@ -121,7 +123,8 @@ pub fn finish_all(backends: &mut Vec<Box<dyn Backend>>) -> Result<(), AllocError
 // Gives pieces to each output, in order. After an error only `clear_all` leads to a known state.
 fn give_all(backends: &mut Vec<Box<dyn Backend>>, table: &[Piece]) -> Result<(), AllocError>
     requires { All (λ b. finished b ≡ false) backends.old.items }
-    ensures fed { OnOk result (Each (λ b b2. (kind_of b2 ≡ kind_of b) × (pieces b2 ≡ pieces b ++ table.now) × (finished b2 ≡ false)) backends.old.items backends.new.items) }
+    ensures fed { OnOk result (Each (λ b b2. (kind_of b2 ≡ kind_of b) × (pieces b2 ≡ pieces b ++ table.now) × (finished b2 ≡ false))
+        backends.old.items backends.new.items) }
     ensures kinds { Each (λ b b2. kind_of b2 ≡ kind_of b) backends.old.items backends.new.items }
 {
     for piece in table {
@@ -133,7 +136,8 @@ fn give_all(backends: &mut Vec<Box<dyn Backend>>, table: &[Piece]) -> Result<(),
 /// Makes the text of each output over the pieces of a table, whatever it held before. After an error only `clear_all`
 /// leads to a known state.
 pub fn render_all(backends: &mut Vec<Box<dyn Backend>>, table: &[Piece]) -> Result<(), AllocError>
-    ensures rendered { OnOk result (Each (λ b b2. (kind_of b2 ≡ kind_of b) × (pieces b2 ≡ table.now) × (finished b2 ≡ true)) backends.old.items backends.new.items) }
+    ensures rendered { OnOk result (Each (λ b b2. (kind_of b2 ≡ kind_of b) × (pieces b2 ≡ table.now) × (finished b2 ≡ true)) backends.old.items
+        backends.new.items) }
     ensures done { OnOk result (All (λ b. finished b ≡ true) backends.new.items) }
     ensures shared { OnOk result (All (λ b. pieces b ≡ table.now) backends.new.items) }
     ensures kinds { Each (λ b b2. kind_of b2 ≡ kind_of b) backends.old.items backends.new.items }
@@ -151,7 +155,8 @@ pub fn render_asked(
     table: &[Piece],
 ) -> Result<(), AllocError>
     ensures kinds { Each (λ b b2. kind_of b2 ≡ kind_of b) (filter (λ b. is_asked asked (kind_of b)) backends.old.items) backends.new.items }
-    ensures there { IsOneOfEach (λ b. kind_of b) backends.old.items → (kind : SpecKind) → is_asked asked kind ≡ true → has_kind (λ b. kind_of b) kind backends.new.items ≡ true }
+    ensures there { IsOneOfEach (λ b. kind_of b) backends.old.items → (kind : SpecKind) → is_asked asked kind ≡ true →
+        has_kind (λ b. kind_of b) kind backends.new.items ≡ true }
     ensures done { OnOk result (All (λ b. finished b ≡ true) backends.new.items) }
     ensures shared { OnOk result (All (λ b. pieces b ≡ table.now) backends.new.items) }
 {
@@ -170,7 +175,8 @@ fn text_of_box(backend: &Box<dyn Backend>) -> &[u8]
 pub fn text_of_kind(backends: &Vec<Box<dyn Backend>>, kind: Kind) -> Option<&[u8]>
     requires { All (λ b. finished b ≡ true) backends.now.items }
     ensures text { IfSome result (λ text. FirstOfKind (λ b. kind_of b) kind (λ b. text.now ≡ rendering kind (pieces b)) backends.now.items) }
-    ensures shared { (all : List SpecPiece) → All (λ b. pieces b ≡ all) backends.now.items → IfSome result (λ text. text.now ≡ rendering kind all) }
+    ensures shared { (all : List SpecPiece) → All (λ b. pieces b ≡ all) backends.now.items →
+        IfSome result (λ text. text.now ≡ rendering kind all) }
     ensures none { IfNone result (All (λ b. kind_of b ≢ kind) backends.now.items) }
 {
     for backend in backends {

@@ -12,19 +12,22 @@ use Rattle.iasl_messages.specs.OrderLaws.{sorted_messages-IsPermutation}
 use Rattle.iasl_messages.specs.Console.{message_line, messages_text, counts_line, summary_line}
 
 -- the text of joined lists is their texts joined
-pub messages_text-append : (files : List (List ℕ)) (brief : Bool) (ms ns : List Message) → messages_text files brief (ms ++ ns) ≡ messages_text files brief ms ++ messages_text files brief ns
+pub messages_text-append : (files : List (List ℕ)) (brief : Bool) (ms ns : List Message) →
+    messages_text files brief (ms ++ ns) ≡ messages_text files brief ms ++ messages_text files brief ns
 messages_text-append files brief [] ns = refl
 messages_text-append files brief (m ∷ ms) ns =
     ap (λ text. message_line files brief m ++ text) (messages_text-append files brief ms ns)
     ∙ sym (append_assoc (message_line files brief m) (messages_text files brief ms) (messages_text files brief ns))
 
 -- the counts of joined lists add up
-pub count_of-append : (severity : Severity) (ms ns : List Message) → count_of severity (ms ++ ns) ≡ count_of severity ms + count_of severity ns
+pub count_of-append : (severity : Severity) (ms ns : List Message) → count_of severity (ms ++ ns) ≡ count_of severity ms + count_of severity
+    ns
 count_of-append severity ms ns = sum_by-append (λ (m : Message). cond (is_same severity (severity_of m.number)) 1 0) ms ns
 
 -- sorting keeps the counts
 pub count_of-sorted : (severity : Severity) (ms : List Message) → count_of severity (sorted_messages ms) ≡ count_of severity ms
-count_of-sorted severity ms = sum_by-IsPermutation (λ (m : Message). cond (is_same severity (severity_of m.number)) 1 0) ms (sorted_messages ms) (sorted_messages-IsPermutation ms)
+count_of-sorted severity ms = sum_by-IsPermutation (λ (m : Message). cond (is_same severity (severity_of m.number)) 1 0) ms
+    (sorted_messages ms) (sorted_messages-IsPermutation ms)
 
 -- sorting keeps the summary
 pub summary_line-sorted : (ms : List Message) → summary_line (sorted_messages ms) ≡ summary_line ms

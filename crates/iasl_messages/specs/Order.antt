@@ -12,7 +12,8 @@ place_order a b = ordering_then (nat_cmp a.file b.file) (ordering_then (nat_cmp 
 
 -- two messages: by place, then by number, then by name, byte by byte
 abbrev pub message_order : Message → Message → Ordering
-message_order a b = ordering_then (place_order a.place b.place) (ordering_then (nat_cmp a.number b.number) (slice_cmp nat_cmp a.name b.name))
+message_order a b = ordering_then (place_order a.place b.place)
+    (ordering_then (nat_cmp a.number b.number) (slice_cmp nat_cmp a.name b.name))
 
 -- x before the first element that is not less
 unfoldable pub inserted : {X : Type 0} → (X → X → Ordering) → X → List X → List X

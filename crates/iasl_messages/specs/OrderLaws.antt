@@ -1,5 +1,6 @@
 -- A list has one ascending order, where only equal elements tie.
-use Rattle.std.proofs.Common.{◌≡◌, ℕ, suc, ◌+◌, ◌<◌, Bool, true, false, cond, List, [], ◌∷◌, get_or, refl, sym, ap, subst, ◌∙◌, arith, Ordering, Less, Equal, Greater}
+use Rattle.std.proofs.Common.{◌≡◌, ℕ, suc, ◌+◌, ◌<◌, Bool, true, false, cond, List, [], ◌∷◌, get_or, refl, sym, ap, subst, ◌∙◌, arith}
+use Rattle.std.proofs.Common.{Ordering, Less, Equal, Greater}
 use Rattle.std.specs.List.{All, sum_by}
 use Rattle.std.specs.List.Sorted.{IsPermutation, IsSortedBy, IsSorted}
 use Rattle.std.specs.Ordering.{nat_cmp, ordering_then, ordering_reverse, is_lt, is_eq}
@@ -9,7 +10,8 @@ use Rattle.std.specs.FinMap.{IsAntisymmetric, nat_cmp-IsAntisymmetric, slice_cmp
 use Rattle.std.proofs.lemmas.Cmp.{then_total, on_total, nat_cmp_total, nat_list_cmp_total}
 use Rattle.std.proofs.lemmas.List.Elements.{All-head, All-tail, All-cons}
 use Rattle.std.proofs.lemmas.List.Sums.{sum_by-cons}
-use Rattle.std.proofs.lemmas.List.Sorted.{ranks_by, sorted_far, All-permutation, IsPermutation-refl, IsPermutation-cons, IsPermutation-trans, IsPermutation-middle, sum_by-IsPermutation}
+use Rattle.std.proofs.lemmas.List.Sorted.{ranks_by, sorted_far, All-permutation, IsPermutation-refl, IsPermutation-cons}
+use Rattle.std.proofs.lemmas.List.Sorted.{IsPermutation-trans, IsPermutation-middle, sum_by-IsPermutation}
 use Rattle.iasl_messages.specs.declared.place.Place.{Place}
 use Rattle.iasl_messages.specs.declared.message.Message.{Message}
 use Rattle.iasl_messages.specs.Order.{place_order, message_order, inserted, ascending, sorted_messages}
@@ -32,15 +34,18 @@ module _ {X : Type 0} (order : X → X → Ordering) where
   inserted-IsPermutation : (x : X) (ys : List X) → IsPermutation (x ∷ ys) (inserted order x ys)
   unfolding inserted
   inserted-IsPermutation x [] = IsPermutation-refl (x ∷ [])
-  inserted-IsPermutation x (y ∷ ys) = elim (is_lt (order y x)) as (λ b. IsPermutation (x ∷ y ∷ ys) (cond b (y ∷ inserted order x ys) (x ∷ y ∷ ys))) [
-    | true ↦ IsPermutation-trans (x ∷ y ∷ ys) (y ∷ x ∷ ys) (y ∷ inserted order x ys) (IsPermutation-middle (x ∷ []) y ys) (IsPermutation-cons y (x ∷ ys) (inserted order x ys) (inserted-IsPermutation x ys))
-    | false ↦ IsPermutation-refl (x ∷ y ∷ ys)
-  ]
+  inserted-IsPermutation x (y ∷ ys) =
+      elim (is_lt (order y x)) as (λ b. IsPermutation (x ∷ y ∷ ys) (cond b (y ∷ inserted order x ys) (x ∷ y ∷ ys))) [
+        | true ↦ IsPermutation-trans (x ∷ y ∷ ys) (y ∷ x ∷ ys) (y ∷ inserted order x ys) (IsPermutation-middle (x ∷ []) y ys)
+            (IsPermutation-cons y (x ∷ ys) (inserted order x ys) (inserted-IsPermutation x ys))
+        | false ↦ IsPermutation-refl (x ∷ y ∷ ys)
+      ]
 
   pub ascending-IsPermutation : (xs : List X) → IsPermutation xs (ascending order xs)
   unfolding ascending
   ascending-IsPermutation [] = IsPermutation-refl []
-  ascending-IsPermutation (x ∷ xs) = IsPermutation-trans (x ∷ xs) (x ∷ ascending order xs) (inserted order x (ascending order xs)) (IsPermutation-cons x xs (ascending order xs) (ascending-IsPermutation xs)) (inserted-IsPermutation x (ascending order xs))
+  ascending-IsPermutation (x ∷ xs) = IsPermutation-trans (x ∷ xs) (x ∷ ascending order xs) (inserted order x (ascending order xs))
+      (IsPermutation-cons x xs (ascending order xs) (ascending-IsPermutation xs)) (inserted-IsPermutation x (ascending order xs))
 
   module _ (total : IsTotalOrder order) where
     pub weak : IsStrictWeakOrder less
@@ -49,10 +54,15 @@ module _ {X : Type 0} (order : X → X → Ordering) where
     inserted-Ascends : (x : X) (ys : List X) → Ascends ys → Ascends (inserted order x ys)
     unfolding inserted
     inserted-Ascends x [] up = ((λ k d h. absurd (omega arith)), tt)
-    inserted-Ascends x (y ∷ ys) up = elim (is_lt (order y x)) as (λ b. is_lt (order y x) ≡ b → Ascends (cond b (y ∷ inserted order x ys) (x ∷ y ∷ ys))) [
-      | true ↦ λ e. (All-permutation (λ z. less z y ≡ false) (x ∷ ys) (inserted order x ys) (inserted-IsPermutation x ys) (All-cons (λ z. less z y ≡ false) x ys (weak.one_way y x e) up.0), inserted-Ascends x ys up.1)
-      | false ↦ λ e. (All-cons (λ z. less z x ≡ false) y ys e (λ k d h. weak.chain (get_or ys k d) y x (up.0 k d h) e), up)
-    ] refl
+    inserted-Ascends x (y ∷ ys) up =
+        elim (is_lt (order y x)) as (λ b. is_lt (order y x) ≡ b → Ascends (cond b (y ∷ inserted order x ys) (x ∷ y ∷ ys))) [
+          | true ↦ λ e. (
+            All-permutation (λ z. less z y ≡ false) (x ∷ ys) (inserted order x ys) (inserted-IsPermutation x ys)
+                (All-cons (λ z. less z y ≡ false) x ys (weak.one_way y x e) up.0),
+            inserted-Ascends x ys up.1,
+          )
+          | false ↦ λ e. (All-cons (λ z. less z x ≡ false) y ys e (λ k d h. weak.chain (get_or ys k d) y x (up.0 k d h) e), up)
+        ] refl
 
     pub ascending-Ascends : (xs : List X) → Ascends (ascending order xs)
     unfolding ascending
@@ -83,24 +93,28 @@ module _ {X : Type 0} (order : X → X → Ordering) where
           ] refl
 
       not_less_itself : (x : X) → less x x ≡ false
-      not_less_itself x = elim (less x x) as (λ b. less x x ≡ b → b ≡ false) [ true ↦ λ e. sym e ∙ weak.one_way x x e | false ↦ λ e. refl ] refl
+      not_less_itself x = elim (less x x) as (λ b. less x x ≡ b → b ≡ false) [ true ↦ λ e. sym e ∙ weak.one_way x x e | false ↦ λ e. refl ]
+          refl
 
       ties_itself : (x : X) → tied x x ≡ 1
       ties_itself x = elim (order x x) as (λ r. order x x ≡ r → ◌≡◌ {A = ℕ} (cond (is_eq r) 1 0) 1) [
         | Less ↦ λ e. absurd (let h : true ≡ false = sym (ap is_lt e) ∙ not_less_itself x in cc)
         | Equal ↦ λ e. refl
-        | Greater ↦ λ e. absurd (let h : true ≡ false = ap (λ r. is_lt (ordering_reverse r)) (sym e) ∙ ap is_lt (sym (total.antisymm x x)) ∙ not_less_itself x in cc)
+        | Greater ↦ λ e. absurd (let h : true ≡ false = ap (λ r. is_lt (ordering_reverse r)) (sym e) ∙ ap is_lt (sym (total.antisymm x x))
+            ∙ not_less_itself x in cc)
       ] refl
 
       -- the first of an ascending list is not above an element
       first_least : (x y : X) (ys : List X) → Ascends (y ∷ ys) → 0 < sum_by (tied x) (y ∷ ys) → less x y ≡ false
-      first_least x y ys up some = of_tied (λ z. less z y ≡ false) x (y ∷ ys) (All-cons (λ z. less z y ≡ false) y ys (not_less_itself y) up.0) some
+      first_least x y ys up some = of_tied (λ z. less z y ≡ false) x (y ∷ ys)
+          (All-cons (λ z. less z y ≡ false) y ys (not_less_itself y) up.0) some
 
       neither : (x y : X) → less x y ≡ false → less y x ≡ false → x ≡ y
       neither x y a b = same x y (elim (order x y) as (λ r. order x y ≡ r → r ≡ Equal) [
         | Less ↦ λ e. absurd (let h : true ≡ false = sym (ap is_lt e) ∙ a in cc)
         | Equal ↦ λ e. refl
-        | Greater ↦ λ e. absurd (let h : true ≡ false = ap (λ r. is_lt (ordering_reverse r)) (sym e) ∙ ap is_lt (sym (total.antisymm y x)) ∙ b in cc)
+        | Greater ↦ λ e. absurd (let h : true ≡ false = ap (λ r. is_lt (ordering_reverse r)) (sym e) ∙ ap is_lt (sym (total.antisymm y x))
+            ∙ b in cc)
       ] refl)
 
       holds_first : (x : X) (xs : List X) → 0 < sum_by (tied x) (x ∷ xs)
@@ -122,15 +136,18 @@ module _ {X : Type 0} (order : X → X → Ordering) where
       pub sorted_is_ascending : (xs ys : List X) → IsPermutation xs ys → IsSortedBy less ys → ys ≡ ascending order xs
       sorted_is_ascending xs ys moved up =
           one_ascending ys (ascending order xs) (Ascends-from_sorted ys up) (ascending-Ascends xs) (λ z.
-          sum_by-IsPermutation (tied z) xs (ascending order xs) (ascending-IsPermutation xs) ∙ sym (sum_by-IsPermutation (tied z) xs ys moved))
+          sum_by-IsPermutation (tied z) xs (ascending order xs) (ascending-IsPermutation xs)
+          ∙ sym (sum_by-IsPermutation (tied z) xs ys moved))
 
 -- ---- messages
 
 place_total : IsTotalOrder place_order
-place_total = then_total (on_total (λ (p : Place). p.file) nat_cmp_total) (then_total (on_total (λ (p : Place). p.line) nat_cmp_total) (on_total (λ (p : Place). p.column) nat_cmp_total))
+place_total = then_total (on_total (λ (p : Place). p.file) nat_cmp_total)
+    (then_total (on_total (λ (p : Place). p.line) nat_cmp_total) (on_total (λ (p : Place). p.column) nat_cmp_total))
 
 pub message_total : IsTotalOrder message_order
-message_total = then_total (on_total (λ (m : Message). m.place) place_total) (then_total (on_total (λ (m : Message). m.number) nat_cmp_total) (on_total (λ (m : Message). m.name) nat_list_cmp_total))
+message_total = then_total (on_total (λ (m : Message). m.place) place_total)
+    (then_total (on_total (λ (m : Message). m.number) nat_cmp_total) (on_total (λ (m : Message). m.name) nat_list_cmp_total))
 
 both_equal : (r s : Ordering) → ordering_then r s ≡ Equal → (r ≡ Equal) × (s ≡ Equal)
 both_equal Less s e = absurd cc
@@ -141,14 +158,24 @@ place_same : IsAntisymmetric place_order
 place_same a b e =
     let first = both_equal (nat_cmp a.file b.file) (ordering_then (nat_cmp a.line b.line) (nat_cmp a.column b.column)) e in
     let second = both_equal (nat_cmp a.line b.line) (nat_cmp a.column b.column) first.1 in
-    λ i. record { file = nat_cmp-IsAntisymmetric a.file b.file first.0 i; line = nat_cmp-IsAntisymmetric a.line b.line second.0 i; column = nat_cmp-IsAntisymmetric a.column b.column second.1 i }
+    λ i. record {
+      file = nat_cmp-IsAntisymmetric a.file b.file first.0 i;
+      line = nat_cmp-IsAntisymmetric a.line b.line second.0 i;
+      column =
+          nat_cmp-IsAntisymmetric a.column b.column second.1 i;
+    }
 
 -- only equal messages tie
 pub message_same : IsAntisymmetric message_order
 message_same a b e =
     let first = both_equal (place_order a.place b.place) (ordering_then (nat_cmp a.number b.number) (slice_cmp nat_cmp a.name b.name)) e in
     let second = both_equal (nat_cmp a.number b.number) (slice_cmp nat_cmp a.name b.name) first.1 in
-    λ i. record { number = nat_cmp-IsAntisymmetric a.number b.number second.0 i; place = place_same a.place b.place first.0 i; name = slice_cmp-IsAntisymmetric nat_cmp-IsAntisymmetric a.name b.name second.1 i }
+    λ i. record {
+      number = nat_cmp-IsAntisymmetric a.number b.number second.0 i;
+      place = place_same a.place b.place first.0 i;
+      name =
+          slice_cmp-IsAntisymmetric nat_cmp-IsAntisymmetric a.name b.name second.1 i;
+    }
 
 -- what is sorted is the definition's list
 pub sorted_is : (before after : List Message) → IsPermutation before after → IsSorted message_order after → after ≡ sorted_messages before

@@ -6,7 +6,8 @@ use Rattle.iasl_options.specs.declared.words.Key.{Key}
 use Rattle.iasl_options.specs.declared.words.Key.TheVariants as key
 use Rattle.iasl_options.specs.declared.switches.Switches.{Switches}
 use Rattle.iasl_options.specs.Switches.{no_switch, with_switch}
-use Rattle.iasl_options.specs.Words.{Setting, PreprocessOnly, NoPreprocessor, Turned, Prefix, Directory, Definition, File, Word, Asks, Opens, Unknown, with_value, word_of}
+use Rattle.iasl_options.specs.Words.{Setting, PreprocessOnly, NoPreprocessor, Turned, Prefix, Directory, Definition, File, Word, Asks}
+use Rattle.iasl_options.specs.Words.{Opens, Unknown, with_value, word_of}
 
 -- what some first words ask for
 pub record Asked : Type 0 where
@@ -29,22 +30,93 @@ define_of name text = record { name = name; text = text }
 abbrev pub with_setting : Asked → Setting → Option Asked
 with_setting asked (Prefix prefix) =
     if is_some asked.prefix then None else
-    Some (record { file = asked.file; prefix = Some prefix; directories = asked.directories; definitions = asked.definitions; only = asked.only; enabled = asked.enabled; switches = asked.switches })
+    Some
+    (record {
+      file = asked.file;
+      prefix = Some prefix;
+      directories = asked.directories;
+      definitions = asked.definitions;
+      only =
+          asked.only;
+      enabled = asked.enabled;
+      switches = asked.switches;
+    })
 with_setting asked (Directory directory) =
-    Some (record { file = asked.file; prefix = asked.prefix; directories = asked.directories ++ directory ∷ []; definitions = asked.definitions; only = asked.only; enabled = asked.enabled; switches = asked.switches })
+    Some
+    (record {
+      file = asked.file;
+      prefix = asked.prefix;
+      directories = asked.directories ++ directory ∷ [];
+      definitions =
+          asked.definitions;
+      only = asked.only;
+      enabled = asked.enabled;
+      switches = asked.switches;
+    })
 with_setting asked (Definition name text) =
-    Some (record { file = asked.file; prefix = asked.prefix; directories = asked.directories; definitions = asked.definitions ++ define_of name text ∷ []; only = asked.only; enabled = asked.enabled; switches = asked.switches })
+    Some
+    (record {
+      file = asked.file;
+      prefix = asked.prefix;
+      directories = asked.directories;
+      definitions = asked.definitions
+          ++ define_of name text ∷ [];
+      only = asked.only;
+      enabled = asked.enabled;
+      switches = asked.switches;
+    })
 with_setting asked PreprocessOnly =
-    if asked.enabled then Some (record { file = asked.file; prefix = asked.prefix; directories = asked.directories; definitions = asked.definitions; only = true; enabled = true; switches = asked.switches }) else None
+    if asked.enabled then
+    Some
+    (record {
+      file = asked.file;
+      prefix = asked.prefix;
+      directories = asked.directories;
+      definitions = asked.definitions;
+      only =
+          true;
+      enabled = true;
+      switches = asked.switches;
+    }) else None
 with_setting asked NoPreprocessor =
     if asked.only then None else
-    Some (record { file = asked.file; prefix = asked.prefix; directories = asked.directories; definitions = asked.definitions; only = asked.only; enabled = false; switches = asked.switches })
+    Some
+    (record {
+      file = asked.file;
+      prefix = asked.prefix;
+      directories = asked.directories;
+      definitions = asked.definitions;
+      only =
+          asked.only;
+      enabled = false;
+      switches = asked.switches;
+    })
 with_setting asked (Turned switch) =
-    Some (record { file = asked.file; prefix = asked.prefix; directories = asked.directories; definitions = asked.definitions; only = asked.only; enabled = asked.enabled; switches = with_switch asked.switches switch })
+    Some
+    (record {
+      file = asked.file;
+      prefix = asked.prefix;
+      directories = asked.directories;
+      definitions = asked.definitions;
+      only =
+          asked.only;
+      enabled = asked.enabled;
+      switches = with_switch asked.switches switch;
+    })
 with_setting asked (File []) = None
 with_setting asked (File (c ∷ cs)) =
     if is_some asked.file then None else
-    Some (record { file = Some (c ∷ cs); prefix = asked.prefix; directories = asked.directories; definitions = asked.definitions; only = asked.only; enabled = asked.enabled; switches = asked.switches })
+    Some
+    (record {
+      file = Some (c ∷ cs);
+      prefix = asked.prefix;
+      directories = asked.directories;
+      definitions = asked.definitions;
+      only =
+          asked.only;
+      enabled = asked.enabled;
+      switches = asked.switches;
+    })
 
 -- an option that waits for its value may stand here: none where its value may not come any more
 abbrev pub may_open : Asked → Key → Bool

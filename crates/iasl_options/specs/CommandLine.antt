@@ -1,5 +1,6 @@
 -- Which words are a command line and what it asks for, and which word spoils words that are none.
-use Rattle.std.specs.Prelude.{◌≡◌, ℕ, ◌+◌, ◌<◌, ◌≤◌, ◌==◌, ◌&&◌, ◌⊎◌, Bool, true, false, not, List, [], ◌∷◌, ◌++◌, length, take, codes, flat_map, Some, None}
+use Rattle.std.specs.Prelude.{◌≡◌, ℕ, ◌+◌, ◌<◌, ◌≤◌, ◌==◌, ◌&&◌, ◌⊎◌, Bool, true, false, not, List, [], ◌∷◌, ◌++◌, length, take, codes}
+use Rattle.std.specs.Prelude.{flat_map, Some, None}
 use Rattle.std.specs.declared.option.Option.{Option}
 use Rattle.std.specs.List.{list_any}
 use Rattle.asl_preprocess.specs.declared.define.Define.{Define}
@@ -7,8 +8,10 @@ use Rattle.iasl_options.specs.declared.words.Key.{Key}
 use Rattle.iasl_options.specs.declared.words.Key.TheVariants as key
 use Rattle.iasl_options.specs.declared.switches.Switch.{Switch}
 use Rattle.iasl_options.specs.declared.switches.Switches.{Switches}
-use Rattle.iasl_options.specs.Switches.{switch_word, is_brief, is_strict, is_c_text, is_listing, is_generic, keeps_constants, keeps_integers, keeps_names, wraps_externals}
-use Rattle.iasl_options.specs.Words.{Setting, PreprocessOnly, NoPreprocessor, Turned, Prefix, Directory, Definition, File, begins_with_hyphen}
+use Rattle.iasl_options.specs.Switches.{switch_word, is_brief, is_strict, is_c_text, is_listing, is_generic, keeps_constants}
+use Rattle.iasl_options.specs.Switches.{keeps_integers, keeps_names, wraps_externals}
+use Rattle.iasl_options.specs.Words.{Setting, PreprocessOnly, NoPreprocessor, Turned, Prefix, Directory, Definition, File}
+use Rattle.iasl_options.specs.Words.{begins_with_hyphen}
 use Rattle.iasl_options.specs.Asking.{Asked, define_of}
 
 -- ---- words and settings
@@ -37,15 +40,21 @@ pub data AskFor : List (List ℕ) → List Setting → Type 0 where
   -- no word is left
   no_word : AskFor [] []
   -- an option without value
-  preprocess_only : (word : List ℕ) (words : List (List ℕ)) (settings : List Setting) → word ≡ codes "-P" → AskFor words settings → AskFor (word ∷ words) (PreprocessOnly ∷ settings)
-  no_preprocessor : (word : List ℕ) (words : List (List ℕ)) (settings : List Setting) → word ≡ codes "-Pn" → AskFor words settings → AskFor (word ∷ words) (NoPreprocessor ∷ settings)
-  switched : (switch : Switch) (word : List ℕ) (words : List (List ℕ)) (settings : List Setting) → word ≡ switch_word switch → AskFor words settings → AskFor (word ∷ words) (Turned switch ∷ settings)
+  preprocess_only : (word : List ℕ) (words : List (List ℕ)) (settings : List Setting) → word ≡ codes "-P" → AskFor words settings →
+      AskFor (word ∷ words) (PreprocessOnly ∷ settings)
+  no_preprocessor : (word : List ℕ) (words : List (List ℕ)) (settings : List Setting) → word ≡ codes "-Pn" → AskFor words settings →
+      AskFor (word ∷ words) (NoPreprocessor ∷ settings)
+  switched : (switch : Switch) (word : List ℕ) (words : List (List ℕ)) (settings : List Setting) → word ≡ switch_word switch →
+      AskFor words settings → AskFor (word ∷ words) (Turned switch ∷ settings)
   -- an option whose value is the rest of its word, where something is left
-  rest_of_word : (key : Key) (c : ℕ) (cs word : List ℕ) (setting : Setting) (words : List (List ℕ)) (settings : List Setting) → word ≡ mark key ++ c ∷ cs → IsValue key (c ∷ cs) setting → AskFor words settings → AskFor (word ∷ words) (setting ∷ settings)
+  rest_of_word : (key : Key) (c : ℕ) (cs word : List ℕ) (setting : Setting) (words : List (List ℕ)) (settings : List Setting) →
+      word ≡ mark key ++ c ∷ cs → IsValue key (c ∷ cs) setting → AskFor words settings → AskFor (word ∷ words) (setting ∷ settings)
   -- an option whose value is the next word
-  next_word : (key : Key) (word value : List ℕ) (setting : Setting) (words : List (List ℕ)) (settings : List Setting) → word ≡ mark key → IsValue key value setting → AskFor words settings → AskFor (word ∷ value ∷ words) (setting ∷ settings)
+  next_word : (key : Key) (word value : List ℕ) (setting : Setting) (words : List (List ℕ)) (settings : List Setting) → word ≡ mark key →
+      IsValue key value setting → AskFor words settings → AskFor (word ∷ value ∷ words) (setting ∷ settings)
   -- a file, which does not begin with a hyphen
-  source_file : (word : List ℕ) (words : List (List ℕ)) (settings : List Setting) → begins_with_hyphen word ≡ false → AskFor words settings → AskFor (word ∷ words) (File word ∷ settings)
+  source_file : (word : List ℕ) (words : List (List ℕ)) (settings : List Setting) → begins_with_hyphen word ≡ false → AskFor words settings
+      → AskFor (word ∷ words) (File word ∷ settings)
 
 -- ---- what settings are together
 
@@ -133,6 +142,7 @@ IsHopeless {R = R} IsLine words = (more : List (List ℕ)) (asked : R) → IsLin
 -- The word with this number, from 0, spoils the words.
 pub data IsOffending {R : Type 0} (IsLine : List (List ℕ) → R → Type 0) (words : List (List ℕ)) (number : ℕ) : Type 0 where
   -- it is the first after which there is no hope
-  hopeless : number < length words → HasHope IsLine (take number words) → IsHopeless IsLine (take (number + 1) words) → IsOffending IsLine words number
+  hopeless : number < length words → HasHope IsLine (take number words) → IsHopeless IsLine (take (number + 1) words) →
+      IsOffending IsLine words number
   -- there is hope after the last word, but the words are not good: the number is how many there are
   ended : number ≡ length words → HasHope IsLine words → ((asked : R) → IsLine words asked → ⊥) → IsOffending IsLine words number

@@ -79,4 +79,5 @@ IsTableName None file (c ∷ own) name = (directory : List ℕ) × IsDirectory f
 abbrev pub IsFurtherName : Option (List ℕ) → List ℕ → List ℕ → List ℕ → List ℕ → Type 0
 IsFurtherName (Some prefix) file own extension name = IsOutputName (Some prefix) file extension name
 IsFurtherName None file [] extension name = IsOutputName None file extension name
-IsFurtherName None file (c ∷ own) extension name = (directory : List ℕ) × (stem : List ℕ) × IsDirectory file directory × IsStem (c ∷ own) stem × (name ≡ (directory ++ stem) ++ extension)
+IsFurtherName None file (c ∷ own) extension name = (directory : List ℕ) × (stem : List ℕ) × IsDirectory file directory
+    × IsStem (c ∷ own) stem × (name ≡ (directory ++ stem) ++ extension)

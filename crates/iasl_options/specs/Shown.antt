@@ -13,7 +13,8 @@ use Rattle.iasl_options.specs.declared.request.Options.{Options}
 use Rattle.iasl_options.specs.declared.request.WordsStop.{WordsStop}
 use Rattle.iasl_options.specs.declared.request.WordsStop.TheVariants as stop
 use Rattle.iasl_options.specs.Asking.{Asked, Behind}
-use Rattle.iasl_options.specs.Words.{Setting, PreprocessOnly, NoPreprocessor, Turned, Prefix, Directory, Definition, File, Word, Asks, Opens, Unknown}
+use Rattle.iasl_options.specs.Words.{Setting, PreprocessOnly, NoPreprocessor, Turned, Prefix, Directory, Definition, File, Word, Asks}
+use Rattle.iasl_options.specs.Words.{Opens, Unknown}
 
 abbrev pub shown_setting : code.Setting → Setting
 shown_setting c.PreprocessOnly = PreprocessOnly
@@ -31,7 +32,16 @@ shown_word w.Unknown = Unknown
 
 -- what a draft has
 abbrev pub asked_in : Draft → Asked
-asked_in draft = record { file = draft.file; prefix = draft.prefix; directories = draft.dirs; definitions = draft.defines; only = draft.only; enabled = draft.enabled; switches = draft.switches }
+asked_in draft = record {
+  file = draft.file;
+  prefix = draft.prefix;
+  directories = draft.dirs;
+  definitions = draft.defines;
+  only =
+      draft.only;
+  enabled = draft.enabled;
+  switches = draft.switches;
+}
 
 -- what a step through the words comes to
 abbrev pub stepped : Step → Asked → Option Behind
@@ -40,7 +50,16 @@ stepped s.Spoilt asked = None
 
 -- what options ask for
 abbrev pub asked_of : Options → Asked
-asked_of options = record { file = Some options.file; prefix = options.prefix; directories = options.dirs; definitions = options.defines; only = options.only; enabled = options.enabled; switches = options.switches }
+asked_of options = record {
+  file = Some options.file;
+  prefix = options.prefix;
+  directories = options.dirs;
+  definitions =
+      options.defines;
+  only = options.only;
+  enabled = options.enabled;
+  switches = options.switches;
+}
 
 -- what a call answers, unless memory runs out
 abbrev pub Answers : Result Options WordsStop → Result Asked ℕ → Type 0

@@ -81,7 +81,18 @@ wraps_externals switch.WrappedExternals = true
 wraps_externals _ = false
 
 abbrev pub no_switch : Switches
-no_switch = record { brief = false; strict = false; c_text = false; listing = false; generic = false; fold = true; short = true; shorten = true; wrap = false }
+no_switch = record {
+  brief = false;
+  strict = false;
+  c_text = false;
+  listing = false;
+  generic = false;
+  fold = true;
+  short = true;
+  shorten =
+      true;
+  wrap = false;
+}
 
 -- what switches ask for, with one more
 abbrev pub with_switch : Switches → Switch → Switches

@@ -1,5 +1,6 @@
 -- What a call is asked for: to compile a file, or devices that are generated, or to write the template of a table.
-use Rattle.std.specs.Prelude.{◌≡◌, ℕ, ◌≤◌, nat_le, Bool, ◌&&◌, true, false, cond, map, List, [], ◌∷◌, codes, decimal, Some, None, Result, Ok, Err}
+use Rattle.std.specs.Prelude.{◌≡◌, ℕ, ◌≤◌, nat_le, Bool, ◌&&◌, true, false, cond, map, List, [], ◌∷◌, codes, decimal, Some, None, Result}
+use Rattle.std.specs.Prelude.{Ok, Err}
 use Rattle.std.specs.declared.option.Option.{Option}
 use Rattle.std.specs.Str.{bytes_eq, all_ascii_digits}
 use Rattle.std.specs.Str.Parse.{digits_value}
@@ -51,7 +52,8 @@ begins_number (c ∷ cs) = nat_le 49 c && nat_le c 57
 
 -- the number of devices that a word writes: digits alone, the first of which is not 0, and not more than the most
 abbrev pub count_in : List ℕ → Option ℕ
-count_in word = cond (begins_number word && (all_ascii_digits word && nat_le (digits_value 10 word) most_devices)) (Some (digits_value 10 word)) None
+count_in word = cond (begins_number word && (all_ascii_digits word && nat_le (digits_value 10 word) most_devices))
+    (Some (digits_value 10 word)) None
 
 -- a number of devices and the words behind it, of which there may be none
 abbrev pub counted_by : Option ℕ → List (List ℕ) → Result Task ℕ
@@ -83,15 +85,34 @@ compiled_by (Err word) = Err word
 abbrev pub task_by : List (List ℕ) → Result Task ℕ
 task_by [] = compiled_by (asked_by [])
 task_by (word ∷ words) =
-    cond (bytes_eq word generate_word) (generated_by words) (cond (bytes_eq word template_word) (template_by words) (compiled_by (asked_by (word ∷ words))))
+    cond (bytes_eq word generate_word) (generated_by words)
+    (cond (bytes_eq word template_word) (template_by words) (compiled_by (asked_by (word ∷ words))))
 
 -- what is asked of the compilation of generated devices: nothing but the name of its output
 abbrev pub generated_settings : Asked
-generated_settings = record { file = Some (codes "generated"); prefix = None; directories = []; definitions = []; only = false; enabled = true; switches = no_switch }
+generated_settings = record {
+  file = Some (codes "generated");
+  prefix = None;
+  directories = [];
+  definitions = [];
+  only = false;
+  enabled =
+      true;
+  switches = no_switch;
+}
 
 -- a template is no compilation; nothing is asked of it
 abbrev pub template_settings : Asked
-template_settings = record { file = None; prefix = None; directories = []; definitions = []; only = false; enabled = true; switches = no_switch }
+template_settings = record {
+  file = None;
+  prefix = None;
+  directories = [];
+  definitions = [];
+  only = false;
+  enabled = true;
+  switches =
+      no_switch;
+}
 
 abbrev pub settings_in : Result Task ℕ → Result Asked ℕ
 settings_in (Ok (Compiles asked)) = Ok asked

@@ -61,7 +61,8 @@ impl Draft {
 
     // A further setting that may come any time, or only where it has not come, or not together with another: whether it may.
     fn set(&mut self, alloc: Global, setting: Setting<'_>) -> Result<bool, AllocError>
-        ensures { IfOk result (λ fits. with_setting (asked_in self.old) (shown_setting setting.entry) ≡ (if fits then Some (asked_in self.new) else None)) }
+        ensures { IfOk result
+            (λ fits. with_setting (asked_in self.old) (shown_setting setting.entry) ≡ (if fits then Some (asked_in self.new) else None)) }
     {
         match setting {
             Setting::Prefix(prefix) => {
@@ -108,7 +109,8 @@ impl Draft {
 
     // The step by a further setting.
     fn set_step(&mut self, alloc: Global, setting: Setting<'_>) -> Result<Step, AllocError>
-        ensures { IfOk result (λ step. settled (with_setting (asked_in self.old) (shown_setting setting.entry)) ≡ stepped step (asked_in self.new)) }
+        ensures { IfOk result (λ step. settled (with_setting (asked_in self.old) (shown_setting setting.entry)) ≡ stepped step
+            (asked_in self.new)) }
     {
         Ok(if self.set(alloc, setting)? {
             Step::Next(None)
@@ -134,7 +136,8 @@ impl Draft {
         waiting: Option<Key>,
         word: &[u8],
     ) -> Result<Step, AllocError>
-        ensures { IfOk result (λ step. one_more (record { asked = asked_in self.old; waiting = waiting }) waiting word.now ≡ stepped step (asked_in self.new)) }
+        ensures { IfOk result (λ step. one_more (record { asked = asked_in self.old; waiting = waiting }) waiting word.now ≡ stepped step
+            (asked_in self.new)) }
     {
         match waiting {
             Some(key) => self.set_step(alloc, with_value(key, word)),

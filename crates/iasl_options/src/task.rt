@@ -4,7 +4,8 @@ ghost use Rattle.std.specs.Str.{bytes_eq};
 ghost use Rattle.iasl_options.specs.Asking.{asked_by};
 ghost use Rattle.iasl_options.specs.CommandLine.{IsOffending};
 ghost use Rattle.iasl_options.specs.Shown.{asked_of, AreTexts, IfBad};
-ghost use Rattle.iasl_options.specs.Task.{Task as SpecTask, IsTask, generate_word, begins_number, count_in, generated_by, template_word, table_in as spec_table_in, template_by, compiled_by, task_by, generated_settings};
+ghost use Rattle.iasl_options.specs.Task.{Task as SpecTask, IsTask, generate_word, begins_number, count_in, generated_by, template_word};
+ghost use Rattle.iasl_options.specs.Task.{table_in as spec_table_in, template_by, compiled_by, task_by, generated_settings};
 ghost use Rattle.iasl_options.specs.TaskShown.{shown_task, TaskAnswers, HasTexts};
 
 use crate::command_line::options;

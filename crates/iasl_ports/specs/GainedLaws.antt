@@ -23,7 +23,8 @@ pub gains_then : {X : Type 0} {a b c : Option (List X)} {xs ys : List X} → Gai
 gains_then {X} {a} {b} {c} {xs} {ys} p q = record { grew = grew_then a b c xs ys p.grew q.grew }
 
 -- a part of a list, and then a part of its rest
-pub gains_next : {X : Type 0} {a b c : Option (List X)} (all : List X) (n m : ℕ) → Gains a b (take n all) → Gains b c (take m (drop n all)) → Gains a c (take (n + m) all)
+pub gains_next : {X : Type 0} {a b c : Option (List X)} (all : List X) (n m : ℕ) → Gains a b (take n all) → Gains b c (take m (drop n all))
+    → Gains a c (take (n + m) all)
 gains_next {X} {a} {b} {c} all n m p q = rw take-add (gains_then p q)
 
 -- nothing more
@@ -33,7 +34,8 @@ gains_still {X} {a} {b} {c} {xs} p q = let Q : List X → Type 0 = λ t. Gains a
 pub take_seam : {X : Type 0} (xs ys zs : List X) → zs ≡ xs ++ ys → take (length xs) zs ≡ xs
 take_seam xs ys zs e = ap (take (length xs)) e ∙ take-append_seam xs ys
 
-pub zip_push : {X Y : Type 0} (ks : List X) (vs : List Y) (k : X) (v : Y) → length vs ≡ length ks → zip (ks ++ k ∷ []) (vs ++ v ∷ []) ≡ zip ks vs ++ (k, v) ∷ []
+pub zip_push : {X Y : Type 0} (ks : List X) (vs : List Y) (k : X) (v : Y) → length vs ≡ length ks →
+    zip (ks ++ k ∷ []) (vs ++ v ∷ []) ≡ zip ks vs ++ (k, v) ∷ []
 zip_push [] [] k v e = refl
 zip_push [] (w ∷ vs) k v e = absurd (omega (arith, e))
 zip_push (x ∷ ks) [] k v e = absurd (omega (arith, e))

@@ -1,5 +1,6 @@
 //! Files, outputs and a console in memory, with calls that fail when told to.
-ghost use Rattle.std.specs.Prelude.{◌≡◌, ◌∷◌, ◌++◌, ◌+◌, ◌-◌, ◌<◌, ◌≤◌, ◌^◌, ◌==◌, ◌⊎◌, ◌↔◌, if◌then◌else◌, [], ℕ, List, map, min, length, take, Some, None, IfOk, IfErr, IfSome, OnOk, OnErr, vec_capacity, string_bytes, IsErrOf, IsErr, IsTrue};
+ghost use Rattle.std.specs.Prelude.{◌≡◌, ◌∷◌, ◌++◌, ◌+◌, ◌-◌, ◌<◌, ◌≤◌, ◌^◌, ◌==◌, ◌⊎◌, ◌↔◌, if◌then◌else◌, [], ℕ, List, map, min, length};
+ghost use Rattle.std.specs.Prelude.{take, Some, None, IfOk, IfErr, IfSome, OnOk, OnErr, vec_capacity, string_bytes, IsErrOf, IsErr, IsTrue};
 ghost use Rattle.std.specs.List.{list_any};
 ghost use Rattle.std.specs.declared.option.Option.{Option};
 ghost use Rattle.iasl_ports.specs.Gained.{Gains, Named};
@@ -176,7 +177,9 @@ impl Files for MemoryFiles {
         ensures size { IfOk result (λ bytes. length bytes.items ≤ most_bytes) }
         ensures refused { IfErr result (λ fault. RefusedAt fault (find_file (stored_files self.old) name.now)) }
         ensures faults { OnOk result (self.new.calls.faults ≡ self.old.calls.faults) }
-        ensures counts { IfErr result (λ fault. RefusedCounts fault self.old.calls.faults self.new.calls.faults self.old.absents self.new.absents self.old.larges self.new.larges) }
+        ensures counts { IfErr result
+            (λ fault. RefusedCounts fault self.old.calls.faults self.new.calls.faults self.old.absents self.new.absents self.old.larges
+            self.new.larges) }
         ensures later_faults { self.old.calls.faults ≤ self.new.calls.faults }
         ensures later_absents { self.old.absents ≤ self.new.absents }
         ensures later_larges { self.old.larges ≤ self.new.larges }

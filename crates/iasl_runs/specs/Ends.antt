@@ -57,7 +57,8 @@ pub record Decides (answer : List Named → Option Answer) (decided : Result Due
   -- with a status of 0, 1 or 2, and files only with 0
   pub settled : IfOk decided IsSettled
   -- a fault has a cause: a count that rose, or a file that is absent, of which there is no answer
-  pub fault : IsErrOf decided Fault → Rose old.faults new.faults ⊎ (Rose old.absents new.absents × ForSome old.contents (λ told. answer told ≡ None))
+  pub fault : IsErrOf decided Fault → Rose old.faults new.faults
+      ⊎ (Rose old.absents new.absents × ForSome old.contents (λ told. answer told ≡ None))
   -- an answer comes only where no fetch failed, and so does want of memory
   pub calm : OnOk decided (new.faults ≡ old.faults)
   pub memory_calm : IsErrOf decided Memory → new.faults ≡ old.faults
@@ -86,7 +87,8 @@ pub record Ends (answer : List Named → Option Answer) (fault memory : List ℕ
   pub memory_read_calm : status ≡ 4 → new.files.faults ≡ old.files.faults
   pub memory_put_calm : status ≡ 4 → new.outputs.faults ≡ old.outputs.faults
   -- 3 has a cause: a count that rose, or a file that is absent
-  pub cause : status ≡ 3 → FaultCause (Rose old.files.faults new.files.faults) (Rose old.outputs.faults new.outputs.faults) (Rose old.console.faults new.console.faults)
+  pub cause : status ≡ 3 → FaultCause (Rose old.files.faults new.files.faults) (Rose old.outputs.faults new.outputs.faults)
+      (Rose old.console.faults new.console.faults)
       (Rose old.files.absents new.files.absents × ForSome old.files.contents (λ told. answer told ≡ None))
   -- 1 and 2 put no file, whatever is known of the files
   pub no_files : 1 ≤ status → status ≤ 2 → Gains old.outputs.written new.outputs.written []
@@ -108,19 +110,21 @@ stop_text fault memory Fault = fault
 stop_text fault memory Memory = memory
 
 -- What the outputs and the console are told of a due end.
-pub record Delivers (fault memory : List ℕ) (due : Due) (status : ℕ) (put now_put : OutputsSeen) (told now_told : ConsoleSeen) : Type 0 where
-  -- the status that is due; 3 where a count rose, or 4
-  pub is : (status ≡ due.status) ⊎ (((status ≡ 3) × (Rose put.faults now_put.faults ⊎ Rose told.faults now_told.faults)) ⊎ (status ≡ 4))
-  pub outs : OutsGained (Option.Some (answer_of due)) status (Rose put.faults now_put.faults) (Quiet put.faults now_put.faults) put.written now_put.written
-  pub console : ConsoleGained fault (Option.Some (answer_of due)) status told.told now_told.told
-  pub fault_told : FaultTold fault memory status (Quiet told.faults now_told.faults) told.told now_told.told
-  -- 0, 1 and 2 come only where no count rose, and no count falls
-  pub put_calm : status ≤ 2 → now_put.faults ≡ put.faults
-  pub told_calm : status ≤ 2 → now_told.faults ≡ told.faults
-  -- 4 comes only where that of the outputs did not rise
-  pub memory_calm : status ≡ 4 → now_put.faults ≡ put.faults
-  pub put_later : put.faults ≤ now_put.faults
-  pub told_later : told.faults ≤ now_told.faults
+pub record Delivers (fault memory : List ℕ) (due : Due) (status : ℕ) (put now_put : OutputsSeen) (told now_told : ConsoleSeen) : Type 0
+  where
+    -- the status that is due; 3 where a count rose, or 4
+    pub is : (status ≡ due.status) ⊎ (((status ≡ 3) × (Rose put.faults now_put.faults ⊎ Rose told.faults now_told.faults)) ⊎ (status ≡ 4))
+    pub outs : OutsGained (Option.Some (answer_of due)) status (Rose put.faults now_put.faults) (Quiet put.faults now_put.faults) put.written
+        now_put.written
+    pub console : ConsoleGained fault (Option.Some (answer_of due)) status told.told now_told.told
+    pub fault_told : FaultTold fault memory status (Quiet told.faults now_told.faults) told.told now_told.told
+    -- 0, 1 and 2 come only where no count rose, and no count falls
+    pub put_calm : status ≤ 2 → now_put.faults ≡ put.faults
+    pub told_calm : status ≤ 2 → now_told.faults ≡ told.faults
+    -- 4 comes only where that of the outputs did not rise
+    pub memory_calm : status ≡ 4 → now_put.faults ≡ put.faults
+    pub put_later : put.faults ≤ now_put.faults
+    pub told_later : told.faults ≤ now_told.faults
 
 -- What the outputs and the console are told of a run that stops.
 pub record Fails (fault memory : List ℕ) (stop : Stop) (status : ℕ) (told now_told : ConsoleSeen) : Type 0 where

@@ -28,7 +28,8 @@ fn put_one<O: Outputs>(outs: &mut O, file: &OutFile<'_>) -> Result<(), PutFault>
 /// part may stand then, and with `Memory` where there was no memory for it.
 pub fn put_all<O: Outputs>(outs: &mut O, files: &[OutFile<'_>]) -> Result<(), Stop>
     ensures all { OnOk result (Gains (O.written outs.old) (O.written outs.new) (map name_and_bytes files.now)) }
-    ensures some { OnErr result (GainsSome (IsErrOf result stops.Fault) (O.written outs.old) (O.written outs.new) (map name_and_bytes files.now)) }
+    ensures some { OnErr result
+        (GainsSome (IsErrOf result stops.Fault) (O.written outs.old) (O.written outs.new) (map name_and_bytes files.now)) }
     ensures faults { OnOk result (O.faults outs.new ≡ O.faults outs.old) }
     ensures cause { IsErrOf result stops.Fault → Rose (O.faults outs.old) (O.faults outs.new) }
     ensures memory_calm { IsErrOf result stops.Memory → O.faults outs.new ≡ O.faults outs.old }
@@ -58,13 +59,16 @@ pub fn deliver<O: Outputs, C: Sink>(
     ensures told_calm { OnOk result (C.faults console.new ≡ C.faults console.old) }
     ensures put_later { O.faults outs.old ≤ O.faults outs.new }
     ensures told_later { C.faults console.old ≤ C.faults console.new }
-    ensures cause { IsErrOf result stops.Fault → Rose (O.faults outs.old) (O.faults outs.new) ⊎ Rose (C.faults console.old) (C.faults console.new) }
+    ensures cause { IsErrOf result stops.Fault → Rose (O.faults outs.old) (O.faults outs.new) ⊎ Rose (C.faults console.old)
+        (C.faults console.new) }
     ensures memory_calm { IsErrOf result stops.Memory → O.faults outs.new ≡ O.faults outs.old }
 
     // The files that were put.
     ensures all_files { OnOk result (Gains (O.written outs.old) (O.written outs.new) (map name_and_bytes due.now.files.items)) }
-    ensures some_files { OnErr result (GainsSome (IsErrOf result stops.Fault × Rose (O.faults outs.old) (O.faults outs.new)) (O.written outs.old) (O.written outs.new) (map name_and_bytes due.now.files.items)) }
-    ensures all_but_told { IsErrOf result stops.Fault → Quiet (O.faults outs.old) (O.faults outs.new) → Gains (O.written outs.old) (O.written outs.new) (map name_and_bytes due.now.files.items) }
+    ensures some_files { OnErr result (GainsSome (IsErrOf result stops.Fault × Rose (O.faults outs.old) (O.faults outs.new))
+        (O.written outs.old) (O.written outs.new) (map name_and_bytes due.now.files.items)) }
+    ensures all_but_told { IsErrOf result stops.Fault → Quiet (O.faults outs.old) (O.faults outs.new) →
+        Gains (O.written outs.old) (O.written outs.new) (map name_and_bytes due.now.files.items) }
 
     // What of the text was written.
     ensures all_text { OnOk result (Gains (C.told console.old) (C.told console.new) due.now.text) }

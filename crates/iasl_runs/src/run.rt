@@ -19,7 +19,8 @@ pub struct StopTexts<'a> {
 
 // Tells why the run stops, and gives its status.
 fn fail<C: Sink>(console: &mut C, stop: Stop, texts: StopTexts<'_>) -> u8
-    ensures { Fails texts.entry.fault.now texts.entry.memory.now stop result (console_seen (C.told console.old) (C.faults console.old)) (console_seen (C.told console.new) (C.faults console.new)) }
+    ensures { Fails texts.entry.fault.now texts.entry.memory.now stop result (console_seen (C.told console.old) (C.faults console.old))
+        (console_seen (C.told console.new) (C.faults console.new)) }
 {
     match stop {
         Stop::Fault => {
@@ -41,7 +42,8 @@ fn finish_due<O: Outputs, C: Sink>(
     texts: StopTexts<'_>,
 ) -> u8
     requires { IsSettled due.now }
-    ensures { Delivers texts.entry.fault.now texts.entry.memory.now due.now result (outputs_seen (O.written outs.old) (O.faults outs.old)) (outputs_seen (O.written outs.new) (O.faults outs.new))
+    ensures { Delivers texts.entry.fault.now texts.entry.memory.now due.now result (outputs_seen (O.written outs.old) (O.faults outs.old))
+        (outputs_seen (O.written outs.new) (O.faults outs.new))
         (console_seen (C.told console.old) (C.faults console.old)) (console_seen (C.told console.new) (C.faults console.new)) }
 {
     match deliver(outs, console, due) {
@@ -60,7 +62,8 @@ pub fn finish<O: Outputs, C: Sink>(
     texts: StopTexts<'_>,
 ) -> u8
     requires { IfOk decided IsSettled }
-    ensures { Finishes texts.entry.fault.now texts.entry.memory.now decided.entry result (outputs_seen (O.written outs.old) (O.faults outs.old)) (outputs_seen (O.written outs.new) (O.faults outs.new))
+    ensures { Finishes texts.entry.fault.now texts.entry.memory.now decided.entry result
+        (outputs_seen (O.written outs.old) (O.faults outs.old)) (outputs_seen (O.written outs.new) (O.faults outs.new))
         (console_seen (C.told console.old) (C.faults console.old)) (console_seen (C.told console.new) (C.faults console.new)) }
 {
     match decided {

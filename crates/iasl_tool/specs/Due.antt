@@ -29,7 +29,8 @@ use Rattle.iasl_tool.specs.Sources.{of_source}
 
 -- the messages in order, in the brief form or the full one, a line of what was made, and how many messages there are
 abbrev pub console_text : Bool → List (List ℕ) → List Message → List ℕ → List ℕ
-console_text brief files messages made = messages_text files brief (sorted_messages messages) ++ made ++ summary_line (sorted_messages messages)
+console_text brief files messages made = messages_text files brief (sorted_messages messages) ++ made
+    ++ summary_line (sorted_messages messages)
 
 -- of a source that is refused, with these errors and notes: no file
 abbrev pub refusal : Bool → List (List ℕ) → List Message → Answer
@@ -74,21 +75,30 @@ text_of_lines (line ∷ lines) = line.text ++ 10 ∷ text_of_lines lines
 
 -- of preprocessed lines that are all that is asked for
 abbrev pub answer_to_text : Asked → List ℕ → List (List ℕ) → List Line → List Message → Answer
-answer_to_text asked file files lines notes = made_or_refused asked files notes (preprocessed_line (text_name asked file)) ((text_name asked file, text_of_lines lines) ∷ [])
+answer_to_text asked file files lines notes = made_or_refused asked files notes (preprocessed_line (text_name asked file))
+    ((text_name asked file, text_of_lines lines) ∷ [])
 
 -- of what lines come to, with a further line of the console behind that of the table
 abbrev pub answer_to_compiled : Asked → List ℕ → List (List ℕ) → List Message → List ℕ → Compiled → Answer
 answer_to_compiled asked file files notes more (Table signature own pieces told) =
-    made_or_refused asked files (notes ++ told) (table_line (table_name asked file own) signature (length (table_bytes pieces)) ++ more) (table_files asked file own pieces)
+    made_or_refused asked files (notes ++ told) (table_line (table_name asked file own) signature (length (table_bytes pieces)) ++ more)
+    (table_files asked file own pieces)
 answer_to_compiled asked file files notes more (Refused messages) = refusal asked.switches.brief files (notes ++ messages)
 
 -- how a table is to be written
 abbrev pub style_of : Asked → Style
-style_of asked = record { wrap = asked.switches.wrap; fold = asked.switches.fold; short = asked.switches.short; shorten = asked.switches.shorten }
+style_of asked = record {
+  wrap = asked.switches.wrap;
+  fold = asked.switches.fold;
+  short = asked.switches.short;
+  shorten =
+      asked.switches.shorten;
+}
 
 -- of lines, with the files that they are of and the notes of the preprocessor
 abbrev pub answer_to_lines : Asked → List ℕ → List (List ℕ) → List Line → List Message → Answer
-answer_to_lines asked file files lines notes = cond asked.only (answer_to_text asked file files lines notes) (answer_to_compiled asked file files notes [] (of_source asked.switches.generic (style_of asked) lines))
+answer_to_lines asked file files lines notes = cond asked.only (answer_to_text asked file files lines notes)
+    (answer_to_compiled asked file files notes [] (of_source asked.switches.generic (style_of asked) lines))
 
 -- none where the main file is not there
 abbrev pub answer_to_preprocessed : Asked → List ℕ → Preprocessed → Option Answer
@@ -102,12 +112,14 @@ usage = record { status = 2; text = codes "usage: iasl [options] FILE\n"; due = 
 
 abbrev pub answer_to_file : Asked → List Named → Option (List ℕ) → Option Answer
 answer_to_file asked told None = Some usage
-answer_to_file asked told (Some file) = answer_to_preprocessed asked file (preprocessed told file asked.directories asked.definitions asked.enabled)
+answer_to_file asked told (Some file) =
+    answer_to_preprocessed asked file (preprocessed told file asked.directories asked.definitions asked.enabled)
 
 -- Of the source of so many devices. No file is fetched for it, and its outputs have the name `generated`; the console tells how many
 -- devices there are.
 abbrev pub answer_to_generated : ℕ → Answer
-answer_to_generated count = answer_to_compiled generated_settings (codes "generated") [] [] (devices_line count) (of_source false (style_of generated_settings) (generated_lines count))
+answer_to_generated count = answer_to_compiled generated_settings (codes "generated") [] [] (devices_line count)
+    (of_source false (style_of generated_settings) (generated_lines count))
 
 -- the name of a template: its signature in lower case, with the extension of a source
 abbrev pub template_name : Layout → List ℕ
@@ -115,7 +127,8 @@ template_name table = map to_ascii_lowercase (signature_of table) ++ codes ".asl
 
 -- Of a template: its lines, for which no file is fetched. Nothing is told but its name and its signature.
 abbrev pub answer_to_template : Layout → Answer
-answer_to_template table = made_files false [] [] (template_line (template_name table) (signature_of table)) ((template_name table, piece_lines (default_pieces table)) ∷ [])
+answer_to_template table = made_files false [] [] (template_line (template_name table) (signature_of table))
+    ((template_name table, piece_lines (default_pieces table)) ∷ [])
 
 abbrev pub answer_to_task : List Named → Result Task ℕ → Option Answer
 answer_to_task told (Ok (Compiles asked)) = answer_to_file asked told asked.file
@@ -144,7 +157,8 @@ pieces_of_preprocessed asked Absent = []
 
 abbrev pub pieces_of_file : Asked → List Named → Option (List ℕ) → List Piece
 pieces_of_file asked told None = []
-pieces_of_file asked told (Some file) = pieces_of_preprocessed asked (preprocessed told file asked.directories asked.definitions asked.enabled)
+pieces_of_file asked told (Some file) =
+    pieces_of_preprocessed asked (preprocessed told file asked.directories asked.definitions asked.enabled)
 
 -- those of the last table of a task, which is its only one, or of a template
 abbrev pub pieces_of_task : List Named → Result Task ℕ → List Piece

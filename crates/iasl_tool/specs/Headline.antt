@@ -81,13 +81,17 @@ generated_request = record { asked = generated_settings; file = codes "generated
 
 -- Where lines come from. The words are a command line that asks for a compilation of this file, and they are its lines, with those of its
 -- includes; or the words ask for so many devices, and they are the source of these, for which no file is fetched.
-pub data ComeFrom (words : List (List ℕ)) (told : List Named) (request : Request) (files : List (List ℕ)) (lines : List Line) (notes : List Message) : Type 0 where
+pub data ComeFrom (words : List (List ℕ)) (told : List Named) (request : Request) (files : List (List ℕ)) (lines : List Line)
+    (notes : List Message) : Type 0 where
   a_file : IsCommandLine words request.asked → request.asked.file ≡ Some request.file → request.asked.only ≡ false
-      → preprocessed told request.file request.asked.directories request.asked.definitions request.asked.enabled ≡ Given files lines notes → ComeFrom words told request files lines notes
-  devices : (count : ℕ) → IsTask words (Generates count) → request ≡ generated_request → files ≡ [] → lines ≡ generated_lines count → notes ≡ [] → ComeFrom words told request files lines notes
+      → preprocessed told request.file request.asked.directories request.asked.definitions request.asked.enabled ≡ Given files lines notes →
+      ComeFrom words told request files lines notes
+  devices : (count : ℕ) → IsTask words (Generates count) → request ≡ generated_request → files ≡ [] → lines ≡ generated_lines count →
+      notes ≡ [] → ComeFrom words told request files lines notes
 
 -- the line of the console that tells of generated devices
-abbrev pub more_of : {words : List (List ℕ)} {told : List Named} {request : Request} {files : List (List ℕ)} {lines : List Line} {notes : List Message} → ComeFrom words told request files lines notes → List ℕ
+abbrev pub more_of : {words : List (List ℕ)} {told : List Named} {request : Request} {files : List (List ℕ)} {lines : List Line}
+    {notes : List Message} → ComeFrom words told request files lines notes → List ℕ
 more_of (a_file line is only given) = []
 more_of (devices count task request_is files_are lines_are notes_are) = devices_line count
 
@@ -103,9 +107,9 @@ abbrev pub LetsPass : Asked → List Message → Type 0
 LetsPass asked notes = asked.switches.strict ≡ true → All (λ note. severity_of note.number ≡ Warning → ⊥) notes
 
 -- The words name lines (`ComeFrom`), which are no data table and are
--- cut into tokens that spell this source, nowhere too deep; nothing is wrong with it, and its table is not too long; none of its notes, those on its
--- literals among them, is a warning, where warnings refuse a source; and no name of the table's files is that of a file that was fetched,
--- or of another of them.
+-- cut into tokens that spell this source, nowhere too deep; nothing is wrong with it, and its table is not too long;
+-- none of its notes, those on its literals among them, is a warning, where warnings refuse a source; and no name of the
+-- table's files is that of a file that was fetched, or of another of them.
 pub record NamesSource (words : List (List ℕ)) (told : List Named) (request : Request) (items : List Raw) : Type 0 where
   pub named : NamesLines words told request
   pub tokens : List Token
@@ -129,13 +133,15 @@ pub record NamesData (words : List (List ℕ)) (told : List Named) (request : Re
   pub notes_pass : LetsPass request.asked (named.notes ++ table.notes)
   pub names_are_free : name_in_use named.files (data_files_of request table) ≡ None
 
--- The call puts the files of the table of a source of these lines, and nothing else. The table has the source's header and does what the source
--- says, and its further outputs are of pieces that are its own bytes, one piece behind another.
-pub record PutsFaithfulTable (words : List (List ℕ)) (told : List Named) (request : Request) (lines : List Line) (items : List Raw) : Type 0 where
-  pub status : status_of (answer_for words told) ≡ 0
-  pub due : due_of (answer_for words told) ≡ files_of request lines items
-  pub does : IsTableOf items (table_for request items)
-  pub joined_pieces : table_bytes (its_pieces request lines items) ≡ table_for request items
+-- The call puts the files of the table of a source of these lines, and nothing else. The table has the source's header
+-- and does what the source says, and its further outputs are of pieces that are its own bytes, one piece behind
+-- another.
+pub record PutsFaithfulTable (words : List (List ℕ)) (told : List Named) (request : Request) (lines : List Line) (items : List Raw) : Type 0
+  where
+    pub status : status_of (answer_for words told) ≡ 0
+    pub due : due_of (answer_for words told) ≡ files_of request lines items
+    pub does : IsTableOf items (table_for request items)
+    pub joined_pieces : table_bytes (its_pieces request lines items) ≡ table_for request items
 
 -- bytes that read by offset as the values that some lines write, and as no others
 pub record ReadsByLayout (lines : List Line) (bytes : List ℕ) : Type 0 where
@@ -145,24 +151,26 @@ pub record ReadsByLayout (lines : List Line) (bytes : List ℕ) : Type 0 where
 -- bytes that read by the types and sizes of what the lines of a generic table write as the values that they write, and as no others
 pub record ReadsByTypes (lines : List Line) (bytes : List ℕ) : Type 0 where
   pub reads : ReadsGeneric bytes (written_header lines) (written_data lines)
-  pub only : (header : List Entry) (entries : List DataEntry) → ReadsGeneric bytes header entries → forms_of entries ≡ forms_of (written_data lines) → (header ≡ written_header lines) × (entries ≡ written_data lines)
+  pub only : (header : List Entry) (entries : List DataEntry) → ReadsGeneric bytes header entries →
+      forms_of entries ≡ forms_of (written_data lines) → (header ≡ written_header lines) × (entries ≡ written_data lines)
 
 -- the one or the other
 abbrev pub ReadsBack : Bool → List Line → List ℕ → Type 0
 ReadsBack true lines bytes = ReadsByTypes lines bytes
 ReadsBack false lines bytes = ReadsByLayout lines bytes
 
--- The call puts the data table's files, and nothing else. Its bytes read as the values that the text writes, and its further outputs are of pieces
--- that are its own bytes.
-pub record PutsDataTable (words : List (List ℕ)) (told : List Named) (request : Request) (table : DataTable) (lines : List Line) : Type 0 where
-  pub status : status_of (answer_for words told) ≡ 0
-  pub due : due_of (answer_for words told) ≡ data_files_of request table
-  pub reads : ReadsBack (is_generic request) lines (joined table.pieces)
-  pub joined_pieces : table_bytes table.pieces ≡ joined table.pieces
+-- The call puts the data table's files, and nothing else. Its bytes read as the values that the text writes, and its
+-- further outputs are of pieces that are its own bytes.
+pub record PutsDataTable (words : List (List ℕ)) (told : List Named) (request : Request) (table : DataTable) (lines : List Line) : Type 0
+  where
+    pub status : status_of (answer_for words told) ≡ 0
+    pub due : due_of (answer_for words told) ≡ data_files_of request table
+    pub reads : ReadsBack (is_generic request) lines (joined table.pieces)
+    pub joined_pieces : table_bytes table.pieces ≡ joined table.pieces
 
 -- A file is the table of an ASL source that the words name: it has the source's header and does what the source says. The files that
--- follow it are its further outputs: its bytes as an array of C, and the source's lines with their bytes, where these are asked for. They are of pieces
--- that are the file's own bytes, one piece behind another.
+-- follow it are its further outputs: its bytes as an array of C, and the source's lines with their bytes, where these
+-- are asked for. They are of pieces that are the file's own bytes, one piece behind another.
 pub record IsItsTable (words : List (List ℕ)) (told : List Named) (file : Named) (further : List Named) : Type 0 where
   pub request : Request
   pub items : List Raw
@@ -191,8 +199,8 @@ AreItsFiles words told [] = Unit {0}
 AreItsFiles words told (file ∷ further) = IsItsTable words told file further ⊎ IsItsDataTable words told file further
 
 -- The words name an ASL source, and the outputs gained the files of its table and nothing else. The table, which is the first of them, has
--- the header that the source states, and every session over its bytes is the source's; the others are its further outputs, which are of pieces that are
--- the table's own bytes.
+-- the header that the source states, and every session over its bytes is the source's; the others are its further
+-- outputs, which are of pieces that are the table's own bytes.
 pub record WritesItsTable (words : List (List ℕ)) (told : List Named) (old new : Option (List Named)) : Type 0 where
   pub request : Request
   pub items : List Raw

@@ -1,5 +1,6 @@
 //! What a call is to end with.
-ghost use Rattle.std.specs.Prelude.{◌≡◌, ◌≤◌, ◌<◌, ◌^◌, ◌++◌, ◌&&◌, [], ◌∷◌, ℕ, List, length, map, All, IfOk, IfErr, OnOk, IsErrOf, ◌⊎◌, Some, None, string_bytes, false};
+ghost use Rattle.std.specs.Prelude.{◌≡◌, ◌≤◌, ◌<◌, ◌^◌, ◌++◌, ◌&&◌, [], ◌∷◌, ℕ, List, length, map, All, IfOk, IfErr, OnOk, IsErrOf, ◌⊎◌};
+ghost use Rattle.std.specs.Prelude.{Some, None, string_bytes, false};
 ghost use Rattle.iasl_ports.specs.Delivery.{name_and_bytes, answer_of, IsSettled};
 ghost use Rattle.iasl_runs.specs.Ends.{files_seen};
 ghost use Rattle.iasl_options.specs.Task.{task_by};
@@ -12,7 +13,9 @@ ghost use Rattle.iasl_tool.specs.Sources.{of_source};
 ghost use Rattle.iasl_backends.specs.Table.{table_bytes};
 ghost use Rattle.table_outputs.specs.Files.{table_name, table_files};
 ghost use Rattle.table_outputs.specs.Decision.{end_of, IsDecidedBy, IsDecidedFor, IsMadeOf, Settles};
-ghost use Rattle.iasl_tool.specs.Due.{console_text, refusal, made_files, in_use, has_warning, made_or_refused, text_of_lines, answer_to_text, answer_to_compiled, answer_to_lines, answer_to_file, usage, answer_for, pieces_of_lines, pieces_of_file, pieces_for, style_of as style_by};
+ghost use Rattle.iasl_tool.specs.Due.{console_text, refusal, made_files, in_use, has_warning, made_or_refused, text_of_lines};
+ghost use Rattle.iasl_tool.specs.Due.{answer_to_text, answer_to_compiled, answer_to_lines, answer_to_file, usage, answer_for};
+ghost use Rattle.iasl_tool.specs.Due.{pieces_of_lines, pieces_of_file, pieces_for, style_of as style_by};
 ghost use Rattle.iasl_messages.specs.declared.severity.Severity.TheVariants.{Warning};
 ghost use Rattle.iasl_messages.specs.Severity.{severity_of, is_same};
 ghost use Rattle.iasl_messages.specs.Console.{table_line};
@@ -196,7 +199,8 @@ fn make_or_refuse(
     bytes: Vec<u8>,
 ) -> Result<Due<'static>, AllocError>
     requires { AreWithin (length files.now) notes }
-    ensures due { IfOk result (λ due. answer_of due ≡ made_or_refused (asked_of options.now) files.now notes line.now ((string_bytes name, bytes.items) ∷ [])) }
+    ensures due { IfOk result (λ due. answer_of due ≡ made_or_refused (asked_of options.now) files.now notes line.now
+        ((string_bytes name, bytes.items) ∷ [])) }
     ensures settled { IfOk result IsSettled }
 {
     if is_refused(options, &notes) {
@@ -238,7 +242,8 @@ fn make_text(
 ) -> Result<Due<'static>, AllocError>
     requires texts { AreTexts options.now }
     requires notes { AreWithin (length lines.now.files) notes }
-    ensures due { IfOk result (λ due. answer_of due ≡ answer_to_text (asked_of options.now) options.now.file lines.now.files lines.now.list notes) }
+    ensures due { IfOk result (λ due. answer_of due ≡ answer_to_text (asked_of options.now) options.now.file lines.now.files lines.now.list
+        notes) }
     ensures settled { IfOk result IsSettled }
 {
     let name = output_name(alloc, options, ".i")?;
@@ -264,7 +269,8 @@ fn size_of(pieces: &[Piece]) -> Result<u64, AllocError>
     Ok(size)
 }
 
-// What is known of a table beside its pieces: its signature, the name that its block states for its file, and a further line of the console.
+// What is known of a table beside its pieces: its signature, the name that its block states for its file, and a further
+// line of the console.
 #[derive(Clone, Copy)]
 struct Heading<'a> {
     signature: &'a Text,
@@ -279,7 +285,8 @@ fn table_lines(
     heading: &Heading<'_>,
     pieces: &[Piece],
 ) -> Result<Text, AllocError>
-    ensures { IfOk result (λ text. text ≡ table_line name.now heading.now.signature.now (length (table_bytes pieces.now)) ++ heading.now.more.now) }
+    ensures { IfOk result (λ text. text ≡ table_line name.now heading.now.signature.now (length (table_bytes pieces.now))
+        ++ heading.now.more.now) }
 {
     let size = size_of(pieces)?;
     let line = table_line(alloc, name, heading.signature.as_bytes(), size)?;
@@ -300,7 +307,9 @@ fn table_text(
     pieces: &[Piece],
 ) -> Result<Text, AllocError>
     requires { AreWithin (length files.now) notes }
-    ensures { IfOk result (λ text. text ≡ console_text brief files.now notes (table_line name.now heading.now.signature.now (length (table_bytes pieces.now)) ++ heading.now.more.now)) }
+    ensures { IfOk result
+        (λ text. text ≡ console_text brief files.now notes (table_line name.now heading.now.signature.now (length (table_bytes pieces.now))
+        ++ heading.now.more.now)) }
 {
     let line = table_lines(alloc, name, heading, pieces)?;
     console_text(alloc, brief, files, notes, &line)
@@ -319,7 +328,10 @@ fn make_table(
     requires own { IsAscii heading.now.own.now }
     requires compiles { options.now.only ≡ false }
     requires notes { AreWithin (length files.now) notes }
-    ensures due { IfOk result (λ decision. end_of decision ≡ made_or_refused (asked_of options.now) files.now notes (table_line (table_name (asked_of options.now) options.now.file heading.now.own.now) heading.now.signature.now (length (table_bytes pieces)) ++ heading.now.more.now) (table_files (asked_of options.now) options.now.file heading.now.own.now pieces)) }
+    ensures due { IfOk result (λ decision. end_of decision ≡ made_or_refused (asked_of options.now) files.now notes
+        (table_line (table_name (asked_of options.now) options.now.file heading.now.own.now) heading.now.signature.now
+        (length (table_bytes pieces)) ++ heading.now.more.now)
+        (table_files (asked_of options.now) options.now.file heading.now.own.now pieces)) }
     ensures decided { IfOk result (IsDecidedBy (asked_of options.now)) }
     ensures made { IfOk result (IsMadeOf pieces) }
 {
@@ -365,7 +377,8 @@ pub(crate) fn make_compiled(
     requires main { 1 ≤ length lines.now.files }
     requires lines { All (IsGoodLine (length lines.now.files)) lines.now.list }
     requires notes { AreWithin (length lines.now.files) notes }
-    ensures due { IfOk result (λ decision. end_of decision ≡ answer_to_compiled (asked_of options.now) options.now.file lines.now.files notes more.now (of_source options.now.switches.generic (style_by (asked_of options.now)) lines.now.list)) }
+    ensures due { IfOk result (λ decision. end_of decision ≡ answer_to_compiled (asked_of options.now) options.now.file lines.now.files notes
+        more.now (of_source options.now.switches.generic (style_by (asked_of options.now)) lines.now.list)) }
     ensures decided { IfOk result (IsDecidedBy (asked_of options.now)) }
     ensures made { IfOk result (IsMadeOf (pieces_of_lines (asked_of options.now) lines.now.list)) }
 {
@@ -409,7 +422,8 @@ fn answer_to_lines(
     requires main { 1 ≤ length given.lines.files }
     requires lines { All (IsGoodLine (length given.lines.files)) given.lines.list }
     requires notes { All (IsGoodNote (length given.lines.files)) given.notes }
-    ensures due { IfOk result (λ decision. end_of decision ≡ answer_to_lines (asked_of options.now) options.now.file given.lines.files given.lines.list given.notes) }
+    ensures due { IfOk result (λ decision. end_of decision ≡ answer_to_lines (asked_of options.now) options.now.file given.lines.files
+        given.lines.list given.notes) }
     ensures decided { IfOk result (IsDecidedBy (asked_of options.now)) }
     ensures made { IfOk result (IsMadeOf (pieces_of_lines (asked_of options.now) given.lines.list)) }
 {
@@ -455,7 +469,10 @@ fn usage(alloc: Global) -> Result<Due<'static>, AllocError>
 // What is due for these options, where their file and its includes are fetched.
 fn answer<F: Files>(alloc: Global, options: &Options, files: &mut F) -> Result<Decision, Stop>
     requires { AreTexts options.now }
-    ensures { Settles (λ told. answer_to_file (asked_of options.now) told (Some options.now.file)) (λ told. pieces_of_file (asked_of options.now) told (Some options.now.file)) (IsDecidedBy (asked_of options.now)) result (files_seen (F.contents files.old) (F.faults files.old) (F.absents files.old)) (files_seen (F.contents files.new) (F.faults files.new) (F.absents files.new)) }
+    ensures { Settles (λ told. answer_to_file (asked_of options.now) told (Some options.now.file))
+        (λ told. pieces_of_file (asked_of options.now) told (Some options.now.file)) (IsDecidedBy (asked_of options.now)) result
+        (files_seen (F.contents files.old) (F.faults files.old) (F.absents files.old))
+        (files_seen (F.contents files.new) (F.faults files.new) (F.absents files.new)) }
 {
     match preprocess(
         alloc,
@@ -477,14 +494,18 @@ fn answer<F: Files>(alloc: Global, options: &Options, files: &mut F) -> Result<D
     }
 }
 
-/// What is due for these words, where the file that they name and its includes are fetched, or devices are generated, or a template is written. It ends
-/// without an answer only where the file is absent, a fetch failed, or memory is wanted.
+/// What is due for these words, where the file that they name and its includes are fetched, or devices are generated,
+/// or a template is written. It ends without an answer only where the file is absent, a fetch failed, or memory is
+/// wanted.
 pub(crate) fn decide<F: Files>(
     alloc: Global,
     words: &[String],
     files: &mut F,
 ) -> Result<Decision, Stop>
-    ensures { Settles (answer_for (map string_bytes words.now)) (pieces_for (map string_bytes words.now)) (IsDecidedFor (task_by (map string_bytes words.now))) result (files_seen (F.contents files.old) (F.faults files.old) (F.absents files.old)) (files_seen (F.contents files.new) (F.faults files.new) (F.absents files.new)) }
+    ensures { Settles (answer_for (map string_bytes words.now)) (pieces_for (map string_bytes words.now))
+        (IsDecidedFor (task_by (map string_bytes words.now))) result
+        (files_seen (F.contents files.old) (F.faults files.old) (F.absents files.old))
+        (files_seen (F.contents files.new) (F.faults files.new) (F.absents files.new)) }
 {
     match task_of(alloc, words) {
         Ok(Task::Compile(options)) => answer(alloc, &options, files),

@@ -59,7 +59,8 @@ fn is_data_source(alloc: Global, generic: bool, lines: &[Line]) -> Result<bool, 
     }
 }
 
-/// What lines come to: those of a data table, or those of ASL. Where a generic table is asked for, they are one. Each message stands in one of their files.
+/// What lines come to: those of a data table, or those of ASL. Where a generic table is asked for, they are one. Each
+/// message stands in one of their files.
 pub(crate) fn compile_source(
     alloc: Global,
     generic: bool,

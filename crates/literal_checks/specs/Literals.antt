@@ -5,7 +5,8 @@ use Rattle.iasl_messages.specs.declared.message.Message.{Message}
 use Rattle.acpi_values.specs.declared.width.Width.{Width}
 use Rattle.acpi_values.specs.declared.width.Width.TheVariants.{W32, W64}
 use Rattle.asl_parser.specs.declared.raw.Raw.{Raw}
-use Rattle.asl_parser.specs.Written.{Written, number as a_number, item, apply, Writtens, none, more, WrittenGroup, absent, given, written, writtens, written_in}
+use Rattle.asl_parser.specs.Written.{Written, number as a_number, item, apply, Writtens, none, more, WrittenGroup, absent, given, written}
+use Rattle.asl_parser.specs.Written.{writtens, written_in}
 use Rattle.asl_words.specs.declared.operator.Slot.{Slot}
 use Rattle.asl_words.specs.declared.operator.Slot.TheVariants as slot
 use Rattle.asl_words.specs.declared.operator.Parameter.{Parameter}
@@ -60,7 +61,8 @@ abbrev mutual
   pub told : Written → List Message
   told (a_number place n) = told_number place n
   told (item place w args body) =
-      told_group (parameters_in (meaning_of w (is_given body))) args ++ unless (holds_wide (meaning_of w (is_given body))) (told_group [] body)
+      told_group (parameters_in (meaning_of w (is_given body))) args ++ unless (holds_wide (meaning_of w (is_given body)))
+      (told_group [] body)
   told (apply place op args) = told_all [] args
   told _ = []
 
@@ -96,7 +98,8 @@ unfoldable pub told_in_at : List Parameter → List Raw → List Message
 told_in_at qs raws = told_all qs (writtens raws)
 
 unfoldable pub told_item_at : Meaning → Option (List Raw) → Option (List Raw) → List Message
-told_item_at meaning args body = told_group (parameters_in meaning) (written_in args) ++ unless (holds_wide meaning) (told_group [] (written_in body))
+told_item_at meaning args body = told_group (parameters_in meaning) (written_in args) ++ unless (holds_wide meaning)
+    (told_group [] (written_in body))
 
 unfoldable pub cut_literals_at : Width → List Raw → List Message
 cut_literals_at width raws = cut_literals width (writtens raws)

@@ -211,8 +211,9 @@ fn block(alloc: Global, out: &mut Vec<Message>, raws: &[Raw]) -> Result<(), Allo
 }
 
 /// The warnings 3002 of a source whose one block has integers of this width: at each literal over 2^32 - 1, in the order of the source,
-/// where they have 32 bits. A literal inside of an argument that is a constant of a stated range, of a Buffer's list of bytes, or of a resource template, is none:
-/// such constants are evaluated with 64 bits in every table, and so are the block's own arguments.
+/// where they have 32 bits. A literal inside of an argument that is a constant of a stated range, of a Buffer's list of
+/// bytes, or of a resource template, is none: such constants are evaluated with 64 bits in every table, and so are the
+/// block's own arguments.
 #[tactic(auto, using(crate::proofs::Told::wide_tables))]
 pub fn cut_literals(alloc: Global, width: Width, unit: &RawUnit) -> Result<Messages, AllocError>
     ensures { IfOk result (λ messages. messages ≡ spec.cut_literals_at width unit.now.items) }

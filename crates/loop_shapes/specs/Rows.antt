@@ -7,4 +7,7 @@ use Rattle.hidden_locals.specs.Rows.{terms}
 -- Switch (Arg0) { Case (1) { Return (10) } Case (Package () { 2, 3 }) { Break } Default { Return (20) } }
 abbrev pub choice : Trees
 choice =
-    terms (Switch (InSlot (ArgSlot 0)) (terms (Case (Integer 1) (terms (Return (Integer 10) ∷ [])) ∷ Case (Package 2 (terms (Integer 2 ∷ Integer 3 ∷ []))) (terms (Break ∷ [])) ∷ Default (terms (Return (Integer 20) ∷ [])) ∷ [])) ∷ [])
+    terms
+    (Switch (InSlot (ArgSlot 0))
+    (terms (Case (Integer 1) (terms (Return (Integer 10) ∷ [])) ∷ Case (Package 2 (terms (Integer 2 ∷ Integer 3 ∷ [])))
+    (terms (Break ∷ [])) ∷ Default (terms (Return (Integer 20) ∷ [])) ∷ [])) ∷ [])

@@ -15,13 +15,18 @@ ghost use Rattle.loop_shapes.specs.Rows.{choice};
 
 /// It declares and calls the same, in the same order, and has the same errors of names and kinds.
 pub fn same_names()
-    ensures declared { (program : Trees) → AreFormed (AreItems 0) ⊥ (Unit {0}) program → declarations (without_switches program) ≡ declarations program }
-    ensures called { (program : Trees) → AreFormed (AreItems 0) ⊥ (Unit {0}) program → (has : AbsolutePath → Bool) → calls_all has (without_switches program) [] nothing_declared ≡ calls_all has program [] nothing_declared }
-    ensures external { (program : Trees) → AreFormed (AreItems 0) ⊥ (Unit {0}) program → externals (without_switches program) ≡ externals program }
+    ensures declared { (program : Trees) → AreFormed (AreItems 0) ⊥ (Unit {0}) program →
+        declarations (without_switches program) ≡ declarations program }
+    ensures called { (program : Trees) → AreFormed (AreItems 0) ⊥ (Unit {0}) program → (has : AbsolutePath → Bool) →
+        calls_all has (without_switches program) [] nothing_declared ≡ calls_all has program [] nothing_declared }
+    ensures external { (program : Trees) → AreFormed (AreItems 0) ⊥ (Unit {0}) program →
+        externals (without_switches program) ≡ externals program }
     ensures known { (program : Trees) → AreFormed (AreItems 0) ⊥ (Unit {0}) program → known_of (without_switches program) ≡ known_of program }
     ensures whole { (program : Trees) → AreFormed (AreItems 0) ⊥ (Unit {0}) program → whole_of (without_switches program) ≡ whole_of program }
-    ensures names { (program : Trees) → AreFormed (AreItems 0) ⊥ (Unit {0}) program → name_errors (without_switches program) ≡ name_errors program }
-    ensures types { (program : Trees) → AreFormed (AreItems 0) ⊥ (Unit {0}) program → type_errors (without_switches program) ≡ type_errors program }
+    ensures names { (program : Trees) → AreFormed (AreItems 0) ⊥ (Unit {0}) program → name_errors (without_switches program) ≡ name_errors
+        program }
+    ensures types { (program : Trees) → AreFormed (AreItems 0) ⊥ (Unit {0}) program → type_errors (without_switches program) ≡ type_errors
+        program }
 {}
 
 /// Its terms may be written.
@@ -34,8 +39,8 @@ pub fn are_unswitchable()
     ensures { (program : Trees) → AreFormed (AreItems 0) ⊥ (Unit {0}) program → HaveLocals program → IsUnswitchable program }
 {}
 
-/// Where it and its methods have Locals enough, they have so with its operators named and its ElseIfs nested, and with its constants folded, where that is
-/// asked for.
+/// Where it and its methods have Locals enough, they have so with its operators named and its ElseIfs nested, and with
+/// its constants folded, where that is asked for.
 pub fn locals_stay()
     ensures named { (program : Trees) → HaveLocals program → HaveLocals (named_all program) }
     ensures folded { (fold : Bool) (width : Width) (program : Trees) → HaveLocals program → HaveLocals (folded_where fold width program) }

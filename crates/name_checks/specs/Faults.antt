@@ -3,7 +3,8 @@ use Rattle.std.specs.Prelude.{◌≡◌, ◌++◌, Bool, List, [], get_or, map}
 use Rattle.acpi_values.specs.Paths.{AbsolutePath}
 use Rattle.asl_meaning.specs.Declarations.{Declarations, declared_kinds}
 use Rattle.acpi_state.specs.Objects.{lookup}
-use Rattle.acpi_names.specs.Errors.{NameError, Twice, DeclaredHere, Missing, NoContainer, LeavesRoot, Differs, TooLong, WrongCount, WrongKind}
+use Rattle.acpi_names.specs.Errors.{NameError, Twice, DeclaredHere, Missing, NoContainer, LeavesRoot, Differs, TooLong, WrongCount}
+use Rattle.acpi_names.specs.Errors.{WrongKind}
 use Rattle.acpi_names.specs.Shown.{spot_as, written_as}
 use Rattle.name_kinds.specs.Kinds.{kind_as, type_as}
 use Rattle.name_kinds.specs.Tables.{TabledBy}

@@ -8,4 +8,5 @@ use Rattle.name_checks.specs.Messages.{message_of, first_errors}
 
 -- the messages of its errors
 abbrev pub seen_errors : List Mention → List Message
-seen_errors mentions = map message_of (first_errors (all_errors (seen mentions) mentions nothing_declared) (all_types (seen mentions) mentions))
+seen_errors mentions =
+    map message_of (first_errors (all_errors (seen mentions) mentions nothing_declared) (all_types (seen mentions) mentions))

@@ -4,7 +4,8 @@ ghost use Rattle.acpi_state.specs.Objects.{lookup};
 ghost use Rattle.asl_tree.specs.View.{trees_of};
 ghost use Rattle.asl_meaning.specs.Declarations.{Declarations, is_named, declarations, nothing_declared};
 ghost use Rattle.acpi_names.specs.Errors.{Whole, whole_of, name_errors, type_errors};
-ghost use Rattle.acpi_names.specs.Mentions.{mention_errors as errors_of, all_errors as all_errors_of, mention_types as types_of, all_types as all_types_of, after_all, block_mentions};
+ghost use Rattle.acpi_names.specs.Mentions.{mention_errors as errors_of, all_errors as all_errors_of, mention_types as types_of};
+ghost use Rattle.acpi_names.specs.Mentions.{all_types as all_types_of, after_all, block_mentions};
 ghost use Rattle.acpi_names.specs.Parts.{Agrees};
 ghost use Rattle.acpi_names.specs.Shown.{shown, all_shown};
 ghost use Rattle.acpi_names.specs.Tables.{Tabled};
@@ -50,7 +51,8 @@ fn mention_errors<'a>(
     requires told { Knows facts.now whole }
     requires there { IsThere whole (shown facts.now.index.paths mention) }
     requires sized { AreSized facts.now.index.paths before.now }
-    ensures { OnOk result ((d : Declarations) → Before facts.now.index.paths (is_named whole.all) before.now d → Finds facts.now.index.paths out.old.items out.new.items (errors_of whole (shown facts.now.index.paths mention.entry) d)) }
+    ensures { OnOk result ((d : Declarations) → Before facts.now.index.paths (is_named whole.all) before.now d →
+        Finds facts.now.index.paths out.old.items out.new.items (errors_of whole (shown facts.now.index.paths mention.entry) d)) }
 {
     match mention {
         Mention::Used {
@@ -125,7 +127,9 @@ fn all_errors<'a>(
     ghost whole: { Whole }
     requires told { Knows facts.now whole }
     requires all { after_all (all_shown facts.now.index.paths mentions.now) nothing_declared ≡ whole.all }
-    ensures { OnOk result (Finds facts.now.index.paths out.old.items out.new.items (all_errors_of whole (all_shown facts.now.index.paths mentions.now) nothing_declared)) }
+    ensures { OnOk result
+        (Finds facts.now.index.paths out.old.items out.new.items
+        (all_errors_of whole (all_shown facts.now.index.paths mentions.now) nothing_declared)) }
 {
     let mut before = blank(alloc, &facts.index)?;
     for mention in mentions {
@@ -143,7 +147,8 @@ fn mention_types<'a>(
 ) -> Result<(), AllocError>
     ghost whole: { Whole }
     requires { Knows facts.now whole }
-    ensures { OnOk result (Finds facts.now.index.paths out.old.items out.new.items (types_of whole (shown facts.now.index.paths mention.entry))) }
+    ensures { OnOk result
+        (Finds facts.now.index.paths out.old.items out.new.items (types_of whole (shown facts.now.index.paths mention.entry))) }
 {
     match mention {
         Mention::Used {
@@ -179,7 +184,8 @@ fn all_types<'a>(
 ) -> Result<(), AllocError>
     ghost whole: { Whole }
     requires { Knows facts.now whole }
-    ensures { OnOk result (Finds facts.now.index.paths out.old.items out.new.items (all_types_of whole (all_shown facts.now.index.paths mentions.now))) }
+    ensures { OnOk result
+        (Finds facts.now.index.paths out.old.items out.new.items (all_types_of whole (all_shown facts.now.index.paths mentions.now))) }
 {
     for mention in mentions {
         mention_types(out, facts, *mention)?;
@@ -196,7 +202,10 @@ fn faults<'a>(
     ghost whole: { Whole }
     requires told { Knows facts.now whole }
     requires all { after_all (all_shown facts.now.index.paths mentions.now) nothing_declared ≡ whole.all }
-    ensures { IfOk result (λ found. map (fault_as facts.now.index.paths) found.items ≡ first_errors (all_errors_of whole (all_shown facts.now.index.paths mentions.now) nothing_declared) (all_types_of whole (all_shown facts.now.index.paths mentions.now))) }
+    ensures { IfOk result
+        (λ found. map (fault_as facts.now.index.paths) found.items ≡ first_errors
+        (all_errors_of whole (all_shown facts.now.index.paths mentions.now) nothing_declared)
+        (all_types_of whole (all_shown facts.now.index.paths mentions.now))) }
 {
     let mut out = Vec::new(alloc);
     all_errors(alloc, &mut out, facts, mentions)?;
@@ -221,7 +230,9 @@ pub(crate) fn examine(alloc: Global, terms: &[Node]) -> Result<Examined, AllocEr
     ensures root { IfOk result (λ e. get_or e.names.index.paths 0 [] ≡ []) }
     ensures names { IfOk result (λ e. Agrees e.names.index.paths e.names.index.named.items (declarations (trees_of terms.now))) }
     ensures sized { IfOk result (λ e. length e.names.calls.items ≡ length e.names.index.paths) }
-    ensures calls { IfOk result (λ e. Tabled e.names.index.paths e.names.calls.items (lookup (seen (block_mentions (trees_of terms.now) [] nothing_declared)).calls)) }
+    ensures calls { IfOk result
+        (λ e. Tabled e.names.index.paths e.names.calls.items
+        (lookup (seen (block_mentions (trees_of terms.now) [] nothing_declared)).calls)) }
     ensures told { IfOk result (λ e. e.errors.items ≡ seen_errors (block_mentions (trees_of terms.now) [] nothing_declared)) }
 {
     let found = names_of(alloc, terms)?;

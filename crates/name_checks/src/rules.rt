@@ -34,7 +34,8 @@ const MOST: usize = 255;
 
 // An error, unless something holds.
 fn unless<'a>(out: &mut Vec<Fault<'a>>, holds: bool, fault: Fault<'a>) -> Result<(), AllocError>
-    ensures { OnOk result ((paths : List AbsolutePath) → Finds paths out.old.items out.new.items (spec.unless holds (fault_as paths fault.entry))) }
+    ensures { OnOk result
+        ((paths : List AbsolutePath) → Finds paths out.old.items out.new.items (spec.unless holds (fault_as paths fault.entry))) }
 {
     if !holds {
         out.push(fault)?;
@@ -61,7 +62,8 @@ fn is_declared(facts: &Facts, tables: &Tables, number: usize) -> bool
     requires told { Knows facts.now whole }
     requires within { number < length facts.now.index.paths }
     requires sized { AreSized facts.now.index.paths tables.now }
-    ensures { (d : Declarations) → Before facts.now.index.paths (is_named whole.all) tables.now d → result ≡ is_some (lookup d.declared (get_or facts.now.index.paths number [])) }
+    ensures { (d : Declarations) → Before facts.now.index.paths (is_named whole.all) tables.now d →
+        result ≡ is_some (lookup d.declared (get_or facts.now.index.paths number [])) }
 {
     let count = facts.index.paths.len();
     match tables.kinds[number] {
@@ -76,7 +78,8 @@ fn first_external(facts: &Facts, tables: &Tables, number: usize) -> Option<Exter
     requires told { Knows facts.now whole }
     requires within { number < length facts.now.index.paths }
     requires sized { AreSized facts.now.index.paths tables.now }
-    ensures { (d : Declarations) → Before facts.now.index.paths (is_named whole.all) tables.now d → option_map type_as result ≡ lookup d.external (get_or facts.now.index.paths number []) }
+    ensures { (d : Declarations) → Before facts.now.index.paths (is_named whole.all) tables.now d →
+        option_map type_as result ≡ lookup d.external (get_or facts.now.index.paths number []) }
 {
     let count = facts.index.paths.len();
     tables.externals[number]
@@ -118,7 +121,8 @@ fn is_new(facts: &Facts, before: &Tables, number: usize) -> bool
     requires told { Knows facts.now whole }
     requires within { number < length facts.now.index.paths }
     requires sized { AreSized facts.now.index.paths before.now }
-    ensures { (d : Declarations) → Before facts.now.index.paths (is_named whole.all) before.now d → result ≡ spec.is_new d (get_or facts.now.index.paths number []) }
+    ensures { (d : Declarations) → Before facts.now.index.paths (is_named whole.all) before.now d →
+        result ≡ spec.is_new d (get_or facts.now.index.paths number []) }
 {
     !(is_in_root(&facts.index.paths, number) || is_declared(facts, before, number))
 }
@@ -167,7 +171,9 @@ pub fn step_errors<'a>(
 ) -> Result<(), AllocError>
     ghost whole: { Whole }
     requires { Knows facts.now whole }
-    ensures { OnOk result (Finds facts.now.index.paths out.old.items out.new.items (spec.step_errors (spot_as at) (written_as name.entry) (get_or facts.now.index.paths scope []))) }
+    ensures { OnOk result
+        (Finds facts.now.index.paths out.old.items out.new.items
+        (spec.step_errors (spot_as at) (written_as name.entry) (get_or facts.now.index.paths scope []))) }
 {
     let depth = facts.depths[scope_in(&facts.index.paths, scope)];
     unless(
@@ -189,7 +195,9 @@ fn length_errors<'a>(
     ghost whole: { Whole }
     requires told { Knows facts.now whole }
     requires within { number < length facts.now.index.paths }
-    ensures { OnOk result (Finds facts.now.index.paths out.old.items out.new.items (spec.length_errors (spot_as at) (written_as name.entry) (get_or facts.now.index.paths number []))) }
+    ensures { OnOk result
+        (Finds facts.now.index.paths out.old.items out.new.items
+        (spec.length_errors (spot_as at) (written_as name.entry) (get_or facts.now.index.paths number []))) }
 {
     unless(
         out,
@@ -212,7 +220,9 @@ pub fn declared_errors<'a>(
     requires told { Knows facts.now whole }
     requires there { is_named whole.all (place_of (written_as name) (get_or facts.now.index.paths scope [])) ≡ true }
     requires sized { AreSized facts.now.index.paths before.now }
-    ensures { OnOk result ((d : Declarations) → Before facts.now.index.paths (is_named whole.all) before.now d → Finds facts.now.index.paths out.old.items out.new.items (spec.declared_errors whole (spot_as at) (written_as name.entry) (get_or facts.now.index.paths scope []) d)) }
+    ensures { OnOk result ((d : Declarations) → Before facts.now.index.paths (is_named whole.all) before.now d →
+        Finds facts.now.index.paths out.old.items out.new.items
+        (spec.declared_errors whole (spot_as at) (written_as name.entry) (get_or facts.now.index.paths scope []) d)) }
 {
     let path = place(&facts.index, name, scope);
     unless(out, is_new(facts, before, path), Fault::Twice { at, path })?;
@@ -237,7 +247,9 @@ pub fn external_errors<'a>(
     requires told { Knows facts.now whole }
     requires there { is_named whole.all (place_of name.now (get_or facts.now.index.paths scope [])) ≡ true }
     requires sized { AreSized facts.now.index.paths before.now }
-    ensures { OnOk result ((d : Declarations) → Before facts.now.index.paths (is_named whole.all) before.now d → Finds facts.now.index.paths out.old.items out.new.items (spec.external_errors whole (spot_as here) (spot_as at) name.now (type_as external) (get_or facts.now.index.paths scope []) d)) }
+    ensures { OnOk result ((d : Declarations) → Before facts.now.index.paths (is_named whole.all) before.now d →
+        Finds facts.now.index.paths out.old.items out.new.items
+        (spec.external_errors whole (spot_as here) (spot_as at) name.now (type_as external) (get_or facts.now.index.paths scope []) d)) }
 {
     let written = WrittenName::Path(name);
     let path = place(&facts.index, written, scope);
@@ -268,8 +280,11 @@ pub fn use_errors<'a>(
 ) -> Result<(), AllocError>
     ghost whole: { Whole }
     requires told { Knows facts.now whole }
-    requires denotes { path_with facts.now.index.paths target ≡ denotes_path (is_named whole.all) name.now (get_or facts.now.index.paths scope []) }
-    ensures { OnOk result (Finds facts.now.index.paths out.old.items out.new.items (spec.use_errors whole (spot_as at) name.now (get_or facts.now.index.paths scope []))) }
+    requires denotes { path_with facts.now.index.paths target ≡ denotes_path (is_named whole.all) name.now
+        (get_or facts.now.index.paths scope []) }
+    ensures { OnOk result
+        (Finds facts.now.index.paths out.old.items out.new.items
+        (spec.use_errors whole (spot_as at) name.now (get_or facts.now.index.paths scope []))) }
 {
     let name = WrittenName::Path(name);
     step_errors(out, facts, at, name, scope)?;
@@ -319,9 +334,12 @@ pub fn call_errors<'a>(
 ) -> Result<(), AllocError>
     ghost whole: { Whole }
     requires told { Knows facts.now whole }
-    requires denotes { path_with facts.now.index.paths target ≡ denotes_path (is_named whole.all) name.now (get_or facts.now.index.paths scope []) }
+    requires denotes { path_with facts.now.index.paths target ≡ denotes_path (is_named whole.all) name.now
+        (get_or facts.now.index.paths scope []) }
     requires within { IfSome target (λ n. n < length facts.now.index.paths) }
-    ensures { OnOk result (Finds facts.now.index.paths out.old.items out.new.items (spec.call_errors whole (spot_as at) name.now args (get_or facts.now.index.paths scope []))) }
+    ensures { OnOk result
+        (Finds facts.now.index.paths out.old.items out.new.items
+        (spec.call_errors whole (spot_as at) name.now args (get_or facts.now.index.paths scope []))) }
 {
     match target {
         None => Ok(()),
@@ -367,9 +385,13 @@ pub fn scope_errors<'a>(
 ) -> Result<(), AllocError>
     ghost whole: { Whole }
     requires told { Knows facts.now whole }
-    requires denotes { path_with facts.now.index.paths target ≡ denotes_path (is_named whole.all) name.now (get_or facts.now.index.paths scope []) }
+    requires denotes { path_with facts.now.index.paths target ≡ denotes_path (is_named whole.all) name.now
+        (get_or facts.now.index.paths scope []) }
     requires within { IfSome target (λ n. n < length facts.now.index.paths) }
-    ensures { OnOk result (Finds facts.now.index.paths out.old.items out.new.items (opening whole (spot_as here) (spot_as at) name.now (get_or facts.now.index.paths scope []) (get_or facts.now.index.paths inner []))) }
+    ensures { OnOk result
+        (Finds facts.now.index.paths out.old.items out.new.items
+        (opening whole (spot_as here) (spot_as at) name.now (get_or facts.now.index.paths scope [])
+        (get_or facts.now.index.paths inner []))) }
 {
     match target {
         None => Ok(()),
@@ -472,9 +494,12 @@ pub fn asked_types<'a>(
 ) -> Result<(), AllocError>
     ghost whole: { Whole }
     requires told { Knows facts.now whole }
-    requires denotes { path_with facts.now.index.paths target ≡ denotes_path (is_named whole.all) name.now (get_or facts.now.index.paths scope []) }
+    requires denotes { path_with facts.now.index.paths target ≡ denotes_path (is_named whole.all) name.now
+        (get_or facts.now.index.paths scope []) }
     requires within { IfSome target (λ n. n < length facts.now.index.paths) }
-    ensures { OnOk result (Finds facts.now.index.paths out.old.items out.new.items (spec.asked_types whole (asked_as asked) (spot_as at) name.now (get_or facts.now.index.paths scope []))) }
+    ensures { OnOk result
+        (Finds facts.now.index.paths out.old.items out.new.items
+        (spec.asked_types whole (asked_as asked) (spot_as at) name.now (get_or facts.now.index.paths scope []))) }
 {
     let end = name_end(facts, target);
     let name = WrittenName::Path(name);
@@ -515,9 +540,13 @@ pub fn call_types<'a>(
 ) -> Result<(), AllocError>
     ghost whole: { Whole }
     requires told { Knows facts.now whole }
-    requires denotes { path_with facts.now.index.paths target ≡ denotes_path (is_named whole.all) name.now (get_or facts.now.index.paths scope []) }
+    requires denotes { path_with facts.now.index.paths target ≡ denotes_path (is_named whole.all) name.now
+        (get_or facts.now.index.paths scope []) }
     requires within { IfSome target (λ n. n < length facts.now.index.paths) }
-    ensures { OnOk result (Finds facts.now.index.paths out.old.items out.new.items (spec.unless (spec.takes args (spec.name_end whole name.now (get_or facts.now.index.paths scope []))) (spec.WrongCount (spot_as at) name.now))) }
+    ensures { OnOk result
+        (Finds facts.now.index.paths out.old.items out.new.items
+        (spec.unless (spec.takes args (spec.name_end whole name.now (get_or facts.now.index.paths scope [])))
+        (spec.WrongCount (spot_as at) name.now))) }
 {
     let end = name_end(facts, target);
     let name = WrittenName::Path(name);

@@ -2,7 +2,9 @@
 use Rattle.std.specs.Prelude.{ℕ, nat_eq, nat_le, List, [], get_or, Option, Some, None, if◌then◌else◌}
 use Rattle.std.specs.Option.{option_map}
 use Rattle.acpi_values.specs.Paths.{AbsolutePath}
-use Rattle.acpi_state.specs.Objects.{Object, DataObject, MethodObject, ContainerObject, MutexObject, EventObject, RegionObject, UnitObject, BufferFieldObject, AliasObject, ExternalObject, ExternalMethod, ExternalData, ExternalOther, OfRoot, Device, ThermalZone, PowerResource, Processor, operand_count}
+use Rattle.acpi_state.specs.Objects.{Object, DataObject, MethodObject, ContainerObject, MutexObject, EventObject, RegionObject, UnitObject}
+use Rattle.acpi_state.specs.Objects.{BufferFieldObject, AliasObject, ExternalObject, ExternalMethod, ExternalData, ExternalOther, OfRoot}
+use Rattle.acpi_state.specs.Objects.{Device, ThermalZone, PowerResource, Processor, operand_count}
 use Rattle.asl_tree.specs.Names.{absolute}
 use Rattle.asl_tree.specs.Tree.{Trees}
 use Rattle.asl_meaning.specs.Declarations.{nothing_declared, is_named}
@@ -68,7 +70,8 @@ end_arity (Some found) = as_byte (operand_count found.1)
 -- own place
 abbrev pub described_by : Whole → Places → AbsolutePath → Option Description
 described_by whole places path =
-    if is_named whole.all path then Some (record { kind = end_kind (final whole.known path); arity = end_arity (final whole.known path); place = place_at places path })
+    if is_named whole.all path then
+    Some (record { kind = end_kind (final whole.known path); arity = end_arity (final whole.known path); place = place_at places path })
     else None
 
 -- the same in a block
@@ -78,4 +81,5 @@ described program path = described_by (whole_of program) (placed_all (block_ment
 -- the entry with a number, by the paths with numbers and what is said of each
 abbrev pub entry_in : List AbsolutePath → List (Option Description) → ℕ → Option Entry
 entry_in paths said number =
-    option_map (λ d. record { number = number; path = absolute (get_or paths number []); kind = d.kind; arity = d.arity; place = d.place }) (get_or said number None)
+    option_map (λ d. record { number = number; path = absolute (get_or paths number []); kind = d.kind; arity = d.arity; place = d.place })
+    (get_or said number None)

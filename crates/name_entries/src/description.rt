@@ -62,7 +62,8 @@ fn describe(facts: &Facts, places: &PlaceTables, number: usize) -> Option<Descri
     requires told { Knows facts.now whole }
     requires sized { AreAll facts.now.index.paths places.now }
     requires within { number < length facts.now.index.paths }
-    ensures { (p : Places) → ArePlaced facts.now.index.paths places.now p → result ≡ described_by whole p (get_or facts.now.index.paths number []) }
+    ensures { (p : Places) → ArePlaced facts.now.index.paths places.now p →
+        result ≡ described_by whole p (get_or facts.now.index.paths number []) }
 {
     if !is_named_at(facts, number) {
         return None;
@@ -85,7 +86,8 @@ fn descriptions(
     requires told { Knows facts.now whole }
     requires sized { AreAll facts.now.index.paths places.now }
     ensures size { IfOk result (λ said. length said.items ≡ length facts.now.index.paths) }
-    ensures each { IfOk result (λ said. (p : Places) → ArePlaced facts.now.index.paths places.now p → (n : ℕ) → n < length facts.now.index.paths → get_or said.items n None ≡ described_by whole p (get_or facts.now.index.paths n [])) }
+    ensures each { IfOk result (λ said. (p : Places) → ArePlaced facts.now.index.paths places.now p → (n : ℕ) → n < length facts.now.index.paths
+        → get_or said.items n None ≡ described_by whole p (get_or facts.now.index.paths n [])) }
 {
     let mut said = Vec::new(alloc);
     for number in 0..facts.index.paths.len() {
@@ -115,7 +117,8 @@ pub fn describe_all(
     requires known { IsKnown whole }
     ensures same { IfOk result (λ d. d.index ≡ index) }
     ensures size { IfOk result (λ d. length d.said.items ≡ length index.paths) }
-    ensures each { IfOk result (λ d. (n : ℕ) → n < length index.paths → get_or d.said.items n None ≡ described_by whole (placed_all (all_shown index.paths mentions.now) no_places) (get_or index.paths n [])) }
+    ensures each { IfOk result (λ d. (n : ℕ) → n < length index.paths → get_or d.said.items n None ≡ described_by whole
+        (placed_all (all_shown index.paths mentions.now) no_places) (get_or index.paths n [])) }
 {
     let places = places_of(alloc, &index, mentions)?;
     let facts = facts_of(alloc, index, mentions)?;

@@ -100,8 +100,10 @@ impl Names {
 pub fn entries(alloc: Global, terms: &[Node]) -> Result<Names, AllocError>
     ensures size { IfOk result (λ n. length n.index.named.items ≡ length n.index.paths) }
     ensures names { IfOk result (λ n. Agrees n.index.paths n.index.named.items (declarations (trees_of terms.now))) }
-    ensures uses { IfOk result (λ n. (node : ℕ) → path_with n.index.paths (get_or n.uses.items node None) ≡ denoted_in (trees_of terms.now) node) }
-    ensures said { IfOk result (λ n. are_terms (trees_of terms.now) ≡ true → (number : ℕ) → get_or n.said.items number None ≡ choose (slice_get n.index.paths number) None (described_in (trees_of terms.now))) }
+    ensures uses { IfOk result (λ n. (node : ℕ) → path_with n.index.paths (get_or n.uses.items node None) ≡ denoted_in (trees_of terms.now)
+        node) }
+    ensures said { IfOk result (λ n. are_terms (trees_of terms.now) ≡ true → (number : ℕ) → get_or n.said.items number None ≡ choose
+        (slice_get n.index.paths number) None (described_in (trees_of terms.now))) }
 {
     let Found { index, mentions } = names_of(alloc, terms)?;
     if !has_room(index.paths.len()) {

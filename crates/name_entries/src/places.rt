@@ -6,7 +6,8 @@ ghost use Rattle.acpi_names.specs.Mentions.{after_all};
 ghost use Rattle.acpi_names.specs.Parts.{Agrees};
 ghost use Rattle.acpi_names.specs.Shown.{shown, all_shown};
 ghost use Rattle.name_kinds.specs.Tables.{IsThere};
-ghost use Rattle.name_entries.specs.Placed.{Places, AreAll, ArePlaced, IsDeclaredAt, IsOutsideAt, no_places, placed, placed_all, place_at, first_place};
+ghost use Rattle.name_entries.specs.Placed.{Places, AreAll, ArePlaced, IsDeclaredAt, IsOutsideAt, no_places, placed, placed_all, place_at};
+ghost use Rattle.name_entries.specs.Placed.{first_place};
 
 use acpi_names::index::Index;
 use acpi_names::mention::{Mention, WrittenName};
@@ -68,7 +69,8 @@ fn note(index: &Index, tables: &mut PlaceTables, mention: &Mention)
     requires there { IsThere whole (shown index.now.paths mention.now) }
     requires sized { AreAll index.now.paths tables.old }
     ensures sized { AreAll index.now.paths tables.new }
-    ensures placed { (p : Places) → ArePlaced index.now.paths tables.old p → ArePlaced index.now.paths tables.new (placed (shown index.now.paths mention.now) p) }
+    ensures placed { (p : Places) → ArePlaced index.now.paths tables.old p → ArePlaced index.now.paths tables.new
+        (placed (shown index.now.paths mention.now) p) }
 {
     match mention {
         Mention::Declares {

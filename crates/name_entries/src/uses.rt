@@ -17,7 +17,8 @@ use std::alloc::{AllocError, Global};
 fn target(index: &Index, name: &Path, scope: usize) -> Option<u32>
     requires flags { length index.now.named.items ≡ length index.now.paths }
     requires room { length index.now.paths ≤ 2 ^ 32 }
-    ensures { (d : Declarations) → Agrees index.now.paths index.now.named.items d → path_with index.now.paths result ≡ denoted (is_named d) name.now (get_or index.now.paths scope []) }
+    ensures { (d : Declarations) → Agrees index.now.paths index.now.named.items d → path_with index.now.paths result ≡ denoted
+        (is_named d) name.now (get_or index.now.paths scope []) }
 {
     match denoted_by(index, name, scope_in(&index.paths, scope)) {
         Some(number) => Some(number as u32),
@@ -41,7 +42,9 @@ fn put(uses: &mut Vec<Option<u32>>, node: u32, target: Option<u32>) -> Result<()
 fn note(index: &Index, uses: &mut Vec<Option<u32>>, mention: &Mention) -> Result<(), AllocError>
     requires flags { length index.now.named.items ≡ length index.now.paths }
     requires room { length index.now.paths ≤ 2 ^ 32 }
-    ensures { OnOk result ((d : Declarations) (before : List Use) → Agrees index.now.paths index.now.named.items d → Denotes index.now.paths (is_named d) uses.old.items before → Denotes index.now.paths (is_named d) uses.new.items (used_by (shown index.now.paths mention.now) ++ before)) }
+    ensures { OnOk result ((d : Declarations) (before : List Use) → Agrees index.now.paths index.now.named.items d →
+        Denotes index.now.paths (is_named d) uses.old.items before → Denotes index.now.paths (is_named d) uses.new.items
+        (used_by (shown index.now.paths mention.now) ++ before)) }
 {
     match mention {
         Mention::Used {
@@ -88,7 +91,8 @@ pub fn uses_of(
 ) -> Result<Vec<Option<u32>>, AllocError>
     requires flags { length index.now.named.items ≡ length index.now.paths }
     requires room { length index.now.paths ≤ 2 ^ 32 }
-    ensures { IfOk result (λ uses. (d : Declarations) → Agrees index.now.paths index.now.named.items d → Denotes index.now.paths (is_named d) uses.items (uses_after (all_shown index.now.paths mentions.now) [])) }
+    ensures { IfOk result (λ uses. (d : Declarations) → Agrees index.now.paths index.now.named.items d →
+        Denotes index.now.paths (is_named d) uses.items (uses_after (all_shown index.now.paths mentions.now) [])) }
 {
     let mut uses = Vec::new(alloc);
     for mention in mentions {

@@ -23,7 +23,8 @@ pub record AreEnds (paths : List AbsolutePath) (ends : List (Option End)) (known
 -- what follows a path: its end, or the path of which it is an alias
 abbrev pub Follows : List AbsolutePath → Known → AbsolutePath → Step → Type 0
 Follows paths known path (Step.Ends end) = ended paths end ≡ final known path
-Follows paths known path (Step.Leads source) = (source < length paths) × (kind_at known path ≡ Some (AliasTo (Some (get_or paths source []))))
+Follows paths known path (Step.Leads source) = (source < length paths)
+    × (kind_at known path ≡ Some (AliasTo (Some (get_or paths source []))))
 
 -- a path has been followed
 abbrev pub IsMarked : List Mark → ℕ → Type 0
@@ -33,6 +34,7 @@ IsMarked marks n = get_or marks n Mark.New ≡ Mark.New → ⊥
 pub record AreMarked (paths : List AbsolutePath) (known : Known) (walks : Walks) : Type 0 where
   pub marks : length walks.marks.items ≡ length paths
   pub ends : length walks.ends.items ≡ length paths
-  pub reached : (n : ℕ) → get_or walks.marks.items n Mark.New ≡ Mark.Ended → ended paths (get_or walks.ends.items n None) ≡ final known (get_or paths n [])
+  pub reached : (n : ℕ) → get_or walks.marks.items n Mark.New ≡ Mark.Ended → ended paths (get_or walks.ends.items n None) ≡ final known
+      (get_or paths n [])
   pub walking : (n : ℕ) → get_or walks.marks.items n Mark.New ≡ Mark.OnWalk → Contains walks.chain.items n
   pub inside : All (λ n. n < length paths) walks.chain.items

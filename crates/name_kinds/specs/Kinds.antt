@@ -1,7 +1,8 @@
 -- What code says of a path, as the definitions say it.
 use Rattle.std.specs.Prelude.{List, [], ◌∷◌, Option, Some, ℕ, None}
 use Rattle.acpi_values.specs.Paths.{AbsolutePath}
-use Rattle.acpi_state.specs.Objects.{ContainerObject, MutexObject, ExternalObject, OfRoot, ExternalMethod, ExternalData, ExternalOther, lookup, root_objects}
+use Rattle.acpi_state.specs.Objects.{ContainerObject, MutexObject, ExternalObject, OfRoot, ExternalMethod, ExternalData, ExternalOther}
+use Rattle.acpi_state.specs.Objects.{lookup, root_objects}
 use Rattle.acpi_state.specs.Objects as S
 use Rattle.asl_tree.specs.Names.{Is, AliasTo}
 use Rattle.asl_tree.specs.Names as N

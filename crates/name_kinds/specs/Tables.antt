@@ -4,7 +4,8 @@ use Rattle.std.specs.Option.{option_map}
 use Rattle.acpi_values.specs.Paths.{AbsolutePath}
 use Rattle.acpi_state.specs.Objects.{lookup, root_objects}
 use Rattle.asl_tree.specs.Names.{place_of}
-use Rattle.asl_meaning.specs.Declarations.{Declared, Declarations, with_declared, with_first, with_external, in_root, declared_kinds, external_names, as_known, kind_of, called, is_named}
+use Rattle.asl_meaning.specs.Declarations.{Declared, Declarations, with_declared, with_first, with_external, in_root, declared_kinds}
+use Rattle.asl_meaning.specs.Declarations.{external_names, as_known, kind_of, called, is_named}
 use Rattle.acpi_names.specs.Errors.{Whole}
 use Rattle.acpi_names.specs.Paths.{number_in}
 use Rattle.acpi_names.specs.Tables.{entry_at, Tabled}
@@ -20,7 +21,8 @@ abbrev pub TabledBy : {A B : Type 0} → (A → B) → List AbsolutePath → Lis
 TabledBy view paths table look = (path : AbsolutePath) → option_map view (entry_at table (number_in paths path)) ≡ look path
 
 -- what the tables say of some declarations and calls
-pub record Notes (paths : List AbsolutePath) (has : AbsolutePath → Bool) (tables : Tables) (calls : List (AbsolutePath × ℕ)) (d : Declarations) : Type 0 where
+pub record Notes (paths : List AbsolutePath) (has : AbsolutePath → Bool) (tables : Tables) (calls : List (AbsolutePath × ℕ))
+    (d : Declarations) : Type 0 where
   pub kinds : TabledBy (kind_as paths) paths tables.kinds.items (lookup (declared_kinds has d.declared))
   pub externals : TabledBy type_as paths tables.externals.items (lookup d.external)
   pub first : Tabled paths tables.calls.items (lookup calls)
@@ -40,28 +42,34 @@ IsThere whole _ = Unit {0}
 -- from what is said before to what is said behind a declaration, an External, and a call of a path
 abbrev pub IsDeclared : List AbsolutePath → Tables → Tables → Kind → AbsolutePath → Type 0
 IsDeclared paths old new kind path =
-    (has : AbsolutePath → Bool) (calls : List (AbsolutePath × ℕ)) (d : Declarations) (as' : Declared) → kind_as paths kind ≡ kind_of has as' → Notes paths has old calls d → Notes paths has new calls (with_declared path as' d)
+    (has : AbsolutePath → Bool) (calls : List (AbsolutePath × ℕ)) (d : Declarations) (as' : Declared) → kind_as paths kind ≡ kind_of has as'
+    → Notes paths has old calls d → Notes paths has new calls (with_declared path as' d)
 
 abbrev pub IsExternal : List AbsolutePath → Tables → Tables → External → AbsolutePath → Type 0
 IsExternal paths old new external path =
-    (has : AbsolutePath → Bool) (calls : List (AbsolutePath × ℕ)) (d : Declarations) → Notes paths has old calls d → Notes paths has new calls (record d { external = with_first path (type_as external) d.external })
+    (has : AbsolutePath → Bool) (calls : List (AbsolutePath × ℕ)) (d : Declarations) → Notes paths has old calls d →
+    Notes paths has new calls (record d { external = with_first path (type_as external) d.external })
 
 abbrev pub IsOutside : List AbsolutePath → Tables → Tables → External → AbsolutePath → Type 0
 IsOutside paths old new external path =
-    (has : AbsolutePath → Bool) (calls : List (AbsolutePath × ℕ)) (d : Declarations) → Notes paths has old calls d → Notes paths has new calls (with_external (in_root path) path (type_as external) d)
+    (has : AbsolutePath → Bool) (calls : List (AbsolutePath × ℕ)) (d : Declarations) → Notes paths has old calls d →
+    Notes paths has new calls (with_external (in_root path) path (type_as external) d)
 
 abbrev pub IsCalled : List AbsolutePath → Tables → Tables → ℕ → AbsolutePath → Type 0
 IsCalled paths old new args path =
-    (has : AbsolutePath → Bool) (calls : List (AbsolutePath × ℕ)) (d : Declarations) → Notes paths has old calls d → Notes paths has new (calls ++ (path, args) ∷ []) d
+    (has : AbsolutePath → Bool) (calls : List (AbsolutePath × ℕ)) (d : Declarations) → Notes paths has old calls d →
+    Notes paths has new (calls ++ (path, args) ∷ []) d
 
 -- from what is said before a mention to what is said behind it
 abbrev pub Notices : List AbsolutePath → Whole → Tables → Tables → Mention → Type 0
 Notices paths whole old new m =
-    (calls : List (AbsolutePath × ℕ)) (d : Declarations) → Notes paths (is_named whole.all) old calls d → Notes paths (is_named whole.all) new (calls ++ called (call_in (is_named whole.all) m)) (after m d)
+    (calls : List (AbsolutePath × ℕ)) (d : Declarations) → Notes paths (is_named whole.all) old calls d →
+    Notes paths (is_named whole.all) new (calls ++ called (call_in (is_named whole.all) m)) (after m d)
 
 -- what is known of a block is what it declares, what it has of other tables, and the root's objects
 abbrev pub IsKnown : Whole → Type 0
-IsKnown whole = whole.known ≡ declared_kinds (is_named whole.all) whole.all.declared ++ as_known (external_names whole.calls whole.all.external ++ root_objects)
+IsKnown whole = whole.known ≡ declared_kinds (is_named whole.all) whole.all.declared
+    ++ as_known (external_names whole.calls whole.all.external ++ root_objects)
 
 -- tables that say of each path what is known of it
 pub record Says (paths : List AbsolutePath) (tables : Tables) (whole : Whole) : Type 0 where

@@ -22,7 +22,8 @@ fn kind_from(
     first: Option<usize>,
     object: Option<Object>,
 ) -> Option<Kind>
-    ensures { (paths : List AbsolutePath) → option_map (kind_as paths) result ≡ kind_of (option_map (kind_as paths) declared) (option_map type_as external) first (option_map object_as object) }
+    ensures { (paths : List AbsolutePath) → option_map (kind_as paths) result ≡ kind_of (option_map (kind_as paths) declared)
+        (option_map type_as external) first (option_map object_as object) }
 {
     if let Some(kind) = declared {
         return Some(kind);
@@ -165,7 +166,8 @@ fn follow(
 fn settle(walks: &mut Walks, end: Option<End>)
     requires size { length walks.old.ends.items ≡ length walks.old.marks.items }
     requires inside { All (λ n. n < length walks.old.marks.items) walks.old.chain.items }
-    ensures marked { (paths : List AbsolutePath) (known : Known) → AreMarked paths known walks.old → All (λ n. final known (get_or paths n []) ≡ ended paths end) walks.old.chain.items → AreMarked paths known walks.new }
+    ensures marked { (paths : List AbsolutePath) (known : Known) → AreMarked paths known walks.old →
+        All (λ n. final known (get_or paths n []) ≡ ended paths end) walks.old.chain.items → AreMarked paths known walks.new }
     ensures idle { walks.new.chain.items ≡ [] }
     ensures others { (n : ℕ) → IsMarked walks.old.marks.items n → IsMarked walks.new.marks.items n }
 {

@@ -83,7 +83,9 @@ fn noted(alloc: Global, index: &Index, mentions: &[Mention]) -> Result<Tables, A
     requires agrees { Agrees index.now.paths index.now.named.items whole.all }
     requires all { after_all (all_shown index.now.paths mentions.now) nothing_declared ≡ whole.all }
     ensures sized { IfOk result (AreSized index.now.paths) }
-    ensures notes { IfOk result (λ t. Notes index.now.paths (is_named whole.all) t (called (calls_in (is_named whole.all) (all_shown index.now.paths mentions.now))) whole.all) }
+    ensures notes { IfOk result
+        (λ t. Notes index.now.paths (is_named whole.all) t (called (calls_in (is_named whole.all) (all_shown index.now.paths mentions.now)))
+        whole.all) }
 {
     let mut tables = blank(alloc, index)?;
     for mention in mentions {

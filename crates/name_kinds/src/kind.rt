@@ -4,7 +4,8 @@ ghost use Rattle.std.specs.Option.{option_map};
 ghost use Rattle.acpi_values.specs.Paths.{AbsolutePath};
 ghost use Rattle.acpi_state.specs.Objects.{root_objects, lookup, operand_count as count_of, is_method as method_is};
 ghost use Rattle.asl_meaning.specs.Declarations.{external_object, arity_from as arity_is};
-ghost use Rattle.acpi_names.specs.Errors.{is_container as container_is, is_mutex as mutex_is, is_event as event_is, is_region as region_is, is_unit as unit_is};
+ghost use Rattle.acpi_names.specs.Errors.{is_container as container_is, is_mutex as mutex_is, is_event as event_is, is_region as region_is};
+ghost use Rattle.acpi_names.specs.Errors.{is_unit as unit_is};
 ghost use Rattle.name_kinds.specs.Kinds.{object_as, outside_as, type_as, space_of};
 ghost use Rattle.name_kinds.specs.declared.kind.Object.TheVariants as O;
 

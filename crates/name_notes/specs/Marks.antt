@@ -12,7 +12,8 @@ Marked paths flags test = (path : AbsolutePath) → is_named_in paths flags path
 
 -- one path more, where there is one
 abbrev pub IsMarked : List AbsolutePath → List Bool → List Bool → Option AbsolutePath → Type 0
-IsMarked paths old new other = (test : AbsolutePath → Bool) → Marked paths old test → Marked paths new (λ path. is_at path other || test path)
+IsMarked paths old new other = (test : AbsolutePath → Bool) → Marked paths old test →
+    Marked paths new (λ path. is_at path other || test path)
 
 -- a flag of each kind for each path
 pub record AreSized (paths : List AbsolutePath) (marks : Marks) : Type 0 where

@@ -52,7 +52,8 @@ abbrev pub method_of : Mention → Option AbsolutePath
 method_of (Declares at name as' scope) = choose (method_arguments as') None (λ count. Some (place_of name scope))
 method_of _ = None
 
--- the path that a mention uses: what the name of an operand, of the source of an Alias, of a call or of a Scope denotes; `has` says which paths are named
+-- the path that a mention uses: what the name of an operand, of the source of an Alias, of a call or of a Scope
+-- denotes; `has` says which paths are named
 abbrev pub used_by : (AbsolutePath → Bool) → Mention → Option AbsolutePath
 used_by has (Used' asked at name scope) = denoted has name scope
 used_by has (Sought at name scope) = denoted has name scope

@@ -75,7 +75,9 @@ fn tell(
 fn is_unused(index: &Index, marks: &Marks, number: usize, scope: usize) -> bool
     requires within { number < length index.now.paths }
     requires sized { AreSized index.now.paths marks.now }
-    ensures { (is_method is_used : AbsolutePath → Bool) → Marked index.now.paths marks.now.methods.items is_method → Marked index.now.paths marks.now.used.items is_used → result ≡ (is_method (get_or index.now.paths scope []) && not (is_used (get_or index.now.paths number []))) }
+    ensures { (is_method is_used : AbsolutePath → Bool) → Marked index.now.paths marks.now.methods.items is_method →
+        Marked index.now.paths marks.now.used.items is_used →
+        result ≡ (is_method (get_or index.now.paths scope []) && not (is_used (get_or index.now.paths number []))) }
 {
     let paths = &index.paths;
     is_marked(paths, &marks.methods, scope_in(paths, scope))
@@ -94,7 +96,9 @@ fn note(
     requires agrees { Agrees index.now.paths index.now.named.items whole.all }
     requires there { IsThere whole (shown index.now.paths mention.now) }
     requires sized { AreSized index.now.paths marks.now }
-    ensures { OnOk result ((is_method is_used : AbsolutePath → Bool) → Marked index.now.paths marks.now.methods.items is_method → Marked index.now.paths marks.now.used.items is_used → out.new ≡ out.old ++ mention_notes is_method is_used (shown index.now.paths mention.now)) }
+    ensures { OnOk result ((is_method is_used : AbsolutePath → Bool) → Marked index.now.paths marks.now.methods.items is_method →
+        Marked index.now.paths marks.now.used.items is_used → out.new ≡ out.old ++ mention_notes is_method is_used
+        (shown index.now.paths mention.now)) }
 {
     match mention {
         Mention::Declares {

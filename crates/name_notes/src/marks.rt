@@ -117,8 +117,10 @@ fn note(index: &Index, marks: &mut Marks, mention: &Mention)
     requires there { IsThere whole (shown index.now.paths mention.now) }
     requires sized { AreSized index.now.paths marks.old }
     ensures sized { AreSized index.now.paths marks.new }
-    ensures methods { IsMarked index.now.paths marks.old.methods.items marks.new.methods.items (spec.method_of (shown index.now.paths mention.now)) }
-    ensures used { IsMarked index.now.paths marks.old.used.items marks.new.used.items (spec.used_by (is_named whole.all) (shown index.now.paths mention.now)) }
+    ensures methods { IsMarked index.now.paths marks.old.methods.items marks.new.methods.items
+        (spec.method_of (shown index.now.paths mention.now)) }
+    ensures used { IsMarked index.now.paths marks.old.used.items marks.new.used.items
+        (spec.used_by (is_named whole.all) (shown index.now.paths mention.now)) }
 {
     mark(&index.paths, &mut marks.methods, method(index, mention));
     mark(&index.paths, &mut marks.used, used(index, mention));

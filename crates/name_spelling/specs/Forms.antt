@@ -16,7 +16,8 @@ form_length form = (if form.root then 1 else form.up) + segments_length form.cou
 
 -- the second of two forms, where it leads to the path without a search and is shorter
 abbrev pub nearer : Form → Form → Bool → Form
-nearer best other leads = if leads && (nat_lt 0 other.up || nat_lt 1 other.count) && nat_lt (form_length other) (form_length best) then other else best
+nearer best other leads = if leads && (nat_lt 0 other.up || nat_lt 1 other.count) && nat_lt (form_length other) (form_length best) then
+    other else best
 
 -- the places of a segment in the scopes around one
 abbrev pub around : NameSeg → AbsolutePath → List AbsolutePath

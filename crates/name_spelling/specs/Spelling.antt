@@ -91,7 +91,8 @@ module _ (shorten : Bool) (has : AbsolutePath → Bool) (says : AbsolutePath →
   part_body part form args body scope = body
 
 -- more paths with numbers, of which the same are named and the same are in a table
-pub record Grows (paths : List AbsolutePath) (named : List Bool) (more : List AbsolutePath) (flags : List Bool) (table : List (Option ℕ)) : Type 0 where
+pub record Grows (paths : List AbsolutePath) (named : List Bool) (more : List AbsolutePath) (flags : List Bool) (table : List (Option ℕ)) :
+    Type 0 where
   pub size : length flags ≡ length more
   pub others : Extends paths more
   pub names : Keeps paths named more flags
@@ -105,20 +106,25 @@ Knowing paths named table P =
 module _ (shorten : Bool) (paths : List AbsolutePath) (named : List Bool) (table : List (Option ℕ)) where
   -- trees are spelled in a scope: all of them, all but one, and the elements of a Package
   abbrev pub SpellsAll : Trees → Trees → AbsolutePath → Type 0
-  SpellsAll old new scope = Knowing paths named table (λ d counts. new ≡ spelled_all shorten (is_named d) (written_external counts) old scope)
+  SpellsAll old new scope =
+      Knowing paths named table (λ d counts. new ≡ spelled_all shorten (is_named d) (written_external counts) old scope)
 
   abbrev pub SpellsBut : ℕ → Trees → Trees → AbsolutePath → Type 0
-  SpellsBut place old new scope = Knowing paths named table (λ d counts. new ≡ spelled_but shorten (is_named d) (written_external counts) place old scope)
+  SpellsBut place old new scope =
+      Knowing paths named table (λ d counts. new ≡ spelled_but shorten (is_named d) (written_external counts) place old scope)
 
   abbrev pub SpellsElements : Trees → Trees → AbsolutePath → Type 0
-  SpellsElements old new scope = Knowing paths named table (λ d counts. new ≡ spelled_elements shorten (is_named d) (written_external counts) old scope)
+  SpellsElements old new scope =
+      Knowing paths named table (λ d counts. new ≡ spelled_elements shorten (is_named d) (written_external counts) old scope)
 
   abbrev pub SpellsOpened : Bool → Trees → Trees → AbsolutePath → Type 0
-  SpellsOpened opens old new scope = Knowing paths named table (λ d counts. new ≡ opened_body shorten (is_named d) (written_external counts) opens old scope)
+  SpellsOpened opens old new scope =
+      Knowing paths named table (λ d counts. new ≡ opened_body shorten (is_named d) (written_external counts) opens old scope)
 
   -- the arguments and the body of a form
   abbrev pub SpellsArgs : Part → ValueForm → Trees → Trees → AbsolutePath → Type 0
-  SpellsArgs part form old new scope = Knowing paths named table (λ d counts. new ≡ part_args shorten (is_named d) (written_external counts) part form old scope)
+  SpellsArgs part form old new scope =
+      Knowing paths named table (λ d counts. new ≡ part_args shorten (is_named d) (written_external counts) part form old scope)
 
   abbrev pub SpellsBody : Part → ValueForm → Trees → Trees → Trees → AbsolutePath → Type 0
   SpellsBody part form args old new scope =
@@ -127,4 +133,6 @@ module _ (shorten : Bool) (paths : List AbsolutePath) (named : List Bool) (table
 -- the arguments of an External say what is written of it
 abbrev pub SpellsExternal : List AbsolutePath → List (Option ℕ) → ℕ → Option ℕ → Trees → Trees → AbsolutePath → Type 0
 SpellsExternal paths table object parameters old new scope =
-    (counts : List (AbsolutePath × ℕ)) → Tabled paths table (lookup counts) → new ≡ choose (name_at 0 old) old (λ name. external_args (written_external counts (place_of name scope) (external_type object parameters)) old)
+    (counts : List (AbsolutePath × ℕ)) → Tabled paths table (lookup counts) →
+    new ≡ choose (name_at 0 old) old
+    (λ name. external_args (written_external counts (place_of name scope) (external_type object parameters)) old)

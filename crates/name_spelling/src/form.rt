@@ -69,7 +69,8 @@ fn depth(paths: &Paths, number: usize) -> u32
 pub(crate) fn shortest_placed(paths: &Paths, number: usize, scope: usize) -> Form
     requires path_in { number < length paths.now }
     requires scope_in { scope < length paths.now }
-    ensures { (has : AbsolutePath → Bool) → has (get_or paths.now number []) ≡ true → form_name result (get_or paths.now number []) ≡ short_element has (get_or paths.now number []) (get_or paths.now scope []) }
+    ensures { (has : AbsolutePath → Bool) → has (get_or paths.now number []) ≡ true →
+        form_name result (get_or paths.now number []) ≡ short_element has (get_or paths.now number []) (get_or paths.now scope []) }
 {
     let len = paths.len();
     let segments = depth(paths, number);
@@ -139,7 +140,8 @@ pub(crate) fn shortest_used(paths: &Paths, named: &[bool], number: usize, scope:
     requires scope_in { scope < length paths.now }
     requires all { length named.now ≡ length paths.now }
     requires is_named { is_named_in paths.now named.now (get_or paths.now number []) ≡ true }
-    ensures { form_name result (get_or paths.now number []) ≡ short_use (is_named_in paths.now named.now) (get_or paths.now number []) (get_or paths.now scope []) }
+    ensures { form_name result (get_or paths.now number []) ≡ short_use (is_named_in paths.now named.now) (get_or paths.now number [])
+        (get_or paths.now scope []) }
 {
     if is_found_alone(paths, named, number, scope) {
         Form {

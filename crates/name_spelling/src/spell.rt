@@ -8,7 +8,8 @@ ghost use Rattle.acpi_names.specs.Parts.{Agrees, part_of, path_of};
 ghost use Rattle.acpi_names.specs.Paths.{is_named_in};
 ghost use Rattle.acpi_names.specs.Spelled.{spelled, spelled_all, element_spelled};
 ghost use Rattle.acpi_names.specs.Tables.{Tabled};
-ghost use Rattle.name_spelling.specs.Spelling.{Grows, Knowing, SpellsAll, SpellsBut, SpellsElements, SpellsOpened, SpellsArgs, SpellsBody, SpellsExternal, place_at, opened_at, other_spelled, with_number_at};
+ghost use Rattle.name_spelling.specs.Spelling.{Grows, Knowing, SpellsAll, SpellsBut, SpellsElements, SpellsOpened, SpellsArgs, SpellsBody};
+ghost use Rattle.name_spelling.specs.Spelling.{SpellsExternal, place_at, opened_at, other_spelled, with_number_at};
 ghost use Rattle.acpi_names.specs.Walked.{node_tree, value_form_of};
 ghost use Rattle.term_places.specs.Places.{places_of, term_places};
 ghost use Rattle.acpi_names.specs.declared.part.Part.TheVariants as P;
@@ -35,7 +36,8 @@ fn spell_all(
     requires all { length index.old.named.items ≡ length index.old.paths }
     requires short { length calls.now ≤ length index.old.paths }
     ensures grows { OnOk result (Grows index.old.paths index.old.named.items index.new.paths index.new.named.items calls.now) }
-    ensures spells { OnOk result (SpellsAll shorten index.old.paths index.old.named.items calls.now (trees_of nodes.old.items) (trees_of nodes.new.items) (get_or index.old.paths scope [])) }
+    ensures spells { OnOk result (SpellsAll shorten index.old.paths index.old.named.items calls.now (trees_of nodes.old.items)
+        (trees_of nodes.new.items) (get_or index.old.paths scope [])) }
     ensures places { OnOk result (places_of nodes.new.items ≡ places_of nodes.old.items) }
 {
     for node in nodes.iter_mut() {
@@ -59,7 +61,8 @@ fn spell_but(
     requires all { length index.old.named.items ≡ length index.old.paths }
     requires short { length calls.now ≤ length index.old.paths }
     ensures grows { OnOk result (Grows index.old.paths index.old.named.items index.new.paths index.new.named.items calls.now) }
-    ensures spells { OnOk result (SpellsBut shorten index.old.paths index.old.named.items calls.now place (trees_of nodes.old.items) (trees_of nodes.new.items) (get_or index.old.paths scope [])) }
+    ensures spells { OnOk result (SpellsBut shorten index.old.paths index.old.named.items calls.now place (trees_of nodes.old.items)
+        (trees_of nodes.new.items) (get_or index.old.paths scope [])) }
 {
     for (number, node) in nodes.iter_mut().enumerate() {
         spell_other(alloc, index, calls, shorten, node, number == place, scope)?;
@@ -82,7 +85,10 @@ fn spell_other(
     requires all { length index.old.named.items ≡ length index.old.paths }
     requires short { length calls.now ≤ length index.old.paths }
     ensures grows { OnOk result (Grows index.old.paths index.old.named.items index.new.paths index.new.named.items calls.now) }
-    ensures spells { OnOk result (Knowing index.old.paths index.old.named.items calls.now (λ d counts. node_tree node.new ≡ other_spelled shorten (is_named d) (written_for counts) kept (node_tree node.old) (get_or index.old.paths scope []))) }
+    ensures spells { OnOk result
+        (Knowing index.old.paths index.old.named.items calls.now
+        (λ d counts. node_tree node.new ≡ other_spelled shorten (is_named d) (written_for counts) kept (node_tree node.old)
+        (get_or index.old.paths scope []))) }
 {
     if kept {
         return Ok(());
@@ -105,7 +111,8 @@ fn spell_elements(
     requires all { length index.old.named.items ≡ length index.old.paths }
     requires short { length calls.now ≤ length index.old.paths }
     ensures grows { OnOk result (Grows index.old.paths index.old.named.items index.new.paths index.new.named.items calls.now) }
-    ensures spells { OnOk result (SpellsElements shorten index.old.paths index.old.named.items calls.now (trees_of nodes.old.items) (trees_of nodes.new.items) (get_or index.old.paths scope [])) }
+    ensures spells { OnOk result (SpellsElements shorten index.old.paths index.old.named.items calls.now (trees_of nodes.old.items)
+        (trees_of nodes.new.items) (get_or index.old.paths scope [])) }
     ensures places { OnOk result (places_of nodes.new.items ≡ places_of nodes.old.items) }
 {
     for node in nodes.iter_mut() {
@@ -127,7 +134,11 @@ fn spell_item(
     requires all { length index.old.named.items ≡ length index.old.paths }
     requires short { length calls.now ≤ length index.old.paths }
     ensures grows { OnOk result (Grows index.old.paths index.old.named.items index.new.paths index.new.named.items calls.now) }
-    ensures spells { OnOk result (Knowing index.old.paths index.old.named.items calls.now (λ d counts. node_tree node.new ≡ element_spelled shorten (is_named d) (node_tree node.old) (spelled shorten (is_named d) (written_for counts) (node_tree node.old) (get_or index.old.paths scope [])) (get_or index.old.paths scope []))) }
+    ensures spells { OnOk result
+        (Knowing index.old.paths index.old.named.items calls.now
+        (λ d counts. node_tree node.new ≡ element_spelled shorten (is_named d) (node_tree node.old)
+        (spelled shorten (is_named d) (written_for counts) (node_tree node.old) (get_or index.old.paths scope []))
+        (get_or index.old.paths scope []))) }
     ensures places { OnOk result (term_places node.new ≡ term_places node.old) }
 {
     match &node.term {
@@ -158,7 +169,10 @@ fn spell_one(
     requires all { length index.old.named.items ≡ length index.old.paths }
     requires short { length calls.now ≤ length index.old.paths }
     ensures grows { OnOk result (Grows index.old.paths index.old.named.items index.new.paths index.new.named.items calls.now) }
-    ensures spells { OnOk result (Knowing index.old.paths index.old.named.items calls.now (λ d counts. node_tree node.new ≡ spelled shorten (is_named d) (written_for counts) (node_tree node.old) (get_or index.old.paths scope []))) }
+    ensures spells { OnOk result
+        (Knowing index.old.paths index.old.named.items calls.now
+        (λ d counts. node_tree node.new ≡ spelled shorten (is_named d) (written_for counts) (node_tree node.old)
+        (get_or index.old.paths scope []))) }
     ensures places { OnOk result (term_places node.new ≡ term_places node.old) }
 {
     match &node.term {
@@ -191,7 +205,10 @@ fn spell_inner(
     requires short { length calls.now ≤ length index.old.paths }
     requires unnamed { path_of node.old.term ≡ None }
     ensures grows { OnOk result (Grows index.old.paths index.old.named.items index.new.paths index.new.named.items calls.now) }
-    ensures spells { OnOk result (Knowing index.old.paths index.old.named.items calls.now (λ d counts. node_tree node.new ≡ spelled shorten (is_named d) (written_for counts) (node_tree node.old) (get_or index.old.paths scope []))) }
+    ensures spells { OnOk result
+        (Knowing index.old.paths index.old.named.items calls.now
+        (λ d counts. node_tree node.new ≡ spelled shorten (is_named d) (written_for counts) (node_tree node.old)
+        (get_or index.old.paths scope []))) }
     ensures places { OnOk result (term_places node.new ≡ term_places node.old) }
 {
     let here = spot_of(node);
@@ -225,8 +242,14 @@ fn spell_form(
     requires all { length index.old.named.items ≡ length index.old.paths }
     requires short { length calls.now ≤ length index.old.paths }
     ensures grows { OnOk result (Grows index.old.paths index.old.named.items index.new.paths index.new.named.items calls.now) }
-    ensures args { OnOk result (SpellsArgs shorten index.old.paths index.old.named.items calls.now (part_of op (trees_of args.old.items) (trees_of body.old.items)) (value_form_of op (trees_of args.old.items) (trees_of body.old.items)) (trees_of args.old.items) (trees_of args.new.items) (get_or index.old.paths scope [])) }
-    ensures body { OnOk result (SpellsBody shorten index.old.paths index.old.named.items calls.now (part_of op (trees_of args.old.items) (trees_of body.old.items)) (value_form_of op (trees_of args.old.items) (trees_of body.old.items)) (trees_of args.old.items) (trees_of body.old.items) (trees_of body.new.items) (get_or index.old.paths scope [])) }
+    ensures args { OnOk result
+        (SpellsArgs shorten index.old.paths index.old.named.items calls.now (part_of op (trees_of args.old.items) (trees_of body.old.items))
+        (value_form_of op (trees_of args.old.items) (trees_of body.old.items)) (trees_of args.old.items) (trees_of args.new.items)
+        (get_or index.old.paths scope [])) }
+    ensures body { OnOk result
+        (SpellsBody shorten index.old.paths index.old.named.items calls.now (part_of op (trees_of args.old.items) (trees_of body.old.items))
+        (value_form_of op (trees_of args.old.items) (trees_of body.old.items)) (trees_of args.old.items) (trees_of body.old.items)
+        (trees_of body.new.items) (get_or index.old.paths scope [])) }
     ensures places { OnOk result (places_of body.new.items ≡ places_of body.old.items) }
 {
     match part_for(op, args, body) {
@@ -294,8 +317,10 @@ fn spell_value(
     requires all { length index.old.named.items ≡ length index.old.paths }
     requires short { length calls.now ≤ length index.old.paths }
     ensures grows { OnOk result (Grows index.old.paths index.old.named.items index.new.paths index.new.named.items calls.now) }
-    ensures args { OnOk result (SpellsArgs shorten index.old.paths index.old.named.items calls.now P.Nothing form (trees_of args.old.items) (trees_of args.new.items) (get_or index.old.paths scope [])) }
-    ensures body { OnOk result (SpellsBody shorten index.old.paths index.old.named.items calls.now P.Nothing form (trees_of args.old.items) (trees_of body.old.items) (trees_of body.new.items) (get_or index.old.paths scope [])) }
+    ensures args { OnOk result (SpellsArgs shorten index.old.paths index.old.named.items calls.now P.Nothing form (trees_of args.old.items)
+        (trees_of args.new.items) (get_or index.old.paths scope [])) }
+    ensures body { OnOk result (SpellsBody shorten index.old.paths index.old.named.items calls.now P.Nothing form (trees_of args.old.items)
+        (trees_of body.old.items) (trees_of body.new.items) (get_or index.old.paths scope [])) }
     ensures places { OnOk result (places_of body.new.items ≡ places_of body.old.items) }
 {
     match form {
@@ -345,8 +370,10 @@ fn spell_declared(
     requires all { length index.old.named.items ≡ length index.old.paths }
     requires short { length calls.now ≤ length index.old.paths }
     ensures grows { OnOk result (Grows index.old.paths index.old.named.items index.new.paths index.new.named.items calls.now) }
-    ensures args { OnOk result (SpellsBut shorten index.old.paths index.old.named.items calls.now place (trees_of args.old.items) (trees_of args.new.items) (get_or index.old.paths scope [])) }
-    ensures body { OnOk result (SpellsOpened shorten index.old.paths index.old.named.items calls.now opens (trees_of body.old.items) (trees_of body.new.items) (place_at place (trees_of args.old.items) (get_or index.old.paths scope []))) }
+    ensures args { OnOk result (SpellsBut shorten index.old.paths index.old.named.items calls.now place (trees_of args.old.items)
+        (trees_of args.new.items) (get_or index.old.paths scope [])) }
+    ensures body { OnOk result (SpellsOpened shorten index.old.paths index.old.named.items calls.now opens (trees_of body.old.items)
+        (trees_of body.new.items) (place_at place (trees_of args.old.items) (get_or index.old.paths scope []))) }
     ensures places { OnOk result (places_of body.new.items ≡ places_of body.old.items) }
 {
     spell_inside(
@@ -373,7 +400,8 @@ fn spell_inside(
     requires all { length index.old.named.items ≡ length index.old.paths }
     requires short { length calls.now ≤ length index.old.paths }
     ensures grows { OnOk result (Grows index.old.paths index.old.named.items index.new.paths index.new.named.items calls.now) }
-    ensures body { OnOk result (SpellsOpened shorten index.old.paths index.old.named.items calls.now opens (trees_of body.old.items) (trees_of body.new.items) (place_at place (trees_of args.now) (get_or index.old.paths scope []))) }
+    ensures body { OnOk result (SpellsOpened shorten index.old.paths index.old.named.items calls.now opens (trees_of body.old.items)
+        (trees_of body.new.items) (place_at place (trees_of args.now) (get_or index.old.paths scope []))) }
     ensures places { OnOk result (places_of body.new.items ≡ places_of body.old.items) }
 {
     if !opens {
@@ -416,7 +444,8 @@ fn opened_place(index: &Index, args: &[Node], scope: usize) -> usize
     requires scope_in { scope < length index.now.paths }
     requires all { length index.now.named.items ≡ length index.now.paths }
     ensures within { result < length index.now.paths }
-    ensures path { get_or index.now.paths result [] ≡ opened_at (is_named_in index.now.paths index.now.named.items) (trees_of args.now) (get_or index.now.paths scope []) }
+    ensures path { get_or index.now.paths result [] ≡ opened_at (is_named_in index.now.paths index.now.named.items) (trees_of args.now)
+        (get_or index.now.paths scope []) }
 {
     match name(args, 0) {
         Some(name) => match denotes(&index.paths, &index.named, name, scope) {
@@ -441,7 +470,8 @@ fn spell_external(
     scope: usize,
 ) -> Result<(), AllocError>
     requires scope_in { scope < length index.now.paths }
-    ensures { OnOk result (SpellsExternal index.now.paths calls.now object parameters (trees_of args.old.items) (trees_of args.new.items) (get_or index.now.paths scope [])) }
+    ensures { OnOk result (SpellsExternal index.now.paths calls.now object parameters (trees_of args.old.items) (trees_of args.new.items)
+        (get_or index.now.paths scope [])) }
 {
     let written = match name(args, 0) {
         Some(name) => written_external(index, calls, name, object, parameters, scope),
@@ -488,7 +518,9 @@ pub fn spell(
 ) -> Result<Vec<Node>, AllocError>
     requires all { length index.named.items ≡ length index.paths }
     requires short { length calls.now ≤ length index.paths }
-    ensures trees { IfOk result (λ made. (d : Declarations) (counts : List (AbsolutePath × ℕ)) → Agrees index.paths index.named.items d → Tabled index.paths calls.now (lookup counts) → trees_of made.items ≡ spelled_all shorten (is_named d) (written_for counts) (trees_of terms.items) []) }
+    ensures trees { IfOk result (λ made. (d : Declarations) (counts : List (AbsolutePath × ℕ)) → Agrees index.paths index.named.items d →
+        Tabled index.paths calls.now (lookup counts) → trees_of made.items ≡ spelled_all shorten (is_named d) (written_for counts)
+        (trees_of terms.items) []) }
     ensures places { IfOk result (λ made. places_of made.items ≡ places_of terms.items) }
 {
     let mut index = index;

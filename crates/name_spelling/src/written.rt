@@ -18,7 +18,9 @@ use std::alloc::{AllocError, Global};
 fn ambiguous(paths: &Paths, named: &[bool], name: &Path, scope: usize) -> Option<usize>
     requires scope_in { scope < length paths.now }
     requires all { length named.now ≡ length paths.now }
-    ensures { MatchOption result (spelled_name (is_named_in paths.now named.now) name.now (get_or paths.now scope []) ≡ name.now) (λ n. (n < length paths.now) × (spelled_name (is_named_in paths.now named.now) name.now (get_or paths.now scope []) ≡ absolute (get_or paths.now n []))) }
+    ensures { MatchOption result (spelled_name (is_named_in paths.now named.now) name.now (get_or paths.now scope []) ≡ name.now)
+        (λ n. (n < length paths.now)
+        × (spelled_name (is_named_in paths.now named.now) name.now (get_or paths.now scope []) ≡ absolute (get_or paths.now n []))) }
 {
     let segment = single(name)?;
     let number = nearest(paths, named, scope, segment)?;
@@ -39,7 +41,8 @@ fn shortened(
 ) -> Result<Option<Path>, AllocError>
     requires scope_in { scope < length index.now.paths }
     requires all { length index.now.named.items ≡ length index.now.paths }
-    ensures { IfOk result (λ other. unwrap_or other name.now ≡ spelled_use (is_named_in index.now.paths index.now.named.items) true name.now (get_or index.now.paths scope [])) }
+    ensures { IfOk result (λ other. unwrap_or other name.now ≡ spelled_use (is_named_in index.now.paths index.now.named.items) true name.now
+        (get_or index.now.paths scope [])) }
 {
     match denotes(&index.paths, &index.named, name, scope) {
         Some(number) => {
@@ -61,7 +64,8 @@ pub(crate) fn other_name(
 ) -> Result<Option<Path>, AllocError>
     requires scope_in { scope < length index.now.paths }
     requires all { length index.now.named.items ≡ length index.now.paths }
-    ensures { IfOk result (λ other. unwrap_or other name.now ≡ spelled_use (is_named_in index.now.paths index.now.named.items) shorten name.now (get_or index.now.paths scope [])) }
+    ensures { IfOk result (λ other. unwrap_or other name.now ≡ spelled_use (is_named_in index.now.paths index.now.named.items) shorten
+        name.now (get_or index.now.paths scope [])) }
 {
     if shorten {
         return Ok(shortened(alloc, index, name, scope)?);
@@ -82,7 +86,8 @@ fn shortened_element(
     requires scope_in { scope < length index.now.paths }
     requires all { length index.now.named.items ≡ length index.now.paths }
     requires placed { single_segment name.now ≡ None }
-    ensures { IfOk result (λ other. unwrap_or other name.now ≡ spelled_item (is_named_in index.now.paths index.now.named.items) true name.now (get_or index.now.paths scope [])) }
+    ensures { IfOk result (λ other. unwrap_or other name.now ≡ spelled_item (is_named_in index.now.paths index.now.named.items) true
+        name.now (get_or index.now.paths scope [])) }
 {
     match denotes(&index.paths, &index.named, name, scope) {
         Some(number) => {
@@ -104,7 +109,8 @@ pub(crate) fn other_element(
 ) -> Result<Option<Path>, AllocError>
     requires scope_in { scope < length index.now.paths }
     requires all { length index.now.named.items ≡ length index.now.paths }
-    ensures { IfOk result (λ other. unwrap_or other name.now ≡ spelled_item (is_named_in index.now.paths index.now.named.items) shorten name.now (get_or index.now.paths scope [])) }
+    ensures { IfOk result (λ other. unwrap_or other name.now ≡ spelled_item (is_named_in index.now.paths index.now.named.items) shorten
+        name.now (get_or index.now.paths scope [])) }
 {
     match single(name) {
         Some(segment) => match nearest(&index.paths, &index.named, scope, segment) {
@@ -134,7 +140,8 @@ pub(crate) fn spell_name(
 ) -> Result<(), AllocError>
     requires scope_in { scope < length index.now.paths }
     requires all { length index.now.named.items ≡ length index.now.paths }
-    ensures { OnOk result (name.new ≡ spelled_use (is_named_in index.now.paths index.now.named.items) shorten name.old (get_or index.now.paths scope [])) }
+    ensures { OnOk result (name.new ≡ spelled_use (is_named_in index.now.paths index.now.named.items) shorten name.old
+        (get_or index.now.paths scope [])) }
 {
     match other_name(alloc, index, shorten, name, scope)? {
         Some(other) => {
@@ -203,7 +210,9 @@ pub(crate) fn written_external(
     scope: usize,
 ) -> Written
     requires { scope < length index.now.paths }
-    ensures { type_written result ≡ written_type (external_type object parameters) (external_object (external_type object parameters) (entry_at calls.now (number_in index.now.paths (place_of name.now (get_or index.now.paths scope []))))) }
+    ensures { type_written result ≡ written_type (external_type object parameters)
+        (external_object (external_type object parameters)
+        (entry_at calls.now (number_in index.now.paths (place_of name.now (get_or index.now.paths scope []))))) }
 {
     let outer = prefixed(&index.paths, name, scope);
     let number = find(&index.paths, outer, name.segs.as_slice());

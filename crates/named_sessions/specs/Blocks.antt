@@ -32,7 +32,8 @@ pub record IsRightBlock (block : Block) : Type 0 where
 -- the table of a block: its header, and the bytes of its terms with their names spelled, at the width that its revision gives;
 -- whether 0, 1 and all ones have a byte of their own, and whether names are shortened, is the caller's choice
 abbrev pub block_table : Bool → Bool → Block → List ℕ
-block_table short shorten block = table_bytes (fields_of block) (encoded_all (width_of block.revision) short (core_of shorten (terms_of block)))
+block_table short shorten block =
+    table_bytes (fields_of block) (encoded_all (width_of block.revision) short (core_of shorten (terms_of block)))
 
 -- bytes that begin with the header that the block states, and that do what the block does at the width that its revision gives
 pub record DoesAs (block : Block) (bytes : List ℕ) : Type 0 where

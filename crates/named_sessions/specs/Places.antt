@@ -1,8 +1,12 @@
 -- Where the nodes of trees and the errors of names stand.
 use Rattle.std.specs.Prelude.{ℕ, ◌<◌, List, [], ◌∷◌}
 use Rattle.asl_tree.specs.FieldItems.{FieldItem, UnitItem, SkipItem, OffsetItem, AccessItem, ConnectionItem, Connected, ToName, ToBytes}
-use Rattle.asl_tree.specs.Tree.{At, Tree, Use, Call, Apply, Buffer, Package, VarPackage, CondRefOf, Return, Name, Alias, External, Method, Mutex, Event, Container', Scope, Trees, no_trees, tree, OperationRegion, Field, IndexField, BankField, CreateField, UnitName, If, Else, While, Item, ElseIf, Operated, Assigned, AssignedBy, Switch, Case, Default}
-use Rattle.acpi_names.specs.Errors.{NameError, Twice, DeclaredHere, Missing, NoContainer, LeavesRoot, Differs, TooLong, WrongCount, WrongKind}
+use Rattle.asl_tree.specs.Tree.{At, Tree, Use, Call, Apply, Buffer, Package, VarPackage, CondRefOf, Return, Name, Alias, External, Method}
+use Rattle.asl_tree.specs.Tree.{Mutex, Event, Container', Scope, Trees, no_trees, tree, OperationRegion, Field, IndexField, BankField}
+use Rattle.asl_tree.specs.Tree.{CreateField, UnitName, If, Else, While, Item, ElseIf, Operated, Assigned, AssignedBy, Switch, Case}
+use Rattle.asl_tree.specs.Tree.{Default}
+use Rattle.acpi_names.specs.Errors.{NameError, Twice, DeclaredHere, Missing, NoContainer, LeavesRoot, Differs, TooLong, WrongCount}
+use Rattle.acpi_names.specs.Errors.{WrongKind}
 
 -- a node in one of so many files
 abbrev pub IsIn : ℕ → At → Type 0
@@ -54,8 +58,10 @@ abbrev mutual
   IsWithin files (Default body) = AreWithin files body
   IsWithin files (OperationRegion at name space args) = IsIn files at × AreWithin files args
   IsWithin files (Field here from region flags items) = IsIn files here × IsIn files from × AreItemsWithin files items
-  IsWithin files (IndexField here from index to register flags items) = IsIn files here × IsIn files from × IsIn files to × AreItemsWithin files items
-  IsWithin files (BankField here from region to bank value flags items) = IsIn files here × IsIn files from × IsIn files to × IsWithin files value × AreItemsWithin files items
+  IsWithin files (IndexField here from index to register flags items) = IsIn files here × IsIn files from × IsIn files to
+      × AreItemsWithin files items
+  IsWithin files (BankField here from region to bank value flags items) = IsIn files here × IsIn files from × IsIn files to
+      × IsWithin files value × AreItemsWithin files items
   IsWithin files (CreateField form args at name) = AreWithin files args × IsIn files at
   IsWithin files (Item item) = IsItemWithin files item
   IsWithin files _ = Unit {0}

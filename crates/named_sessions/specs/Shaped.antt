@@ -4,7 +4,11 @@ use Rattle.acpi_values.specs.Operators.{Letter, Valued, Kept, Placed, Used, Row,
 use Rattle.acpi_values.specs.Operators as L
 use Rattle.acpi_state.specs.FieldActs.{region_letters, field_letters}
 use Rattle.asl_meaning.specs.Meaning.{spot_form}
-use Rattle.asl_tree.specs.Tree.{Tree, Integer, Constant, String, InSlot, Debug, Omitted, Raw, Use, Call, Apply, Buffer, Package, VarPackage, CondRefOf, Return, Name, Alias, External, Method, Mutex, Event, Container', Scope, Fill, Misshapen, Operated, Assigned, AssignedBy, Trees, no_trees, tree, count, OperationRegion, Field, IndexField, BankField, CreateField, UnitName, If, ElseIf, Else, While, Break, Continue, Item, Switch, Case, Default}
+use Rattle.asl_tree.specs.Tree.{Tree, Integer, Constant, String, InSlot, Debug, Omitted, Raw, Use, Call, Apply, Buffer, Package}
+use Rattle.asl_tree.specs.Tree.{VarPackage, CondRefOf, Return, Name, Alias, External, Method, Mutex, Event, Container', Scope, Fill}
+use Rattle.asl_tree.specs.Tree.{Misshapen, Operated, Assigned, AssignedBy, Trees, no_trees, tree, count, OperationRegion, Field}
+use Rattle.asl_tree.specs.Tree.{IndexField, BankField, CreateField, UnitName, If, ElseIf, Else, While, Break, Continue, Item, Switch, Case}
+use Rattle.asl_tree.specs.Tree.{Default}
 use Rattle.asl_tree.specs.FieldItems.{FieldItem, UnitItem, SkipItem, OffsetItem, AccessItem, ConnectionItem}
 use Rattle.aml_code.specs.Fronts.{IsName, IsUsedName, is_segment}
 use Rattle.aml_meaning.specs.Codes.{HasOwnCode, IsSlot}
@@ -114,7 +118,8 @@ module _ (Listed : List (FieldItem UnitName) → Type 0) (Symbols Switches : Typ
     IsFormed (Fill bytes) = ⊥
     IsFormed (Operated op args) = Symbols × HasOwnCode op × AreFormedOperands (row_of op).operands args
     IsFormed (Assigned target value) = Symbols × IsFormedSpot target × (is_expression value ≡ true) × IsFormed value
-    IsFormed (AssignedBy op target value) = Symbols × IsFormedSpot target × (is_expression target ≡ true) × IsFormed target × (is_expression value ≡ true) × IsFormed value
+    IsFormed (AssignedBy op target value) = Symbols × IsFormedSpot target × (is_expression target ≡ true) × IsFormed target
+        × (is_expression value ≡ true) × IsFormed value
     IsFormed (ElseIf test body) = Symbols × (is_expression test ≡ true) × IsFormed test × AreFormed body
     IsFormed (Switch value cases) = Switches × (is_expression value ≡ true) × IsFormed value × AreFormedCases cases
     IsFormed (Case value body) = ⊥
@@ -128,7 +133,8 @@ module _ (Listed : List (FieldItem UnitName) → Type 0) (Symbols Switches : Typ
     IsFormedSpot (InSlot slot) = IsSlot slot
     IsFormedSpot (Use at name) = IsUsedName name
     IsFormedSpot (Apply op args targets) =
-        HasOwnCode op × SpotReady (spot_form op) (AreFormedOperands (row_of op).operands args × (count targets ≡ (row_of op).targets) × AreFormedSpots targets) (IsFormedAlone args targets)
+        HasOwnCode op × SpotReady (spot_form op) (AreFormedOperands (row_of op).operands args × (count targets ≡ (row_of op).targets)
+        × AreFormedSpots targets) (IsFormedAlone args targets)
     IsFormedSpot (Operated op args) = Symbols × HasOwnCode op × SpotReady (spot_form op) (AreFormedOperands (row_of op).operands args) ⊥
     IsFormedSpot _ = ⊥
 

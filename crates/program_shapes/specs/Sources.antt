@@ -107,13 +107,16 @@ lowered_in fold items = folded_where fold (width_in items) (named_all (without_s
 abbrev pub core_in : (wrap fold : Bool) → List Raw → Trees
 core_in wrap fold items = wrapped_where wrap (lowered_in fold items)
 
--- its table: the header, and the bytes of its core with its names spelled; whether Externals stand in Ifs, whether constants are folded, whether 0, 1 and all ones have a byte of their own, and whether names are shortened, is the caller's choice
+-- its table: the header, and the bytes of its core with its names spelled; whether Externals stand in Ifs, whether
+-- constants are folded, whether 0, 1 and all ones have a byte of their own, and whether names are shortened, is the
+-- caller's choice
 abbrev pub table_in : (wrap fold short shorten : Bool) → List Raw → List ℕ
-table_in wrap fold short shorten items = table_bytes (fields_in items) (encoded_all (width_in items) short (core_of shorten (core_in wrap fold items)))
+table_in wrap fold short shorten items =
+    table_bytes (fields_in items) (encoded_all (width_in items) short (core_of shorten (core_in wrap fold items)))
 
--- nothing is wrong with its form, its names, those of its resource descriptors among these, how many arguments its calls have, its statements, the
--- lists of its fields and their accesses, the kinds of its arguments, the lengths of its lists, the values of its Cases, and the Locals that are
--- free for its Switches
+-- nothing is wrong with its form, its names, those of its resource descriptors among these, how many arguments its
+-- calls have, its statements, the lists of its fields and their accesses, the kinds of its arguments, the lengths of
+-- its lists, the values of its Cases, and the Locals that are free for its Switches
 pub record IsRight (items : List Raw) : Type 0 where
   pub form : errors_at items ≡ []
   pub declared : names_in items ≡ []

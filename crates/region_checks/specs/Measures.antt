@@ -7,7 +7,8 @@ use Rattle.iasl_messages.specs.declared.message.Message.{Message}
 use Rattle.std.specs.Result.{result_ok}
 use Rattle.acpi_state.specs.Outcomes.{choose}
 use Rattle.asl_tree.specs.Names.{place_of}
-use Rattle.asl_tree.specs.Tree.{Tree, Method, Container', Scope, Trees, no_trees, tree, OperationRegion, Field, BankField, If, ElseIf, Else, While, Switch, Case, Default}
+use Rattle.asl_tree.specs.Tree.{Tree, Method, Container', Scope, Trees, no_trees, tree, OperationRegion, Field, BankField, If, ElseIf}
+use Rattle.asl_tree.specs.Tree.{Else, While, Switch, Case, Default}
 use Rattle.asl_tree.specs.View.{items_in}
 use Rattle.asl_meaning.specs.Declarations.{As}
 use Rattle.acpi_names.specs.Errors.{ARegion}
@@ -31,7 +32,13 @@ use Rattle.region_checks.specs.Sites.{Site, RegionAt, FieldIn, body_of, rest_of,
 
 -- the first faults of units by the kinds of spaces, of each of which one space is asked
 abbrev pub faults_from : Said → Plans → UnitFaults
-faults_from said body = record { serial = unit_fault 9 said body; bus = unit_fault 4 said body; pins = unit_fault 8 said body; other = unit_fault 0 said body }
+faults_from said body = record {
+  serial = unit_fault 9 said body;
+  bus = unit_fault 4 said body;
+  pins = unit_fault 8 said body;
+  other =
+      unit_fault 0 said body;
+}
 
 abbrev pub unit_faults : ℕ → Plans → UnitFaults
 unit_faults flags body = faults_from (first_said (flags % 16)) body
@@ -39,7 +46,8 @@ unit_faults flags body = faults_from (first_said (flags % 16)) body
 -- that of one space
 abbrev pub fault_in : ℕ → UnitFaults → Option UnitFault
 fault_in space faults =
-    if nat_eq space 9 then faults.serial else (if nat_eq space 8 then faults.pins else (if is_buffer_space space then faults.bus else faults.other))
+    if nat_eq space 9 then faults.serial else
+    (if nat_eq space 8 then faults.pins else (if is_buffer_space space then faults.bus else faults.other))
 
 abbrev pub no_faults : UnitFaults
 no_faults = record { serial = None; bus = None; pins = None; other = None }
@@ -47,7 +55,8 @@ no_faults = record { serial = None; bus = None; pins = None; other = None }
 -- what a field says with these flags, by its items and the errors of its list
 abbrev pub list_measures : Option ℕ → Trees → Plans → List Message → List Measure
 list_measures None body plans errors = []
-list_measures (Some flags) body plans errors = choose (items_in body) [] (λ items. M.Access (if_none errors (access_bytes flags)) (unit_faults flags plans) ∷ [])
+list_measures (Some flags) body plans errors =
+    choose (items_in body) [] (λ items. M.Access (if_none errors (access_bytes flags)) (unit_faults flags plans) ∷ [])
 
 -- constants are taken at this width
 module _ (width : Width) where

@@ -2,7 +2,8 @@
 use Rattle.std.specs.Prelude.{ℕ}
 use Rattle.asl_parser.specs.Within.{IsIn}
 use Rattle.asl_shape.specs.Plans.{Plan, a_form, Plans, no_plans, plan}
-use Rattle.asl_tree.specs.Tree.{Tree, Method, Container', Scope, Trees, no_trees, tree, Field, BankField, If, ElseIf, Else, While, Switch, Case, Default}
+use Rattle.asl_tree.specs.Tree.{Tree, Method, Container', Scope, Trees, no_trees, tree, Field, BankField, If, ElseIf, Else, While, Switch}
+use Rattle.asl_tree.specs.Tree.{Case, Default}
 
 -- the node of each field of a region, at any depth, stands in one of so many files
 abbrev mutual

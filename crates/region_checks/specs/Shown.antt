@@ -9,7 +9,8 @@ use Rattle.region_checks.specs.declared.site.Site.TheVariants as C
 
 abbrev pub site_as : List AbsolutePath → Site → S.Site
 site_as paths (C.Region path size) = S.RegionAt (get_or paths path []) size
-site_as paths (C.Field here region scope access units) = S.FieldIn (spot_as here) region.now (get_or paths scope []) access (λ space. fault_in space units)
+site_as paths (C.Field here region scope access units) = S.FieldIn (spot_as here) region.now (get_or paths scope []) access
+    (λ space. fault_in space units)
 
 abbrev pub optional_site : List AbsolutePath → Option Site → List S.Site
 optional_site paths None = []

@@ -8,7 +8,8 @@ use Rattle.acpi_state.specs.Access.{access_bytes}
 use Rattle.acpi_state.specs.Objects.{MethodObject, ContainerObject}
 use Rattle.asl_tree.specs.declared.path.Path.{Path}
 use Rattle.asl_tree.specs.Names.{place_of}
-use Rattle.asl_tree.specs.Tree.{At, Tree, Method, Container', Scope, Trees, no_trees, tree, OperationRegion, Field, BankField, If, ElseIf, Else, While, Switch, Case, Default}
+use Rattle.asl_tree.specs.Tree.{At, Tree, Method, Container', Scope, Trees, no_trees, tree, OperationRegion, Field, BankField, If, ElseIf}
+use Rattle.asl_tree.specs.Tree.{Else, While, Switch, Case, Default}
 use Rattle.asl_meaning.specs.Declarations.{As, Declarations, with_declared, scope_path, declare}
 use Rattle.acpi_values.specs.declared.width.Width.{Width}
 use Rattle.asl_shape.specs.Plans.{Plan, a_form, Plans, no_plans, plan, plan_at, constant_of}
@@ -18,7 +19,8 @@ use Rattle.field_checks.specs.Units.{unit_fault}
 use Rattle.field_checks.specs.Lists.{term_errors}
 
 -- a region that is declared, with its length in bytes where that is constant; a field in the region that a name
--- denotes, with the bytes of its accesses where its list has no error, and with the first fault of its units, if any, by the space of the region
+-- denotes, with the bytes of its accesses where its list has no error, and with the first fault of its units, if any,
+-- by the space of the region
 pub data Site : Type 0 where
   RegionAt : (path : AbsolutePath) (size : Option ℕ) → Site
   FieldIn : (here : At) (region : Path) (scope : AbsolutePath) (access : Option ℕ) (units : ℕ → Option UnitFault) → Site
@@ -55,7 +57,8 @@ module _ (width : Width) where
     pub sites : Tree → Plan → AbsolutePath → Declarations → List Site
     sites (OperationRegion at name space args) p scope d = RegionAt (place_of name scope) (region_size width p) ∷ []
     sites (Field here from region flags items) p scope d = FieldIn here region scope (field_access flags p) (field_units flags p) ∷ []
-    sites (BankField here from region to bank value flags items) p scope d = FieldIn here region scope (field_access flags p) (field_units flags p) ∷ []
+    sites (BankField here from region to bank value flags items) p scope d = FieldIn here region scope (field_access flags p)
+        (field_units flags p) ∷ []
     sites (Method at name flags body) p scope d =
         sites_all body (body_of p) (place_of name scope) (with_declared (place_of name scope) (As (MethodObject flags)) d)
     sites (Container' kind at name body) p scope d =

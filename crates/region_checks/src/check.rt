@@ -14,7 +14,8 @@ ghost use Rattle.acpi_names.specs.Terms.{are_terms};
 ghost use Rattle.name_kinds.specs.Facts.{Knows};
 ghost use Rattle.name_kinds.specs.Seen.{seen};
 ghost use Rattle.region_checks.specs.Places.{AreFieldsWithin, ArePartsWithin};
-ghost use Rattle.region_checks.specs.Regions.{size_at, access_errors, fault_told, unit_errors, site_errors as errors_of, sited_errors, region_errors};
+ghost use Rattle.region_checks.specs.Regions.{size_at, access_errors, fault_told, unit_errors, site_errors as errors_of, sited_errors};
+ghost use Rattle.region_checks.specs.Regions.{region_errors};
 ghost use Rattle.region_checks.specs.Measures.{joined, fault_in as fault_of};
 ghost use Rattle.acpi_state.specs.Access.{is_buffer_space as needs_buffers};
 ghost use Rattle.field_checks.specs.Units.{unit_told};
@@ -58,7 +59,8 @@ fn size_of(facts: &Facts, table: &[Option<u64>], end: Option<End>) -> Option<u64
     ghost whole: { Whole }
     requires told { Knows facts.now whole }
     requires sized { length table.now ≡ length facts.now.index.paths }
-    ensures { (regions : List (AbsolutePath × ℕ)) → Tabled facts.now.index.paths table.now (lookup regions) → result ≡ size_at regions (ended facts.now.index.paths end) }
+    ensures { (regions : List (AbsolutePath × ℕ)) → Tabled facts.now.index.paths table.now (lookup regions) →
+        result ≡ size_at regions (ended facts.now.index.paths end) }
 {
     let count = facts.index.paths.len();
     match end {
@@ -151,7 +153,8 @@ fn site_errors(
     ghost whole: { Whole }
     requires told { Knows facts.now whole }
     requires sized { length table.now ≡ length facts.now.index.paths }
-    ensures { OnOk result ((regions : List (AbsolutePath × ℕ)) → Tabled facts.now.index.paths table.now (lookup regions) → out.new ≡ out.old ++ errors_of whole regions (site_as facts.now.index.paths site.entry)) }
+    ensures { OnOk result ((regions : List (AbsolutePath × ℕ)) → Tabled facts.now.index.paths table.now (lookup regions) → out.new ≡ out.old
+        ++ errors_of whole regions (site_as facts.now.index.paths site.entry)) }
 {
     match site {
         Site::Field {
@@ -198,7 +201,8 @@ pub(crate) fn seen_faults(
     width: Width,
     terms: &[Node],
 ) -> Result<Messages, AllocError>
-    ensures { IfOk result (λ ms. ms ≡ sited_errors (seen (block_mentions (trees_of terms.now) [] nothing_declared)) (sites_all width (trees_of terms.now) (plans_of terms.now) [] nothing_declared)) }
+    ensures { IfOk result (λ ms. ms ≡ sited_errors (seen (block_mentions (trees_of terms.now) [] nothing_declared))
+        (sites_all width (trees_of terms.now) (plans_of terms.now) [] nothing_declared)) }
 {
     let mut measures = Vec::new(alloc);
     all_measures(alloc, width, &mut measures, terms)?;
@@ -213,14 +217,16 @@ pub(crate) fn seen_faults(
 
 /// The fields of a block that do not fit their regions (ACPI Specification 6.4, 5.5.2.4, 19.6.7, 19.6.48 and
 /// 19.6.100), in the order of the source: 6072 at each Field and BankField whose list has no error of its own, and whose
-/// access has more bytes than the constant length of the region at which its name ends, through aliases too; and of each the first unit that is
-/// not accessed as the space of this region asks (6073, 6074) or lacks the connection that it asks for (6075). A region
-/// of another table has no length and no space, and one whose length is no constant has no length. A length is taken at the width of the table.
-/// The only error is want of memory, as which a list is answered that reaches behind 2^62 bits.
+/// access has more bytes than the constant length of the region at which its name ends, through aliases too; and of
+/// each the first unit that is not accessed as the space of this region asks (6073, 6074) or lacks the connection that
+/// it asks for (6075). A region of another table has no length and no space, and one whose length is no constant has no
+/// length. A length is taken at the width of the table. The only error is want of memory, as which a list is answered
+/// that reaches behind 2^62 bits.
 pub fn region_faults(alloc: Global, width: Width, terms: &[Node]) -> Result<Messages, AllocError>
     requires terms { are_terms (trees_of terms.now) ≡ true }
     ensures told { IfOk result (λ ms. ms ≡ region_errors width (trees_of terms.now) (plans_of terms.now)) }
-    ensures places { (files : ℕ) → AreFieldsWithin files (trees_of terms.now) → ArePartsWithin files (plans_of terms.now) → IfOk result (AreTold files) }
+    ensures places { (files : ℕ) → AreFieldsWithin files (trees_of terms.now) → ArePartsWithin files (plans_of terms.now) →
+        IfOk result (AreTold files) }
 {
     let out = seen_faults(alloc, width, terms)?;
     Ok(out)

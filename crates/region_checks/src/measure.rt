@@ -135,7 +135,8 @@ fn list_measures(
     flags: Option<u64>,
     body: &[Node],
 ) -> Result<(), AllocError>
-    ensures { OnOk result (out.new.items ≡ out.old.items ++ spec.list_measures flags (trees_of body.now) (plans_of body.now) (all_errors (plans_of alone.now))) }
+    ensures { OnOk result (out.new.items ≡ out.old.items ++ spec.list_measures flags (trees_of body.now) (plans_of body.now)
+        (all_errors (plans_of alone.now))) }
 {
     let Some(flags) = flags else {
         return Ok(());
@@ -159,7 +160,8 @@ fn form_measures(
     args: &[Node],
     body: &[Node],
 ) -> Result<(), AllocError>
-    ensures { OnOk result (out.new.items ≡ out.old.items ++ spec.part_measures width (part_of op (trees_of args.now) (trees_of body.now)) (trees_of args.now) (trees_of body.now) (plans_of args.now) (plans_of body.now) (all_errors (plans_of alone.now))) }
+    ensures { OnOk result (out.new.items ≡ out.old.items ++ spec.part_measures width (part_of op (trees_of args.now) (trees_of body.now))
+        (trees_of args.now) (trees_of body.now) (plans_of args.now) (plans_of body.now) (all_errors (plans_of alone.now))) }
 {
     match part_for(op, args, body) {
         Part::Declares {

@@ -144,7 +144,8 @@ fn note_region(index: &Index, table: &mut Vec<Option<u64>>, path: usize, size: u
     requires within { path < length index.now.paths }
     requires size { length table.old.items ≡ length index.now.paths }
     ensures size { length table.new.items ≡ length index.now.paths }
-    ensures noted { (before : List (AbsolutePath × ℕ)) → Tabled index.now.paths table.old.items (lookup before) → Tabled index.now.paths table.new.items (lookup (before ++ (get_or index.now.paths path [], size) ∷ [])) }
+    ensures noted { (before : List (AbsolutePath × ℕ)) → Tabled index.now.paths table.old.items (lookup before) →
+        Tabled index.now.paths table.new.items (lookup (before ++ (get_or index.now.paths path [], size) ∷ [])) }
 {
     let count = index.paths.len();
     match table[path] {
@@ -158,7 +159,8 @@ fn note_size(index: &Index, table: &mut Vec<Option<u64>>, path: usize, size: Opt
     requires within { path < length index.now.paths }
     requires size { length table.old.items ≡ length index.now.paths }
     ensures size { length table.new.items ≡ length index.now.paths }
-    ensures noted { (before : List (AbsolutePath × ℕ)) → Tabled index.now.paths table.old.items (lookup before) → Tabled index.now.paths table.new.items (lookup (before ++ sizes_of (RegionAt (get_or index.now.paths path []) size ∷ []))) }
+    ensures noted { (before : List (AbsolutePath × ℕ)) → Tabled index.now.paths table.old.items (lookup before) →
+        Tabled index.now.paths table.new.items (lookup (before ++ sizes_of (RegionAt (get_or index.now.paths path []) size ∷ []))) }
 {
     match size {
         Some(size) => note_region(index, table, path, size),
@@ -171,7 +173,8 @@ fn note_site(index: &Index, table: &mut Vec<Option<u64>>, site: Site<'_>)
     requires within { IsWithin (length index.now.paths) site }
     requires size { length table.old.items ≡ length index.now.paths }
     ensures size { length table.new.items ≡ length index.now.paths }
-    ensures noted { (before : List (AbsolutePath × ℕ)) → Tabled index.now.paths table.old.items (lookup before) → Tabled index.now.paths table.new.items (lookup (before ++ sizes_of (site_as index.now.paths site.entry ∷ []))) }
+    ensures noted { (before : List (AbsolutePath × ℕ)) → Tabled index.now.paths table.old.items (lookup before) →
+        Tabled index.now.paths table.new.items (lookup (before ++ sizes_of (site_as index.now.paths site.entry ∷ []))) }
 {
     match site {
         Site::Region { path, size } => note_size(index, table, path, size),

@@ -107,7 +107,8 @@ translation bit = optional_word (codes "_TTP") 5 bit 1 k.Translation 0
 -- five numbers, each of so many bytes, from a byte on
 abbrev pub ranges : ℕ → ℕ → List Field
 ranges byte width =
-    number (codes "_GRA") byte (8 * width) ∷ number (codes "_MIN") (byte + width) (8 * width) ∷ number (codes "_MAX") (byte + 2 * width) (8 * width)
+    number (codes "_GRA") byte (8 * width) ∷ number (codes "_MIN") (byte + width) (8 * width) ∷ number (codes "_MAX") (byte + 2 * width)
+    (8 * width)
     ∷ number (codes "_TRA") (byte + 3 * width) (8 * width) ∷ number (codes "_LEN") (byte + 4 * width) (8 * width) ∷ []
 
 -- and the source and the name behind them
@@ -170,13 +171,16 @@ pin_places kind =
 abbrev pub arguments : Descriptor → List Field
 arguments d.Irq = word (codes "_HE_") 3 0 1 k.Mode ∷ word_below (codes "_LL_") 3 3 1 k.Level 2 None ∷ sharing 3 4 ∷ descriptor_name ∷ []
 arguments d.IrqNoFlags = descriptor_name ∷ []
-arguments d.Dma = word (codes "_TYP") 2 5 2 k.DmaType ∷ word (codes "_BM_") 2 2 1 k.BusMaster ∷ word (codes "_SIZ") 2 0 2 k.Transfer ∷ descriptor_name ∷ []
-arguments d.FixedDma = number (codes "_DMA") 1 16 ∷ number (codes "_TYP") 3 16 ∷ optional_word (codes "_SIZ") 5 0 8 k.DmaWidth 2 ∷ descriptor_name ∷ []
+arguments d.Dma = word (codes "_TYP") 2 5 2 k.DmaType ∷ word (codes "_BM_") 2 2 1 k.BusMaster ∷ word (codes "_SIZ") 2 0 2 k.Transfer ∷
+    descriptor_name ∷ []
+arguments d.FixedDma = number (codes "_DMA") 1 16 ∷ number (codes "_TYP") 3 16 ∷ optional_word (codes "_SIZ") 5 0 8 k.DmaWidth 2 ∷
+    descriptor_name ∷ []
 arguments d.StartDependentFn = between 1 0 2 0 2 ∷ between 1 2 2 0 2 ∷ []
 arguments d.StartDependentFnNoPri = []
 arguments d.EndDependentFn = []
 arguments d.Io =
-    word (codes "_DEC") 1 0 1 k.IoDecode ∷ number (codes "_MIN") 2 16 ∷ number (codes "_MAX") 4 16 ∷ number (codes "_ALN") 6 8 ∷ number (codes "_LEN") 7 8 ∷ descriptor_name ∷ []
+    word (codes "_DEC") 1 0 1 k.IoDecode ∷ number (codes "_MIN") 2 16 ∷ number (codes "_MAX") 4 16 ∷ number (codes "_ALN") 6 8 ∷ number
+    (codes "_LEN") 7 8 ∷ descriptor_name ∷ []
 arguments d.FixedIo = number (codes "_BAS") 1 16 ∷ number (codes "_LEN") 3 8 ∷ descriptor_name ∷ []
 arguments d.VendorShort = descriptor_name ∷ []
 arguments d.VendorLong = descriptor_name ∷ []
@@ -184,10 +188,12 @@ arguments d.Memory24 = memory_range 2
 arguments d.Memory32 = memory_range 4
 arguments d.Memory32Fixed = access 3 ∷ number (codes "_BAS") 4 32 ∷ number (codes "_LEN") 8 32 ∷ descriptor_name ∷ []
 arguments d.Register =
-    field (codes "_ASI") (8 * 3) 8 (g.WordOrNumber k.Space) None ∷ number (codes "_RBW") 4 8 ∷ number (codes "_RBO") 5 8 ∷ number (codes "_ADR") 7 64
+    field (codes "_ASI") (8 * 3) 8 (g.WordOrNumber k.Space) None ∷ number (codes "_RBW") 4 8 ∷ number (codes "_RBO") 5 8 ∷ number
+    (codes "_ADR") 7 64
     ∷ optional_number (codes "_ASZ") 6 8 ∷ descriptor_name ∷ []
 arguments d.Interrupt =
-    usage 3 ∷ word (codes "_HE_") 3 1 1 k.Mode ∷ word_below (codes "_LL_") 3 2 1 k.Level 2 None ∷ sharing 3 3 ∷ source_index ∷ source ∷ descriptor_name ∷ []
+    usage 3 ∷ word (codes "_HE_") 3 1 1 k.Mode ∷ word_below (codes "_LL_") 3 2 1 k.Level 2 None ∷ sharing 3 3 ∷ source_index ∷ source ∷
+    descriptor_name ∷ []
 arguments d.WordIo = io (with_source 2)
 arguments d.DWordIo = io (with_source 4)
 arguments d.QWordIo = io (with_source 8)
@@ -202,9 +208,11 @@ arguments d.QWordSpace = space (with_source 8)
 arguments d.ExtendedSpace = space extended
 arguments d.GpioInt = (word blank 7 0 1 k.Mode ∷ word (codes "_POL") 7 1 2 k.Level ∷ sharing 7 3 ∷ pull ∷ debounce ∷ []) ++ pin_source
 arguments d.GpioIo =
-    (sharing 7 3 ∷ pull ∷ debounce ∷ optional_number (codes "_DRS") 10 16 ∷ optional_word (codes "_IOR") 7 0 2 k.IoRestriction 0 ∷ []) ++ pin_source
+    (sharing 7 3 ∷ pull ∷ debounce ∷ optional_number (codes "_DRS") 10 16 ∷ optional_word (codes "_IOR") 7 0 2 k.IoRestriction 0 ∷ [])
+    ++ pin_source
 arguments d.I2cSerialBus =
-    number (codes "_ADR") 16 16 ∷ word blank 6 0 1 k.Initiator ∷ number (codes "_SPE") 12 32 ∷ word blank 7 0 1 k.Addressing ∷ text ∷ optional_number blank 4 8
+    number (codes "_ADR") 16 16 ∷ word blank 6 0 1 k.Initiator ∷ number (codes "_SPE") 12 32 ∷ word blank 7 0 1 k.Addressing ∷ text ∷
+    optional_number blank 4 8
     ∷ optional_word blank 6 1 1 k.Usage 1 ∷ descriptor_name ∷ word_below (codes "_SHR") 6 2 1 k.Sharing 2 (Some 0) ∷ vacant ∷ []
 
 -- what no argument gives: the list, or nothing

@@ -1,5 +1,6 @@
 -- EISA identifiers, UUIDs, and texts of 16-bit characters.
-use Rattle.std.specs.Prelude.{ℕ, ◌+◌, ◌*◌, ◌-◌, ◌^◌, ◌==◌, ◌&&◌, ◌||◌, nat_le, Bool, true, cond, List, [], ◌∷◌, length, map, slice_index, Some, None}
+use Rattle.std.specs.Prelude.{ℕ, ◌+◌, ◌*◌, ◌-◌, ◌^◌, ◌==◌, ◌&&◌, ◌||◌, nat_le, Bool, true, cond, List, [], ◌∷◌, length, map, slice_index}
+use Rattle.std.specs.Prelude.{Some, None}
 use Rattle.std.specs.Int.{to_be_bytes, from_le_bytes, w32}
 use Rattle.std.specs.declared.option.Option.{Option}
 

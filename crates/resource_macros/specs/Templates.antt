@@ -36,7 +36,8 @@ resource place descriptor args body = record { place = place; descriptor = descr
 unfoldable mutual
   -- A term's descriptor, and those of its list behind it.
   pub resources_in : Place → Term → List Resource
-  resources_in place (D.Resource' descriptor shape args shape' body) = resource place descriptor (D.items-the_row-Node _ args) (D.items-the_row-Node _ body) ∷ row_resources body
+  resources_in place (D.Resource' descriptor shape args shape' body) = resource place descriptor (D.items-the_row-Node _ args)
+      (D.items-the_row-Node _ body) ∷ row_resources body
   resources_in place _ = []
 
   pub row_resources : {m : _} → D.Row_of-Node m → List Resource
@@ -87,7 +88,8 @@ abbrev pub own_fault : Bool → Place → List Message
 own_fault room place = cond room [] (message 6024 place ∷ [])
 
 abbrev pub faults_in : Row → Place → List Node → List Node → List Message
-faults_in row place args body = argument_faults (fields_of row.descriptor) args ++ (list_faults row.body body ++ own_fault (has_room row args body) place)
+faults_in row place args body = argument_faults (fields_of row.descriptor) args
+    ++ (list_faults row.body body ++ own_fault (has_room row args body) place)
 
 -- the faults of a descriptor
 abbrev pub faults_of : Resource → List Message
@@ -111,18 +113,26 @@ all_bytes (r ∷ rs) = bytes_of r ++ all_bytes rs
 
 -- a field of a named descriptor that begins at a byte
 abbrev pub offset_of : ℕ → ℕ → Field → FieldOffset
-offset_of name start field = record { descriptor = name; field = from_le_bytes w32 field.name; bit = 8 * start + field.at; bits = field.bits }
+offset_of name start field = record {
+  descriptor = name;
+  field = from_le_bytes w32 field.name;
+  bit = 8 * start + field.at;
+  bits =
+      field.bits;
+}
 
 abbrev pub offsets_in : ℕ → ℕ → List Field → List FieldOffset
 offsets_in name start [] = []
-offsets_in name start (field ∷ fields) = cond (bytes_eq field.name (codes "    ")) [] (offset_of name start field ∷ []) ++ offsets_in name start fields
+offsets_in name start (field ∷ fields) = cond (bytes_eq field.name (codes "    ")) [] (offset_of name start field ∷ [])
+    ++ offsets_in name start fields
 
 abbrev pub offsets_by_name : Option ℕ → ℕ → List Field → List FieldOffset
 offsets_by_name None start fields = []
 offsets_by_name (Some name) start fields = offsets_in name start fields
 
 abbrev pub offsets_in_row : Row → ℕ → List Node → List FieldOffset
-offsets_in_row row start args = offsets_by_name (in_node name_in (argument_by is_name (fields_of row.descriptor) args)) start (fields_of row.descriptor)
+offsets_in_row row start args = offsets_by_name (in_node name_in (argument_by is_name (fields_of row.descriptor) args)) start
+    (fields_of row.descriptor)
 
 -- the fields of a descriptor that begins at a byte
 abbrev pub offsets_of : ℕ → Resource → List FieldOffset
@@ -141,7 +151,8 @@ length_of r = length_in (row_of r.descriptor) r.args r.body
 -- bytes are these descriptors, one behind the other, and then 79 00
 abbrev pub Describes : List Resource → List ℕ → Type 0
 Describes [] bytes = bytes ≡ 0x79 ∷ 0 ∷ []
-Describes (r ∷ rs) bytes = IsResource (row_of r.descriptor) r.args r.body (take (length_of r) bytes) × Describes rs (drop (length_of r) bytes)
+Describes (r ∷ rs) bytes = IsResource (row_of r.descriptor) r.args r.body (take (length_of r) bytes)
+    × Describes rs (drop (length_of r) bytes)
 
 -- ---- the answer
 

@@ -111,7 +111,8 @@ fn all_dues(
     args: &[Node],
     members: &[u64],
 ) -> Result<Vec<Due>, AllocError>
-    ensures { IfOk result (λ dues. dues.items ≡ resource.head_dues row.now.head bytes ++ resource.field_dues args.now (resource.listed members.now before bytes) fields.now) }
+    ensures { IfOk result (λ dues. dues.items ≡ resource.head_dues row.now.head bytes ++ resource.field_dues args.now
+        (resource.listed members.now before bytes) fields.now) }
 {
     let mut dues = head_dues(alloc, row.head, bytes)?;
     for field in fields {
@@ -279,7 +280,8 @@ fn put_numbers(out: &mut Vec<u8>, width: u32, numbers: &[u64]) -> Result<(), All
 
 // Writes the numbers of a list that stand behind the fields.
 fn put_behind(out: &mut Vec<u8>, body: Body, members: &[u64]) -> Result<(), AllocError>
-    ensures { OnOk result (out.new.items ≡ out.old.items ++ resource.numbers_bytes (resource.width_behind body) (resource.numbers_behind body members.now)) }
+    ensures { OnOk result (out.new.items ≡ out.old.items ++ resource.numbers_bytes (resource.width_behind body)
+        (resource.numbers_behind body members.now)) }
 {
     match body {
         Body::Numbers { bits, .. } => put_numbers(out, bits / 8, members),
@@ -334,7 +336,8 @@ fn has_count(body: Body, count: u64) -> bool
 }
 
 fn has_room(body: Body, nodes: &[Node], dues: &[Due]) -> bool
-    ensures { result ≡ ((nat_le (resource.least_of body) (length nodes.now) && resource.are_few body (length nodes.now)) && list_all resource.is_fitting dues.now) }
+    ensures { result ≡ ((nat_le (resource.least_of body) (length nodes.now) && resource.are_few body (length nodes.now))
+        && list_all resource.is_fitting dues.now) }
 {
     has_count(body, nodes.len() as u64) && are_fitting(dues)
 }

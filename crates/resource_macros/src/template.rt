@@ -86,8 +86,10 @@ fn add_resource(
     args: &[Node],
     body: &[Node],
 ) -> Result<(), AllocError>
-    ensures bytes { OnOk result (work.new.bytes.items ≡ work.old.bytes.items ++ spec.bytes_of (spec.resource place descriptor args.now body.now)) }
-    ensures fields { OnOk result (work.new.fields ≡ work.old.fields ++ spec.offsets_of (length work.old.bytes.items) (spec.resource place descriptor args.now body.now)) }
+    ensures bytes { OnOk result
+        (work.new.bytes.items ≡ work.old.bytes.items ++ spec.bytes_of (spec.resource place descriptor args.now body.now)) }
+    ensures fields { OnOk result (work.new.fields ≡ work.old.fields ++ spec.offsets_of (length work.old.bytes.items)
+        (spec.resource place descriptor args.now body.now)) }
     ensures faults { OnOk result (work.new.faults ≡ work.old.faults ++ spec.faults_of (spec.resource place descriptor args.now body.now)) }
 {
     let start = work.bytes.len();
@@ -120,7 +122,8 @@ fn add_resource(
 #[cycle(template)]
 fn add_term(alloc: Global, work: &mut Work, place: Place, term: &Term) -> Result<(), AllocError>
     ensures bytes { OnOk result (work.new.bytes.items ≡ work.old.bytes.items ++ spec.all_bytes (spec.resources_in place term.now)) }
-    ensures fields { OnOk result (work.new.fields ≡ work.old.fields ++ spec.all_offsets (length work.old.bytes.items) (spec.resources_in place term.now)) }
+    ensures fields { OnOk result (work.new.fields ≡ work.old.fields ++ spec.all_offsets (length work.old.bytes.items)
+        (spec.resources_in place term.now)) }
     ensures faults { OnOk result (work.new.faults ≡ work.old.faults ++ spec.all_faults (spec.resources_in place term.now)) }
 {
     match term {
@@ -144,7 +147,8 @@ fn add_term(alloc: Global, work: &mut Work, place: Place, term: &Term) -> Result
 #[cycle(template)]
 fn add_list(alloc: Global, work: &mut Work, nodes: &[Node]) -> Result<(), AllocError>
     ensures bytes { OnOk result (work.new.bytes.items ≡ work.old.bytes.items ++ spec.all_bytes (spec.resources_of nodes.now)) }
-    ensures fields { OnOk result (work.new.fields ≡ work.old.fields ++ spec.all_offsets (length work.old.bytes.items) (spec.resources_of nodes.now)) }
+    ensures fields { OnOk result (work.new.fields ≡ work.old.fields ++ spec.all_offsets (length work.old.bytes.items)
+        (spec.resources_of nodes.now)) }
     ensures faults { OnOk result (work.new.faults ≡ work.old.faults ++ spec.all_faults (spec.resources_of nodes.now)) }
 {
     for node in nodes {

@@ -81,11 +81,13 @@ abbrev mutual
 
   pub AreBranches : BranchList → Type 0
   AreBranches no_branches = ⊥
-  AreBranches (branch directive inside others) = (Is k.If directive ⊎ (Is k.IfDefined directive ⊎ Is k.IfNotDefined directive)) × AreWhole inside × AreFurther others
+  AreBranches (branch directive inside others) = (Is k.If directive ⊎ (Is k.IfDefined directive ⊎ Is k.IfNotDefined directive))
+      × AreWhole inside × AreFurther others
 
   pub AreFurther : BranchList → Type 0
   AreFurther no_branches = ⊤
-  AreFurther (branch directive inside others) = (Is k.ElseIf directive × AreWhole inside × AreFurther others) ⊎ (Is k.Else directive × AreWhole inside × IsNone others)
+  AreFurther (branch directive inside others) = (Is k.ElseIf directive × AreWhole inside × AreFurther others)
+      ⊎ (Is k.Else directive × AreWhole inside × IsNone others)
 
 -- ---- what rows do
 
@@ -129,7 +131,8 @@ abbrev mutual
   pub read_first : (Row → State → Outcome State) → ℕ → BranchList → State → Outcome State
   read_first does file no_branches state = Ok state
   read_first does file (branch directive inside others) state =
-      chosen (condition state.history directive) (read does file inside state) (read_first does file others state) (told file directive state)
+      chosen (condition state.history directive) (read does file inside state) (read_first does file others state)
+      (told file directive state)
 
 -- what is known behind a row, the branches around it aside
 abbrev pub known : Outcome Pass → Outcome State
@@ -138,4 +141,5 @@ known (Err stop) = Err stop
 
 -- what a row does where no conditional is around it
 abbrev pub alone : Reading → Setting → ℕ → List ℕ → Row → State → Outcome State
-alone reading setting file own r state = known (then (of_row setting.enabled file r (record { state = state; branches = [] })) (done reading setting own))
+alone reading setting file own r state =
+    known (then (of_row setting.enabled file r (record { state = state; branches = [] })) (done reading setting own))

@@ -47,27 +47,35 @@ pub data Opens : Production → List Mark → ℕ → Type 0 where
   no_expression : {n : ℕ} → Opens (expression n) [] 0
   -- a number, a string, an item, or what ends in a bracket or a postfix operator
   an_expression : {m n : ℕ} {e : Tree} {ms : List Mark} → m ≤ 1 → m ≤ n → Reads (g.expression m e) ms [] → Opens (expression n) ms 0
-  in_item : {n d : ℕ} {p : Spot} {path : Bool} {w : List ℕ} {ms : List Mark} → Opens behind_word ms d → Opens (expression n) (word p path w ∷ ms) d
-  in_brackets : {n d : ℕ} {p : Spot} {ms : List Mark} → 1 ≤ n → Opens (expression 13) ms d → Opens (expression n) (sign p s.LeftParen ∷ ms) (suc d)
-  in_index : {n d : ℕ} {p : Spot} {a : Tree} {ms mid : List Mark} → 1 ≤ n → Reads (g.expression 1 a) ms (sign p s.LeftBracket ∷ mid) → Opens (expression 13) mid d → Opens (expression n) ms (suc d)
-  in_prefix : {n d : ℕ} {p : Spot} {o : Infix} {ms : List Mark} → 2 ≤ n → Opens (expression 2) ms d → Opens (expression n) (sign p (s.Prefix o) ∷ ms) (suc d)
-  in_infix : {n d : ℕ} {p : Spot} {i : Infix} {o : Strength} {a : Tree} {ms mid : List Mark} → strength i ≡ Some o → o.level ≤ n → Reads (g.expression o.pull a) ms (sign p (s.Binary i) ∷ mid)
+  in_item : {n d : ℕ} {p : Spot} {path : Bool} {w : List ℕ} {ms : List Mark} → Opens behind_word ms d →
+      Opens (expression n) (word p path w ∷ ms) d
+  in_brackets : {n d : ℕ} {p : Spot} {ms : List Mark} → 1 ≤ n → Opens (expression 13) ms d → Opens (expression n) (sign p s.LeftParen ∷ ms)
+      (suc d)
+  in_index : {n d : ℕ} {p : Spot} {a : Tree} {ms mid : List Mark} → 1 ≤ n → Reads (g.expression 1 a) ms (sign p s.LeftBracket ∷ mid) →
+      Opens (expression 13) mid d → Opens (expression n) ms (suc d)
+  in_prefix : {n d : ℕ} {p : Spot} {o : Infix} {ms : List Mark} → 2 ≤ n → Opens (expression 2) ms d →
+      Opens (expression n) (sign p (s.Prefix o) ∷ ms) (suc d)
+  in_infix : {n d : ℕ} {p : Spot} {i : Infix} {o : Strength} {a : Tree} {ms mid : List Mark} → strength i ≡ Some o → o.level ≤ n →
+      Reads (g.expression o.pull a) ms (sign p (s.Binary i) ∷ mid)
       → Opens (expression o.room) mid d → Opens (expression n) ms (count i + d)
   in_arguments : {d : ℕ} {p : Spot} {ms : List Mark} → Opens arguments ms d → Opens behind_word (sign p s.LeftParen ∷ ms) (suc d)
-  in_body : {d : ℕ} {p : Spot} {args : TreeGroup} {ms mid : List Mark} → Reads (g.arguments args) ms (sign p s.LeftBrace ∷ mid) → Opens (row 13) mid d → Opens behind_word ms (suc d)
+  in_body : {d : ℕ} {p : Spot} {args : TreeGroup} {ms mid : List Mark} → Reads (g.arguments args) ms (sign p s.LeftBrace ∷ mid) →
+      Opens (row 13) mid d → Opens behind_word ms (suc d)
   -- behind some arguments, each with its comma
   next_argument : {d : ℕ} {xs : Trees} {ms mid : List Mark} → Reads (g.before xs) ms mid → Opens argument mid d → Opens arguments ms d
   an_argument : {d : ℕ} {ms : List Mark} → Opens (expression 13) ms d → Opens argument ms d
   a_list_argument : {d : ℕ} {ms : List Mark} → Opens brace_list ms d → Opens argument ms d
   a_list : {e : Tree} {ms : List Mark} → Reads (g.brace_list e) ms [] → Opens brace_list ms 0
   -- behind some members, each with its comma
-  in_list : {d : ℕ} {p : Spot} {xs : Trees} {ms mid : List Mark} → Reads (g.members xs) ms mid → Opens member mid d → Opens brace_list (sign p s.LeftBrace ∷ ms) (suc d)
+  in_list : {d : ℕ} {p : Spot} {xs : Trees} {ms mid : List Mark} → Reads (g.members xs) ms mid → Opens member mid d →
+      Opens brace_list (sign p s.LeftBrace ∷ ms) (suc d)
   no_member : Opens member [] 0
   a_word : {p : Spot} {w : List ℕ} → Opens member (word p false w ∷ []) 0
   an_inner_list : {d : ℕ} {ms : List Mark} → Opens brace_list ms d → Opens member ms d
   -- behind a comma or a semicolon of a row, or where it begins
   no_next : {n : ℕ} {done : Trees} {ms : List Mark} → Reads (g.sequence n done None) ms [] → Opens (row n) ms 0
-  next_expression : {n d : ℕ} {done : Trees} {last : Option Tree} {m : Mark} {ms rest : List Mark} → Reads (g.sequence n done last) ms (m ∷ rest) → MayFollow last (m ∷ rest) → Opens (expression n) (m ∷ rest) d
+  next_expression : {n d : ℕ} {done : Trees} {last : Option Tree} {m : Mark} {ms rest : List Mark} →
+      Reads (g.sequence n done last) ms (m ∷ rest) → MayFollow last (m ∷ rest) → Opens (expression n) (m ∷ rest) d
       → Opens (row n) ms d
 
 -- The tokens are a front of a source, at whose end so much is open.

@@ -1,5 +1,5 @@
--- The pieces of a table: the header at the block, and then each term of the term lists of the core, in preorder, with its encoding up to that
--- of the first term inside it, at the place of the term of the source for which it stands.
+-- The pieces of a table: the header at the block, and then each term of the term lists of the core, in preorder, with
+-- its encoding up to that of the first term inside it, at the place of the term of the source for which it stands.
 use Rattle.std.specs.Prelude.{◌≡◌, Bool, List, ◌∷◌}
 use Rattle.iasl_messages.specs.declared.place.Place.{Place}
 use Rattle.iasl_messages.specs.declared.place.Line.{Line}
@@ -18,7 +18,8 @@ use Rattle.source_pieces.specs.Places.{core_places}
 abbrev pub places_in : (wrap fold : Bool) → List Raw → List Place
 places_in wrap fold items = block_place (writtens items) ∷ placed_where wrap (lowered_in fold items) (core_places (plans_in items))
 
--- their parts; whether Externals stand in Ifs, whether constants are folded, whether 0, 1 and all ones have a byte of their own, and whether names are shortened, is the caller's choice
+-- their parts; whether Externals stand in Ifs, whether constants are folded, whether 0, 1 and all ones have a byte of
+-- their own, and whether names are shortened, is the caller's choice
 abbrev pub parts_in : (wrap fold short shorten : Bool) → List Raw → List Part
 parts_in wrap fold short shorten items = table_parts (fields_in items) short (core_of shorten (core_in wrap fold items))
 

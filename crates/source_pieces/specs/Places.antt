@@ -1,6 +1,7 @@
--- The places of the terms of a program's core, read off its plans: in preorder, those of the terms of the term lists. The core has an Else and an If for an ElseIf, whose
--- place so comes twice, and a loop for a Switch: what is made for the Switch has its place, but the test of a Case has the Case's, and the Else behind it that of the next
--- Case, or of the Default. A Continue inside a Switch of its loop is a Store and a Break, so its place comes twice, too.
+-- The places of the terms of a program's core, read off its plans: in preorder, those of the terms of the term lists.
+-- The core has an Else and an If for an ElseIf, whose place so comes twice, and a loop for a Switch: what is made for
+-- the Switch has its place, but the test of a Case has the Case's, and the Else behind it that of the next Case, or of
+-- the Default. A Continue inside a Switch of its loop is a Store and a Break, so its place comes twice, too.
 use Rattle.std.specs.Prelude.{Bool, true, false, ◌||◌, if◌then◌else◌, List, [], ◌∷◌, ◌++◌, Some, None}
 use Rattle.iasl_messages.specs.declared.place.Place.{Place}
 use Rattle.asl_tree.specs.declared.term.Control.TheVariants as Control
@@ -36,8 +37,8 @@ unfoldable mutual
   are_left no_plans = false
   are_left (plan place p ps) = is_left p || are_left ps
 
--- a form at a place; `inside` says whether a Switch is around it, in the same loop, and `left` whether a Continue leaves the terms in its braces; `inner` are the places
--- of these, and `chain` those of the tests of its Cases
+-- a form at a place; `inside` says whether a Switch is around it, in the same loop, and `left` whether a Continue
+-- leaves the terms in its braces; `inner` are the places of these, and `chain` those of the tests of its Cases
 abbrev pub form_at : Op → (inside left : Bool) → Place → (inner chain : List Place) → List Place
 form_at (Op.Control Control.ElseIf) inside left place inner chain = place ∷ place ∷ inner
 form_at (Op.Control Control.Switch) inside left place inner chain = loop_places left inside place (turn_places place chain)
@@ -52,7 +53,8 @@ case_at op place inner following = Some (place, (place ∷ inner) ++ else_places
 unfoldable mutual
   -- a term at a place
   pub core_places_at : (inside : Bool) → Place → Plan → List Place
-  core_places_at inside place (a_form op args body) = form_at op inside (are_left body) place (core_places_in (body_inside op inside) body) (chain_places (cases_in body))
+  core_places_at inside place (a_form op args body) = form_at op inside (are_left body) place (core_places_in (body_inside op inside) body)
+      (chain_places (cases_in body))
   core_places_at inside place _ = place ∷ []
 
   -- the terms of a list

@@ -55,7 +55,8 @@ abbrev mutual
   pub term_errors : Around → Place → Plan → List Message
   term_errors around place (an_arg index) = argument_errors around place index
   term_errors around place (a_call name args) = statement_errors around args
-  term_errors around place (a_form op args body) = loop_errors around place op ++ (statement_errors around args ++ statement_errors (around_body op args around) body)
+  term_errors around place (a_form op args body) = loop_errors around place op
+      ++ (statement_errors around args ++ statement_errors (around_body op args around) body)
   term_errors around place _ = []
 
   -- the errors of terms one after another

@@ -1,5 +1,6 @@
 -- What the values of Cases are compared by (ACPI Specification 6.4, 19.6.11).
-use Rattle.std.specs.Prelude.{ℕ, zero, ◌-◌, ◌%◌, ◌&&◌, nat_eq, max, Bool, true, false, List, [], ◌∷◌, ◌++◌, map, length, replicate, unwrap_or, Option, Some, None}
+use Rattle.std.specs.Prelude.{ℕ, zero, ◌-◌, ◌%◌, ◌&&◌, nat_eq, max, Bool, true, false, List, [], ◌∷◌, ◌++◌, map, length, replicate}
+use Rattle.std.specs.Prelude.{unwrap_or, Option, Some, None}
 use Rattle.std.specs.List.{list_any}
 use Rattle.std.specs.Str.{bytes_eq}
 use Rattle.std.specs.HashSet.{HashSet}

@@ -9,7 +9,8 @@ ghost use Rattle.switch_checks.specs.Values.{buffer_of, filled, is_same};
 
 /// Two Buffers are the same where the bytes that they list are, filled with zeros to their sizes.
 pub fn buffers_are_filled()
-    ensures { (size other : Option ℕ) (bytes others : List ℕ) → is_same (buffer_of size bytes) (buffer_of other others) ≡ bytes_eq (filled size bytes) (filled other others) }
+    ensures { (size other : Option ℕ) (bytes others : List ℕ) → is_same (buffer_of size bytes) (buffer_of other others) ≡ bytes_eq
+        (filled size bytes) (filled other others) }
 {}
 
 /// Where nothing is told of a program's Locals, each method and what lies outside methods leave enough of them for their Switches,

@@ -103,7 +103,8 @@ fn form_errors(
     args: &[Node],
     body: &[Node],
 ) -> Result<(), AllocError>
-    ensures { OnOk result (out.new ≡ out.old ++ spec.part_errors (part_of op (trees_of args.now) (trees_of body.now)) (trees_of body.now) (plans_of body.now)) }
+    ensures { OnOk result (out.new ≡ out.old ++ spec.part_errors (part_of op (trees_of args.now) (trees_of body.now)) (trees_of body.now)
+        (plans_of body.now)) }
 {
     match part_for(op, args, body) {
         Part::Declares {

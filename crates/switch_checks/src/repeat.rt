@@ -56,7 +56,8 @@ fn note_value(
     out: &mut Messages,
     node: &Node,
 ) -> Result<(), AllocError>
-    ensures { OnOk result (spec.Notes (spec.value_at width node.now.place (plan_of node.now.term)) (values_in seen.old) (values_in seen.new) out.old out.new) }
+    ensures { OnOk result (spec.Notes (spec.value_at width node.now.place (plan_of node.now.term)) (values_in seen.old) (values_in seen.new)
+        out.old out.new) }
 {
     if let Some(value) = value_of(alloc, width, &node.term)? {
         note(alloc, seen, out, value, node.place)?;
@@ -71,7 +72,8 @@ fn note_values(
     out: &mut Messages,
     nodes: &[Node],
 ) -> Result<(), AllocError>
-    ensures { OnOk result (spec.Notes (spec.found_in (spec.value_at width) (plans_of nodes.now)) (values_in seen.old) (values_in seen.new) out.old out.new) }
+    ensures { OnOk result (spec.Notes (spec.found_in (spec.value_at width) (plans_of nodes.now)) (values_in seen.old) (values_in seen.new)
+        out.old out.new) }
 {
     for node in nodes {
         note_value(alloc, width, seen, out, node)?;
@@ -87,7 +89,8 @@ fn note_members(
     out: &mut Messages,
     node: &Node,
 ) -> Result<(), AllocError>
-    ensures { OnOk result (spec.Notes (spec.members_at width node.now.place (plan_of node.now.term)) (values_in seen.old) (values_in seen.new) out.old out.new) }
+    ensures { OnOk result (spec.Notes (spec.members_at width node.now.place (plan_of node.now.term)) (values_in seen.old)
+        (values_in seen.new) out.old out.new) }
 {
     match &node.term {
         Term::Form { op, args: _, body } => if is_package(*op) {
@@ -112,7 +115,8 @@ fn note_first(
     out: &mut Messages,
     args: &[Node],
 ) -> Result<(), AllocError>
-    ensures { OnOk result (spec.Notes (spec.first_members width (plans_of args.now)) (values_in seen.old) (values_in seen.new) out.old out.new) }
+    ensures { OnOk result (spec.Notes (spec.first_members width (plans_of args.now)) (values_in seen.old) (values_in seen.new) out.old
+        out.new) }
 {
     match first_of(args) {
         Some(node) => {
@@ -131,7 +135,8 @@ fn note_case(
     out: &mut Messages,
     node: &Node,
 ) -> Result<(), AllocError>
-    ensures { OnOk result (spec.Notes (spec.case_values width node.now.place (plan_of node.now.term)) (values_in seen.old) (values_in seen.new) out.old out.new) }
+    ensures { OnOk result (spec.Notes (spec.case_values width node.now.place (plan_of node.now.term)) (values_in seen.old)
+        (values_in seen.new) out.old out.new) }
 {
     match &node.term {
         Term::Form { op, args, body: _ } => if is_case(*op) {
@@ -151,7 +156,8 @@ fn note_cases(
     out: &mut Messages,
     nodes: &[Node],
 ) -> Result<(), AllocError>
-    ensures { OnOk result (spec.Notes (spec.found_in (spec.case_values width) (plans_of nodes.now)) (values_in seen.old) (values_in seen.new) out.old out.new) }
+    ensures { OnOk result (spec.Notes (spec.found_in (spec.case_values width) (plans_of nodes.now)) (values_in seen.old)
+        (values_in seen.new) out.old out.new) }
 {
     for node in nodes {
         note_case(alloc, width, seen, out, node)?;

@@ -142,7 +142,8 @@ fn buffer_of(alloc: Global, size: Option<u64>, bytes: &[u8]) -> Result<CaseValue
 }
 
 fn buffer_value(alloc: Global, args: &[Node], body: &[Node]) -> Result<CaseValue, AllocError>
-    ensures { IfOk result (λ value. spec.shown value ≡ spec.buffer_of (spec.size_in (plan_at (plans_of args.now) 0)) (spec.buffer_bytes (plans_of body.now))) }
+    ensures { IfOk result (λ value. spec.shown value ≡ spec.buffer_of (spec.size_in (plan_at (plans_of args.now) 0))
+        (spec.buffer_bytes (plans_of body.now))) }
 {
     let bytes = buffer_bytes(alloc, body)?;
     Ok(buffer_of(alloc, size_of(args), &bytes)?)

@@ -1,5 +1,6 @@
 -- Terms in which no value is left out of which a Switch chooses.
-use Rattle.asl_tree.specs.Tree.{Tree, Omitted, Package, VarPackage, Method, Container', Scope, If, ElseIf, Else, While, Switch, Case, Default, Trees, no_trees, tree}
+use Rattle.asl_tree.specs.Tree.{Tree, Omitted, Package, VarPackage, Method, Container', Scope, If, ElseIf, Else, While, Switch, Case}
+use Rattle.asl_tree.specs.Tree.{Default, Trees, no_trees, tree}
 
 abbrev pub HasValue : Tree → Type 0
 HasValue Omitted = ⊥

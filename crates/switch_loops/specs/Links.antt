@@ -31,13 +31,16 @@ looped_all flag values inside terms = unswitched_all (plan_as flag values) 1 ins
 -- what stands for a term, before others
 abbrev pub put : ℕ → List ℕ → Bool → Tree → Trees → Trees
 put flag values inside (Switch value cases) rest =
-    loop_terms (plan_as flag values) (have_continue cases) inside (loop_of value (local (nth values 0)) (chain_of (links (plan_as flag values) 1 cases (default_link (plan_as flag values) 1 cases)))) rest
+    loop_terms (plan_as flag values) (have_continue cases) inside
+    (loop_of value (local (nth values 0)) (chain_of (links (plan_as flag values) 1 cases (default_link (plan_as flag values) 1 cases))))
+    rest
 put flag values inside Continue rest = continue_terms (plan_as flag values) inside rest
 put flag values inside term rest = tree (looped flag values inside term) rest
 
 -- what stands for a Case before those behind it
 abbrev pub linked : ℕ → List ℕ → Tree → Option Trees → Option Trees
-linked flag values (Case value body) behind = Some (tree (If (case_test (local (nth values 0)) value) (looped_all flag (drop 1 values) true body)) (else_of behind))
+linked flag values (Case value body) behind =
+    Some (tree (If (case_test (local (nth values 0)) value) (looped_all flag (drop 1 values) true body)) (else_of behind))
 linked flag values term behind = behind
 
 -- what stands in the braces of a form that stays

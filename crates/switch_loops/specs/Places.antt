@@ -1,5 +1,6 @@
--- The places of the terms of a program whose Switches are loops and which is then lowered, in preorder: a term that stays has its own place, and what is made for a
--- Switch has the Switch's; but the test of a Case has the Case's place, and the Else behind it that of the next Case, or of the Default.
+-- The places of the terms of a program whose Switches are loops and which is then lowered, in preorder: a term that
+-- stays has its own place, and what is made for a Switch has the Switch's; but the test of a Case has the Case's place,
+-- and the Else behind it that of the next Case, or of the Default.
 use Rattle.std.specs.Prelude.{Bool, true, false, if◌then◌else◌, List, [], ◌∷◌, ◌++◌, Option, Some, None}
 use Rattle.iasl_messages.specs.declared.place.Place.{Place}
 use Rattle.asl_tree.specs.declared.term.Control.TheVariants as Control
@@ -48,8 +49,8 @@ body_inside (Op.Control Control.While) inside = false
 body_inside (Op.Declaration Declaration.Method) inside = false
 body_inside op inside = inside
 
--- a form: `inner` are the places of the terms in its braces, and `chain` those of the tests of its Cases; one that stays has the places that it is
--- lowered to, an ElseIf its own twice
+-- a form: `inner` are the places of the terms in its braces, and `chain` those of the tests of its Cases; one that
+-- stays has the places that it is lowered to, an ElseIf its own twice
 abbrev pub form_places : Kind → Op → Trees → (inside crossed : Bool) → Place → List Place → List Place → List Place
 form_places Kind.Switch op args inside crossed place inner chain = loop_places crossed inside place (turn_places place chain)
 form_places Kind.Continue op args inside crossed place inner chain = continue_places inside place
@@ -67,7 +68,8 @@ unfoldable mutual
   -- what stands for a term at a place
   pub looped_at : Bool → Place → Term → List Place
   looped_at inside place (D.Form' op shape args shape' body) =
-      form_places (form_kind op (row_trees args) (row_trees body)) op (row_trees args) inside (have_continue (row_trees body)) place (looped_row (body_inside op inside) body) (chain_places (cases_row body (default_row body)))
+      form_places (form_kind op (row_trees args) (row_trees body)) op (row_trees args) inside (have_continue (row_trees body)) place
+      (looped_row (body_inside op inside) body) (chain_places (cases_row body (default_row body)))
   looped_at inside place _ = place ∷ []
 
   pub looped_row : {m : _} → Bool → D.Row_of-Node m → List Place
@@ -82,7 +84,8 @@ unfoldable mutual
   -- the Cases of a Switch, and its Default
   pub cases_row : {m : _} → D.Row_of-Node m → Following → Following
   cases_row D.end_of-Node default = default
-  cases_row (D.more_of-Node id place term rest) default = case_places (shape_kind (term_shape term)) place (braces term) (cases_row rest default)
+  cases_row (D.more_of-Node id place term rest) default = case_places (shape_kind (term_shape term)) place (braces term)
+      (cases_row rest default)
 
   pub default_row : {m : _} → D.Row_of-Node m → Following
   default_row D.end_of-Node = None
@@ -96,19 +99,23 @@ looped_places inside (node ∷ nodes) = looped_at inside node.place node.term ++
 -- the Cases among some nodes, and their Default
 unfoldable pub cases_places : List Node → Following → Following
 cases_places [] default = default
-cases_places (node ∷ nodes) default = case_places (shape_kind (term_shape node.term)) node.place (braces node.term) (cases_places nodes default)
+cases_places (node ∷ nodes) default = case_places (shape_kind (term_shape node.term)) node.place (braces node.term)
+    (cases_places nodes default)
 
 unfoldable pub first_default_places : List Node → Following
 first_default_places [] = None
-first_default_places (node ∷ nodes) = default_places (shape_kind (term_shape node.term)) node.place (braces node.term) (first_default_places nodes)
+first_default_places (node ∷ nodes) = default_places (shape_kind (term_shape node.term)) node.place (braces node.term)
+    (first_default_places nodes)
 
 -- a Switch, and a form, by their nodes
 abbrev pub switch_looped : Bool → Place → List Node → List Place
-switch_looped inside place cases = loop_places (have_continue (trees_of cases)) inside place (turn_places place (chain_places (cases_places cases (first_default_places cases))))
+switch_looped inside place cases = loop_places (have_continue (trees_of cases)) inside place
+    (turn_places place (chain_places (cases_places cases (first_default_places cases))))
 
 abbrev pub form_looped : Bool → Place → Op → List Node → List Node → List Place
 form_looped inside place op args body =
-    form_places (form_kind op (trees_of args) (trees_of body)) op (trees_of args) inside (have_continue (trees_of body)) place (looped_places (body_inside op inside) body) (chain_places (cases_places body (first_default_places body)))
+    form_places (form_kind op (trees_of args) (trees_of body)) op (trees_of args) inside (have_continue (trees_of body)) place
+    (looped_places (body_inside op inside) body) (chain_places (cases_places body (first_default_places body)))
 
 abbrev pub default_node_places : Option Node → Following
 default_node_places None = None

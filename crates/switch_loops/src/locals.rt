@@ -5,7 +5,8 @@ ghost use Rattle.acpi_names.specs.Walked.{node_tree};
 ghost use Rattle.asl_operators.specs.Letters.{letters_as};
 ghost use Rattle.asl_tree.specs.View.{trees_of};
 ghost use Rattle.hidden_locals.specs.Locals.{locals, locals_all};
-ghost use Rattle.switch_loops.specs.Reads.{form_locals, letter_names, operand_locals, marked, marked_all, none_named, is_marked, others_of, is_constant as constant_letter, reads_of as form_reads, value_reads as reads_of_value};
+ghost use Rattle.switch_loops.specs.Reads.{form_locals, letter_names, operand_locals, marked, marked_all, none_named, is_marked, others_of};
+ghost use Rattle.switch_loops.specs.Reads.{is_constant as constant_letter, reads_of as form_reads, value_reads as reads_of_value};
 
 use acpi_names::part::{Part, ValueForm, part_for, value_form_for};
 use acpi_values::operator::Plain;
@@ -171,7 +172,8 @@ fn is_constant(letter: Option<Letter>) -> bool
 
 #[cycle(named)]
 fn named_in_form(op: Op, args: &[Node], body: &[Node], found: Locals) -> Locals
-    ensures { result.named ≡ marked_all found.named (form_locals (form_reads op (trees_of args.now) (trees_of body.now)) (trees_of args.now) (trees_of body.now)) }
+    ensures { result.named ≡ marked_all found.named (form_locals (form_reads op (trees_of args.now) (trees_of body.now)) (trees_of args.now)
+        (trees_of body.now)) }
 {
     match reads_of(op, args, body) {
         Reads::Nothing => found,

@@ -9,9 +9,11 @@ ghost use Rattle.hidden_locals.specs.Locals.{locals_all};
 ghost use Rattle.hidden_locals.specs.Switches.{default_link, links, without_switches};
 ghost use Rattle.switch_loops.specs.Given.{AreGiven, IsGiven, HasValue};
 ghost use Rattle.switch_loops.specs.Kinds.{form_kind as form_kind_of, shape_kind};
-ghost use Rattle.switch_loops.specs.Links.{given_default, in_braces as trees_in_braces, link_places, link_trees, linked, looped_all, plan_as, put as put_tree, default_looped, shape_body};
+ghost use Rattle.switch_loops.specs.Links.{given_default, in_braces as trees_in_braces, link_places, link_trees, linked, looped_all};
+ghost use Rattle.switch_loops.specs.Links.{plan_as, put as put_tree, default_looped, shape_body};
 ghost use Rattle.switch_loops.specs.Reads.{marked_all, none_named, others_of};
-ghost use Rattle.switch_loops.specs.Places.{body_inside, cases_places, case_places, braces as braces_places, default_node_places, first_default_places, form_looped, looped_at, looped_places, switch_looped};
+ghost use Rattle.switch_loops.specs.Places.{body_inside, cases_places, case_places, braces as braces_places, default_node_places};
+ghost use Rattle.switch_loops.specs.Places.{first_default_places, form_looped, looped_at, looped_places, switch_looped};
 
 use crate::kind::{Kind, form_kind};
 use crate::locals::named_in;
@@ -34,7 +36,8 @@ fn only(nodes: Vec<Node>) -> Node
 
 // The Locals that terms leave to so many levels of Switches; none are looked for where there is no level.
 fn left_to(alloc: Global, levels: usize, terms: &[Node]) -> Result<Vec<u8>, AllocError>
-    ensures { IfOk result (λ free. free.items ≡ (if nat_eq levels 0 then [] else others_of (marked_all none_named (locals_all (trees_of terms.now))))) }
+    ensures { IfOk result
+        (λ free. free.items ≡ (if nat_eq levels 0 then [] else others_of (marked_all none_named (locals_all (trees_of terms.now))))) }
 {
     if levels == 0 {
         return Ok(Vec::new(alloc));
@@ -69,7 +72,8 @@ fn loops_in(
     inside: bool,
     terms: Vec<Node>,
 ) -> Result<Vec<Node>, AllocError>
-    ensures trees { IfOk result (λ made. AreGiven (trees_of terms.items) → trees_of made.items ≡ looped_all flag values.now inside (trees_of terms.items)) }
+    ensures trees { IfOk result (λ made. AreGiven (trees_of terms.items) → trees_of made.items ≡ looped_all flag values.now inside
+        (trees_of terms.items)) }
     ensures places { IfOk result (λ made. lowered_places made.items ≡ looped_places inside terms.items) }
 {
     let mut left = terms;
@@ -91,8 +95,10 @@ fn put(
     made: &mut Vec<Node>,
     node: Node,
 ) -> Result<(), AllocError>
-    ensures trees { OnOk result (IsGiven (node_tree node) → backwards made.new.items ≡ put_tree flag values.now inside (node_tree node) (backwards made.old.items)) }
-    ensures places { OnOk result (lowered_places (reverse made.new.items) ≡ looped_at inside node.place node.term ++ lowered_places (reverse made.old.items)) }
+    ensures trees { OnOk result (IsGiven (node_tree node) → backwards made.new.items ≡ put_tree flag values.now inside (node_tree node)
+        (backwards made.old.items)) }
+    ensures places { OnOk result (lowered_places (reverse made.new.items) ≡ looped_at inside node.place node.term
+        ++ lowered_places (reverse made.old.items)) }
 {
     let Node { id, place, term } = node;
     match term {
@@ -120,8 +126,11 @@ fn put_form(
     args: Vec<Node>,
     body: Vec<Node>,
 ) -> Result<(), AllocError>
-    ensures trees { OnOk result (IsGiven (form (record { id = origin.id; place = origin.place }) op (trees_of args.items) (trees_of body.items)) → backwards made.new.items ≡ put_tree flag values.now inside (form (record { id = origin.id; place = origin.place }) op (trees_of args.items) (trees_of body.items)) (backwards made.old.items)) }
-    ensures places { OnOk result (lowered_places (reverse made.new.items) ≡ form_looped inside origin.place op args.items body.items ++ lowered_places (reverse made.old.items)) }
+    ensures trees { OnOk result (IsGiven (form (record { id = origin.id; place = origin.place }) op (trees_of args.items) (trees_of body.items))
+        → backwards made.new.items ≡ put_tree flag values.now inside
+        (form (record { id = origin.id; place = origin.place }) op (trees_of args.items) (trees_of body.items)) (backwards made.old.items)) }
+    ensures places { OnOk result (lowered_places (reverse made.new.items) ≡ form_looped inside origin.place op args.items body.items
+        ++ lowered_places (reverse made.old.items)) }
 {
     match form_kind(op, &args, &body) {
         Kind::Switch => {
@@ -154,7 +163,8 @@ fn in_braces(
     op: Op,
     body: Vec<Node>,
 ) -> Result<Vec<Node>, AllocError>
-    ensures trees { IfOk result (λ made. (has_terms op ≡ true → AreGiven (trees_of body.items)) → trees_of made.items ≡ trees_in_braces flag values.now inside op (trees_of body.items)) }
+    ensures trees { IfOk result (λ made. (has_terms op ≡ true → AreGiven (trees_of body.items)) →
+        trees_of made.items ≡ trees_in_braces flag values.now inside op (trees_of body.items)) }
     ensures places { IfOk result (λ made. has_terms op ≡ true → lowered_places made.items ≡ looped_places (body_inside op inside) body.items) }
 {
     match op {
@@ -193,8 +203,11 @@ fn put_switch(
     value: Node,
     cases: Vec<Node>,
 ) -> Result<(), AllocError>
-    ensures trees { OnOk result (HasValue (node_tree value) → AreGiven (trees_of cases.items) → backwards made.new.items ≡ put_tree flag values.now inside (Switch (node_tree value) (trees_of cases.items)) (backwards made.old.items)) }
-    ensures places { OnOk result (lowered_places (reverse made.new.items) ≡ switch_looped inside origin.place cases.items ++ lowered_places (reverse made.old.items)) }
+    ensures trees { OnOk result (HasValue (node_tree value) → AreGiven (trees_of cases.items) →
+        backwards made.new.items ≡ put_tree flag values.now inside (Switch (node_tree value) (trees_of cases.items))
+        (backwards made.old.items)) }
+    ensures places { OnOk result (lowered_places (reverse made.new.items) ≡ switch_looped inside origin.place cases.items
+        ++ lowered_places (reverse made.old.items)) }
 {
     let crossed = measure_all(&cases).continues;
     let chain = chain(alloc, flag, values, cases)?;
@@ -211,7 +224,8 @@ fn chain(
     values: &[u8],
     nodes: Vec<Node>,
 ) -> Result<Option<Link>, AllocError>
-    ensures trees { IfOk result (λ chain. AreGiven (trees_of nodes.items) → link_trees chain ≡ links (plan_as flag values.now) 1 (trees_of nodes.items) (default_link (plan_as flag values.now) 1 (trees_of nodes.items))) }
+    ensures trees { IfOk result (λ chain. AreGiven (trees_of nodes.items) → link_trees chain ≡ links (plan_as flag values.now) 1
+        (trees_of nodes.items) (default_link (plan_as flag values.now) 1 (trees_of nodes.items))) }
     ensures places { IfOk result (λ chain. link_places chain ≡ cases_places nodes.items (first_default_places nodes.items)) }
 {
     let split = split_cases(alloc, nodes)?;
@@ -249,7 +263,8 @@ fn default_of(
 // The terms in the braces of a Default.
 #[cycle(loops)]
 fn terms_of(alloc: Global, flag: u8, values: &[u8], term: Term) -> Result<Vec<Node>, AllocError>
-    ensures trees { IfOk result (λ made. AreGiven (shape_body (term_shape term)) → trees_of made.items ≡ looped_all flag (drop 1 values.now) true (shape_body (term_shape term))) }
+    ensures trees { IfOk result (λ made. AreGiven (shape_body (term_shape term)) → trees_of made.items ≡ looped_all flag (drop 1 values.now)
+        true (shape_body (term_shape term))) }
     ensures places { IfOk result (λ made. lowered_places made.items ≡ braces_places term) }
 {
     match term {
@@ -274,8 +289,10 @@ fn case_before(
     node: Node,
     following: Option<Link>,
 ) -> Result<Option<Link>, AllocError>
-    ensures trees { IfOk result (λ link. IsGiven (node_tree node) → link_trees link ≡ linked flag values.now (node_tree node) (link_trees following)) }
-    ensures places { IfOk result (λ link. link_places link ≡ case_places (shape_kind (term_shape node.term)) node.place (braces_places node.term) (link_places following)) }
+    ensures trees { IfOk result (λ link. IsGiven (node_tree node) → link_trees link ≡ linked flag values.now (node_tree node)
+        (link_trees following)) }
+    ensures places { IfOk result (λ link. link_places link ≡ case_places (shape_kind (term_shape node.term)) node.place
+        (braces_places node.term) (link_places following)) }
 {
     let Node { id, place, term } = node;
     match term {
@@ -299,8 +316,12 @@ fn form_before(
     body: Vec<Node>,
     following: Option<Link>,
 ) -> Result<Option<Link>, AllocError>
-    ensures trees { IfOk result (λ link. IsGiven (form (record { id = origin.id; place = origin.place }) op (trees_of args.items) (trees_of body.items)) → link_trees link ≡ linked flag values.now (form (record { id = origin.id; place = origin.place }) op (trees_of args.items) (trees_of body.items)) (link_trees following)) }
-    ensures places { IfOk result (λ link. link_places link ≡ case_places (form_kind_of op (trees_of args.items) (trees_of body.items)) origin.place (looped_places true body.items) (link_places following)) }
+    ensures trees { IfOk result
+        (λ link. IsGiven (form (record { id = origin.id; place = origin.place }) op (trees_of args.items) (trees_of body.items)) →
+        link_trees link ≡ linked flag values.now
+        (form (record { id = origin.id; place = origin.place }) op (trees_of args.items) (trees_of body.items)) (link_trees following)) }
+    ensures places { IfOk result (λ link. link_places link ≡ case_places (form_kind_of op (trees_of args.items) (trees_of body.items))
+        origin.place (looped_places true body.items) (link_places following)) }
 {
     match form_kind(op, &args, &body) {
         Kind::Case => {

@@ -9,7 +9,8 @@ ghost use Rattle.asl_tree.specs.View.{apply_of, form, trees_of};
 ghost use Rattle.asl_lower.specs.Nests.{backwards};
 ghost use Rattle.asl_lower.specs.Places.{form_places, lowered_at, lowered_places};
 ghost use Rattle.hidden_locals.specs.Switches.{case_test as tree_test, chain_of};
-ghost use Rattle.hidden_locals.specs.Turns.{equal as equal_tree, local as local_tree, stored, test_of, else_of, loop_of, loop_terms, continue_terms};
+ghost use Rattle.hidden_locals.specs.Turns.{equal as equal_tree, local as local_tree, stored, test_of, else_of, loop_of, loop_terms};
+ghost use Rattle.hidden_locals.specs.Turns.{continue_terms};
 ghost use Rattle.switch_loops.specs.Given.{HasValue, HaveValues, HasCaseValue};
 ghost use Rattle.switch_loops.specs.Links.{link_trees, link_places, plan_as};
 ghost use Rattle.switch_loops.specs.Places.{chain_places, continue_places, else_places, loop_places, turn_places};
@@ -56,8 +57,10 @@ fn one(alloc: Global, node: Node) -> Result<Vec<Node>, AllocError>
 // A statement with terms in its braces.
 #[tactic(auto, using(acpi_names::proofs::Trees::form_tree, asl_lower::proofs::Places::form_lowered))]
 fn control(origin: Origin, op: Control, args: Vec<Node>, body: Vec<Node>) -> Node
-    ensures tree { node_tree result ≡ form (record { id = origin.id; place = origin.place }) (O.Control op) (trees_of args.items) (trees_of body.items) }
-    ensures places { lowered_at result.place result.term ≡ form_places (O.Control op) (trees_of args.items) origin.place (lowered_places body.items) }
+    ensures tree { node_tree result ≡ form (record { id = origin.id; place = origin.place }) (O.Control op) (trees_of args.items)
+        (trees_of body.items) }
+    ensures places { lowered_at result.place result.term ≡ form_places (O.Control op) (trees_of args.items) origin.place
+        (lowered_places body.items) }
 {
     Node {
         id: origin.id,
@@ -164,7 +167,8 @@ fn equal(alloc: Global, origin: Origin, index: u8, value: Node) -> Result<Node, 
 // The test whether one of two tests holds.
 #[tactic(auto, using(crate::proofs::MadeRows::either_made))]
 fn either(alloc: Global, origin: Origin, first: Node, second: Node) -> Result<Node, AllocError>
-    ensures { IfOk result (λ made. HasValue (node_tree first) → HasValue (node_tree second) → node_tree made ≡ Apply (P.Number IntOp.LOr) (tree (node_tree first) (tree (node_tree second) no_trees)) no_trees) }
+    ensures { IfOk result (λ made. HasValue (node_tree first) → HasValue (node_tree second) → node_tree made ≡ Apply (P.Number IntOp.LOr)
+        (tree (node_tree first) (tree (node_tree second) no_trees)) no_trees) }
 {
     let made = operator(alloc, origin, Plain::Number(IntOp::LOr), first, second)?;
     Ok(made)
@@ -177,7 +181,8 @@ fn members_test(
     index: u8,
     members: Vec<Node>,
 ) -> Result<Node, AllocError>
-    ensures { IfOk result (λ made. HaveValues (trees_of members.items) → node_tree made ≡ test_of (local_tree index) (trees_of members.items)) }
+    ensures { IfOk result (λ made. HaveValues (trees_of members.items) → node_tree made ≡ test_of (local_tree index)
+        (trees_of members.items)) }
 {
     let mut left = members;
     left.reverse();
@@ -272,7 +277,8 @@ pub(crate) fn turn(
     value: Node,
     chain: Option<Link>,
 ) -> Result<Node, AllocError>
-    ensures tree { IfOk result (λ made. HasValue (node_tree value) → node_tree made ≡ loop_of (node_tree value) (local_tree index) (chain_of (link_trees chain))) }
+    ensures tree { IfOk result (λ made. HasValue (node_tree value) → node_tree made ≡ loop_of (node_tree value) (local_tree index)
+        (chain_of (link_trees chain))) }
     ensures places { IfOk result (λ made. lowered_at made.place made.term ≡ turn_places origin.place (chain_places (link_places chain))) }
 {
     let mut terms = link_terms(alloc, chain);
@@ -293,8 +299,10 @@ pub(crate) fn put_turn(
     made: &mut Vec<Node>,
     turn: Node,
 ) -> Result<(), AllocError>
-    ensures trees { OnOk result (backwards made.new.items ≡ loop_terms (plan_as flag []) crossed inside (node_tree turn) (backwards made.old.items)) }
-    ensures places { OnOk result (lowered_places (reverse made.new.items) ≡ loop_places crossed inside origin.place (lowered_at turn.place turn.term) ++ lowered_places (reverse made.old.items)) }
+    ensures trees { OnOk result (backwards made.new.items ≡ loop_terms (plan_as flag []) crossed inside (node_tree turn)
+        (backwards made.old.items)) }
+    ensures places { OnOk result (lowered_places (reverse made.new.items) ≡ loop_places crossed inside origin.place
+        (lowered_at turn.place turn.term) ++ lowered_places (reverse made.old.items)) }
 {
     if !crossed {
         made.push(turn)?;
@@ -324,7 +332,8 @@ pub(crate) fn put_continue(
     made: &mut Vec<Node>,
 ) -> Result<(), AllocError>
     ensures trees { OnOk result (backwards made.new.items ≡ continue_terms (plan_as flag []) inside (backwards made.old.items)) }
-    ensures places { OnOk result (lowered_places (reverse made.new.items) ≡ continue_places inside origin.place ++ lowered_places (reverse made.old.items)) }
+    ensures places { OnOk result (lowered_places (reverse made.new.items) ≡ continue_places inside origin.place
+        ++ lowered_places (reverse made.old.items)) }
 {
     if inside {
         made.push(leaving(alloc, origin, Control::Break))?;

@@ -32,10 +32,13 @@ HoldsAsked kind_of kinds old new = Each (λ b c. kind_of c ≡ kind_of b) (filte
 
 -- the outputs that are asked for, in the order of their files
 abbrev pub order_of : Kinds → List Kind
-order_of kinds = cond kinds.template (Template ∷ []) (RawAml ∷ []) ++ cond kinds.c_text (CHex ∷ []) [] ++ cond kinds.listing (Listing ∷ []) []
+order_of kinds = cond kinds.template (Template ∷ []) (RawAml ∷ []) ++ cond kinds.c_text (CHex ∷ []) []
+    ++ cond kinds.listing (Listing ∷ []) []
 
--- The boxes are finished over one list of pieces, which are the due ones, and the texts of their kinds are the bytes of the files that were due.
-pub record AreRendered {X : Type 0} (pieces_of : X → List Piece) (is_finished : X → Bool) (kinds : Kinds) (boxes : List X) (answer : List Named → Option Answer) (due_pieces : List Named → List Piece) (contents : Option (List Named)) : Type 0 where
+-- The boxes are finished over one list of pieces, which are the due ones, and the texts of their kinds are the bytes of
+-- the files that were due.
+pub record AreRendered {X : Type 0} (pieces_of : X → List Piece) (is_finished : X → Bool) (kinds : Kinds) (boxes : List X)
+    (answer : List Named → Option Answer) (due_pieces : List Named → List Piece) (contents : Option (List Named)) : Type 0 where
   pub pieces : List Piece
   pub are : ForSome contents (λ told. pieces ≡ due_pieces told)
   pub over : All (λ b. pieces_of b ≡ pieces) boxes
@@ -43,7 +46,8 @@ pub record AreRendered {X : Type 0} (pieces_of : X → List Piece) (is_finished 
   pub texts : ForSome contents (λ told. map (λ file. file.1) (due_of (answer told)) ≡ map (λ kind. rendering kind pieces) (order_of kinds))
 
 -- The boxes hold the texts of outputs: each is finished over the pieces, and there is one of each kind that has a name.
-pub record HoldsTexts {X : Type 0} (kind_of : X → Kind) (pieces_of : X → List Piece) (is_finished : X → Bool) (making : Making) (boxes : List X) : Type 0 where
+pub record HoldsTexts {X : Type 0} (kind_of : X → Kind) (pieces_of : X → List Piece) (is_finished : X → Bool) (making : Making)
+    (boxes : List X) : Type 0 where
   pub over : All (λ b. pieces_of b ≡ making.pieces) boxes
   pub finished : All (λ b. is_finished b ≡ true) boxes
   pub there : (kind : Kind) → is_asked (kinds_of making.names) kind ≡ true → has_kind kind_of kind boxes ≡ true
@@ -56,7 +60,8 @@ HoldsOutputs kind_of pieces_of is_finished (Err stop) boxes = ⊤
 
 -- What making the outputs of a decision does to the boxes: nothing where there are none to make; else those of other kinds are let go,
 -- and the others are finished over the pieces, unless memory is wanted.
-abbrev pub ChangesBy : {X : Type 0} → (X → Kind) → (X → List Piece) → (X → Bool) → Result Decision Stop → Result Decision Stop → List X → List X → Type 0
+abbrev pub ChangesBy : {X : Type 0} → (X → Kind) → (X → List Piece) → (X → Bool) → Result Decision Stop → Result Decision Stop → List X →
+    List X → Type 0
 ChangesBy kind_of pieces_of is_finished (Ok (Makes making)) rendered old new =
     HoldsAsked kind_of (kinds_of making.names) old new
     × OnOk rendered (All (λ b. pieces_of b ≡ making.pieces) new × All (λ b. is_finished b ≡ true) new)

@@ -1,5 +1,6 @@
 -- What a call has decided before it makes its outputs.
-use Rattle.std.specs.Prelude.{◌≡◌, ◌⊎◌, ℕ, ◌≤◌, Bool, true, false, is_some, List, [], ◌∷◌, ◌++◌, cond, string_bytes, Some, None, ⊤, IfOk, OnOk, IsErrOf, Result, Ok, Err}
+use Rattle.std.specs.Prelude.{◌≡◌, ◌⊎◌, ℕ, ◌≤◌, Bool, true, false, is_some, List, [], ◌∷◌, ◌++◌, cond, string_bytes, Some, None, ⊤, IfOk}
+use Rattle.std.specs.Prelude.{OnOk, IsErrOf, Result, Ok, Err}
 use Rattle.std.specs.declared.option.Option.{Option}
 use Rattle.std.specs.Option.{ForSome}
 use Rattle.iasl_ports.specs.Counts.{Rose}
@@ -83,14 +84,16 @@ abbrev pub IsMadeOf : List Piece → Decision → Type 0
 IsMadeOf pieces (Ends due) = ⊤
 IsMadeOf pieces (Makes making) = making.pieces ≡ pieces
 
--- What a run decides by its files alone, where `answer` says what it is to end with and `pieces` of which pieces its outputs are. It decides nothing
--- only where a file was absent or a fetch failed, or where memory is wanted.
-pub record Settles (answer : List Named → Option Answer) (pieces : List Named → List Piece) (is_decided : Decision → Type 0) (decided : Result Decision Stop) (old new : FilesSeen) : Type 0 where
+-- What a run decides by its files alone, where `answer` says what it is to end with and `pieces` of which pieces its
+-- outputs are. It decides nothing only where a file was absent or a fetch failed, or where memory is wanted.
+pub record Settles (answer : List Named → Option Answer) (pieces : List Named → List Piece) (is_decided : Decision → Type 0)
+    (decided : Result Decision Stop) (old new : FilesSeen) : Type 0 where
   pub due : IfOk decided (λ decision. ForSome old.contents (λ told. answer told ≡ Option.Some (end_of decision)))
   pub made : IfOk decided (λ decision. ForSome old.contents (λ told. IsMadeOf (pieces told) decision))
   pub settled : IfOk decided is_decided
   -- a fault has a cause: a count that rose, or a file that is absent, of which there is no answer
-  pub fault : IsErrOf decided Fault → Rose old.faults new.faults ⊎ (Rose old.absents new.absents × ForSome old.contents (λ told. answer told ≡ None))
+  pub fault : IsErrOf decided Fault → Rose old.faults new.faults
+      ⊎ (Rose old.absents new.absents × ForSome old.contents (λ told. answer told ≡ None))
   -- a decision comes only where no fetch failed, and so does want of memory
   pub calm : OnOk decided (new.faults ≡ old.faults)
   pub memory_calm : IsErrOf decided Memory → new.faults ≡ old.faults

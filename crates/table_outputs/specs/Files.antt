@@ -18,7 +18,8 @@ is_fetched files name = list_any (λ file. same_name file name) files
 -- the first of some names that a file has which was fetched, or another of them
 abbrev pub first_in_use : List (List ℕ) → List (List ℕ) → Option (List ℕ)
 first_in_use files [] = None
-first_in_use files (name ∷ names) = cond (is_fetched files name || list_any (λ other. same_name other name) names) (Some name) (first_in_use files names)
+first_in_use files (name ∷ names) = cond (is_fetched files name || list_any (λ other. same_name other name) names) (Some name)
+    (first_in_use files names)
 
 -- the first such name of some files to put
 abbrev pub name_in_use : List (List ℕ) → List Named → Option (List ℕ)

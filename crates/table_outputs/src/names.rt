@@ -27,7 +27,10 @@ fn name_where(
 ) -> Result<Option<String>, AllocError>
     requires texts { AreTexts options.now }
     requires own { IsAscii own.now }
-    ensures file { (text : List ℕ) → IfOk result (λ name. file_under (λ name. string_bytes name) name text ≡ cond asked ((name_beside options.now.prefix options.now.file own.now extension.now, text) ∷ []) []) }
+    ensures file { (text : List ℕ) →
+        IfOk result
+        (λ name. file_under (λ name. string_bytes name) name text ≡ cond asked
+        ((name_beside options.now.prefix options.now.file own.now extension.now, text) ∷ []) []) }
     ensures kind { IfOk result (λ name. is_some name ≡ asked) }
 {
     if asked {
@@ -45,7 +48,8 @@ pub fn names_of_table(
 ) -> Result<TableNames, AllocError>
     requires texts { AreTexts options.now }
     requires own { IsAscii own.now }
-    ensures files { (pieces : List Piece) → IfOk result (λ names. table_files_under names pieces ≡ table_files (asked_of options.now) options.now.file own.now pieces) }
+    ensures files { (pieces : List Piece) →
+        IfOk result (λ names. table_files_under names pieces ≡ table_files (asked_of options.now) options.now.file own.now pieces) }
     ensures kinds { IfOk result (λ names. table_kinds names ≡ kinds_in (asked_of options.now)) }
 {
     let Switches {
@@ -76,7 +80,9 @@ fn is_among(name: &String, others: &[&String]) -> bool
 
 // Whether a fetched file has this name, or one of the names behind it.
 fn is_in_use(files: &[Text], name: &String, later: &[&String]) -> bool
-    ensures { result ≡ (is_fetched files.now (string_bytes name.now) || list_any (λ other. same_name (string_bytes other.now) (string_bytes name.now)) later.now) }
+    ensures { result ≡
+        (is_fetched files.now (string_bytes name.now) || list_any (λ other. same_name (string_bytes other.now) (string_bytes name.now))
+        later.now) }
 {
     is_fetched(files, name.as_bytes()) || is_among(name, later)
 }
@@ -103,7 +109,8 @@ fn first_in_use<'a>(files: &[Text], names: &[&'a String]) -> Option<&'a String>
 
 /// The first name in the order of the files that a fetched file has, or another of them.
 pub fn name_in_use<'a>(files: &[Text], names: &'a TableNames) -> Option<&'a String>
-    ensures { (pieces : List Piece) → option_map (λ name. string_bytes name.now) result ≡ name_in_use files.now (table_files_under names.now pieces) }
+    ensures { (pieces : List Piece) → option_map (λ name. string_bytes name.now) result ≡ name_in_use files.now
+        (table_files_under names.now pieces) }
 {
     let table = &names.table;
     match (&names.c_text, &names.listing) {

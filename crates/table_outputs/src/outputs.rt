@@ -71,7 +71,8 @@ pub fn render(
 fn file_of<'a>(backends: &'a Vec<Box<dyn Backend>>, kind: Kind, name: String) -> OutFile<'a>
     requires done { All (λ b. finished b ≡ true) backends.now.items }
     requires there { has_kind (λ b. kind_of b) kind backends.now.items ≡ true }
-    ensures { (all : List SpecPiece) → All (λ b. pieces b ≡ all) backends.now.items → name_and_bytes result ≡ (string_bytes name, rendering kind all) }
+    ensures { (all : List SpecPiece) → All (λ b. pieces b ≡ all) backends.now.items →
+        name_and_bytes result ≡ (string_bytes name, rendering kind all) }
 {
     OutFile {
         name,
@@ -88,7 +89,9 @@ fn push_named<'a>(
 ) -> Result<(), AllocError>
     requires done { All (λ b. finished b ≡ true) backends.now.items }
     requires there { is_some name ≡ true → has_kind (λ b. kind_of b) kind backends.now.items ≡ true }
-    ensures { (all : List SpecPiece) → All (λ b. pieces b ≡ all) backends.now.items → OnOk result (map name_and_bytes files.new.items ≡ map name_and_bytes files.old.items ++ file_under (λ name. string_bytes name) name (rendering kind all)) }
+    ensures { (all : List SpecPiece) → All (λ b. pieces b ≡ all) backends.now.items →
+        OnOk result (map name_and_bytes files.new.items ≡ map name_and_bytes files.old.items ++ file_under (λ name. string_bytes name) name
+        (rendering kind all)) }
 {
     if let Some(name) = name {
         files.push(file_of(backends, kind, name))?;
@@ -106,7 +109,8 @@ fn table_files_of<'a>(
     requires table { has_kind (λ b. kind_of b) kinds.RawAml backends.now.items ≡ true }
     requires c_text { is_some names.c_text ≡ true → has_kind (λ b. kind_of b) kinds.CHex backends.now.items ≡ true }
     requires listing { is_some names.listing ≡ true → has_kind (λ b. kind_of b) kinds.Listing backends.now.items ≡ true }
-    ensures { (all : List SpecPiece) → All (λ b. pieces b ≡ all) backends.now.items → IfOk result (λ files. map name_and_bytes files.items ≡ table_files_under names all) }
+    ensures { (all : List SpecPiece) → All (λ b. pieces b ≡ all) backends.now.items →
+        IfOk result (λ files. map name_and_bytes files.items ≡ table_files_under names all) }
 {
     let TableNames {
         table,
@@ -128,7 +132,8 @@ fn template_file_of<'a>(
 ) -> Result<Vec<OutFile<'a>>, AllocError>
     requires done { All (λ b. finished b ≡ true) backends.now.items }
     requires there { has_kind (λ b. kind_of b) kinds.Template backends.now.items ≡ true }
-    ensures { (all : List SpecPiece) → All (λ b. pieces b ≡ all) backends.now.items → IfOk result (λ files. map name_and_bytes files.items ≡ (string_bytes name, rendering kinds.Template all) ∷ []) }
+    ensures { (all : List SpecPiece) → All (λ b. pieces b ≡ all) backends.now.items →
+        IfOk result (λ files. map name_and_bytes files.items ≡ (string_bytes name, rendering kinds.Template all) ∷ []) }
 {
     let mut files = Vec::new(alloc);
     files.push(file_of(backends, Kind::Template, name))?;
@@ -143,7 +148,8 @@ fn files_of<'a>(
 ) -> Result<Vec<OutFile<'a>>, AllocError>
     requires done { All (λ b. finished b ≡ true) backends.now.items }
     requires there { (kind : SpecKind) → is_asked (kinds_of names) kind ≡ true → has_kind (λ b. kind_of b) kind backends.now.items ≡ true }
-    ensures { (all : List SpecPiece) → All (λ b. pieces b ≡ all) backends.now.items → IfOk result (λ files. map name_and_bytes files.items ≡ files_under names all) }
+    ensures { (all : List SpecPiece) → All (λ b. pieces b ≡ all) backends.now.items →
+        IfOk result (λ files. map name_and_bytes files.items ≡ files_under names all) }
 {
     match names {
         OutputNames::OfTable(names) => table_files_of(alloc, backends, names),

@@ -39,7 +39,8 @@ module _ (names : ℕ → Named) where
     pub errors_of : Option Op → ℕ → ℕ → Plans → List Message
     errors_of asker at node no_plans = []
     errors_of asker at node (plan place p ps) =
-        argument_errors (wanted_of asker at) node place p ++ (errors_inside (suc node) p ++ errors_of asker (suc at) (suc (node + inside p)) ps)
+        argument_errors (wanted_of asker at) node place p
+        ++ (errors_inside (suc node) p ++ errors_of asker (suc at) (suc (node + inside p)) ps)
 
 -- the errors of a block, whose names are those of the trees
 abbrev pub wrong_types : Trees → Plans → List Message

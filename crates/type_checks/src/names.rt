@@ -53,7 +53,8 @@ fn said(names: &Names, number: u32) -> Named
 
 // What stands where a name leads that denotes the path with this number.
 fn named_by(names: &Names, target: Option<u32>) -> Named
-    ensures { (program : Trees) → Knows names.now program → result ≡ choose (path_with names.now.index.paths target) N.Data (λ path. kind_said (described program path)) }
+    ensures { (program : Trees) → Knows names.now program → result ≡ choose (path_with names.now.index.paths target) N.Data
+        (λ path. kind_said (described program path)) }
 {
     match target {
         Some(number) => said(names, number),
@@ -70,7 +71,8 @@ fn named_at(names: &Names, node: usize) -> Named
 
 /// What stands where the name at each node leads, by the numbers of the nodes.
 pub fn all_named(alloc: Global, names: &Names) -> Result<Vec<Named>, AllocError>
-    ensures { IfOk result (λ all. (program : Trees) → Knows names.now program → (node : ℕ) → get_or all.items node N.Data ≡ named program node) }
+    ensures { IfOk result (λ all. (program : Trees) → Knows names.now program → (node : ℕ) →
+        get_or all.items node N.Data ≡ named program node) }
 {
     let mut all = Vec::new(alloc);
     for node in 0..names.uses.len() {

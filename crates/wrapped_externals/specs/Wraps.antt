@@ -1,8 +1,11 @@
--- A program whose Externals stand in Ifs that nothing enters: each run of Externals that stand directly behind each other in a list of terms is
+-- A program whose Externals stand in Ifs that nothing enters: each run of Externals that stand directly behind each
+-- other in a list of terms is
 -- `If (Zero) { External .. }`.
 use Rattle.std.specs.Prelude.{Bool, true, false}
 use Rattle.asl_tree.specs.declared.term.Literal.TheVariants as Literal
-use Rattle.asl_tree.specs.Tree.{Tree, Constant, Call, Apply, Buffer, Package, VarPackage, CondRefOf, Return, Name, External, Method, Container', Scope, If, ElseIf, Else, While, OperationRegion, BankField, CreateField, Operated, Assigned, AssignedBy, Trees, no_trees, tree, Switch, Case, Default}
+use Rattle.asl_tree.specs.Tree.{Tree, Constant, Call, Apply, Buffer, Package, VarPackage, CondRefOf, Return, Name, External, Method}
+use Rattle.asl_tree.specs.Tree.{Container', Scope, If, ElseIf, Else, While, OperationRegion, BankField, CreateField, Operated, Assigned}
+use Rattle.asl_tree.specs.Tree.{AssignedBy, Trees, no_trees, tree, Switch, Case, Default}
 use Rattle.asl_lower.specs.Nests.{joined}
 
 -- whether an Else or an ElseIf stands first
@@ -22,7 +25,8 @@ in_if no_trees kept = no_trees
 in_if run true = run
 in_if run false = tree (If (Constant Literal.Zero) run) no_trees
 
--- a run of Externals before other terms. An Else directly behind it belongs to no If, and would belong to this one: before an Else a run is kept.
+-- a run of Externals before other terms. An Else directly behind it belongs to no If, and would belong to this one:
+-- before an Else a run is kept.
 abbrev pub guarded : Trees → Trees → Trees
 guarded run terms = joined (in_if run (starts_branch terms)) terms
 

@@ -17,11 +17,13 @@ use asl_tree::term::{Control, Declaration, Node, Op, Special, Term};
 use std::alloc::{AllocError, Global};
 use std::mem::replace;
 
-/// A program with its Externals in Ifs, where that is asked for: each run of Externals that stand directly behind each other in a list of terms
-/// is `If (Zero) { External .. }`. An If that is made has the id and the place of its first External.
+/// A program with its Externals in Ifs, where that is asked for: each run of Externals that stand directly behind each
+/// other in a list of terms is `If (Zero) { External .. }`. An If that is made has the id and the place of its first
+/// External.
 pub fn wrap_where(alloc: Global, asked: bool, terms: Vec<Node>) -> Result<Vec<Node>, AllocError>
     ensures trees { IfOk result (λ made. trees_of made.items ≡ wrapped_where asked (trees_of terms.items)) }
-    ensures places { AreShaped (trees_of terms.items) → IfOk result (λ made. places_of made.items ≡ placed_where asked (trees_of terms.items) (places_of terms.items)) }
+    ensures places { AreShaped (trees_of terms.items) →
+        IfOk result (λ made. places_of made.items ≡ placed_where asked (trees_of terms.items) (places_of terms.items)) }
 {
     if asked {
         let made = wrap(alloc, terms)?;
@@ -35,7 +37,8 @@ pub fn wrap_where(alloc: Global, asked: bool, terms: Vec<Node>) -> Result<Vec<No
 #[cycle(wrap)]
 pub fn wrap(alloc: Global, terms: Vec<Node>) -> Result<Vec<Node>, AllocError>
     ensures trees { IfOk result (λ made. trees_of made.items ≡ wrapped_all (trees_of terms.items)) }
-    ensures places { AreShaped (trees_of terms.items) → IfOk result (λ made. places_of made.items ≡ with_ifs (starts false (trees_of terms.items)) (places_of terms.items)) }
+    ensures places { AreShaped (trees_of terms.items) →
+        IfOk result (λ made. places_of made.items ≡ with_ifs (starts false (trees_of terms.items)) (places_of terms.items)) }
 {
     let mut left = terms;
     left.reverse();
@@ -58,8 +61,12 @@ fn wrap_next(
 ) -> Result<(), AllocError>
     requires alone { length (places_of run.old.items) ≡ length run.old.items }
     ensures alone { OnOk result (length (places_of run.new.items) ≡ length run.new.items) }
-    ensures trees { OnOk result ((ts : Trees) → joined (trees_of made.new.items) (resumed (trees_of run.new.items) ts) ≡ joined (trees_of made.old.items) (resumed (trees_of run.old.items) (tree (node_tree node) ts))) }
-    ensures places { IsShaped (node_tree node) → OnOk result ((ts : Trees) (ps : List Here) → places_of made.new.items ++ with_ifs (pending (length run.new.items) ts) (places_of run.new.items ++ ps) ≡ places_of made.old.items ++ with_ifs (pending (length run.old.items) (tree (node_tree node) ts)) (places_of run.old.items ++ (term_places node ++ ps))) }
+    ensures trees { OnOk result ((ts : Trees) → joined (trees_of made.new.items) (resumed (trees_of run.new.items) ts) ≡ joined
+        (trees_of made.old.items) (resumed (trees_of run.old.items) (tree (node_tree node) ts))) }
+    ensures places { IsShaped (node_tree node) →
+        OnOk result ((ts : Trees) (ps : List Here) → places_of made.new.items ++ with_ifs (pending (length run.new.items) ts)
+        (places_of run.new.items ++ ps) ≡ places_of made.old.items ++ with_ifs (pending (length run.old.items) (tree (node_tree node) ts))
+        (places_of run.old.items ++ (term_places node ++ ps))) }
 {
     match kind_of(&node.term) {
         Kind::External => {
@@ -87,8 +94,11 @@ fn put_behind(
     node: Node,
 ) -> Result<(), AllocError>
     ensures empty { OnOk result (run.new.items ≡ []) }
-    ensures trees { OnOk result (trees_of made.new.items ≡ joined (joined (trees_of made.old.items) (in_if (trees_of run.old.items) kept)) (tree (wrapped (node_tree node)) no_trees)) }
-    ensures places { IsShaped (node_tree node) → OnOk result (places_of made.new.items ≡ (places_of made.old.items ++ with_ifs (not kept ∷ []) (places_of run.old.items)) ++ node.place ∷ with_ifs (inner_starts (node_tree node)) (inner_places node.term)) }
+    ensures trees { OnOk result (trees_of made.new.items ≡ joined (joined (trees_of made.old.items) (in_if (trees_of run.old.items) kept))
+        (tree (wrapped (node_tree node)) no_trees)) }
+    ensures places { IsShaped (node_tree node) →
+        OnOk result (places_of made.new.items ≡ (places_of made.old.items ++ with_ifs (not kept ∷ []) (places_of run.old.items))
+        ++ node.place ∷ with_ifs (inner_starts (node_tree node)) (inner_places node.term)) }
 {
     let externals = replace(run, Vec::new(alloc));
     put_run(alloc, made, externals, kept)?;
@@ -114,7 +124,8 @@ fn wrap_each(alloc: Global, nodes: Vec<Node>) -> Result<Vec<Node>, AllocError>
 #[cycle(wrap)]
 fn wrap_node(alloc: Global, node: Node) -> Result<Node, AllocError>
     ensures tree { IfOk result (λ made. node_tree made ≡ wrapped (node_tree node)) }
-    ensures places { IsShaped (node_tree node) → IfOk result (λ made. term_places made ≡ node.place ∷ with_ifs (inner_starts (node_tree node)) (inner_places node.term)) }
+    ensures places { IsShaped (node_tree node) →
+        IfOk result (λ made. term_places made ≡ node.place ∷ with_ifs (inner_starts (node_tree node)) (inner_places node.term)) }
 {
     let Node { id, place, term } = node;
     let term = wrap_term(alloc, term)?;
@@ -124,7 +135,8 @@ fn wrap_node(alloc: Global, node: Node) -> Result<Node, AllocError>
 #[cycle(wrap)]
 fn wrap_term(alloc: Global, term: Term) -> Result<Term, AllocError>
     ensures tree { IfOk result (λ made. (at : At) → tree_of at made ≡ wrapped (tree_of at term)) }
-    ensures places { (at : At) → IsShaped (tree_of at term) → IfOk result (λ made. inner_places made ≡ with_ifs (inner_starts (tree_of at term)) (inner_places term)) }
+    ensures places { (at : At) → IsShaped (tree_of at term) →
+        IfOk result (λ made. inner_places made ≡ with_ifs (inner_starts (tree_of at term)) (inner_places term)) }
 {
     match term {
         Term::Call { path, args } => {
@@ -144,7 +156,8 @@ fn wrap_term(alloc: Global, term: Term) -> Result<Term, AllocError>
 #[cycle(wrap)]
 fn wrap_body(alloc: Global, op: Op, body: Vec<Node>) -> Result<Vec<Node>, AllocError>
     ensures trees { IfOk result (λ made. trees_of made.items ≡ wrapped_body op (trees_of body.items)) }
-    ensures places { holds_terms op ≡ true → AreShaped (trees_of body.items) → IfOk result (λ made. places_of made.items ≡ with_ifs (starts false (trees_of body.items)) (places_of body.items)) }
+    ensures places { holds_terms op ≡ true → AreShaped (trees_of body.items) →
+        IfOk result (λ made. places_of made.items ≡ with_ifs (starts false (trees_of body.items)) (places_of body.items)) }
 {
     match op {
         Op::Special(Special::Package) => {

@@ -9,8 +9,8 @@ use std::alloc::{AllocError, Global};
 
 const FAULT: &[u8] = b"iasl: file fault\n";
 
-// Which fetch, which put and which writes fail, counted from 1, how many bytes the console takes, how many files are whole then, how many stand, and
-// what is told.
+// Which fetch, which put and which writes fail, counted from 1, how many bytes the console takes, how many files are
+// whole then, how many stand, and what is told.
 struct Failing {
     fetch: u64,
     put: u64,

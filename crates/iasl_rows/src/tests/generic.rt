@@ -144,7 +144,8 @@ fn a_hundred_thousand_labels(rt: HostRuntime) -> Result<(), AllocError> {
     Ok(())
 }
 
-// A template: the word of its signature, its name, what is told of it, how many bytes its table has, their checksum, and what is told of that.
+// A template: the word of its signature, its name, what is told of it, how many bytes its table has, their checksum,
+// and what is told of that.
 struct Template {
     word: &'static str,
     name: &'static str,

@@ -1,5 +1,5 @@
-// Terms of a block: the bytes behind the header of its table, or what is told of them. (A table of rows has at most about twenty, since the proof of
-// what a static does takes longer for each further one.)
+// Terms of a block: the bytes behind the header of its table, or what is told of them. (A table of rows has at most
+// about twenty, since the proof of what a static does takes longer for each further one.)
 use super::{Ran, run};
 use std::alloc::{AllocError, Global};
 

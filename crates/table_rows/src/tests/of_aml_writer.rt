@@ -339,8 +339,8 @@ fn bytes_of(alloc: Global, bytes: &[u8]) -> Result<Term, AllocError> {
     })
 }
 
-// Field (REGA, BufferAcc) { Connection (CON0), AccessAs (BufferAcc, AttribByte), UNTA, 8, , 4, Offset (4), Connection (a resource of two bytes),
-// AccessAs (BufferAcc, AttribBytes (9)), UNTB, 16 }
+// Field (REGA, BufferAcc) { Connection (CON0), AccessAs (BufferAcc, AttribByte), UNTA, 8, , 4, Offset (4), Connection
+// (a resource of two bytes), AccessAs (BufferAcc, AttribBytes (9)), UNTB, 16 }
 fn connected_field(alloc: Global) -> Result<Term, AllocError> {
     let mut args = Vec::new(alloc);
     add(&mut args, 1, name(alloc, *b"REGA")?)?;

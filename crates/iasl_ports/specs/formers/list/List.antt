@@ -40,10 +40,12 @@ field = via (vec.the_former this Global) Inside (λ X a. a.items) (λ X v. recor
 
 module _ (R S : RattleType) (h : R.Denot → S.Denot) where
   pub the_places : Alike R S h → Alike (contracts.the_row R) (contracts.the_row S) ((the_former this).map R.Denot S.Denot h)
-  the_places a = view_places field (list this) view (λ X Y k u. refl) (λ X u. refl) R.Denot S.Denot h (contracts.the_row R).coded (contracts.the_row S).coded
+  the_places a = view_places field (list this) view (λ X Y k u. refl) (λ X u. refl) R.Denot S.Denot h (contracts.the_row R).coded
+      (contracts.the_row S).coded
       (invariant R.Denot) (invariant S.Denot) (λ u p q. refl) (λ u p q. refl) (λ u e. tt) (λ u e. tt)
       (over (inside.the_row R)) (over (inside.the_row S))
-      (struct_places (inside.the_type R) (inside.the_type S) (vec.mapped h, tt) _ (λ d. refl) refl (laid _ _ _ (vec.the_places heap.the_row ghosts R S h a), tt))
+      (struct_places (inside.the_type R) (inside.the_type S) (vec.mapped h, tt) _ (λ d. refl) refl
+      (laid _ _ _ (vec.the_places heap.the_row ghosts R S h a), tt))
 
   pub the_codes_placed : Recodes R S h → Recodes (contracts.the_row R) (contracts.the_row S) ((the_former this).map R.Denot S.Denot h)
   the_codes_placed e d = sym (code_map R.coded.code S.coded.code h (λ x. sym (e x)) d)

@@ -267,8 +267,8 @@ const TWO_NAMES: &[u8] = b"DefinitionBlock (\"\", \"SSDT\", 2, \"OEMX00\", \"TAB
 }
 ";
 
-// A run over boxes of which one may refuse a piece: its option, its source, its status, how many files it puts, what it tells, and the kind of the box
-// that is left beside that of the table.
+// A run over boxes of which one may refuse a piece: its option, its source, its status, how many files it puts, what it
+// tells, and the kind of the box that is left beside that of the table.
 struct Refusal {
     word: &'static str,
     source: &'static [u8],

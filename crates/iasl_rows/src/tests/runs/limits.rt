@@ -57,8 +57,8 @@ fn nested(alloc: Global, brackets: usize) -> Result<Vec<u8>, AllocError> {
     Ok(text)
 }
 
-// Brackets, the status, and what is told. The block, the method and the Return are open too, so 125 brackets are the most. They leave no node in
-// the tree.
+// Brackets, the status, and what is told. The block, the method and the Return are open too, so 125 brackets are the
+// most. They leave no node in the tree.
 static NESTINGS: [(usize, u8, &[u8]); 3] = [
     (
         125,

@@ -1,4 +1,5 @@
-// Tables whose integers have 32 bits, beside those of 64 bits, without folding. The bytes are those of ACPICA's compiler where it computes them.
+// Tables whose integers have 32 bits, beside those of 64 bits, without folding. The bytes are those of ACPICA's
+// compiler where it computes them.
 use super::{puts, puts_none};
 use std::alloc::{AllocError, Global};
 
