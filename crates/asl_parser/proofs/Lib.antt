@@ -15,3 +15,4 @@ pub mod Views
 pub mod Homes
 pub mod Skipped
 pub mod Onward
+pub mod Next

@@ -1,5 +1,7 @@
 -- What was read last, as the code keeps it: the trees of it are held.
-use Rattle.std.specs.Prelude.{◌≡◌, Bool, true, false, List, Option, Some, None, Result, Ok, Err}
+use Rattle.std.specs.Prelude.{◌≡◌, ℕ, ◌≤◌, Bool, true, false, List, Option, Some, None, Result, Ok, Err}
+use Rattle.asl_parser.specs.declared.mark.Spot.{Spot}
+use Rattle.asl_parser.specs.declared.mark.Lexeme.TheVariants as l
 use Rattle.asl_parser.specs.declared.subtree.Subtrees.{Subtrees}
 use Rattle.asl_parser.specs.declared.frame.Frame.{Frame}
 use Rattle.asl_parser.specs.declared.frame.ParserState.{ParserState}
@@ -9,7 +11,7 @@ use Rattle.asl_parser.specs.declared.frame.Refusal.TheVariants as r
 use Rattle.asl_parser.specs.declared.stage.Stage.{Stage}
 use Rattle.asl_parser.specs.declared.stage.Stage.TheVariants as g
 use Rattle.asl_parser.specs.Grow.{no_subtrees}
-use Rattle.asl_parser.specs.Machine.{Config}
+use Rattle.asl_parser.specs.Machine.{Config, depth, step_by}
 use Rattle.asl_parser.specs.Opens.{IsOne, tree_of}
 
 -- the state with these trees
@@ -45,3 +47,16 @@ abbrev pub StepsTo : Result (Unit {0}) Refusal → Stage → Subtrees × List Fr
 StepsTo (Ok u) s new move = (move ≡ Some (state_of s new.0, new.1)) × Holds s new.0
 StepsTo (Err r.Memory) s new move = Unit {0}
 StepsTo (Err r.Refused) s new move = move ≡ None
+
+-- an expression was read, which a word or path does not go on with
+abbrev pub ends : Stage → Bool
+ends (g.Called p w) = true
+ends g.Whole = true
+ends _ = false
+
+-- What a word or path does behind an expression: it begins the next one, among these frames, where no more is open than before.
+abbrev pub BeginsNext : Result (Unit {0}) Refusal → Config → Subtrees × List Frame → Type 0
+BeginsNext (Ok u) before new = (new.0 ≡ no_subtrees) × (depth new.1 ≤ depth before.1)
+    × ((p : Spot) (path : Bool) (word : List ℕ) → step_by p (l.Word path word) before.0 before.1 ≡ Some (st.Word p word, new.1))
+BeginsNext (Err r.Memory) before new = Unit {0}
+BeginsNext (Err r.Refused) before new = (p : Spot) (path : Bool) (word : List ℕ) → step_by p (l.Word path word) before.0 before.1 ≡ None

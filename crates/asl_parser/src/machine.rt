@@ -6,7 +6,7 @@ ghost use Rattle.asl_parser.specs.Marks.{mark, lexeme};
 ghost use Rattle.asl_parser.specs.Machine as spec;
 ghost use Rattle.asl_parser.specs.Machine.{Finishes};
 ghost use Rattle.asl_parser.specs.Opens.{IsOne, tree_of, kind_of, added, lists};
-ghost use Rattle.asl_parser.specs.Stages.{state_of, Holds, StepsTo, begins as stage_begins};
+ghost use Rattle.asl_parser.specs.Stages.{state_of, Holds, StepsTo, BeginsNext, ends};
 ghost use Rattle.asl_parser.specs.Steps.{is_args, is_list, is_index, binds as binds_by, applied_once, args_closed, list_closed};
 ghost use Rattle.asl_parser.specs.Steps.{index_closed, omitted as omitted_by};
 ghost use Rattle.asl_parser.specs.declared.mark.Lexeme.TheVariants as lexemes;
@@ -14,6 +14,7 @@ ghost use Rattle.asl_parser.specs.declared.raw.Raw.TheVariants as raws;
 ghost use Rattle.asl_parser.specs.declared.sign.Sign.TheVariants as signs;
 ghost use Rattle.asl_parser.specs.declared.frame.Frame.TheVariants as frames;
 ghost use Rattle.asl_parser.specs.declared.frame.ParserState.TheVariants as states;
+ghost use Rattle.asl_parser.specs.declared.stage.Stage.TheVariants as stages;
 
 use crate::frame::{LOOSEST, Refusal};
 use crate::mark::{Look, Spot, look_of};
@@ -690,16 +691,6 @@ pub fn step(stack: &mut Stack, stage: &mut Stage, number: u32, token: &Token) ->
     }
 }
 
-/// Whether an expression may begin, or has to.
-pub fn begins(stage: &Stage) -> bool
-    ensures { result ≡ stage_begins stage.now }
-{
-    match stage {
-        Stage::Operand | Stage::FirstArgument | Stage::Argument | Stage::Sequence => true,
-        _ => false,
-    }
-}
-
 /// What the token behind a word or path does, where an expression may begin at that.
 pub fn word_on(
     stack: &mut Stack,
@@ -725,6 +716,39 @@ pub fn word_on(
     };
     let word = stack.copy(&first.text)?;
     after_word(stack, stage, place, word, spot, look, second)
+}
+
+// Ends the expression that is held, behind which a word or path comes: it is a member of a body, or an item of the source.
+fn end_tree(stack: &mut Stack) -> Result<(), Refusal>
+    requires one { IsOne stack.old.0 }
+    ensures { BeginsNext result (states.Whole (tree_of stack.old.0), stack.old.1) stack.new }
+{
+    settle(stack, LOOSEST)?;
+    match stack.kind() {
+        FrameKind::Unit => {
+            stack.add()?;
+            Ok(())
+        }
+        FrameKind::Body { .. } => {
+            stack.add()?;
+            Ok(())
+        }
+        _ => Err(Refusal::Refused),
+    }
+}
+
+/// Ends the expression that was read last, behind which a word or path comes.
+#[inline(never)]
+pub fn end_expression(stack: &mut Stack, stage: &mut Stage) -> Result<(), Refusal>
+    requires holds { Holds stage.old stack.old.0 }
+    requires ends { ends stage.old ≡ true }
+    ensures next { BeginsNext result (state_of stage.old stack.old.0, stack.old.1) stack.new }
+    ensures stage { OnOk result (stage.new ≡ stages.Sequence) }
+{
+    if let Stage::Called { spot, word } = replace(stage, Stage::Sequence) {
+        stack.call(spot, word)?;
+    }
+    end_tree(stack)
 }
 
 // The end of the source, whose items were read.

@@ -1,10 +1,10 @@
 //! From tokens to the tree.
-ghost use Rattle.std.specs.Prelude.{◌≡◌, ◌+◌, ◌<◌, ◌≤◌, ◌^◌, ℕ, length, List, All, IfOk, OnOk, IfErr};
+ghost use Rattle.std.specs.Prelude.{◌≡◌, ◌+◌, ◌<◌, ◌≤◌, ◌^◌, ℕ, true, length, List, All, IfOk, OnOk, IfErr};
 ghost use Rattle.asl_parser.specs.Machine as spec;
 ghost use Rattle.asl_parser.specs.Marks.{marks};
 ghost use Rattle.asl_parser.specs.Parse.{HasOutcome, EndsIn, Gives, Fails, outcome};
 ghost use Rattle.asl_parser.specs.Reading.{Advances, FailsAt, ComesTo};
-ghost use Rattle.asl_parser.specs.Stages.{state_of, Holds};
+ghost use Rattle.asl_parser.specs.Stages.{state_of, Holds, ends as stage_ends};
 ghost use Rattle.asl_parser.specs.Grammar.{Spells};
 ghost use Rattle.asl_parser.specs.Depth.{IsShallow, IsLow};
 ghost use Rattle.asl_parser.specs.Grow.{limit};
@@ -13,12 +13,12 @@ ghost use Rattle.asl_parser.specs.Written.{writtens};
 ghost use Rattle.asl_parser.specs.declared.raw.Raw.{Raw};
 
 use crate::frame::Refusal;
-use crate::machine::{begins, finish, step, word_on};
+use crate::machine::{end_expression, finish, step, word_on};
 use crate::mark::{is_word, look_of};
 use crate::pairs::skip_pair;
 use crate::raw::RawUnit;
 use crate::stack::Stack;
-use crate::stage::Stage;
+use crate::stage::{Stage, begins, ends};
 use crate::subtree::{Subtrees, TALLEST};
 use asl_lexer::token::{Token, TokenKind, Tokens};
 use std::alloc::{AllocError, Global};
@@ -126,6 +126,38 @@ fn ahead(stack: &mut Stack, stage: &mut Stage, tokens: &[Token], at: usize) -> R
     single(stack, stage, tokens, at)
 }
 
+// Reads the token behind an expression, and where it is a word or path the token behind that.
+#[inline(always)]
+fn next_word(
+    stack: &mut Stack,
+    stage: &mut Stage,
+    tokens: &[Token],
+    at: usize,
+) -> Result<usize, Syntax>
+    requires few { length tokens.now < 2 ^ 32 }
+    requires within { at + 1 < length tokens.now }
+    requires holds { Holds stage.old stack.old.0 }
+    requires ends { stage_ends stage.old ≡ true }
+    requires low { spec.depth stack.old.1 ≤ limit }
+    ensures advances { IfOk result (λ next. Advances (marks 0 tokens.now) at next (state_of stage.old stack.old.0, stack.old.1)
+        (state_of stage.new stack.new.0, stack.new.1)) }
+    ensures holds { OnOk result (Holds stage.new stack.new.0) }
+    ensures fails { IfErr result (λ fault. FailsAt fault (marks 0 tokens.now) at (state_of stage.old stack.old.0, stack.old.1)) }
+{
+    let first = &tokens[at];
+    if !is_word(first.kind) {
+        return single(stack, stage, tokens, at);
+    }
+    match end_expression(stack, stage) {
+        Ok(()) => {}
+        Err(Refusal::Refused) => return Err(Syntax::Stop { token: at as u32 }),
+        Err(Refusal::Memory) => return Err(Syntax::Memory),
+    }
+    let second = &tokens[at + 1];
+    let made = word_on(stack, stage, at as u32, first, look_of(second), second);
+    moved(stack, made, at + 1)
+}
+
 // Reads the token at a place, or two of them at once. Answers the place behind them.
 #[inline(always)]
 fn advance(
@@ -144,6 +176,9 @@ fn advance(
     ensures fails { IfErr result (λ fault. FailsAt fault (marks 0 tokens.now) at (state_of stage.old stack.old.0, stack.old.1)) }
 {
     if looks_ahead(stage, &tokens[at]) && 1 < tokens.len() - at {
+        if ends(stage) {
+            return next_word(stack, stage, tokens, at);
+        }
         return ahead(stack, stage, tokens, at);
     }
     single(stack, stage, tokens, at)

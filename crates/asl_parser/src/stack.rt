@@ -135,14 +135,15 @@ fn take_off(alloc: Global, outer: &mut Vec<OpenFrame>, innermost: &mut OpenFrame
     ensures taken { result ≡ innermost.old }
     ensures rest { innermost.new ∷ reverse outer.new.items ≡ remaining (reverse outer.old.items) }
 {
-    let next = match outer.pop() {
-        Some(open) => open,
-        None => OpenFrame {
-            kind: FrameKind::Nothing,
-            group: FrameGroup::new(alloc, 0),
-        },
+    let nothing = OpenFrame {
+        kind: FrameKind::Nothing,
+        group: FrameGroup::new(alloc, 0),
     };
-    replace(innermost, next)
+    let taken = replace(innermost, nothing);
+    if let Some(open) = outer.pop() {
+        *innermost = open;
+    }
+    taken
 }
 
 impl Stack {

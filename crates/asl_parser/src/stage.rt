@@ -1,4 +1,7 @@
 //! What was read last, but for the trees that are held.
+ghost use Rattle.std.specs.Prelude.{◌≡◌};
+ghost use Rattle.asl_parser.specs.Stages as spec;
+
 use crate::mark::Spot;
 use iasl_ports::list::Text;
 
@@ -25,4 +28,24 @@ pub enum Stage {
     Whole,
     /// A list, or a member of one, which is held.
     Listed,
+}
+
+/// Whether an expression may begin, or has to.
+pub fn begins(stage: &Stage) -> bool
+    ensures { result ≡ spec.begins stage.now }
+{
+    match stage {
+        Stage::Operand | Stage::FirstArgument | Stage::Argument | Stage::Sequence => true,
+        _ => false,
+    }
+}
+
+/// Whether an expression was read that a word or path does not go on with.
+pub fn ends(stage: &Stage) -> bool
+    ensures { result ≡ spec.ends stage.now }
+{
+    match stage {
+        Stage::Called { .. } | Stage::Whole => true,
+        _ => false,
+    }
 }
