@@ -180,7 +180,8 @@ def shown(output):
     part = output.split("Evaluating ")[-1]
     rows = re.findall(r"AcpiExec: SystemMemory\s+(Read|Write)\s*: Val ([0-9A-F]+) Addr ([0-9A-F]+) BitWidth ([0-9A-F]+)", part)
     result = re.search(r"\[Integer\] = ([0-9A-F]+)", part)
-    return [(kind, int(at, 16), int(bits, 16) // 8, int(value, 16) & (1 << int(bits, 16)) - 1) for kind, value, at, bits in rows], int(result[1], 16) if result else None
+    accesses = [(kind, int(at, 16), int(bits, 16) // 8, int(value, 16) & (1 << int(bits, 16)) - 1) for kind, value, at, bits in rows]
+    return accesses, int(result[1], 16) if result else None
 
 
 def main():

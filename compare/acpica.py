@@ -37,17 +37,29 @@ def without_creator(table):
     return table[:9] + b"\0" + table[10:28] + bytes(8) + table[36:]
 
 
-def evaluated(folder, calls):
-    """What the interpreter gives for each call, a name and its Integers: an Integer, a String, or the exception's name."""
+def evaluations(folder, calls):
+    """What the interpreter tells of each call, a name and its Integers."""
     commands = ";".join(f"evaluate \\{name} " + " ".join(hex(n) for n in args) for name, args in calls)
     run = subprocess.run(["acpiexec", "-b", commands, "t.aml"], cwd=folder, capture_output=True, text=True, check=False)
-    answers = []
-    for part in run.stdout.split("Evaluating ")[1:]:
-        number = re.search(r"\[Integer\] = ([0-9A-F]+)", part)
-        string = re.search(r'\[String\] Length [0-9A-F]+ = "(.*)"', part)
-        fault = re.search(r"failed with status (AE_\w+)", part)
-        answers.append(int(number[1], 16) if number else string[1] if string else fault[1] if fault else None)
-    return answers
+    return run.stdout.split("Evaluating ")[1:]
+
+
+def given(told):
+    """What a call gives: an Integer, a String, or the exception's name."""
+    number = re.search(r"\[Integer\] = ([0-9A-F]+)", told)
+    string = re.search(r'\[String\] Length [0-9A-F]+ = "(.*)"', told)
+    fault = re.search(r"failed with status (AE_\w+)", told)
+    return int(number[1], 16) if number else string[1] if string else fault[1] if fault else None
+
+
+def evaluated(folder, calls):
+    """What the interpreter gives for each call."""
+    return [given(told) for told in evaluations(folder, calls)]
+
+
+def printed(told):
+    """The Strings that a call prints."""
+    return re.findall(r'^ACPI Debug:  "(.*)"$', told, re.MULTILINE)
 
 
 def segment(used):

@@ -72,7 +72,8 @@ SAME = [
     ("", "CondRefOf (NINT)", ONES),
 ]
 
-# By the definitions: "0x00000000000000FF", an empty value, too large a number, "a01 AB", no bytes, the wrong type, "01 AB", and 01 02 79 00.
+# By the definitions: "0x00000000000000FF", an empty value, too large a number, "a01 AB", no bytes, the wrong type,
+# "01 AB", and 01 02 79 00.
 OTHER = [
     ("", "ToHexString (255)", "00000000000000FF"),
     ("", 'ToInteger ("")', 0),

@@ -20,7 +20,8 @@ from acpica import without_creator
 TABLES = {"FACP": None, "APIC": "Subtable Type", "MCFG": "Base Address", "HPET": None, "SRAT": "Subtable Type", "SLIT": None}
 # Structures of the MADT and the SRAT that docs/DATA_TABLES.md has.
 TYPES = {"APIC": range(6), "SRAT": range(3)}
-KEPT = ["Signature", "Table Length", "Revision", "Checksum", "Asl Compiler", "Subtable Type", "Length", "Reserved", "decoded below", "Space ID", "Access Width", "Localities", "Locality", "PM Profile"]
+KEPT = ["Signature", "Table Length", "Revision", "Checksum", "Asl Compiler", "Subtable Type", "Length", "Reserved"]
+KEPT += ["decoded below", "Space ID", "Access Width", "Localities", "Locality", "PM Profile"]
 FIELD = re.compile(r"^(\[[0-9A-F]+\]\s*)?\[?\d+\]\s*(.*?) : ([0-9A-F]+)(\s.*)?$")
 
 

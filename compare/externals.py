@@ -1,12 +1,13 @@
 #!/usr/bin/env python3
-"""Loads tables with Externals, which iasl wrote with --wrap-externals, in ACPICA's interpreter: beside a table that has the objects, and beside
-one that has not.
+"""Loads tables with Externals, which iasl wrote with --wrap-externals, in ACPICA's interpreter: beside a table that has
+the objects, and beside one that has not.
 
     compare/externals.py IASL COUNT SEED
 
-A source has runs of Externals at the head of its block, in Devices, in methods between statements and before an If: Integers and methods of a
-stated or of an unknown type. Both loads must end without an error of the interpreter. The calls must then give what the statements say: a method
-asks by CondRefOf whether an object is there, and gives another value where it is not. It needs acpica-tools, and is no part of the tests.
+A source has runs of Externals at the head of its block, in Devices, in methods between statements and before an If:
+Integers and methods of a stated or of an unknown type. Both loads must end without an error of the interpreter. The
+calls must then give what the statements say: a method asks by CondRefOf whether an object is there, and gives
+another value where it is not. It needs acpica-tools, and is no part of the tests.
 """
 
 import random
@@ -140,7 +141,8 @@ def main():
                 wanted = [value if there else own for _, value, own in source.calls]
                 if answers != wanted or complaints:
                     where = "beside the objects" if there else "alone"
-                    raise SystemExit(f"source {number}, {where}:\n{text}\n{other}\nwanted {wanted}\ngiven  {answers}\n" + "\n".join(complaints))
+                    told = f"source {number}, {where}:\n{text}\n{other}\nwanted {wanted}\ngiven  {answers}\n"
+                    raise SystemExit(told + "\n".join(complaints))
                 calls += len(answers)
         print(f"{count} sources, each loaded twice; {calls} calls")
 

@@ -3,12 +3,14 @@
 
     compare/generic.py IASL COUNT SEED
 
-Each text has the nine lines of a header and up to 40 data lines of all types in random order: numbers in the forms that both read, offsets of
-Labels above and below, differences of them, texts, bytes and UUIDs, with remarks and comments. The bytes that `-G` makes must be those of
-ACPICA's iasl, but for the creator's two fields and the checksum, which is checked by itself. It needs acpica-tools, and is no part of the tests.
+Each text has the nine lines of a header and up to 40 data lines of all types in random order: numbers in the forms
+that both read, offsets of Labels above and below, differences of them, texts, bytes and UUIDs, with remarks and
+comments. The bytes that `-G` makes must be those of ACPICA's iasl, but for the creator's two fields and the
+checksum, which is checked by itself. It needs acpica-tools, and is no part of the tests.
 
-What differs by right, so that no text has it: ACPICA compares the names of types and of Labels with case, takes a difference that wraps at fewer
-than 8 bytes for an error, and wants two digits for each byte of a Buffer and names of letters and digits alone. It reads numbers in decimal behind `0d`, and expressions.
+What differs by right, so that no text has it: ACPICA compares the names of types and of Labels with case, takes a
+difference that wraps at fewer than 8 bytes for an error, and wants two digits for each byte of a Buffer and names of
+letters and digits alone. It reads numbers in decimal behind `0d`, and expressions.
 """
 
 import random

@@ -1,12 +1,13 @@
 #!/usr/bin/env python3
-"""Compares iasl with ACPICA's compiler on random sources with scopes: Devices, Scopes, paths, aliases, calls, control flow.
+"""Compares iasl with ACPICA's compiler on random sources with scopes: Devices, Scopes, paths, aliases, calls, control
+flow.
 
     compare/names.py IASL COUNT SEED
 
-No segment is declared twice, so that no name is searched at two places. Half of the tables have Integers of 32 bits, and literals of no more
-(integers.py has larger ones).
-With names as they are written the bytes must be those of ACPICA's iasl, but for the creator's two fields and the checksum, which is checked by
-itself. With names shortened, which ACPICA's iasl of 2020 does not do to these, no table may be longer. It needs acpica-tools, and is no part of
+No segment is declared twice, so that no name is searched at two places. Half of the tables have Integers of 32 bits,
+and literals of no more (integers.py has larger ones). With names as they are written the bytes must be those of
+ACPICA's iasl, but for the creator's two fields and the checksum, which is checked by itself. With names shortened,
+which ACPICA's iasl of 2020 does not do to these, no table may be longer. It needs acpica-tools, and is no part of
 the tests.
 """
 

@@ -122,7 +122,8 @@ class Method:
         if op == "Divide":
             second, b = self.expression(deeper)
             place = f", , Local{target}" if target is not None else ""
-            return f"Divide ({first}, {second}{place})", self.storing(target, lambda locals_, args: divided(a(locals_, args), b(locals_, args))[0])
+            quotient = self.storing(target, lambda locals_, args: divided(a(locals_, args), b(locals_, args))[0])
+            return f"Divide ({first}, {second}{place})", quotient
         place = f", Local{target}" if target is not None else random.choice(["", ","]) if op not in TWO + ["LNot"] else ""
         if op in ONE_AND_TARGET + ["LNot"]:
             return f"{op} ({first}{place})", self.storing(target, lambda locals_, args: VALUES[op](a(locals_, args)) & ONES)

@@ -392,7 +392,8 @@ def main():
             given = evaluated(folder / "ours", [call for call, _ in calls])
             if given != [value for _, value in calls]:
                 sys.exit(f"source {run}: {given} for {calls}:\n{text}")
-    print(f"{count} sources: the same bytes but for {crashed} on which ACPICA's compiler crashed, and the interpreter gives what the statements say")
+    same = f"the same bytes but for {crashed} on which ACPICA's compiler crashed"
+    print(f"{count} sources: {same}, and the interpreter gives what the statements say")
 
 
 if __name__ == "__main__":

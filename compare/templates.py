@@ -34,7 +34,8 @@ WORDS = {
     "master": "NotBusMaster BusMaster",
     "transfer": "Transfer8 Transfer8_16 Transfer16",
     "width": "Width8bit Width16bit Width32bit Width64bit Width128bit Width256bit",
-    "space": "SystemMemory SystemIO PCI_Config EmbeddedControl SMBus SystemCMOS PciBarTarget IPMI GeneralPurposeIO GenericSerialBus FFixedHW",
+    "space": "SystemMemory SystemIO PCI_Config EmbeddedControl SMBus SystemCMOS PciBarTarget IPMI GeneralPurposeIO "
+    "GenericSerialBus FFixedHW",
 }
 
 

@@ -7,7 +7,7 @@ use Rattle.acpi_state.specs.Objects.{MethodObject, ContainerObject, DataObject, 
 use Rattle.acpi_state.specs.FieldActs.{region_letters, field_letters}
 use Rattle.asl_tree.specs.FieldItems.{FieldItem, UnitItem, SkipItem, OffsetItem, AccessItem, ConnectionItem, ToName, ToBytes}
 use Rattle.asl_tree.specs.Names.{place_of, denoted}
-use Rattle.asl_tree.specs.Tree.{Tree, Use, Call, Apply, Buffer, Package, VarPackage, CondRefOf, Return, Name, Alias, External, Method, Mutex, Event, Container', Scope, Trees, no_trees, tree, count, OperationRegion, Field, IndexField, BankField, CreateField, UnitName, If, ElseIf, Else, While, Operated, Assigned, AssignedBy, Switch, Case, Default}
+use Rattle.asl_tree.specs.Tree.{Tree, Use, Call, Apply, Buffer, Package, VarPackage, CondRefOf, Return, Name, Alias, External, Method, Mutex, Event, Container', Scope, Trees, no_trees, tree, count, OperationRegion, Field, IndexField, BankField, CreateField, UnitName, If, ElseIf, Else, While, For, Print, Operated, Assigned, AssignedBy, Switch, Case, Default}
 use Rattle.asl_meaning.specs.Declarations.{as_unit, as_buffer_field, As, Declarations, with_declared, scope_path, declare, calls, calls_all}
 use Rattle.asl_meaning.specs.Meaning.{spot_form}
 use Rattle.acpi_names.specs.Errors.{NameError, Asked, Anything, Whole, names, names_all, items_errors, cond_errors, use_errors, call_errors, declared_errors, scope_errors, unit_path}
@@ -29,6 +29,8 @@ undeclared (If test body) e scope d = absurd (grind arith)
 undeclared (ElseIf test body) e scope d = absurd (grind arith)
 undeclared (Else body) e scope d = absurd (grind arith)
 undeclared (While test body) e scope d = absurd (grind arith)
+undeclared (For start test step body) e scope d = absurd (grind arith)
+undeclared (Print place format args) e scope d = absurd (grind arith)
 undeclared (Switch value cases) e scope d = absurd (grind arith)
 undeclared (Case value body) e scope d = absurd (grind arith)
 undeclared (Default body) e scope d = absurd (grind arith)
@@ -101,6 +103,8 @@ module _ (whole : Whole) where
     value_errors asked (ElseIf test body) e scope d c = absurd (grind arith)
     value_errors asked (Else body) e scope d c = absurd (grind arith)
     value_errors asked (While test body) e scope d c = absurd (grind arith)
+    value_errors asked (For start test step body) e scope d c = absurd (grind arith)
+    value_errors asked (Print place format args) e scope d c = absurd (grind arith)
     value_errors asked (Switch value cases) e scope d c = absurd (grind arith)
     value_errors asked (Case value body) e scope d c = absurd (grind arith)
     value_errors asked (Default body) e scope d c = absurd (grind arith)
@@ -185,6 +189,15 @@ module _ (whole : Whole) where
     term_errors (Else body) e scope d = block_errors body e scope d
     term_errors (While test body) e scope d =
         errors_both (mentions true test scope) (block_mentions body scope d) d (names whole test scope d) (names_all whole body scope d) (quiet true test scope d) (value_errors true test (first_true (is_value test) (are_terms body) e) scope d d) (block_errors body (second_true (is_value test) (are_terms body) e) scope d)
+    term_errors (For start test step body) e scope d =
+        let h = second_true (is_value start) (is_value test && (is_value step && are_terms body)) e in
+        let k = second_true (is_value test) (is_value step && are_terms body) h in
+        errors_both (mentions true start scope) (mentions true test scope ++ (mentions true step scope ++ block_mentions body scope d)) d (names whole start scope d) (names whole test scope d ++ (names whole step scope d ++ names_all whole body scope d)) (quiet true start scope d) (value_errors true start (first_true (is_value start) (is_value test && (is_value step && are_terms body)) e) scope d d)
+        (errors_both (mentions true test scope) (mentions true step scope ++ block_mentions body scope d) d (names whole test scope d) (names whole step scope d ++ names_all whole body scope d) (quiet true test scope d) (value_errors true test (first_true (is_value test) (is_value step && are_terms body) h) scope d d)
+        (errors_both (mentions true step scope) (block_mentions body scope d) d (names whole step scope d) (names_all whole body scope d) (quiet true step scope d) (value_errors true step (first_true (is_value step) (are_terms body) k) scope d d) (block_errors body (second_true (is_value step) (are_terms body) k) scope d)))
+    term_errors (Print place format args) e scope d =
+        errors_both (mentions (is_spot place) place scope) (mentions_all true args scope) d (names whole place scope d) (names_all whole args scope d) (quiet (is_spot place) place scope d)
+        (value_errors (is_spot place) place (first_true (is_value place) (are_values args) e) scope d d) (values_errors true args (second_true (is_value place) (are_values args) e) scope d d)
     term_errors (Switch value cases) e scope d =
         errors_both (mentions true value scope) (block_mentions cases scope d) d (names whole value scope d) (names_all whole cases scope d) (quiet true value scope d) (value_errors true value (first_true (is_value value) (are_terms cases) e) scope d d) (block_errors cases (second_true (is_value value) (are_terms cases) e) scope d)
     term_errors (Case value body) e scope d =
@@ -275,6 +288,8 @@ module _ (has : AbsolutePath → Bool) where
     value_calls asked (ElseIf test body) e scope d = absurd (grind arith)
     value_calls asked (Else body) e scope d = absurd (grind arith)
     value_calls asked (While test body) e scope d = absurd (grind arith)
+    value_calls asked (For start test step body) e scope d = absurd (grind arith)
+    value_calls asked (Print place format args) e scope d = absurd (grind arith)
     value_calls asked (Switch value cases) e scope d = absurd (grind arith)
     value_calls asked (Case value body) e scope d = absurd (grind arith)
     value_calls asked (Default body) e scope d = absurd (grind arith)
@@ -340,6 +355,14 @@ module _ (has : AbsolutePath → Bool) where
     term_calls (Else body) e scope d = block_calls body e scope d
     term_calls (While test body) e scope d =
         calls_both (mentions true test scope) (block_mentions body scope d) (calls has test scope d) (calls_all has body scope d) (value_calls true test (first_true (is_value test) (are_terms body) e) scope d) (block_calls body (second_true (is_value test) (are_terms body) e) scope d)
+    term_calls (For start test step body) e scope d =
+        let h = second_true (is_value start) (is_value test && (is_value step && are_terms body)) e in
+        let k = second_true (is_value test) (is_value step && are_terms body) h in
+        calls_both (mentions true start scope) (mentions true test scope ++ (mentions true step scope ++ block_mentions body scope d)) (calls has start scope d) (calls has test scope d ++ (calls has step scope d ++ calls_all has body scope d)) (value_calls true start (first_true (is_value start) (is_value test && (is_value step && are_terms body)) e) scope d)
+        (calls_both (mentions true test scope) (mentions true step scope ++ block_mentions body scope d) (calls has test scope d) (calls has step scope d ++ calls_all has body scope d) (value_calls true test (first_true (is_value test) (is_value step && are_terms body) h) scope d)
+        (calls_both (mentions true step scope) (block_mentions body scope d) (calls has step scope d) (calls_all has body scope d) (value_calls true step (first_true (is_value step) (are_terms body) k) scope d) (block_calls body (second_true (is_value step) (are_terms body) k) scope d)))
+    term_calls (Print place format args) e scope d =
+        calls_both (mentions (is_spot place) place scope) (mentions_all true args scope) (calls has place scope d) (calls_all has args scope d) (value_calls (is_spot place) place (first_true (is_value place) (are_values args) e) scope d) (values_calls true args (second_true (is_value place) (are_values args) e) scope d)
     term_calls (Switch value cases) e scope d =
         calls_both (mentions true value scope) (block_mentions cases scope d) (calls has value scope d) (calls_all has cases scope d) (value_calls true value (first_true (is_value value) (are_terms cases) e) scope d) (block_calls cases (second_true (is_value value) (are_terms cases) e) scope d)
     term_calls (Case value body) e scope d =

@@ -13,7 +13,7 @@ use Rattle.acpi_state.proofs.Lookups.{is_same_path-true}
 use Rattle.asl_tree.specs.FieldItems.{FieldItem, UnitItem, SkipItem, OffsetItem, AccessItem, ConnectionItem, ToName, ToBytes}
 use Rattle.asl_tree.specs.Names.{place_of, denoted}
 use Rattle.asl_tree.specs.declared.path.Path.{Path}
-use Rattle.asl_tree.specs.Tree.{At, Tree, Use, Call, Apply, Buffer, Package, VarPackage, CondRefOf, Return, Name, Alias, External, Method, Mutex, Event, Container', Scope, Trees, no_trees, tree, count, OperationRegion, Field, IndexField, BankField, CreateField, UnitName, If, ElseIf, Else, While, Operated, Assigned, AssignedBy, Switch, Case, Default}
+use Rattle.asl_tree.specs.Tree.{At, Tree, Use, Call, Apply, Buffer, Package, VarPackage, CondRefOf, Return, Name, Alias, External, Method, Mutex, Event, Container', Scope, Trees, no_trees, tree, count, OperationRegion, Field, IndexField, BankField, CreateField, UnitName, If, ElseIf, Else, While, For, Print, Operated, Assigned, AssignedBy, Switch, Case, Default}
 use Rattle.asl_meaning.specs.Declarations.{As, Declarations, is_named, with_declared, scope_path, declare}
 use Rattle.asl_meaning.specs.Meaning.{spot_form}
 use Rattle.acpi_names.specs.Errors.{NameError, Missing, NoContainer, WrongCount, Asked, Anything, AUnit, ARegion, asked_by, unless, Whole, is_container, final, takes, names, names_all, use_errors, scope_errors, step_errors, declared_errors, name_end, types, types_all, asked_types, used_types, letter_types, element_types, spot_types, operand_types, spot_types_all, element_types_all}
@@ -143,6 +143,8 @@ module _ (whole : Whole) where
     value_types (ElseIf test body) e scope = absurd (grind arith)
     value_types (Else body) e scope = absurd (grind arith)
     value_types (While test body) e scope = absurd (grind arith)
+    value_types (For start test step body) e scope = absurd (grind arith)
+    value_types (Print place format args) e scope = absurd (grind arith)
     value_types (Switch value cases) e scope = absurd (grind arith)
     value_types (Case value body) e scope = absurd (grind arith)
     value_types (Default body) e scope = absurd (grind arith)
@@ -233,6 +235,16 @@ module _ (whole : Whole) where
     term_types (Else body) e scope d n = block_types body e scope d n
     term_types (While test body) e scope d n =
         types_both (mentions true test scope) (block_mentions body scope d) (types whole test scope) (types_all whole body scope) (value_types test (first_true (is_value test) (are_terms body) e) scope) (block_types body (second_true (is_value test) (are_terms body) e) scope d (right_empty (names whole test scope d) _ n))
+    term_types (For start test step body) e scope d n =
+        let h = second_true (is_value start) (is_value test && (is_value step && are_terms body)) e in
+        let k = second_true (is_value test) (is_value step && are_terms body) h in
+        let later = right_empty (names whole start scope d) (names whole test scope d ++ (names whole step scope d ++ names_all whole body scope d)) n in
+        let last = right_empty (names whole test scope d) (names whole step scope d ++ names_all whole body scope d) later in
+        types_both (mentions true start scope) (mentions true test scope ++ (mentions true step scope ++ block_mentions body scope d)) (types whole start scope) (types whole test scope ++ (types whole step scope ++ types_all whole body scope)) (value_types start (first_true (is_value start) (is_value test && (is_value step && are_terms body)) e) scope)
+        (types_both (mentions true test scope) (mentions true step scope ++ block_mentions body scope d) (types whole test scope) (types whole step scope ++ types_all whole body scope) (value_types test (first_true (is_value test) (is_value step && are_terms body) h) scope)
+        (types_both (mentions true step scope) (block_mentions body scope d) (types whole step scope) (types_all whole body scope) (value_types step (first_true (is_value step) (are_terms body) k) scope) (block_types body (second_true (is_value step) (are_terms body) k) scope d (right_empty (names whole step scope d) (names_all whole body scope d) last))))
+    term_types (Print place format args) e scope d n =
+        types_both (mentions (is_spot place) place scope) (mentions_all true args scope) (spot_types whole place scope) (types_all whole args scope) (spot_same place (first_true (is_value place) (are_values args) e) scope) (values_types args (second_true (is_value place) (are_values args) e) scope)
     term_types (Switch value cases) e scope d n =
         types_both (mentions true value scope) (block_mentions cases scope d) (types whole value scope) (types_all whole cases scope) (value_types value (first_true (is_value value) (are_terms cases) e) scope) (block_types cases (second_true (is_value value) (are_terms cases) e) scope d (right_empty (names whole value scope d) _ n))
     term_types (Case value body) e scope d n =

@@ -6,7 +6,7 @@ use Rattle.acpi_values.specs.Operators.{Letter, Used, row_of}
 use Rattle.acpi_state.specs.FieldActs.{region_letters, field_letters}
 use Rattle.asl_tree.specs.FieldItems.{FieldItem, UnitItem, SkipItem, OffsetItem, AccessItem, ConnectionItem, ToName, ToBytes}
 use Rattle.asl_tree.specs.Names.{place_of}
-use Rattle.asl_tree.specs.Tree.{Tree, Use, Call, Apply, Buffer, Package, VarPackage, CondRefOf, Return, Name, Alias, External, Method, Mutex, Event, Container', Scope, Trees, no_trees, tree, OperationRegion, Field, IndexField, BankField, CreateField, UnitName, If, ElseIf, Else, While, Operated, Assigned, AssignedBy, Switch, Case, Default}
+use Rattle.asl_tree.specs.Tree.{Tree, Use, Call, Apply, Buffer, Package, VarPackage, CondRefOf, Return, Name, Alias, External, Method, Mutex, Event, Container', Scope, Trees, no_trees, tree, OperationRegion, Field, IndexField, BankField, CreateField, UnitName, If, ElseIf, Else, While, For, Print, Operated, Assigned, AssignedBy, Switch, Case, Default}
 use Rattle.asl_meaning.specs.Declarations.{Declarations, scope_path, declare, declare_all, declare_items}
 use Rattle.acpi_names.specs.Errors.{Asked, Anything}
 use Rattle.acpi_names.specs.Mentions.{Mention, Declares, is_spot, is_use, asks, asked_use, letter_mention, cond_place, mentions, mentions_all, operand_mentions, target_mentions, element_mentions, item_mentions, term_mentions, block_mentions, after, after_all}
@@ -107,6 +107,14 @@ mutual
   after_term (Else body) scope d = after_block body scope d
   after_term (While test body) scope d =
       after_append (mentions true test scope) (block_mentions body scope d) d ∙ ap (after_all (block_mentions body scope d)) (quiet true test scope d) ∙ after_block body scope d
+  after_term (For start test step body) scope d =
+      let last = mentions true step scope ++ block_mentions body scope d in
+      let later = mentions true test scope ++ last in
+      after_append (mentions true start scope) later d ∙ ap (after_all later) (quiet true start scope d)
+      ∙ after_append (mentions true test scope) last d ∙ ap (after_all last) (quiet true test scope d)
+      ∙ after_append (mentions true step scope) (block_mentions body scope d) d ∙ ap (after_all (block_mentions body scope d)) (quiet true step scope d) ∙ after_block body scope d
+  after_term (Print place format args) scope d =
+      after_both (mentions (is_spot place) place scope) (mentions_all true args scope) d (quiet (is_spot place) place scope d) (quiet_all true args scope d)
   after_term (Switch value cases) scope d =
       after_append (mentions true value scope) (block_mentions cases scope d) d ∙ ap (after_all (block_mentions cases scope d)) (quiet true value scope d) ∙ after_block cases scope d
   after_term (Case value body) scope d =

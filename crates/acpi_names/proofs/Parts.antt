@@ -15,7 +15,7 @@ use Rattle.asl_tree.specs.declared.term.Control.TheVariants as Control
 use Rattle.asl_tree.specs.declared.term.Special.TheVariants as Special
 use Rattle.asl_tree.specs.declared.term.Symbolic.TheVariants as Symbolic
 use Rattle.acpi_state.specs.Outcomes.{choose}
-use Rattle.asl_tree.specs.Tree.{At, Tree, Integer, Omitted, Use, Package, VarPackage, Misshapen, Trees, no_trees, tree, count, Field, IndexField, BankField, UnitName}
+use Rattle.asl_tree.specs.Tree.{At, Tree, Integer, String, Omitted, Use, Package, VarPackage, Misshapen, Trees, no_trees, tree, count, Field, IndexField, BankField, UnitName}
 
 by_items : (o : Option (List (FieldItem UnitName))) (scope : AbsolutePath) (d : Declarations) (made : List (FieldItem UnitName) → Tree) → ((items : List (FieldItem UnitName)) → declare (made items) scope d ≡ declare_items items scope d) → declare (choose o Misshapen made) scope d ≡ choose o d (λ items. declare_items items scope d)
 by_items None scope d made h = refl
@@ -84,6 +84,9 @@ declared_form here (Op.Control Control.If) (tree test no_trees) body scope d = r
 declared_form here (Op.Control Control.ElseIf) (tree test no_trees) body scope d = refl
 declared_form here (Op.Control Control.Else) no_trees body scope d = refl
 declared_form here (Op.Control Control.While) (tree test no_trees) body scope d = refl
+declared_form here (Op.Control Control.For) (tree start (tree test (tree step no_trees))) body scope d = refl
+declared_form here (Op.Control Control.Printf) (tree (String format) args) no_trees scope d = refl
+declared_form here (Op.Control Control.Fprintf) (tree place (tree (String format) args)) no_trees scope d = refl
 declared_form here (Op.Control Control.Switch) (tree value no_trees) cases scope d = refl
 declared_form here (Op.Control Control.Case) (tree value no_trees) body scope d = refl
 declared_form here (Op.Control Control.Default) no_trees body scope d = refl

@@ -2,7 +2,7 @@
 use Rattle.std.proofs.Common.{◌≡◌, Bool, true, false, List, [], ◌∷◌, ◌++◌, Option, Some, None, refl, sym, ap, ◌∙◌, subst, arith}
 use Rattle.std.specs.Prelude.{not, nat_lt, is_some, if◌then◌else◌}
 use Rattle.std.specs.List.{filter}
-use Rattle.acpi_values.specs.Paths.{NameSeg, AbsolutePath, is_same_path}
+use Rattle.acpi_values.specs.Paths.{NameSeg, AbsolutePath}
 use Rattle.acpi_state.specs.Outcomes.{choose}
 use Rattle.acpi_state.proofs.Lookups.{is_same_path-true}
 use Rattle.asl_tree.specs.declared.path.Path.{Path as Name}

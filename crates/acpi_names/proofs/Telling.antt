@@ -3,7 +3,7 @@ use Rattle.acpi_names.specs.declared.part.Shape.{Shape}
 use Rattle.acpi_names.specs.declared.part.Shape.TheVariants as S
 use Rattle.acpi_names.specs.Walked.{shape_as}
 use Rattle.std.proofs.Common.{Bor, ◌≡◌, ℕ, zero, suc, ◌+◌, ◌<◌, ◌≤◌, List, [], ◌∷◌, ◌++◌, length, get_or, drop, refl, sym, ap, ◌∙◌, append_assoc, arith}
-use Rattle.std.specs.Prelude.{Bool, false, slice_get, ◌&&◌}
+use Rattle.std.specs.Prelude.{Bool, true, false, slice_get, ◌&&◌}
 use Rattle.acpi_values.specs.Paths.{AbsolutePath}
 use Rattle.asl_tree.specs.declared.term.Node.{Node}
 use Rattle.asl_tree.specs.Tree.{Tree, Trees, no_trees, tree}
@@ -20,7 +20,7 @@ use Rattle.acpi_names.specs.Mentions.{mentions, mentions_all, letter_mention, Us
 use Rattle.asl_operators.specs.Letters.{letters_as}
 use Rattle.asl_operators.specs.declared.letter.Letter.{Letter as CodeLetter}
 use Rattle.acpi_names.specs.Shown.{spot_as}
-use Rattle.acpi_names.specs.Walked.{node_tree, TermShape, OfName, OfCall, term_shape, shape_mentions, cond_mention, cond_mentions, assign_mentions, argument_mentions, optional_mentions}
+use Rattle.acpi_names.specs.Walked.{node_tree, TermShape, OfName, OfCall, term_shape, shape_mentions, cond_mention, cond_mentions, assign_mentions, argument_mentions, optional_mentions, later_trees, print_mentions}
 use Rattle.acpi_names.proofs.Walked.{shape_same, shape_tree_name, shape_name_of}
 use Rattle.acpi_names.proofs.Mentions.{right_nil}
 
@@ -139,6 +139,20 @@ cond_many asked [] scope le = refl
 cond_many asked (x ∷ []) scope le = refl
 cond_many asked (x ∷ y ∷ []) scope le = absurd (omega (arith, le))
 cond_many asked (x ∷ y ∷ z ∷ nodes) scope le = refl
+
+-- the place of what prints, and what is behind it
+pub print_first : (nodes rest : List Node) (place : Node) (scope : AbsolutePath) → 1 ≤ length nodes → place ≡ get_or nodes 0 place → trees_of rest ≡ later_trees 1 (trees_of nodes)
+    → print_mentions (trees_of nodes) scope ≡ mentions (true && is_spot (node_tree place)) (node_tree place) scope ++ mentions_all true (trees_of rest) scope
+unfolding trees_of
+print_first [] rest place scope le e r = absurd (omega (arith, le))
+print_first (n ∷ nodes) rest place scope le e r =
+    ap (λ (m : Node). mentions (is_spot (node_tree m)) (node_tree m) scope ++ mentions_all true (trees_of nodes) scope) (sym e)
+    ∙ ap (λ ts. mentions (is_spot (node_tree place)) (node_tree place) scope ++ mentions_all true ts scope) (sym r)
+
+pub print_none : (nodes : List Node) (scope : AbsolutePath) → length nodes < 1 → print_mentions (trees_of nodes) scope ≡ []
+unfolding trees_of
+print_none [] scope lt = refl
+print_none (node ∷ nodes) scope lt = absurd (omega (arith, lt))
 
 -- the same of `X = E`
 pub assign_two : (asked : Bool) (nodes : List Node) (a b : Node) (scope : AbsolutePath) → 2 ≤ length nodes → length nodes < 3 → a ≡ get_or nodes 0 a → b ≡ get_or nodes 1 b → assign_mentions asked (trees_of nodes) scope ≡ mentions asked (node_tree b) scope ++ mentions (asked && is_spot (node_tree a)) (node_tree a) scope

@@ -16,7 +16,7 @@ use Rattle.asl_tree.specs.declared.term.Control.TheVariants as Control
 use Rattle.asl_tree.specs.declared.term.Special.TheVariants as Special
 use Rattle.asl_tree.specs.declared.term.Symbolic.TheVariants as Symbolic
 use Rattle.asl_tree.specs.View.{fits, operated, symbol_of, form, operands_as, targets_of, plain_of, apply_of, buffer, body_bytes, packaged, counted, items_in}
-use Rattle.asl_tree.specs.Tree.{At, Tree, Integer, Operated, Omitted, Use, Package, VarPackage, Misshapen, Trees, no_trees, tree, count, Field, IndexField, BankField, UnitName}
+use Rattle.asl_tree.specs.Tree.{At, Tree, Integer, String, Operated, Omitted, Use, Package, VarPackage, Misshapen, Trees, no_trees, tree, count, Field, IndexField, BankField, UnitName}
 use Rattle.asl_meaning.specs.Declarations.{As, Declarations}
 use Rattle.asl_meaning.specs.Meaning.{spot_form}
 use Rattle.acpi_names.specs.Errors.{Asked, AUnit, ARegion}
@@ -169,6 +169,11 @@ spot_symbol op args = by_fit (fits (row_of op).operands args)
     by_fit true = spot_operated op (operands_as (row_of op).operands args)
     by_fit false = refl
 
+-- a start, a test and a step before a body
+before_body : (a b c e : List Mention) → a ++ (b ++ (c ++ e)) ≡ (a ++ (b ++ (c ++ []))) ++ e
+before_body a b c e =
+    sym (append_assoc a (b ++ (c ++ [])) e ∙ ap (λ ms. a ++ ms) (append_assoc b (c ++ []) e ∙ ap (λ ms. b ++ ms) (append_assoc c [] e)))
+
 pub value_form : (asked : Bool) (at : At) (op : Op) (args body : Trees) (scope : AbsolutePath) → mentions asked (form at op args body) scope ≡ value_mentions (value_form_of op args body) asked args body scope
 value_form asked here (Op.Declaration Declaration.Name) (tree (Use at name) (tree value no_trees)) no_trees scope = refl
 value_form asked here (Op.Declaration Declaration.Alias) (tree (Use from source) (tree (Use at name) no_trees)) no_trees scope = refl
@@ -197,6 +202,9 @@ value_form asked here (Op.Control Control.If) (tree test no_trees) body scope = 
 value_form asked here (Op.Control Control.ElseIf) (tree test no_trees) body scope = refl
 value_form asked here (Op.Control Control.Else) no_trees body scope = refl
 value_form asked here (Op.Control Control.While) (tree test no_trees) body scope = refl
+value_form asked here (Op.Control Control.For) (tree start (tree test (tree step no_trees))) body scope = refl
+value_form asked here (Op.Control Control.Printf) (tree (String format) args) no_trees scope = refl
+value_form asked here (Op.Control Control.Fprintf) (tree place (tree (String format) args)) no_trees scope = refl
 value_form asked here (Op.Control Control.Switch) (tree value no_trees) cases scope = refl
 value_form asked here (Op.Control Control.Case) (tree value no_trees) body scope = refl
 value_form asked here (Op.Control Control.Default) no_trees body scope = refl
@@ -279,6 +287,9 @@ term_form here (Op.Control Control.If) (tree test no_trees) body scope d = ap (�
 term_form here (Op.Control Control.ElseIf) (tree test no_trees) body scope d = ap (λ ms. ms ++ block_mentions body scope d) (sym (right_nil (mentions true test scope)))
 term_form here (Op.Control Control.Else) no_trees body scope d = refl
 term_form here (Op.Control Control.While) (tree test no_trees) body scope d = ap (λ ms. ms ++ block_mentions body scope d) (sym (right_nil (mentions true test scope)))
+term_form here (Op.Control Control.For) (tree start (tree test (tree step no_trees))) body scope d = before_body (mentions true start scope) (mentions true test scope) (mentions true step scope) (block_mentions body scope d)
+term_form here (Op.Control Control.Printf) (tree (String format) args) no_trees scope d = refl
+term_form here (Op.Control Control.Fprintf) (tree place (tree (String format) args)) no_trees scope d = refl
 term_form here (Op.Control Control.Switch) (tree value no_trees) cases scope d = ap (λ ms. ms ++ block_mentions cases scope d) (sym (right_nil (mentions true value scope)))
 term_form here (Op.Control Control.Case) (tree value no_trees) body scope d = ap (λ ms. ms ++ block_mentions body scope d) (sym (right_nil (mentions true value scope)))
 term_form here (Op.Control Control.Default) no_trees body scope d = refl
@@ -322,6 +333,9 @@ spot_form_of here (Op.Control Control.If) (tree test no_trees) body = refl
 spot_form_of here (Op.Control Control.ElseIf) (tree test no_trees) body = refl
 spot_form_of here (Op.Control Control.Else) no_trees body = refl
 spot_form_of here (Op.Control Control.While) (tree test no_trees) body = refl
+spot_form_of here (Op.Control Control.For) (tree start (tree test (tree step no_trees))) body = refl
+spot_form_of here (Op.Control Control.Printf) (tree (String format) args) no_trees = refl
+spot_form_of here (Op.Control Control.Fprintf) (tree place (tree (String format) args)) no_trees = refl
 spot_form_of here (Op.Control Control.Switch) (tree value no_trees) cases = refl
 spot_form_of here (Op.Control Control.Case) (tree value no_trees) body = refl
 spot_form_of here (Op.Control Control.Default) no_trees body = refl

@@ -18,8 +18,8 @@ use Rattle.acpi_state.specs.FieldActs.{region_letters, field_letters}
 use Rattle.asl_tree.specs.FieldItems.{FieldItem, UnitItem, SkipItem, OffsetItem, AccessItem, ConnectionItem, Connected, ToName, ToBytes}
 use Rattle.asl_tree.specs.Tree.{At, Tree, Use, Call, Apply, Buffer, Package, VarPackage, CondRefOf, Return, Name, Alias, External, Method}
 use Rattle.asl_tree.specs.Tree.{Mutex, Event, Container', Scope, Trees, no_trees, tree, count, OperationRegion, Field, IndexField}
-use Rattle.asl_tree.specs.Tree.{BankField, CreateField, UnitName, If, ElseIf, Else, While, Operated, Assigned, AssignedBy, Switch, Case}
-use Rattle.asl_tree.specs.Tree.{Default}
+use Rattle.asl_tree.specs.Tree.{BankField, CreateField, UnitName, If, ElseIf, Else, While, For, Print, Operated, Assigned, AssignedBy}
+use Rattle.asl_tree.specs.Tree.{Switch, Case, Default}
 
 -- an error at a node, with the path that is declared or the name as it is written
 pub data NameError : Type 0 where
@@ -212,6 +212,8 @@ module _ (whole : Whole) where
     names (ElseIf test body) scope d = names test scope d ++ names_all body scope d
     names (Else body) scope d = names_all body scope d
     names (While test body) scope d = names test scope d ++ names_all body scope d
+    names (For start test step body) scope d = names start scope d ++ (names test scope d ++ (names step scope d ++ names_all body scope d))
+    names (Print place format args) scope d = names place scope d ++ names_all args scope d
     names (Switch value cases) scope d = names value scope d ++ names_all cases scope d
     names (Case value body) scope d = names value scope d ++ names_all body scope d
     names (Default body) scope d = names_all body scope d
@@ -286,6 +288,8 @@ module _ (whole : Whole) where
     types (ElseIf test body) scope = types test scope ++ types_all body scope
     types (Else body) scope = types_all body scope
     types (While test body) scope = types test scope ++ types_all body scope
+    types (For start test step body) scope = types start scope ++ (types test scope ++ (types step scope ++ types_all body scope))
+    types (Print place format args) scope = spot_types place scope ++ types_all args scope
     types (Switch value cases) scope = types value scope ++ types_all cases scope
     types (Case value body) scope = types value scope ++ types_all body scope
     types (Default body) scope = types_all body scope

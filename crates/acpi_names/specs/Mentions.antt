@@ -12,8 +12,8 @@ use Rattle.asl_tree.specs.FieldItems.{FieldItem, UnitItem, SkipItem, OffsetItem,
 use Rattle.asl_tree.specs.Names.{place_of, denoted}
 use Rattle.asl_tree.specs.Tree.{At, Tree, Use, Call, Apply, Buffer, Package, VarPackage, CondRefOf, Return, Name, Alias, External, Method}
 use Rattle.asl_tree.specs.Tree.{Mutex, Event, Container', Scope, Trees, no_trees, tree, count, OperationRegion, Field, IndexField}
-use Rattle.asl_tree.specs.Tree.{BankField, CreateField, UnitName, If, ElseIf, Else, While, Operated, Assigned, AssignedBy, Switch, Case}
-use Rattle.asl_tree.specs.Tree.{Default}
+use Rattle.asl_tree.specs.Tree.{BankField, CreateField, UnitName, If, ElseIf, Else, While, For, Print, Operated, Assigned, AssignedBy}
+use Rattle.asl_tree.specs.Tree.{Switch, Case, Default}
 use Rattle.asl_meaning.specs.Declarations.{Declared, As, AliasOf, ExternalType, Declarations, in_root, is_named, with_declared}
 use Rattle.asl_meaning.specs.Declarations.{with_external, scope_path, declare, as_unit, as_buffer_field}
 use Rattle.asl_meaning.specs.Meaning.{SpotForm, OfResult, OfInside, NoSpot, spot_form}
@@ -150,6 +150,9 @@ abbrev mutual
   term_mentions (ElseIf test body) scope d = mentions true test scope ++ block_mentions body scope d
   term_mentions (Else body) scope d = block_mentions body scope d
   term_mentions (While test body) scope d = mentions true test scope ++ block_mentions body scope d
+  term_mentions (For start test step body) scope d =
+      mentions true start scope ++ (mentions true test scope ++ (mentions true step scope ++ block_mentions body scope d))
+  term_mentions (Print place format args) scope d = mentions (is_spot place) place scope ++ mentions_all true args scope
   term_mentions (Switch value cases) scope d = mentions true value scope ++ block_mentions cases scope d
   term_mentions (Case value body) scope d = mentions true value scope ++ block_mentions body scope d
   term_mentions (Default body) scope d = block_mentions body scope d

@@ -18,7 +18,7 @@ use Rattle.asl_meaning.specs.Declarations.{declare_all, declare_items}
 use Rattle.asl_tree.specs.Names.{place_of}
 use Rattle.asl_tree.specs.View.{item_in, items_in}
 use Rattle.asl_tree.specs.FieldItems.{FieldItem}
-use Rattle.asl_tree.specs.Tree.{Tree, Use, Integer, Item, UnitName, Trees, no_trees, tree}
+use Rattle.asl_tree.specs.Tree.{Tree, Use, Integer, String, UnitName, Trees, no_trees, tree}
 use Rattle.acpi_names.specs.Paths.{is_named_in}
 use Rattle.acpi_names.specs.declared.part.What.{What}
 use Rattle.acpi_names.specs.declared.part.What.TheVariants as W
@@ -53,6 +53,11 @@ abbrev pub is_form : Term → Bool
 is_form (D.Form' op shape args shape' body) = true
 is_form _ = false
 
+-- a text
+abbrev pub text_term : Term → Bool
+text_term (D.Text text) = true
+text_term _ = false
+
 -- whether there are so many
 abbrev pub are : ℕ → Trees → Bool
 are zero no_trees = true
@@ -77,6 +82,15 @@ abbrev pub number_at : ℕ → Trees → Option ℕ
 number_at n no_trees = None
 number_at zero (tree t ts) = the_number t
 number_at (suc n) (tree t ts) = number_at n ts
+
+abbrev pub is_text : Tree → Bool
+is_text (String text) = true
+is_text _ = false
+
+abbrev pub text_at : ℕ → Trees → Bool
+text_at n no_trees = false
+text_at zero (tree t ts) = is_text t
+text_at (suc n) (tree t ts) = text_at n ts
 
 abbrev pub is_item_list : Trees → Bool
 is_item_list ts = choose (items_in ts) false (λ items. true)
@@ -150,10 +164,13 @@ part_of (Op.Control Control.If) args body = fitting (are 1 args) P.Within
 part_of (Op.Control Control.ElseIf) args body = fitting (are 1 args) P.Within
 part_of (Op.Control Control.Else) args body = fitting (are 0 args) P.Within
 part_of (Op.Control Control.While) args body = fitting (are 1 args) P.Within
+part_of (Op.Control Control.For) args body = fitting (are 3 args) P.Within
 part_of (Op.Control Control.Switch) args body = fitting (are 1 args) P.Within
 part_of (Op.Control Control.Case) args body = fitting (are 1 args) P.Within
 part_of (Op.Control Control.Default) args body = fitting (are 0 args) P.Within
 part_of (Op.Control Control.Return) args body = fitting (are 1 args && are 0 body) P.Returns
+part_of (Op.Control Control.Printf) args body = fitting (text_at 0 args && are 0 body) P.Returns
+part_of (Op.Control Control.Fprintf) args body = fitting (text_at 1 args && are 0 body) P.Prints
 part_of _ args body = P.Nothing
 
 -- the terms of a body, where it is opened
@@ -174,6 +191,7 @@ declare_part (P.External type parameters) args body scope d =
     (λ name. with_external (in_root (place_of name scope)) (place_of name scope) (record { type = type; parameters = parameters }) d)
 declare_part P.Scope args body scope d = choose (name_at 0 args) d (λ name. declare_all body (scope_path d name scope) d)
 declare_part P.Returns args body scope d = d
+declare_part P.Prints args body scope d = d
 declare_part P.Within args body scope d = declare_all body scope d
 declare_part (P.Units over) args body scope d = choose (items_in body) d (λ items. declare_items items scope d)
 

@@ -9,7 +9,7 @@ use Rattle.acpi_names.specs.Shortest.{spelled_use, spelled_item}
 use Rattle.asl_tree.specs.FieldItems.{FieldItem, ConnectionItem, Connected, ToName, ToBytes}
 use Rattle.asl_tree.specs.Tree.{Tree, UnitName, Item, Use, Call, Apply, Buffer, Package, VarPackage, CondRefOf, Return, Name, Alias}
 use Rattle.asl_tree.specs.Tree.{External, Method, Container', Scope, Trees, no_trees, tree, OperationRegion, Field, IndexField, BankField}
-use Rattle.asl_tree.specs.Tree.{CreateField, If, ElseIf, Else, While, Operated, Assigned, AssignedBy, Switch, Case, Default}
+use Rattle.asl_tree.specs.Tree.{CreateField, If, ElseIf, Else, While, For, Print, Operated, Assigned, AssignedBy, Switch, Case, Default}
 
 module _ (has : AbsolutePath → Bool) where
   -- the scope of a Scope's terms
@@ -54,6 +54,8 @@ module _ (shorten : Bool) (has : AbsolutePath → Bool) (says : AbsolutePath →
     spelled (ElseIf test body) scope = ElseIf (spelled test scope) (spelled_all body scope)
     spelled (Else body) scope = Else (spelled_all body scope)
     spelled (While test body) scope = While (spelled test scope) (spelled_all body scope)
+    spelled (For start test step body) scope = For (spelled start scope) (spelled test scope) (spelled step scope) (spelled_all body scope)
+    spelled (Print place format args) scope = Print (spelled place scope) format (spelled_all args scope)
     spelled (Switch value cases) scope = Switch (spelled value scope) (spelled_all cases scope)
     spelled (Case value body) scope = Case (spelled value scope) (spelled_all body scope)
     spelled (Default body) scope = Default (spelled_all body scope)

@@ -2,7 +2,7 @@
 use Rattle.std.specs.Prelude.{Bool, true, false, ◌&&◌}
 use Rattle.asl_tree.specs.Tree.{Tree, Call, Apply, Buffer, Package, VarPackage, CondRefOf, Return, Name, Alias, External, Method, Mutex}
 use Rattle.asl_tree.specs.Tree.{Event, Container', Scope, Trees, no_trees, tree, OperationRegion, Field, IndexField, BankField}
-use Rattle.asl_tree.specs.Tree.{CreateField, If, ElseIf, Else, While, Operated, Assigned, AssignedBy, Switch, Case, Default}
+use Rattle.asl_tree.specs.Tree.{CreateField, If, ElseIf, Else, While, For, Print, Operated, Assigned, AssignedBy, Switch, Case, Default}
 use Rattle.asl_meaning.specs.Meaning.{SpotForm, OfInside, spot_form}
 
 -- an operator that leads to the place which its operand refers to has no targets
@@ -34,6 +34,8 @@ abbrev mutual
   is_value (ElseIf test body) = false
   is_value (Else body) = false
   is_value (While test body) = false
+  is_value (For start test step body) = false
+  is_value (Print place format args) = false
   is_value (Switch value cases) = false
   is_value (Case value body) = false
   is_value (Default body) = false
@@ -63,6 +65,8 @@ abbrev mutual
   is_term (ElseIf test body) = is_value test && are_terms body
   is_term (Else body) = are_terms body
   is_term (While test body) = is_value test && are_terms body
+  is_term (For start test step body) = is_value start && (is_value test && (is_value step && are_terms body))
+  is_term (Print place format args) = is_value place && are_values args
   is_term (Switch value cases) = is_value value && are_terms cases
   is_term (Case value body) = is_value value && are_terms body
   is_term (Default body) = are_terms body

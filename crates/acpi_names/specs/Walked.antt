@@ -110,6 +110,11 @@ field_mentions O.Bank here args scope =
     name_mention (ARegion here) 0 args scope
     ++ (name_mention AUnit 1 args scope ++ mentions_all true (first_trees 1 (later_trees 2 args)) scope)
 
+-- the place of what prints, and then its format and its arguments
+abbrev pub print_mentions : Trees → AbsolutePath → List Mention
+print_mentions no_trees scope = []
+print_mentions (tree place ts) scope = mentions (is_spot place) place scope ++ mentions_all true ts scope
+
 abbrev pub opened_mentions : Bool → Trees → AbsolutePath → Declarations → List Mention
 opened_mentions true body path d = block_mentions body path d
 opened_mentions false body path d = []
@@ -130,6 +135,7 @@ part_mentions P.Scope here op args body scope d =
     choose (named_at 0 args) [] (λ m. Opens here m.0 m.1 scope (scope_path d m.1 scope) ∷ block_mentions body (scope_path d m.1 scope) d)
 part_mentions P.Within here op args body scope d = mentions_all true args scope ++ block_mentions body scope d
 part_mentions P.Returns here op args body scope d = mentions_all true args scope
+part_mentions P.Prints here op args body scope d = print_mentions args scope
 part_mentions (P.Units over) here op args body scope d =
     choose (items_in body) [] (λ items. field_mentions over here args scope ++ item_mentions items scope)
 

@@ -7,8 +7,8 @@ ghost use Rattle.asl_tree.specs.declared.term.Op.{Op};
 ghost use Rattle.acpi_names.specs.declared.mention.Spot.{Spot};
 ghost use Rattle.acpi_names.specs.declared.part.Part.TheVariants as P;
 ghost use Rattle.acpi_names.specs.Mentions.{term_mentions, block_mentions};
-ghost use Rattle.acpi_names.specs.Shown.{all_shown};
-ghost use Rattle.acpi_names.specs.Walked.{node_tree};
+ghost use Rattle.acpi_names.specs.Shown.{all_shown, Tells};
+ghost use Rattle.acpi_names.specs.Walked.{node_tree, print_mentions};
 ghost use Rattle.acpi_names.specs.Folding.{TellsIn, LeadsBy, TellsBy};
 ghost use Rattle.asl_meaning.specs.Declarations.{Declarations, declare, declare_all, scope_path, nothing_declared, declarations, is_named};
 ghost use Rattle.acpi_names.specs.Paths.{Extends, path_with};
@@ -21,7 +21,7 @@ use crate::mention::{
 use crate::part::{Part, Shape, What, part_for, shape_of};
 use crate::paths::Paths;
 use crate::place::{denotes, intern, prefixed};
-use crate::walk::{form, value, values};
+use crate::walk::{form, spot, value, values};
 use asl_tree::path::{NameSeg, Path};
 use asl_tree::term::{Node, Op};
 use std::alloc::{AllocError, Global};
@@ -237,10 +237,28 @@ fn fold_form<'a>(
             values(out, args, scope, true)?;
             Ok(())
         }
+        Part::Prints => {
+            printed(out, args, scope)?;
+            Ok(())
+        }
         Part::Units(over) => {
             fold_field(index, out, here, over, args, body, scope)?;
             Ok(())
         }
+    }
+}
+
+// The place of what prints, and then its format and its arguments.
+fn printed<'a>(out: &mut Vec<Mention<'a>>, args: &'a [Node], scope: usize) -> Result<(), AllocError>
+    ensures { OnOk result (Tells out.old.items out.new.items (λ paths. print_mentions (trees_of args.now) (get_or paths scope []))) }
+{
+    match args {
+        [place, ..] => {
+            spot(out, place, scope, true)?;
+            values(out, later_nodes(args, 0), scope, true)?;
+            Ok(())
+        }
+        _ => Ok(()),
     }
 }
 

@@ -274,7 +274,7 @@ fn used<'a>(
 
 // A term that stands for a place.
 #[cycle(walk)]
-fn spot<'a>(
+pub(crate) fn spot<'a>(
     out: &mut Vec<Mention<'a>>,
     node: &'a Node,
     scope: usize,

@@ -11,6 +11,7 @@ use Rattle.asl_tree.specs.Tree.{Tree, Integer, Constant, String, InSlot, Debug, 
 use Rattle.asl_tree.specs.Tree.{VarPackage, CondRefOf, Return, Name, Alias, External, Method, Mutex, Event, Container', Scope, Fill}
 use Rattle.asl_tree.specs.Tree.{Misshapen, Operated, Assigned, AssignedBy, Trees, no_trees, tree, UnitName, OperationRegion, Field}
 use Rattle.asl_tree.specs.Tree.{IndexField, BankField, CreateField, If, ElseIf, Else, While, Break, Continue, Item, Switch, Case, Default}
+use Rattle.asl_tree.specs.Tree.{For, Print}
 use Rattle.acpi_state.specs.Objects.{Container, ThermalZone, PowerResource, Processor}
 use Rattle.aml_meaning.specs.Codes.{Code, PlainCode, SlotCode, DebugCode, OmittedCode, StringCode, BufferCode, PackageCode, VarPackageCode}
 use Rattle.aml_meaning.specs.Codes.{CondRefOfCode, NameCode, AliasCode, ScopeCode, MethodCode, ExternalCode, MutexCode, EventCode}
@@ -125,6 +126,8 @@ abbrev mutual
   encoded width short (Switch value cases) = []
   encoded width short (Case value body) = []
   encoded width short (Default body) = []
+  encoded width short (For start test step body) = []
+  encoded width short (Print place format args) = []
   encoded width short Misshapen = []
 
   pub encoded_all : Width → Bool → Trees → List ℕ

@@ -27,7 +27,7 @@ use Rattle.acpi_state.specs.Forms.{buffer_of, package_of, slot_here, if_data, co
 use Rattle.acpi_state.proofs.Readings.{Any, EndsExpression, same_stop}
 use Rattle.asl_tree.specs.Names.{is_known, place_of, denoted}
 use Rattle.asl_tree.specs.declared.term.Literal.{Literal}
-use Rattle.asl_tree.specs.Tree.{Tree, Integer, Constant, String, InSlot, Debug, Omitted, Raw, Use, Call, Apply, Buffer, Package, VarPackage, CondRefOf, Return, Name, Alias, External, Method, Mutex, Event, Container', Scope, Fill, Misshapen, Operated, Assigned, AssignedBy, Trees, no_trees, tree, count, OperationRegion, Field, IndexField, BankField, CreateField, If, ElseIf, Else, While, Break, Continue, Item, Switch, Case, Default}
+use Rattle.asl_tree.specs.Tree.{Tree, Integer, Constant, String, InSlot, Debug, Omitted, Raw, Use, Call, Apply, Buffer, Package, VarPackage, CondRefOf, Return, Name, Alias, External, Method, Mutex, Event, Container', Scope, Fill, Misshapen, Operated, Assigned, AssignedBy, Trees, no_trees, tree, count, OperationRegion, Field, IndexField, BankField, CreateField, If, ElseIf, Else, While, Break, Continue, Item, Switch, Case, Default, For, Print}
 use Rattle.asl_meaning.specs.Meaning as S
 use Rattle.asl_meaning.specs.Meaning.{SourceRun, spot_form}
 use Rattle.asl_tree.specs.declared.path.Path.{Path}
@@ -149,6 +149,8 @@ module _ (given : Setting) where
   encoded_some (Switch value cases) scope ready = absurd ready
   encoded_some (Case value body) scope ready = absurd ready
   encoded_some (Default body) scope ready = absurd ready
+  encoded_some (For start test step body) scope ready = absurd ready
+  encoded_some (Print place format args) scope ready = absurd ready
   encoded_some Misshapen scope ready = absurd ready
 
   element_some : (t : Tree) (scope : AbsolutePath) → ElementReady given.known t (Ready t scope) → 1 ≤ length (E t)
@@ -229,6 +231,8 @@ module _ (given : Setting) where
   agree_place (Switch value cases) scope rest e ready = absurd ready
   agree_place (Case value body) scope rest e ready = absurd ready
   agree_place (Default body) scope rest e ready = absurd ready
+  agree_place (For start test step body) scope rest e ready = absurd ready
+  agree_place (Print place format args) scope rest e ready = absurd ready
   agree_place Misshapen scope rest e ready = absurd ready
 
   -- an operand as its letter asks
@@ -619,6 +623,8 @@ module _ (given : Setting) (turns : ℕ) (call : AbsolutePath → List Value →
     agree_run (Switch value cases) scope due (suc n) rest ready le fits = absurd ready
     agree_run (Case value body) scope due (suc n) rest ready le fits = absurd ready
     agree_run (Default body) scope due (suc n) rest ready le fits = absurd ready
+    agree_run (For start test step body) scope due (suc n) rest ready le fits = absurd ready
+    agree_run (Print place format args) scope due (suc n) rest ready le fits = absurd ready
     agree_run Misshapen scope due (suc n) rest ready le fits = absurd ready
 
     -- a term that stands for a place

@@ -17,7 +17,7 @@ use Rattle.asl_tree.specs.Tree.{Tree, Integer, Constant, String, InSlot, Debug, 
 use Rattle.asl_tree.specs.Tree.{VarPackage, CondRefOf, Return, Name, Alias, External, Method, Mutex, Event, Container', Scope, Fill}
 use Rattle.asl_tree.specs.Tree.{Misshapen, Operated, Assigned, AssignedBy, Trees, no_trees, tree, count, OperationRegion, Field}
 use Rattle.asl_tree.specs.Tree.{IndexField, BankField, CreateField, UnitName, If, ElseIf, Else, While, Break, Continue, Item, Switch, Case}
-use Rattle.asl_tree.specs.Tree.{Default}
+use Rattle.asl_tree.specs.Tree.{Default, For, Print}
 use Rattle.asl_tree.specs.View.{trees_of}
 use Rattle.aml_code.specs.Fronts.{IsName, IsUsedName, is_segment}
 use Rattle.aml_meaning.specs.Codes.{HasOwnCode, IsSlot}
@@ -56,6 +56,8 @@ is_expression (ElseIf test body) = false
 is_expression (Switch value cases) = false
 is_expression (Case value body) = false
 is_expression (Default body) = false
+is_expression (For start test step body) = false
+is_expression (Print place format args) = false
 is_expression Misshapen = false
 is_expression _ = true
 
@@ -242,6 +244,8 @@ module _ (known : Known) where
     IsReady (Switch value cases) scope = ⊥
     IsReady (Case value body) scope = ⊥
     IsReady (Default body) scope = ⊥
+    IsReady (For start test step body) scope = ⊥
+    IsReady (Print place format args) scope = ⊥
     IsReady Misshapen scope = ⊥
 
     -- a term that stands for a place, or a target that is left out

@@ -14,7 +14,7 @@ use Rattle.asl_tree.specs.declared.term.Declaration.TheVariants as Declaration
 use Rattle.asl_tree.specs.declared.term.Control.TheVariants as Control
 use Rattle.asl_tree.specs.declared.term.Special.TheVariants as Special
 use Rattle.asl_tree.specs.declared.term.Symbolic.TheVariants as Symbolic
-use Rattle.asl_tree.specs.Tree.{At, Tree, Integer, Omitted, Use, Package, VarPackage, Method, Container', Scope, If, Else, While, Misshapen, Trees, no_trees, tree, count, Field, IndexField, BankField, UnitName}
+use Rattle.asl_tree.specs.Tree.{At, Tree, Integer, String, Omitted, Use, Package, VarPackage, Method, Container', Scope, If, Else, While, Misshapen, Trees, no_trees, tree, count, Field, IndexField, BankField, UnitName}
 use Rattle.asl_tree.specs.View.{fits, form, operands_as, apply_of, operated, symbol_of, buffer, body_bytes, packaged, counted, items_in}
 use Rattle.term_places.specs.Places.{holds_terms}
 use Rattle.aml_code.specs.Encoding.{package_length_bytes, packed, name_bytes}
@@ -150,6 +150,9 @@ form_holds here (Op.Declaration Declaration.CreateQWordField) (tree source (tree
 form_holds here (Op.Control Control.Return) (tree value no_trees) no_trees h = refl
 form_holds here (Op.Control Control.If) (tree test no_trees) body h = absurd (grind arith)
 form_holds here (Op.Control Control.ElseIf) (tree test no_trees) body h = refl
+form_holds here (Op.Control Control.For) (tree start (tree test (tree step no_trees))) body h = refl
+form_holds here (Op.Control Control.Printf) (tree (String format) args) no_trees h = refl
+form_holds here (Op.Control Control.Fprintf) (tree place (tree (String format) args)) no_trees h = refl
 form_holds here (Op.Control Control.Switch) (tree value no_trees) cases h = refl
 form_holds here (Op.Control Control.Case) (tree value no_trees) body h = refl
 form_holds here (Op.Control Control.Default) no_trees body h = refl

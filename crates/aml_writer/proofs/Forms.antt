@@ -13,7 +13,7 @@ use Rattle.asl_tree.specs.declared.term.Control.TheVariants as Control
 use Rattle.asl_tree.specs.declared.term.Special.TheVariants as Special
 use Rattle.asl_tree.specs.declared.term.Symbolic.TheVariants as Symbolic
 use Rattle.asl_tree.specs.FieldItems.{FieldItem}
-use Rattle.asl_tree.specs.Tree.{At, Tree, Integer, String, InSlot, Omitted, Use, Call, Apply, Buffer, Package, VarPackage, CondRefOf, Return, Name, Alias, External, Method, Mutex, Event, Container', Scope, Fill, Misshapen, Trees, no_trees, tree, count, If, ElseIf, Else, While, OperationRegion, Field, IndexField, BankField, CreateField, UnitName, Operated, Assigned, AssignedBy, Switch, Case, Default}
+use Rattle.asl_tree.specs.Tree.{At, Tree, Integer, String, InSlot, Omitted, Use, Call, Apply, Buffer, Package, VarPackage, CondRefOf, Return, Name, Alias, External, Method, Mutex, Event, Container', Scope, Fill, Misshapen, Trees, no_trees, tree, count, If, ElseIf, Else, While, OperationRegion, Field, IndexField, BankField, CreateField, UnitName, Operated, Assigned, AssignedBy, Switch, Case, Default, For, Print}
 use Rattle.acpi_state.specs.Outcomes.{choose}
 use Rattle.asl_tree.specs.View as V
 use Rattle.asl_tree.specs.View.{fits, operated, symbol_of, operands_as, targets_of, apply_of, buffer, packaged, items_in, form}
@@ -64,6 +64,8 @@ abbrev mutual
   IsWhole (Switch value cases) = ⊥
   IsWhole (Case value body) = ⊥
   IsWhole (Default body) = ⊥
+  IsWhole (For start test step body) = ⊥
+  IsWhole (Print place format args) = ⊥
   IsWhole Misshapen = ⊥
   IsWhole _ = Unit {0}
 
@@ -264,6 +266,9 @@ module _ (style : IntegerStyle) where
   form_is here (Op.Control Control.Return) (tree value no_trees) no_trees list h w = plain_is (0xA4 ∷ []) _ _ (append-nil (encoded style.width style.short value))
   form_is here (Op.Control Control.If) (tree test no_trees) body list h w = packed_is (0xA0 ∷ []) (encoded style.width style.short test ++ []) (encoded_all style.width style.short body) (encoded style.width style.short test ++ encoded_all style.width style.short body) (ap (λ bs. bs ++ encoded_all style.width style.short body) (append-nil (encoded style.width style.short test)))
   form_is here (Op.Control Control.ElseIf) (tree test no_trees) body list h w = absurd h
+  form_is here (Op.Control Control.For) (tree start (tree test (tree step no_trees))) body list h w = absurd h
+  form_is here (Op.Control Control.Printf) (tree (String format) args) no_trees list h w = absurd h
+  form_is here (Op.Control Control.Fprintf) (tree place (tree (String format) args)) no_trees list h w = absurd h
   form_is here (Op.Control Control.Switch) (tree value no_trees) cases list h w = absurd h
   form_is here (Op.Control Control.Case) (tree value no_trees) body list h w = absurd h
   form_is here (Op.Control Control.Default) no_trees body list h w = absurd h

@@ -24,7 +24,7 @@ use Rattle.asl_tree.specs.Names.{Known, place_of}
 use Rattle.asl_meaning.specs.Starts.{IsKnownStart}
 use Rattle.asl_meaning.specs.Meaning.{SpotForm, OfResult, OfInside, NoSpot, spot_form}
 use Rattle.asl_tree.specs.FieldItems.{FieldItem}
-use Rattle.asl_tree.specs.Tree.{At, Tree, Integer, InSlot, Debug, Omitted, Raw, Use, Call, Apply, Buffer, Package, VarPackage, CondRefOf, Return, Name, Alias, External, Method, Mutex, Event, Container', Scope, Fill, Misshapen, Trees, no_trees, tree, count, If, ElseIf, Else, While, Item, OperationRegion, Field, IndexField, BankField, CreateField, UnitName, Operated, Assigned, AssignedBy, Switch, Case, Default}
+use Rattle.asl_tree.specs.Tree.{At, Tree, Integer, String, InSlot, Debug, Omitted, Raw, Use, Call, Apply, Buffer, Package, VarPackage, CondRefOf, Return, Name, Alias, External, Method, Mutex, Event, Container', Scope, Fill, Misshapen, Trees, no_trees, tree, count, If, ElseIf, Else, While, Item, OperationRegion, Field, IndexField, BankField, CreateField, UnitName, Operated, Assigned, AssignedBy, Switch, Case, Default, For, Print}
 use Rattle.asl_tree.specs.View.{buffer, packaged, items_in, form, tree_of, row_trees, trees_of}
 use Rattle.aml_code.specs.Encoding.{name_bytes}
 use Rattle.aml_meaning.specs.Encoded.{encoded, encoded_all, encoded_block}
@@ -117,6 +117,8 @@ module _ (known : Known) where
     ready_whole (Switch value cases) scope h = absurd h
     ready_whole (Case value body) scope h = absurd h
     ready_whole (Default body) scope h = absurd h
+    ready_whole (For start test step body) scope h = absurd h
+    ready_whole (Print place format args) scope h = absurd h
     ready_whole _ scope h = tt
 
     spot_whole : (t : Tree) (scope : AbsolutePath) → IsSpot known t scope → IsWhole t
@@ -209,6 +211,9 @@ form_whole here (Op.Declaration Declaration.CreateQWordField) (tree source (tree
 form_whole here (Op.Control Control.Return) (tree value no_trees) no_trees h = ((h, tt), tt)
 form_whole here (Op.Control Control.If) (tree test no_trees) body h = ((h.0, tt), h.1)
 form_whole here (Op.Control Control.ElseIf) (tree test no_trees) body h = absurd h
+form_whole here (Op.Control Control.For) (tree start (tree test (tree step no_trees))) body h = absurd h
+form_whole here (Op.Control Control.Printf) (tree (String format) args) no_trees h = absurd h
+form_whole here (Op.Control Control.Fprintf) (tree place (tree (String format) args)) no_trees h = absurd h
 form_whole here (Op.Control Control.Switch) (tree value no_trees) cases h = absurd h
 form_whole here (Op.Control Control.Case) (tree value no_trees) body h = absurd h
 form_whole here (Op.Control Control.Default) no_trees body h = absurd h

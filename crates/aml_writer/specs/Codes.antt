@@ -54,18 +54,21 @@ special_code Special.CondRefOf = code_bytes CondRefOfCode
 special_code Special.Buffer = code_bytes BufferCode
 special_code Special.Package = code_bytes PackageCode
 
--- an ElseIf, a Switch with its Cases and what is written with a symbol stand in no tree that is written
+-- an ElseIf, a For, a Switch with its Cases, what prints and what is written with a symbol stand in no tree that is written
 abbrev pub control_code : Control → List ℕ
 control_code Control.Return = code_bytes ReturnCode
 control_code Control.If = code_bytes IfCode
 control_code Control.ElseIf = []
 control_code Control.Else = code_bytes ElseCode
 control_code Control.While = code_bytes WhileCode
+control_code Control.For = []
 control_code Control.Switch = []
 control_code Control.Case = []
 control_code Control.Default = []
 control_code Control.Break = code_bytes BreakCode
 control_code Control.Continue = code_bytes ContinueCode
+control_code Control.Printf = []
+control_code Control.Fprintf = []
 
 abbrev pub code_of : Op → List ℕ
 code_of (Op.Declaration declaration) = declaration_code declaration

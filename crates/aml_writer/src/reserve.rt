@@ -204,22 +204,21 @@ fn finish(
 pub(crate) fn reserve_block(
     alloc: Global,
     block: &Block,
-    lines: &Lines,
+    lines: &SourceLines<'_>,
     short: bool,
 ) -> Result<Room, WriteStop>
-    ensures room { IfOk result (IsRoomOf lines.now.list block.now short) }
+    ensures room { IfOk result (IsRoomOf lines.now block.now short) }
     ensures refused { IfErr result (RefusedFor block.now short) }
 {
-    let lines = SourceLines::new(alloc, lines.list.as_slice())?;
     let mut draft = Draft::with_room(alloc, pieces_of_terms(&block.terms).saturating_add(1))?;
     match reserve_terms(
         alloc,
         &mut draft,
-        &lines,
+        lines,
         &block.terms,
         style_of(block, short),
     ) {
-        Ok(()) => Ok(finish(alloc, block, &lines, draft, short)?),
+        Ok(()) => Ok(finish(alloc, block, lines, draft, short)?),
         Err(DraftStop::TooLong) => Err(WriteStop::TooLong(too_long(alloc, block))),
         Err(DraftStop::Memory) => Err(WriteStop::Memory),
     }
@@ -239,8 +238,9 @@ pub fn reserve(
     ensures room { IfOk result (λ room. AtBlock core.now block (λ b. IsRoomOf lines.now.list b short room)) }
     ensures refused { IfErr result (λ stop. AtBlock core.now block (λ b. RefusedFor b short stop)) }
 {
+    let lines = SourceLines::new(alloc, lines.list.as_slice())?;
     match core.program.blocks.get(block as usize) {
-        Some(block) => reserve_block(alloc, block, lines, short),
+        Some(block) => reserve_block(alloc, block, &lines, short),
         None => unreachable!(),
     }
 }

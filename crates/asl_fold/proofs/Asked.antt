@@ -46,7 +46,7 @@ pub where_type_errors : (asked : Bool) (width : Width) (program : Trees) → typ
 where_type_errors true width program = same_type_errors width program
 where_type_errors false width program = refl
 
-pub where_formed : (Listed : List (FieldItem UnitName) → Type 0) (Symbols Switches : Type 0) (asked : Bool) (width : Width) (terms : Trees) → AreFormed Listed Symbols Switches terms → AreFormed Listed Symbols Switches (folded_where asked width terms)
+pub where_formed : (Listed : List (FieldItem UnitName) → Type 0) (Symbols Switches : Type 0) (asked : Bool) (width : Width) (terms : Trees) → AreFormed ⊥ Listed Symbols Switches terms → AreFormed ⊥ Listed Symbols Switches (folded_where asked width terms)
 where_formed Listed Symbols Switches true width terms h = kept_formed Listed Symbols Switches width terms h
 where_formed Listed Symbols Switches false width terms h = h
 

@@ -6,7 +6,7 @@ use Rattle.acpi_values.specs.Paths.{AbsolutePath}
 use Rattle.acpi_state.specs.Objects.{MethodObject, ContainerObject, root_objects}
 use Rattle.asl_meaning.specs.Declarations.{As, Declarations, nothing_declared, is_named, scope_path, with_declared, declare, declare_all, declarations, calls, calls_all, called, declared_kinds, external_names, as_known, externals, known_of}
 use Rattle.asl_tree.specs.Names.{place_of, denoted}
-use Rattle.asl_tree.specs.Tree.{Tree, Integer, Constant, Omitted, Call, Apply, Buffer, Package, VarPackage, CondRefOf, Return, Name, Method, Container', Scope, If, ElseIf, Else, While, OperationRegion, BankField, CreateField, Operated, Assigned, AssignedBy, Trees, no_trees, tree, count, Switch, Case, Default}
+use Rattle.asl_tree.specs.Tree.{Tree, Integer, Constant, Omitted, Call, Apply, Buffer, Package, VarPackage, CondRefOf, Return, Name, Method, Container', Scope, If, ElseIf, Else, While, For, Print, OperationRegion, BankField, CreateField, Operated, Assigned, AssignedBy, Trees, no_trees, tree, count, Switch, Case, Default}
 use Rattle.acpi_names.specs.Errors.{whole_of}
 use Rattle.acpi_names.proofs.Mentions.{right_nil}
 use Rattle.asl_fold.specs.Folds.{reduced, sized, folded, folded_args, folded_all}
@@ -34,6 +34,7 @@ module _ (width : Width) where
     folded_declares statement (ElseIf test body) scope d = all_declare body scope d
     folded_declares statement (Else body) scope d = all_declare body scope d
     folded_declares statement (While test body) scope d = all_declare body scope d
+    folded_declares statement (For start test step body) scope d = all_declare body scope d
     folded_declares statement (Switch value cases) scope d = all_declare cases scope d
     folded_declares statement (Case value body) scope d = all_declare body scope d
     folded_declares statement (Default body) scope d = all_declare body scope d
@@ -94,6 +95,12 @@ module _ (width : Width) where
       folded_calls statement (Else body) scope d = all_call body scope d
       folded_calls statement (While test body) scope d =
           both (calls has (folded width false test) scope d) (calls_all has (folded_all width body) scope d) (calls has test scope d) (calls_all has body scope d) (folded_calls false test scope d) (all_call body scope d)
+      folded_calls statement (For start test step body) scope d =
+          both (calls has (folded width false start) scope d) (calls has (folded width false test) scope d ++ (calls has (folded width false step) scope d ++ calls_all has (folded_all width body) scope d)) (calls has start scope d) (calls has test scope d ++ (calls has step scope d ++ calls_all has body scope d)) (folded_calls false start scope d)
+          (both (calls has (folded width false test) scope d) (calls has (folded width false step) scope d ++ calls_all has (folded_all width body) scope d) (calls has test scope d) (calls has step scope d ++ calls_all has body scope d) (folded_calls false test scope d)
+          (both (calls has (folded width false step) scope d) (calls_all has (folded_all width body) scope d) (calls has step scope d) (calls_all has body scope d) (folded_calls false step scope d) (all_call body scope d)))
+      folded_calls statement (Print place format args) scope d =
+          both (calls has (folded width false place) scope d) (calls_all has (folded_args width args) scope d) (calls has place scope d) (calls_all has args scope d) (folded_calls false place scope d) (args_call args scope d)
       folded_calls statement (Switch value cases) scope d =
           both (calls has (folded width false value) scope d) (calls_all has (folded_all width cases) scope d) (calls has value scope d) (calls_all has cases scope d) (folded_calls false value scope d) (all_call cases scope d)
       folded_calls statement (Case value body) scope d =

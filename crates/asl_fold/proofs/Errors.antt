@@ -11,7 +11,7 @@ use Rattle.acpi_state.specs.Outcomes.{choose}
 use Rattle.asl_meaning.specs.Declarations.{As, Declarations, nothing_declared, is_named, scope_path, with_declared, declare}
 use Rattle.asl_meaning.specs.Meaning.{spot_form}
 use Rattle.asl_tree.specs.Names.{place_of, denoted}
-use Rattle.asl_tree.specs.Tree.{Tree, Integer, Constant, Omitted, Call, Apply, Buffer, Package, VarPackage, CondRefOf, Return, Name, Method, Container', Scope, If, ElseIf, Else, While, OperationRegion, BankField, CreateField, Operated, Assigned, AssignedBy, Trees, no_trees, tree, count, Switch, Case, Default}
+use Rattle.asl_tree.specs.Tree.{Tree, Integer, Constant, Omitted, Call, Apply, Buffer, Package, VarPackage, CondRefOf, Return, Name, Method, Container', Scope, If, ElseIf, Else, While, For, Print, OperationRegion, BankField, CreateField, Operated, Assigned, AssignedBy, Trees, no_trees, tree, count, Switch, Case, Default}
 use Rattle.acpi_names.specs.Errors.{NameError, Asked, Anything, AUnit, ARegion, Whole, whole_of, asked_by, use_errors, call_errors, declared_errors, scope_errors, items_errors, cond_errors, names, names_all, asked_types, used_types, letter_types, spot_form_types, element_types, types, spot_types, first_types, operand_types, spot_types_all, element_types_all, types_all, unless, takes, name_end, WrongCount, name_errors, type_errors}
 use Rattle.acpi_names.proofs.Mentions.{right_nil}
 use Rattle.asl_fold.specs.Folds.{reduced, sized, folded, folded_args, folded_all}
@@ -87,6 +87,11 @@ module _ (width : Width) (whole : Whole) where
     folded_names statement (ElseIf test body) scope d = both (N (F test) scope d) (Ns (folded_all width body) scope d) (N test scope d) (Ns body scope d) (folded_names false test scope d) (all_named body scope d)
     folded_names statement (Else body) scope d = all_named body scope d
     folded_names statement (While test body) scope d = both (N (F test) scope d) (Ns (folded_all width body) scope d) (N test scope d) (Ns body scope d) (folded_names false test scope d) (all_named body scope d)
+    folded_names statement (For start test step body) scope d =
+        both (N (F start) scope d) (N (F test) scope d ++ (N (F step) scope d ++ Ns (folded_all width body) scope d)) (N start scope d) (N test scope d ++ (N step scope d ++ Ns body scope d)) (folded_names false start scope d)
+        (both (N (F test) scope d) (N (F step) scope d ++ Ns (folded_all width body) scope d) (N test scope d) (N step scope d ++ Ns body scope d) (folded_names false test scope d)
+        (both (N (F step) scope d) (Ns (folded_all width body) scope d) (N step scope d) (Ns body scope d) (folded_names false step scope d) (all_named body scope d)))
+    folded_names statement (Print place format args) scope d = both (N (F place) scope d) (Ns (Fs args) scope d) (N place scope d) (Ns args scope d) (folded_names false place scope d) (args_named args scope d)
     folded_names statement (Switch value cases) scope d = both (N (F value) scope d) (Ns (folded_all width cases) scope d) (N value scope d) (Ns cases scope d) (folded_names false value scope d) (all_named cases scope d)
     folded_names statement (Case value body) scope d = both (N (F value) scope d) (Ns (folded_all width body) scope d) (N value scope d) (Ns body scope d) (folded_names false value scope d) (all_named body scope d)
     folded_names statement (Default body) scope d = all_named body scope d
@@ -190,6 +195,11 @@ module _ (width : Width) (whole : Whole) where
     folded_types statement (ElseIf test body) scope = both (T (F test) scope) (types_all whole (folded_all width body) scope) (T test scope) (types_all whole body scope) (folded_types false test scope) (all_typed body scope)
     folded_types statement (Else body) scope = all_typed body scope
     folded_types statement (While test body) scope = both (T (F test) scope) (types_all whole (folded_all width body) scope) (T test scope) (types_all whole body scope) (folded_types false test scope) (all_typed body scope)
+    folded_types statement (For start test step body) scope =
+        both (T (F start) scope) (T (F test) scope ++ (T (F step) scope ++ types_all whole (folded_all width body) scope)) (T start scope) (T test scope ++ (T step scope ++ types_all whole body scope)) (folded_types false start scope)
+        (both (T (F test) scope) (T (F step) scope ++ types_all whole (folded_all width body) scope) (T test scope) (T step scope ++ types_all whole body scope) (folded_types false test scope)
+        (both (T (F step) scope) (types_all whole (folded_all width body) scope) (T step scope) (types_all whole body scope) (folded_types false step scope) (all_typed body scope)))
+    folded_types statement (Print place format args) scope = both (spot_types whole (F place) scope) (types_all whole (Fs args) scope) (spot_types whole place scope) (types_all whole args scope) (spot_typed place scope) (args_typed args scope)
     folded_types statement (Switch value cases) scope = both (T (F value) scope) (types_all whole (folded_all width cases) scope) (T value scope) (types_all whole cases scope) (folded_types false value scope) (all_typed cases scope)
     folded_types statement (Case value body) scope = both (T (F value) scope) (types_all whole (folded_all width body) scope) (T value scope) (types_all whole body scope) (folded_types false value scope) (all_typed body scope)
     folded_types statement (Default body) scope = all_typed body scope

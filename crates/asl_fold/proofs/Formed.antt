@@ -7,7 +7,7 @@ use Rattle.acpi_values.specs.Operators as L
 use Rattle.acpi_state.specs.FieldActs.{region_letters, field_letters}
 use Rattle.asl_meaning.specs.Meaning.{SpotForm, OfResult, OfInside, NoSpot, spot_form}
 use Rattle.asl_tree.specs.FieldItems.{FieldItem}
-use Rattle.asl_tree.specs.Tree.{Tree, Integer, Constant, String, Raw, Use, Call, Apply, Buffer, Package, VarPackage, CondRefOf, Return, Name, Method, Container', Scope, If, ElseIf, Else, While, OperationRegion, BankField, CreateField, UnitName, Operated, Assigned, AssignedBy, Trees, no_trees, tree, count, Switch, Case, Default}
+use Rattle.asl_tree.specs.Tree.{Tree, Integer, Constant, String, Raw, Use, Call, Apply, Buffer, Package, VarPackage, CondRefOf, Return, Name, Method, Container', Scope, If, ElseIf, Else, While, For, Print, OperationRegion, BankField, CreateField, UnitName, Operated, Assigned, AssignedBy, Trees, no_trees, tree, count, Switch, Case, Default}
 use Rattle.aml_sessions.specs.Ready.{is_expression, RawReady, SpotReady, AreItems}
 use Rattle.named_sessions.specs.Shaped.{UsedShaped, LetterShaped, ElementShaped, IsFormed, IsFormedSpot, IsFormedAlone, AreFormedOperands, AreFormedSpots, AreFormedValues, AreFormedElements, AreFormed, AreFormedCases, AreShaped, IsNumber, IsCaseMember, AreCaseMembers, HaveCaseMembers, IsCaseValue, StartsNoElse, IsFollowed}
 use Rattle.asl_fold.specs.Folds.{reduced, sized, folded, folded_args, folded_all}
@@ -31,16 +31,16 @@ module _ (width : Width) (Listed : List (FieldItem UnitName) → Type 0) (Symbol
   Fs = folded_args width
 
   abbrev Formed : Tree → Type 0
-  Formed = IsFormed Listed Symbols Switches
+  Formed = IsFormed ⊥ Listed Symbols Switches
 
   abbrev Spot : Tree → Type 0
-  Spot = IsFormedSpot Listed Symbols Switches
+  Spot = IsFormedSpot ⊥ Listed Symbols Switches
 
   abbrev Spots : Trees → Type 0
-  Spots = AreFormedSpots Listed Symbols Switches
+  Spots = AreFormedSpots ⊥ Listed Symbols Switches
 
   abbrev Operands : List Letter → Trees → Type 0
-  Operands = AreFormedOperands Listed Symbols Switches
+  Operands = AreFormedOperands ⊥ Listed Symbols Switches
 
   abbrev Value : Tree → Type 0
   Value t = (is_expression t ≡ true) × Formed t
@@ -126,12 +126,12 @@ module _ (width : Width) (Listed : List (FieldItem UnitName) → Type 0) (Symbol
   sized_formed size elements h = sized_as Formed size elements (λ n e lt. (lt, h.2)) h
 
   ready_spot : (op : Plain) (args targets : Trees) → (Operands (row_of op).operands args → Operands (row_of op).operands (Fs args)) → (Spots targets → Spots (Fs targets))
-      → (IsFormedAlone Listed Symbols Switches args targets → IsFormedAlone Listed Symbols Switches (Fs args) (Fs targets))
-      → SpotReady (spot_form op) (Operands (row_of op).operands args × (count targets ≡ (row_of op).targets) × Spots targets) (IsFormedAlone Listed Symbols Switches args targets)
-      → SpotReady (spot_form op) (Operands (row_of op).operands (Fs args) × (count (Fs targets) ≡ (row_of op).targets) × Spots (Fs targets)) (IsFormedAlone Listed Symbols Switches (Fs args) (Fs targets))
+      → (IsFormedAlone ⊥ Listed Symbols Switches args targets → IsFormedAlone ⊥ Listed Symbols Switches (Fs args) (Fs targets))
+      → SpotReady (spot_form op) (Operands (row_of op).operands args × (count targets ≡ (row_of op).targets) × Spots targets) (IsFormedAlone ⊥ Listed Symbols Switches args targets)
+      → SpotReady (spot_form op) (Operands (row_of op).operands (Fs args) × (count (Fs targets) ≡ (row_of op).targets) × Spots (Fs targets)) (IsFormedAlone ⊥ Listed Symbols Switches (Fs args) (Fs targets))
   ready_spot op args targets operands spots alone h =
-      spot_by (spot_form op) (Operands (row_of op).operands args × (count targets ≡ (row_of op).targets) × Spots targets) (IsFormedAlone Listed Symbols Switches args targets)
-      (Operands (row_of op).operands (Fs args) × (count (Fs targets) ≡ (row_of op).targets) × Spots (Fs targets)) (IsFormedAlone Listed Symbols Switches (Fs args) (Fs targets))
+      spot_by (spot_form op) (Operands (row_of op).operands args × (count targets ≡ (row_of op).targets) × Spots targets) (IsFormedAlone ⊥ Listed Symbols Switches args targets)
+      (Operands (row_of op).operands (Fs args) × (count (Fs targets) ≡ (row_of op).targets) × Spots (Fs targets)) (IsFormedAlone ⊥ Listed Symbols Switches (Fs args) (Fs targets))
       (λ r. (operands r.0, count_args width targets ∙ r.1, spots r.2)) alone h
 
   mutual
@@ -156,6 +156,8 @@ module _ (width : Width) (Listed : List (FieldItem UnitName) → Type 0) (Symbol
     formed statement (Switch value cases) h = (h.0, expression_same value ∙ h.1, formed false value h.2, cases_formed cases h.3)
     formed statement (Case value body) h = absurd h
     formed statement (Default body) h = absurd h
+    formed statement (For start test step body) h = absurd h.0
+    formed statement (Print place format args) h = absurd h.0
     formed statement (Else body) h = all_formed body h
     formed statement (While test body) h = (expression_same test ∙ h.0, formed false test h.1, all_formed body h.2)
     formed statement (OperationRegion at name space args) h = (h.0, h.1, operands_formed region_letters args h.2)
@@ -172,7 +174,7 @@ module _ (width : Width) (Listed : List (FieldItem UnitName) → Type 0) (Symbol
     spot_formed (VarPackage size elements) h = absurd h
     spot_formed _ h = h
 
-    alone_formed : (args targets : Trees) → IsFormedAlone Listed Symbols Switches args targets → IsFormedAlone Listed Symbols Switches (Fs args) (Fs targets)
+    alone_formed : (args targets : Trees) → IsFormedAlone ⊥ Listed Symbols Switches args targets → IsFormedAlone ⊥ Listed Symbols Switches (Fs args) (Fs targets)
     alone_formed (tree t no_trees) no_trees h = value_of t (λ k. formed false t k) h
     alone_formed no_trees targets h = absurd h
     alone_formed (tree t no_trees) (tree u us) h = absurd h
@@ -188,7 +190,7 @@ module _ (width : Width) (Listed : List (FieldItem UnitName) → Type 0) (Symbol
     spots_formed no_trees h = tt
     spots_formed (tree t ts) h = (spot_formed t h.0, spots_formed ts h.1)
 
-    values_formed : (ts : Trees) → AreFormedValues Listed Symbols Switches ts → AreFormedValues Listed Symbols Switches (Fs ts)
+    values_formed : (ts : Trees) → AreFormedValues ⊥ Listed Symbols Switches ts → AreFormedValues ⊥ Listed Symbols Switches (Fs ts)
     values_formed no_trees h = tt
     values_formed (tree t ts) h = (expression_same t ∙ h.0, formed false t h.1, values_formed ts h.2)
 
@@ -200,26 +202,26 @@ module _ (width : Width) (Listed : List (FieldItem UnitName) → Type 0) (Symbol
     element_formed (Buffer size bytes) h = (refl, value_of size (λ k. formed false size k) h.1)
     element_formed (Package n elements) h = (refl, (h.1.0, elements_formed elements h.1.1))
     element_formed (VarPackage size elements) h =
-        let all : (is_expression (F size) ≡ true) × Formed (F size) × AreFormedElements Listed Symbols Switches (Fs elements) = (expression_same size ∙ h.1.0, formed false size h.1.1, elements_formed elements h.1.2) in
+        let all : (is_expression (F size) ≡ true) × Formed (F size) × AreFormedElements ⊥ Listed Symbols Switches (Fs elements) = (expression_same size ∙ h.1.0, formed false size h.1.1, elements_formed elements h.1.2) in
         sized_as (λ t. ElementShaped t (Formed t)) (F size) (Fs elements) (λ n e lt. (refl, (lt, all.2))) (refl, all)
     element_formed _ h = never h.0
 
-    elements_formed : (ts : Trees) → AreFormedElements Listed Symbols Switches ts → AreFormedElements Listed Symbols Switches (Fs ts)
+    elements_formed : (ts : Trees) → AreFormedElements ⊥ Listed Symbols Switches ts → AreFormedElements ⊥ Listed Symbols Switches (Fs ts)
     elements_formed no_trees h = tt
     elements_formed (tree t ts) h = (element_formed t h.0, elements_formed ts h.1)
 
-    pub all_formed : (ts : Trees) → AreFormed Listed Symbols Switches ts → AreFormed Listed Symbols Switches (folded_all width ts)
+    pub all_formed : (ts : Trees) → AreFormed ⊥ Listed Symbols Switches ts → AreFormed ⊥ Listed Symbols Switches (folded_all width ts)
     all_formed no_trees h = tt
     all_formed (tree t ts) h = (formed true t h.0, folded_followed t ts h.1, all_formed ts h.2)
 
-    cases_formed : (ts : Trees) → AreFormedCases Listed Symbols Switches ts → AreFormedCases Listed Symbols Switches (folded_all width ts)
+    cases_formed : (ts : Trees) → AreFormedCases ⊥ Listed Symbols Switches ts → AreFormedCases ⊥ Listed Symbols Switches (folded_all width ts)
     cases_formed no_trees h = tt
     cases_formed (tree (Case value body) ts) h = (case_formed value h.0, all_formed body h.1, cases_formed ts h.2)
     cases_formed (tree (Default body) no_trees) h = all_formed body h
     cases_formed (tree _ _) h = absurd h
 
 -- what is formed is so with its constants folded: a constant may be a statement
-pub kept_formed : (Listed : List (FieldItem UnitName) → Type 0) (Symbols Switches : Type 0) (width : Width) (terms : Trees) → AreFormed Listed Symbols Switches terms → AreFormed Listed Symbols Switches (folded_all width terms)
+pub kept_formed : (Listed : List (FieldItem UnitName) → Type 0) (Symbols Switches : Type 0) (width : Width) (terms : Trees) → AreFormed ⊥ Listed Symbols Switches terms → AreFormed ⊥ Listed Symbols Switches (folded_all width terms)
 kept_formed Listed Symbols Switches width terms h = all_formed width Listed Symbols Switches terms h
 
 -- and what may be written

@@ -15,7 +15,7 @@ use Rattle.asl_tree.specs.declared.term.Literal.TheVariants as Literal
 use Rattle.asl_tree.specs.declared.term.Special.TheVariants as Special
 use Rattle.asl_tree.specs.declared.term.Symbolic.TheVariants as Symbolic
 use Rattle.asl_tree.specs.Tree as T
-use Rattle.asl_tree.specs.Tree.{At, Tree, Integer, Constant, Raw, Omitted, Use, Package, VarPackage, Operated, Misshapen, Method, Container', Scope, If, ElseIf, Else, While, Trees, no_trees, tree, count, Field, IndexField, BankField, UnitName}
+use Rattle.asl_tree.specs.Tree.{At, Tree, Integer, Constant, String, Debug, Print, Raw, Omitted, Use, Package, VarPackage, Operated, Misshapen, Method, Container', Scope, If, ElseIf, Else, While, Trees, no_trees, tree, count, Field, IndexField, BankField, UnitName}
 use Rattle.asl_tree.specs.View.{fits, form, operands_as, targets_of, operated, symbol_of, buffer, body_bytes, packaged, counted, items_in}
 use Rattle.asl_fold.specs.declared.part.Listing.{Listing}
 use Rattle.asl_fold.specs.declared.part.Part.{Part}
@@ -150,6 +150,7 @@ module _ (width : Width) where
   folded_body (Op.Control Control.ElseIf) body = folded_all width body
   folded_body (Op.Control Control.Else) body = folded_all width body
   folded_body (Op.Control Control.While) body = folded_all width body
+  folded_body (Op.Control Control.For) body = folded_all width body
   folded_body (Op.Control Control.Switch) body = folded_all width body
   folded_body (Op.Control Control.Case) body = folded_all width body
   folded_body (Op.Control Control.Default) body = folded_all width body
@@ -167,6 +168,7 @@ module _ (width : Width) where
   body_is (Op.Control Control.ElseIf) body = statements_are body
   body_is (Op.Control Control.Else) body = statements_are body
   body_is (Op.Control Control.While) body = statements_are body
+  body_is (Op.Control Control.For) body = statements_are body
   body_is (Op.Control Control.Switch) body = statements_are body
   body_is (Op.Control Control.Case) body = statements_are body
   body_is (Op.Control Control.Default) body = statements_are body
@@ -209,6 +211,9 @@ module _ (width : Width) where
   kept_form s here (Op.Control Control.ElseIf) (tree test no_trees) body e = refl
   kept_form s here (Op.Control Control.Else) no_trees body e = refl
   kept_form s here (Op.Control Control.While) (tree test no_trees) body e = refl
+  kept_form s here (Op.Control Control.For) (tree start (tree test (tree step no_trees))) body e = refl
+  kept_form s here (Op.Control Control.Printf) (tree (String format) args) no_trees e = ap (Print Debug format) (sym (operands_are args))
+  kept_form s here (Op.Control Control.Fprintf) (tree place (tree (String format) args)) no_trees e = ap (Print (F place) format) (sym (operands_are args))
   kept_form s here (Op.Control Control.Switch) (tree value no_trees) cases e = refl
   kept_form s here (Op.Control Control.Case) (tree value no_trees) body e = refl
   kept_form s here (Op.Control Control.Default) no_trees body e = refl

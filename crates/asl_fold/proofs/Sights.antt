@@ -19,13 +19,13 @@ use Rattle.asl_tree.specs.declared.term.Special.TheVariants as Special
 use Rattle.asl_tree.specs.declared.term.Symbolic.TheVariants as Symbolic
 use Rattle.asl_tree.specs.declared.term.Term.{Term}
 use Rattle.asl_tree.specs.declared.term.Term as D
-use Rattle.asl_tree.specs.Tree.{At, Tree, Integer, Constant, InSlot, Omitted, Use, Package, VarPackage, Misshapen, Trees, no_trees, tree, count, Field, IndexField, BankField, UnitName}
+use Rattle.asl_tree.specs.Tree.{At, Tree, Integer, String, Constant, InSlot, Omitted, Use, Package, VarPackage, Misshapen, Trees, no_trees, tree, count, Field, IndexField, BankField, UnitName}
 use Rattle.asl_tree.specs.View.{fits, operands_as, targets_of, operated, symbol_of, form, apply_of, buffer, body_bytes, packaged, counted, items_in, tree_of, row_trees, trees_of}
 use Rattle.acpi_names.specs.Walked.{node_tree}
 use Rattle.asl_fold.specs.declared.fate.Fate.{Fate}
 use Rattle.asl_fold.specs.declared.seen.Seen.{Seen}
 use Rattle.asl_fold.specs.Folds.{constants, result_on, fate_at, fate_with}
-use Rattle.asl_fold.specs.Nodes.{form_seen, term_seen, tree_seen, seen_value, seen_fate, is_omitted, fate_zero, fate_one, fate_two, fate_on, fate_form}
+use Rattle.asl_fold.specs.Nodes.{form_seen, is_first, is_second, term_seen, tree_seen, seen_value, seen_fate, is_omitted, fate_zero, fate_one, fate_two, fate_on, fate_form}
 use Rattle.asl_fold.proofs.Operators.{one_letter, two_letters}
 
 -- ---- forms
@@ -88,6 +88,16 @@ other_packaged Omitted elements = other_counted (count elements) elements
 other_packaged (Integer n) elements = other_counted n elements
 other_packaged size elements = refl
 
+-- where a format stands
+pub first_at : (i : ℕ) → nat_eq i 0 ≡ is_first i
+first_at zero = let e : nat_eq 0 0 ≡ true = grind (arith, nat_tests) in e
+first_at (suc n) = let e : nat_eq (suc n) 0 ≡ false = grind (arith, nat_tests) in e
+
+pub second_at : (i : ℕ) → nat_eq i 1 ≡ is_second i
+second_at zero = let e : nat_eq 0 1 ≡ false = grind (arith, nat_tests) in e
+second_at (suc zero) = let e : nat_eq 1 1 ≡ true = grind (arith, nat_tests) in e
+second_at (suc (suc n)) = let e : nat_eq (suc (suc n)) 1 ≡ false = grind (arith, nat_tests) in e
+
 form_is : (at : At) (op : Op) (args body : Trees) → tree_seen (form at op args body) ≡ form_seen op args body
 form_is here (Op.Declaration Declaration.Name) (tree (Use at name) (tree value no_trees)) no_trees = refl
 form_is here (Op.Declaration Declaration.Alias) (tree (Use from source) (tree (Use at name) no_trees)) no_trees = refl
@@ -116,6 +126,9 @@ form_is here (Op.Control Control.If) (tree test no_trees) body = refl
 form_is here (Op.Control Control.ElseIf) (tree test no_trees) body = refl
 form_is here (Op.Control Control.Else) no_trees body = refl
 form_is here (Op.Control Control.While) (tree test no_trees) body = refl
+form_is here (Op.Control Control.For) (tree start (tree test (tree step no_trees))) body = refl
+form_is here (Op.Control Control.Printf) (tree (String format) args) no_trees = refl
+form_is here (Op.Control Control.Fprintf) (tree place (tree (String format) args)) no_trees = refl
 form_is here (Op.Control Control.Switch) (tree value no_trees) cases = refl
 form_is here (Op.Control Control.Case) (tree value no_trees) body = refl
 form_is here (Op.Control Control.Default) no_trees body = refl

@@ -13,8 +13,8 @@ use Rattle.acpi_state.specs.Outcomes.{choose}
 use Rattle.asl_tree.specs.Constants.{is_unary}
 use Rattle.asl_tree.specs.Literals.{literal_number}
 use Rattle.asl_tree.specs.Tree.{Tree, Integer, Constant, InSlot, Omitted, Call, Apply, Buffer, Package, VarPackage, CondRefOf, Return}
-use Rattle.asl_tree.specs.Tree.{Name, Method, Container', Scope, If, ElseIf, Else, While, OperationRegion, BankField, CreateField}
-use Rattle.asl_tree.specs.Tree.{Operated, Assigned, AssignedBy, Trees, no_trees, tree, Switch, Case, Default}
+use Rattle.asl_tree.specs.Tree.{Name, Method, Container', Scope, If, ElseIf, Else, While, For, Print, OperationRegion, BankField}
+use Rattle.asl_tree.specs.Tree.{CreateField, Operated, Assigned, AssignedBy, Trees, no_trees, tree, Switch, Case, Default}
 use Rattle.asl_tree.specs.View.{counted}
 use Rattle.asl_fold.specs.declared.fate.Fate.{Fate}
 
@@ -100,6 +100,8 @@ module _ (width : Width) where
     folded statement (ElseIf test body) = ElseIf (folded false test) (folded_all body)
     folded statement (Else body) = Else (folded_all body)
     folded statement (While test body) = While (folded false test) (folded_all body)
+    folded statement (For start test step body) = For (folded false start) (folded false test) (folded false step) (folded_all body)
+    folded statement (Print place format args) = Print (folded false place) format (folded_args args)
     folded statement (Switch value cases) = Switch (folded false value) (folded_all cases)
     folded statement (Case value body) = Case (folded false value) (folded_all body)
     folded statement (Default body) = Default (folded_all body)

@@ -56,9 +56,20 @@ is_declared Declaration.CreateDWordField i = nat_eq i 2
 is_declared Declaration.CreateQWordField i = nat_eq i 2
 is_declared declaration i = true
 
+-- where the format of a Printf and of an Fprintf stands
+abbrev pub is_first : ℕ → Bool
+is_first zero = true
+is_first (suc n) = false
+
+abbrev pub is_second : ℕ → Bool
+is_second zero = false
+is_second (suc n) = is_first n
+
 abbrev pub is_kept : Op → ℕ → Bool
 is_kept (Op.Declaration declaration) i = is_declared declaration i
 is_kept (Op.Plain op) i = raw_at (row_of op).operands i
+is_kept (Op.Control Control.Printf) i = is_first i
+is_kept (Op.Control Control.Fprintf) i = is_second i
 is_kept (Op.Symbolic (Symbolic.Operator op)) i = raw_at (row_of op).operands i
 is_kept op i = false
 
@@ -82,6 +93,7 @@ listing_of (Op.Control Control.If) = Listing.Terms
 listing_of (Op.Control Control.ElseIf) = Listing.Terms
 listing_of (Op.Control Control.Else) = Listing.Terms
 listing_of (Op.Control Control.While) = Listing.Terms
+listing_of (Op.Control Control.For) = Listing.Terms
 listing_of (Op.Control Control.Switch) = Listing.Terms
 listing_of (Op.Control Control.Case) = Listing.Terms
 listing_of (Op.Control Control.Default) = Listing.Terms

@@ -31,7 +31,7 @@ pub fn same_names()
 
 /// Where its terms may be written, or may be so once its Switches are loops, they are so with their constants folded.
 pub fn stays_shaped()
-    ensures formed { (width : Width) (terms : Trees) → AreFormed (AreItems 0) ⊥ (Unit {0}) terms → AreFormed (AreItems 0) ⊥ (Unit {0})
+    ensures formed { (width : Width) (terms : Trees) → AreFormed ⊥ (AreItems 0) ⊥ (Unit {0}) terms → AreFormed ⊥ (AreItems 0) ⊥ (Unit {0})
         (folded_all width terms) }
     ensures shaped { (width : Width) (terms : Trees) → AreShaped terms → AreShaped (folded_all width terms) }
 {}

@@ -2,7 +2,8 @@
 ghost use Rattle.std.specs.Prelude.{◌≡◌, slice_get};
 ghost use Rattle.acpi_values.specs.Operators.{row_of};
 ghost use Rattle.asl_operators.specs.Letters.{letters_as};
-ghost use Rattle.asl_fold.specs.Nodes.{raw_at, raw_code, is_declared as declared_at, is_kept as kept_at, part_in, listing_of as listing_in};
+ghost use Rattle.asl_fold.specs.Nodes.{raw_at, raw_code, is_declared as declared_at, is_first as first_place, is_kept as kept_at};
+ghost use Rattle.asl_fold.specs.Nodes.{is_second as second_place, part_in, listing_of as listing_in};
 
 use acpi_values::operator::Plain;
 use asl_operators::letter::Letter;
@@ -68,11 +69,29 @@ fn is_declared(declaration: Declaration, index: usize) -> bool
     }
 }
 
+// Where the format of a Printf stands.
+#[tactic(auto, using(crate::proofs::Sights::first_at))]
+fn is_first(index: usize) -> bool
+    ensures { result ≡ first_place index }
+{
+    index == 0
+}
+
+// Where that of an Fprintf stands.
+#[tactic(auto, using(crate::proofs::Sights::second_at))]
+fn is_second(index: usize) -> bool
+    ensures { result ≡ second_place index }
+{
+    index == 1
+}
+
 fn is_kept(op: Op, index: usize) -> bool
     ensures { result ≡ kept_at op index }
 {
     match op {
         Op::Declaration(declaration) => is_declared(declaration, index),
+        Op::Control(Control::Printf) => is_first(index),
+        Op::Control(Control::Fprintf) => is_second(index),
         Op::Plain(op) => is_raw(op, index),
         Op::Symbolic(Symbolic::Operator(op)) => is_raw(op, index),
         _ => false,
@@ -114,6 +133,7 @@ pub(crate) fn listing_of(op: Op) -> Listing
             | Control::ElseIf
             | Control::Else
             | Control::While
+            | Control::For
             | Control::Switch
             | Control::Case
             | Control::Default,

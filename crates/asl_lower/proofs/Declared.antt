@@ -9,7 +9,7 @@ use Rattle.acpi_state.specs.Objects.{MethodObject, ContainerObject, Names, root_
 use Rattle.asl_tree.specs.Names.{place_of, denoted}
 use Rattle.asl_tree.specs.declared.term.Compound.{Compound}
 use Rattle.asl_tree.specs.Symbols.{compound_operator}
-use Rattle.asl_tree.specs.Tree.{Tree, Omitted, Call, Apply, Buffer, Package, VarPackage, CondRefOf, Return, Name, Method, Container', Scope, If, ElseIf, Else, While, OperationRegion, BankField, CreateField, Operated, Assigned, AssignedBy, Trees, no_trees, tree, count, Switch, Case, Default}
+use Rattle.asl_tree.specs.Tree.{Tree, Omitted, Call, Apply, Buffer, Package, VarPackage, CondRefOf, Return, Name, Method, Container', Scope, If, ElseIf, Else, While, For, Print, OperationRegion, BankField, CreateField, Operated, Assigned, AssignedBy, Trees, no_trees, tree, count, Switch, Case, Default}
 use Rattle.asl_meaning.specs.Declarations.{As, ExternalType, Declarations, nothing_declared, is_named, scope_path, with_declared, declare, declare_all, declarations, calls, calls_all, called, external_object, declared_kinds, external_names, as_known, externals, known_of}
 use Rattle.asl_meaning.specs.Meaning.{spot_form, target_operator}
 use Rattle.acpi_names.specs.Terms.{has_no_targets, is_value, are_values, is_term, are_terms}
@@ -36,6 +36,7 @@ mutual
   named_declares (ElseIf test body) scope d = all_declare body scope d
   named_declares (Else body) scope d = all_declare body scope d
   named_declares (While test body) scope d = all_declare body scope d
+  named_declares (For start test step body) scope d = all_declare body scope d
   named_declares (Switch value cases) scope d = all_declare cases scope d
   named_declares (Case value body) scope d = all_declare body scope d
   named_declares (Default body) scope d = all_declare body scope d
@@ -211,6 +212,8 @@ module _ (has : AbsolutePath → Bool) (path : AbsolutePath) where
     value_calls (ElseIf test body) e scope d = absurd cc
     value_calls (Else body) e scope d = absurd cc
     value_calls (While test body) e scope d = absurd cc
+    value_calls (For start test step body) e scope d = absurd cc
+    value_calls (Print place format args) e scope d = absurd cc
     value_calls (Switch value cases) e scope d = absurd cc
     value_calls (Case value body) e scope d = absurd cc
     value_calls (Default body) e scope d = absurd cc
@@ -244,6 +247,14 @@ module _ (has : AbsolutePath → Bool) (path : AbsolutePath) where
     term_calls (Else body) e scope d = list_calls body e scope d
     term_calls (While test body) e scope d =
         both (calls has (named test) scope d) (calls_all has (named_all body) scope d) (calls has test scope d) (calls_all has body scope d) (value_calls test (first_true (is_value test) (are_terms body) e) scope d) (list_calls body (second_true (is_value test) (are_terms body) e) scope d)
+    term_calls (For start test step body) e scope d =
+        let g = second_true (is_value start) (is_value test && (is_value step && are_terms body)) e in
+        let h = second_true (is_value test) (is_value step && are_terms body) g in
+        both (calls has (named start) scope d) (calls has (named test) scope d ++ (calls has (named step) scope d ++ calls_all has (named_all body) scope d)) (calls has start scope d) (calls has test scope d ++ (calls has step scope d ++ calls_all has body scope d)) (value_calls start (first_true (is_value start) (is_value test && (is_value step && are_terms body)) e) scope d)
+        (both (calls has (named test) scope d) (calls has (named step) scope d ++ calls_all has (named_all body) scope d) (calls has test scope d) (calls has step scope d ++ calls_all has body scope d) (value_calls test (first_true (is_value test) (is_value step && are_terms body) g) scope d)
+        (both (calls has (named step) scope d) (calls_all has (named_all body) scope d) (calls has step scope d) (calls_all has body scope d) (value_calls step (first_true (is_value step) (are_terms body) h) scope d) (list_calls body (second_true (is_value step) (are_terms body) h) scope d)))
+    term_calls (Print place format args) e scope d =
+        both (calls has (named place) scope d) (calls_all has (named_args args) scope d) (calls has place scope d) (calls_all has args scope d) (value_calls place (first_true (is_value place) (are_values args) e) scope d) (values_calls args (second_true (is_value place) (are_values args) e) scope d)
     term_calls (Switch value cases) e scope d =
         both (calls has (named value) scope d) (calls_all has (named_all cases) scope d) (calls has value scope d) (calls_all has cases scope d) (value_calls value (first_true (is_value value) (are_terms cases) e) scope d) (list_calls cases (second_true (is_value value) (are_terms cases) e) scope d)
     term_calls (Case value body) e scope d =

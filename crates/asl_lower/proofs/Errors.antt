@@ -13,7 +13,7 @@ use Rattle.asl_tree.specs.declared.path.Path.{Path}
 use Rattle.asl_tree.specs.declared.term.Compound.{Compound}
 use Rattle.asl_tree.specs.Symbols.{compound_operator, takes_target}
 use Rattle.asl_tree.specs.Names.{place_of, denoted}
-use Rattle.asl_tree.specs.Tree.{At, Tree, Omitted, Use, Call, Apply, Buffer, Package, VarPackage, CondRefOf, Return, Name, Alias, External, Method, Mutex, Event, Container', Scope, If, ElseIf, Else, While, OperationRegion, Field, IndexField, BankField, CreateField, UnitName, Operated, Assigned, AssignedBy, Trees, no_trees, tree, count, Switch, Case, Default}
+use Rattle.asl_tree.specs.Tree.{At, Tree, Omitted, Use, Call, Apply, Buffer, Package, VarPackage, CondRefOf, Return, Name, Alias, External, Method, Mutex, Event, Container', Scope, If, ElseIf, Else, While, For, Print, OperationRegion, Field, IndexField, BankField, CreateField, UnitName, Operated, Assigned, AssignedBy, Trees, no_trees, tree, count, Switch, Case, Default}
 use Rattle.asl_meaning.specs.Declarations.{As, Declarations, nothing_declared, is_named, scope_path, with_declared, declare, declarations, called, calls_all, known_of}
 use Rattle.asl_meaning.specs.Meaning.{SpotForm, OfResult, OfInside, NoSpot, spot_form, target_operator}
 use Rattle.acpi_names.specs.Errors.{Asked, Anything, AValue, AMutex, AnEvent, AUnit, ARegion, asked_by, asked_types, used_types, NameError, Whole, whole_of, names, names_all, cond_errors, use_errors, call_errors, declared_errors, scope_errors, items_errors, types, types_all, spot_types, first_types, operand_types, spot_types_all, element_types, element_types_all, letter_types, spot_form_types, name_errors, type_errors}
@@ -129,6 +129,8 @@ module _ (whole : Whole) (others : List (AbsolutePath × ℕ)) (same : (path : A
     value_names (ElseIf test body) e scope d h = absurd cc
     value_names (Else body) e scope d h = absurd cc
     value_names (While test body) e scope d h = absurd cc
+    value_names (For start test step body) e scope d h = absurd cc
+    value_names (Print place format args) e scope d h = absurd cc
     value_names (Switch value cases) e scope d h = absurd cc
     value_names (Case value body) e scope d h = absurd cc
     value_names (Default body) e scope d h = absurd cc
@@ -182,6 +184,16 @@ module _ (whole : Whole) (others : List (AbsolutePath × ℕ)) (same : (path : A
     term_names (Else body) e scope d h = list_names body e scope d h
     term_names (While test body) e scope d h =
         none_both (value_names test (first_true (is_value test) (are_terms body) e) scope d (left_none (N test scope d) _ h)) (list_names body (second_true (is_value test) (are_terms body) e) scope d (right_none (N test scope d) _ h))
+    term_names (For start test step body) e scope d h =
+        let g = second_true (is_value start) (is_value test && (is_value step && are_terms body)) e in
+        let f = second_true (is_value test) (is_value step && are_terms body) g in
+        let k = right_none (N start scope d) _ h in
+        let l = right_none (N test scope d) _ k in
+        none_both (value_names start (first_true (is_value start) (is_value test && (is_value step && are_terms body)) e) scope d (left_none (N start scope d) _ h))
+        (none_both (value_names test (first_true (is_value test) (is_value step && are_terms body) g) scope d (left_none (N test scope d) _ k))
+        (none_both (value_names step (first_true (is_value step) (are_terms body) f) scope d (left_none (N step scope d) _ l)) (list_names body (second_true (is_value step) (are_terms body) f) scope d (right_none (N step scope d) _ l))))
+    term_names (Print place format args) e scope d h =
+        none_both (value_names place (first_true (is_value place) (are_values args) e) scope d (left_none (N place scope d) _ h)) (values_names args (second_true (is_value place) (are_values args) e) scope d (right_none (N place scope d) _ h))
     term_names (Switch value cases) e scope d h =
         none_both (value_names value (first_true (is_value value) (are_terms cases) e) scope d (left_none (N value scope d) _ h)) (list_names cases (second_true (is_value value) (are_terms cases) e) scope d (right_none (N value scope d) _ h))
     term_names (Case value body) e scope d h =
@@ -351,6 +363,11 @@ module _ (whole : Whole) (others : List (AbsolutePath × ℕ)) (same : (path : A
     types_right (ElseIf test body) scope h = none_both (types_right test scope (left_none (K test scope) _ h)) (list_right body scope (right_none (K test scope) _ h))
     types_right (Else body) scope h = list_right body scope h
     types_right (While test body) scope h = none_both (types_right test scope (left_none (K test scope) _ h)) (list_right body scope (right_none (K test scope) _ h))
+    types_right (For start test step body) scope h =
+        let k = right_none (K start scope) _ h in
+        let l = right_none (K test scope) _ k in
+        none_both (types_right start scope (left_none (K start scope) _ h)) (none_both (types_right test scope (left_none (K test scope) _ k)) (none_both (types_right step scope (left_none (K step scope) _ l)) (list_right body scope (right_none (K step scope) _ l))))
+    types_right (Print place format args) scope h = none_both (spot_types_right place scope (left_none (S place scope) _ h)) (args_right args scope (right_none (S place scope) _ h))
     types_right (Switch value cases) scope h = none_both (types_right value scope (left_none (K value scope) _ h)) (list_right cases scope (right_none (K value scope) _ h))
     types_right (Case value body) scope h = none_both (types_right value scope (left_none (K value scope) _ h)) (list_right body scope (right_none (K value scope) _ h))
     types_right (Default body) scope h = list_right body scope h

@@ -16,7 +16,7 @@ use Rattle.asl_tree.specs.declared.term.Literal.TheVariants as Literal
 use Rattle.asl_tree.specs.declared.term.Special.TheVariants as Special
 use Rattle.asl_tree.specs.declared.term.Symbolic.TheVariants as Symbolic
 use Rattle.asl_tree.specs.Symbols.{compound_operator, takes_target}
-use Rattle.asl_tree.specs.Tree.{At, Tree, Apply, Assigned, Integer, Constant, Raw, Omitted, Use, Package, VarPackage, Misshapen, Trees, no_trees, tree, count, Field, IndexField, BankField, UnitName}
+use Rattle.asl_tree.specs.Tree.{At, Tree, Apply, Assigned, Integer, Constant, String, Raw, Omitted, Use, Package, VarPackage, Misshapen, Trees, no_trees, tree, count, Field, IndexField, BankField, UnitName}
 use Rattle.asl_tree.specs.View.{fits, form, operands_as, targets_of, plain_of, not_of, apply_of, operated, buffer, body_bytes, packaged, counted, items_in}
 use Rattle.asl_meaning.specs.Meaning.{target_operator}
 use Rattle.asl_lower.specs.Nests.{joined}
@@ -128,6 +128,9 @@ kept_form here (Op.Control Control.If) (tree test no_trees) body e = refl
 kept_form here (Op.Control Control.ElseIf) (tree test no_trees) body e = refl
 kept_form here (Op.Control Control.Else) no_trees body e = refl
 kept_form here (Op.Control Control.While) (tree test no_trees) body e = refl
+kept_form here (Op.Control Control.For) (tree start (tree test (tree step no_trees))) body e = refl
+kept_form here (Op.Control Control.Printf) (tree (String format) args) no_trees e = refl
+kept_form here (Op.Control Control.Fprintf) (tree place (tree (String format) args)) no_trees e = refl
 kept_form here (Op.Control Control.Switch) (tree value no_trees) cases e = refl
 kept_form here (Op.Control Control.Case) (tree value no_trees) body e = refl
 kept_form here (Op.Control Control.Default) no_trees body e = refl

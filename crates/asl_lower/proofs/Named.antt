@@ -1,5 +1,5 @@
 -- A program does the same with its symbolic operators named and its ElseIfs nested.
-use Rattle.std.proofs.Common.{◌≡◌, ℕ, zero, suc, Bool, true, false, List, [], ◌∷◌, length, Option, Some, None, refl, ap, ◌∙◌}
+use Rattle.std.proofs.Common.{◌≡◌, ℕ, zero, suc, Bool, true, false, List, [], ◌∷◌, ◌++◌, length, Option, Some, None, refl, ap, ◌∙◌}
 use Rattle.std.proofs.Math.Path.{fun_ext}
 use Rattle.std.specs.Prelude.{if◌then◌else◌, ◌||◌}
 use Rattle.acpi_values.specs.declared.width.Width.{Width}
@@ -13,6 +13,7 @@ use Rattle.acpi_values.specs.Values.{Value, Data, Reference, Elements, no_elemen
 use Rattle.acpi_values.specs.Operators.{Letter, Valued, Kept, Placed, Used, Row, row_of}
 use Rattle.acpi_values.specs.Operators as L
 use Rattle.acpi_values.specs.Integers.{wrapped}
+use Rattle.acpi_values.specs.Conversions.{to_string}
 use Rattle.acpi_state.specs.Objects.{Object, DataObject, MethodObject, ContainerObject, MutexObject, EventObject, AliasObject, Names, UnitObject}
 use Rattle.acpi_state.specs.Finds.{first_there, reached}
 use Rattle.acpi_state.specs.Sessions.{Request, initial}
@@ -20,10 +21,10 @@ use Rattle.acpi_state.specs.State.{State}
 use Rattle.acpi_state.specs.Outcomes.{Flow, Normal, Gives, Unfinished, Broken, Result, Done, Stopped, done, stop, fault, next, then_run, act, choose, value_of}
 use Rattle.acpi_state.specs.Outcomes as O
 use Rattle.acpi_state.specs.Loops.{is_true}
-use Rattle.acpi_state.specs.Actions.{computed, write_named}
+use Rattle.acpi_state.specs.Actions.{give, and_then, computed, write_named}
 use Rattle.acpi_state.specs.Activations.{create}
 use Rattle.acpi_state.specs.Stores.{Spot, Nowhere, DebugObject, At, read, store}
-use Rattle.acpi_state.specs.Acts.{Operand, OfValue, OfKept, OfSpot, OfNumber, number_of, act_of, last_of}
+use Rattle.acpi_state.specs.Acts.{Operand, OfValue, OfKept, OfSpot, OfNumber, data_of, number_of, act_of, last_of}
 use Rattle.acpi_state.specs.FieldUnits.{ToObject, ToResource, Extent, FieldUnit, InRegion, InBank, BehindIndex}
 use Rattle.acpi_state.specs.Registers.{register_of}
 use Rattle.acpi_state.specs.FieldActs.{region_letters, field_letters}
@@ -34,11 +35,12 @@ use Rattle.asl_tree.specs.declared.term.Compound.{Compound}
 use Rattle.asl_tree.specs.Symbols.{compound_operator, takes_target}
 use Rattle.asl_tree.specs.Literals.{literal_number}
 use Rattle.asl_tree.specs.Names.{Known, is_known, place_of, denoted, element_path}
-use Rattle.asl_tree.specs.Tree.{Tree, Integer, Constant, String, InSlot, Debug, Omitted, Raw, Use, Call, Apply, Buffer, Package, VarPackage, CondRefOf, Return, Name, Alias, External, Method, Mutex, Event, Container', Scope, Fill, Misshapen, Trees, no_trees, tree, OperationRegion, Field, IndexField, BankField, CreateField, UnitName, If, ElseIf, Else, While, Break, Continue, Item, Operated, Assigned, AssignedBy, Switch, Case, Default}
+use Rattle.asl_tree.specs.Tree.{Tree, Integer, Constant, String, InSlot, Debug, Omitted, Raw, Use, Call, Apply, Buffer, Package, VarPackage, CondRefOf, Return, Name, Alias, External, Method, Mutex, Event, Container', Scope, Fill, Misshapen, Trees, no_trees, tree, OperationRegion, Field, IndexField, BankField, CreateField, UnitName, If, ElseIf, Else, While, Break, Continue, Item, Operated, Assigned, AssignedBy, Switch, Case, Default, For, Print}
 use Rattle.asl_meaning.specs.FieldTerms.{Cursor, first_unit, behind_bits, at_byte, accessed, length_or_none, connected_to, resource_of, connect, create_units}
 use Rattle.asl_meaning.specs.Meaning as S
-use Rattle.asl_meaning.specs.Meaning.{SourceRun, SpotForm, OfResult, OfInside, NoSpot, spot_form, store_last, operate, two_values, store_with, assign_with, target_operator, leave_switch}
+use Rattle.asl_meaning.specs.Meaning.{SourceRun, SpotForm, OfResult, OfInside, NoSpot, spot_form, store_last, operate, two_values, store_with, assign_with, target_operator, leave_switch, unless_omitted, then_step}
 use Rattle.asl_meaning.specs.SourceSession.{source_session}
+use Rattle.asl_tree.specs.Formats.{cut}
 use Rattle.asl_lower.specs.Nodes.{before, given, last_target, applied, assigned, assigned_by, named, inner_args, named_args, named_all}
 use Rattle.asl_lower.proofs.Alike.{Alike, alike_done, alike_stop, alike_fault, alike_then, alike_to, alike_act, alike_existing, alike_look, alike_if, alike_valued, alike_on_flow, alike_loop, alike_create, alike_keep, alike_body, alike_activation, alike_use, alike_written, alike_region, alike_buffer_field, same_session}
 use Rattle.asl_lower.proofs.Runs.{before_same, named_ok, then_unit}
@@ -84,6 +86,19 @@ compound_spot Compound.And = refl
 compound_spot Compound.Or = refl
 compound_spot Compound.Xor = refl
 
+-- a term that may be left out
+alike_unless : (t : Tree) {m m' : SourceRun Flow} → Alike m m' → Alike (unless_omitted t m) (unless_omitted (named t) m')
+alike_unless Omitted h = alike_done (Normal false)
+alike_unless t h = h
+
+alike_step : (f : Flow) {m m' : SourceRun Flow} → Alike m m' → Alike (then_step f m) (then_step f m')
+alike_step O.Break h = alike_done O.Break
+alike_step (O.Return v) h = alike_done (O.Return v)
+alike_step (Normal d) h = h
+alike_step (Gives v) h = h
+alike_step O.NoValue h = h
+alike_step O.Continue h = h
+
 module _ (width : Width) (known : Known) where
   alike_find : (name : Path) (scope : AbsolutePath) → Alike (S.find known name scope) (S.find known name scope)
   alike_find name scope = alike_existing (λ names. choose (denoted (is_known known) name scope) None (λ path. first_there names (path ∷ [])))
@@ -115,6 +130,9 @@ module _ (width : Width) (known : Known) where
   alike_units unit scope c (OffsetItem bytes ∷ items) = alike_units unit scope (at_byte c bytes) items
   alike_units unit scope c (AccessItem access attribute count ∷ items) = alike_units unit scope (accessed c access attribute (length_or_none count)) items
   alike_units unit scope c (ConnectionItem to ∷ items) = alike_then (alike_connect to scope) (λ x. alike_units unit scope (connected_to c x) items)
+
+  alike_text : {m m' : SourceRun Flow} → Alike m m' → Alike (S.text_by width known m) (S.text_by width known m')
+  alike_text h = alike_then (alike_valued h) (λ v. alike_act (and_then (data_of width v) (λ datum. give (to_string width datum))))
 
   alike_size : {m m' : SourceRun Flow} → Alike m m' → Alike (S.size_by width known m) (S.size_by width known m')
   alike_size h = alike_then (alike_valued h) (λ v. alike_act (number_of width v))
@@ -319,6 +337,11 @@ module _ (width : Width) (known : Known) (turns : ℕ) (call : AbsolutePath → 
     alike (Else body) scope due = alike_if due (alike_all body scope false) (alike_done (Normal false))
     alike (While test body) scope due =
         alike_loop {X = Unit {0}} turns (alike_then (alike_size width known (alike test scope false)) (λ n. alike_done (is_true n, tt))) (λ u. alike_all body scope false)
+    alike (For start test step body) scope due =
+        alike_then (alike_unless start (alike start scope false)) (λ f. alike_loop {X = Unit {0}} turns (alike_then (alike_size width known (alike test scope false)) (λ n. alike_done (is_true n, tt)))
+        (λ u. alike_then (alike_all body scope false) (λ f. alike_step f (alike_unless step (alike step scope false)))))
+    alike (Print place format args) scope due =
+        alike_then (alike_filled (cut format).1 args scope) (λ rest. alike_then (alike_spot place scope) (λ p. alike_then (alike_act (store width p (Data (V.String ((cut format).0 ++ rest))))) (λ u. alike_done (Normal false))))
     alike (Switch value cases) scope due =
         alike_then (alike_valued (alike value scope false)) (λ v. alike_then (alike_cases cases v scope _ _ (alike_default cases scope)) (λ f. alike_leave width known f))
     alike (Case value body) scope due = alike_stop Broken
@@ -355,6 +378,14 @@ module _ (width : Width) (known : Known) (turns : ℕ) (call : AbsolutePath → 
     alike_inner : (op : Plain) (value : Tree) (scope : AbsolutePath) → target_operator value ≡ Some op → Alike (S.inner_operands width known turns call (row_of op).operands value scope) (S.operands width known turns call (row_of op).operands (inner_args value) scope)
     alike_inner op (Operated symbol args) scope e = alike_operands (row_of op).operands args scope
     alike_inner op _ scope e = absurd cc
+
+    -- arguments as texts
+    alike_filled : (texts : List (List ℕ)) (ts : Trees) (scope : AbsolutePath) → Alike (S.filled width known turns call texts ts scope) (S.filled width known turns call texts (named_args ts) scope)
+    alike_filled [] no_trees scope = alike_done []
+    alike_filled [] (tree t ts) scope = alike_stop Broken
+    alike_filled (text ∷ texts) no_trees scope = alike_stop Broken
+    alike_filled (text ∷ texts) (tree t ts) scope =
+        alike_then (alike_text width known (alike t scope false)) (λ first. alike_then (alike_filled texts ts scope) (λ rest. alike_done (first ++ (text ++ rest))))
 
     -- the value of a Case
     alike_hits : (t : Tree) (v : Value) (scope : AbsolutePath) (alone alone' : SourceRun Bool) → Alike alone alone' → Alike (S.hits width known turns call t alone v scope) (S.hits width known turns call (named t) alone' v scope)

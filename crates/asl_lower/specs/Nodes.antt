@@ -10,8 +10,8 @@ use Rattle.asl_tree.specs.declared.term.Op.{Op}
 use Rattle.asl_tree.specs.declared.term.Special.TheVariants as Special
 use Rattle.asl_tree.specs.Symbols.{compound_operator}
 use Rattle.asl_tree.specs.Tree.{Tree, Omitted, Call, Apply, Buffer, Package, VarPackage, CondRefOf, Return, Name, Method, Container'}
-use Rattle.asl_tree.specs.Tree.{Scope, If, ElseIf, Else, While, OperationRegion, BankField, CreateField, Operated, Assigned, AssignedBy}
-use Rattle.asl_tree.specs.Tree.{Misshapen, Trees, no_trees, tree, Switch, Case, Default}
+use Rattle.asl_tree.specs.Tree.{Scope, If, ElseIf, Else, While, For, Print, OperationRegion, BankField, CreateField, Operated, Assigned}
+use Rattle.asl_tree.specs.Tree.{AssignedBy, Misshapen, Trees, no_trees, tree, Switch, Case, Default}
 use Rattle.asl_meaning.specs.Meaning.{target_operator}
 
 -- an operand that is left out has no value
@@ -80,6 +80,8 @@ abbrev mutual
   named (ElseIf test body) = ElseIf (named test) (named_all body)
   named (Else body) = Else (named_all body)
   named (While test body) = While (named test) (named_all body)
+  named (For start test step body) = For (named start) (named test) (named step) (named_all body)
+  named (Print place format args) = Print (named place) format (named_args args)
   named (Switch value cases) = Switch (named value) (named_all cases)
   named (Case value body) = Case (named value) (named_all body)
   named (Default body) = Default (named_all body)
@@ -116,6 +118,7 @@ named_body (Op.Control Control.If) body = named_all body
 named_body (Op.Control Control.ElseIf) body = named_all body
 named_body (Op.Control Control.Else) body = named_all body
 named_body (Op.Control Control.While) body = named_all body
+named_body (Op.Control Control.For) body = named_all body
 named_body (Op.Control Control.Switch) body = named_all body
 named_body (Op.Control Control.Case) body = named_all body
 named_body (Op.Control Control.Default) body = named_all body

@@ -241,6 +241,7 @@ fn lower_body(alloc: Global, op: Op, body: Vec<Node>) -> Result<Vec<Node>, Alloc
             | Control::ElseIf
             | Control::Else
             | Control::While
+            | Control::For
             | Control::Switch
             | Control::Case
             | Control::Default,

@@ -1,3 +1,4 @@
 pub mod Searches
 pub mod Agreements
 pub mod SameSessions
+pub mod Lasting

@@ -3,3 +3,4 @@ pub mod Meaning
 pub mod Declarations
 pub mod SourceSession
 pub mod Starts
+pub mod Continues

@@ -1,6 +1,6 @@
 -- What a program means (ACPI Specification 6.4, 19): terms are taken from its tree, and names from what the program
 -- declares.
-use Rattle.std.specs.Prelude.{ℕ, zero, suc, Bool, false, List, [], ◌∷◌, Option, Some, None, if◌then◌else◌, true, ◌||◌}
+use Rattle.std.specs.Prelude.{ℕ, zero, suc, Bool, false, List, [], ◌∷◌, ◌++◌, Option, Some, None, if◌then◌else◌, true, ◌||◌}
 use Rattle.acpi_values.specs.declared.width.Width.{Width}
 use Rattle.acpi_values.specs.declared.operator.Plain.{Plain}
 use Rattle.acpi_values.specs.declared.operator.IntOp.TheVariants as IntOp
@@ -11,17 +11,18 @@ use Rattle.acpi_values.specs.Values as V
 use Rattle.acpi_values.specs.Values.{Value, Data, Reference, Elements, no_elements, element, Place, Named}
 use Rattle.acpi_values.specs.Operators.{Letter, Valued, Kept, Placed, Used, Row, row_of}
 use Rattle.acpi_values.specs.Operators as L
+use Rattle.acpi_values.specs.Conversions.{to_string}
 use Rattle.acpi_values.specs.Integers.{wrapped}
 use Rattle.acpi_state.specs.Objects.{Object, DataObject, MethodObject, ContainerObject, MutexObject, EventObject, AliasObject}
 use Rattle.acpi_state.specs.Outcomes.{Flow, Normal, Gives, Stop, Unfinished, Broken, Run, done, stop, fault, then_run, act, choose}
 use Rattle.acpi_state.specs.Outcomes.{value_of, on_flow}
 use Rattle.acpi_state.specs.Outcomes as O
 use Rattle.acpi_state.specs.Loops.{is_true, loop}
-use Rattle.acpi_state.specs.Actions.{computed, write_named}
+use Rattle.acpi_state.specs.Actions.{give, and_then, computed, write_named}
 use Rattle.acpi_state.specs.Activations.{create, keep_body, body_at, activation}
 use Rattle.acpi_state.specs.Finds.{first_there, reached, existing, reach}
 use Rattle.acpi_state.specs.Stores.{Spot, Nowhere, DebugObject, At, read, store}
-use Rattle.acpi_state.specs.Acts.{Operand, OfValue, OfKept, OfSpot, OfNumber, number_of, act_of, last_of}
+use Rattle.acpi_state.specs.Acts.{Operand, OfValue, OfKept, OfSpot, OfNumber, data_of, number_of, act_of, last_of}
 use Rattle.acpi_state.specs.Forms.{buffer_of, package_of, slot_here, if_data, spot_in, cond_ref_of}
 use Rattle.acpi_state.specs.Uses.{use_object, call_written}
 use Rattle.asl_tree.specs.declared.path.Path.{Path}
@@ -29,13 +30,14 @@ use Rattle.acpi_state.specs.FieldUnits.{FieldUnit, InRegion, InBank, BehindIndex
 use Rattle.acpi_state.specs.Registers.{register_of}
 use Rattle.acpi_state.specs.FieldActs.{region_letters, make_region, field_letters, make_buffer_field}
 use Rattle.asl_meaning.specs.FieldTerms.{first_unit, create_units}
+use Rattle.asl_tree.specs.Formats.{cut}
 use Rattle.asl_tree.specs.Literals.{literal_number}
 use Rattle.asl_tree.specs.Names.{Known, is_known, place_of, denoted, element_path}
 use Rattle.asl_tree.specs.Symbols.{compound_operator, takes_target}
 use Rattle.asl_tree.specs.Tree.{Tree, Integer, Constant, String, InSlot, Debug, Omitted, Raw, Use, Call, Apply, Buffer, Package}
 use Rattle.asl_tree.specs.Tree.{VarPackage, CondRefOf, Return, Name, Alias, External, Method, Mutex, Event, Container', Scope, Fill}
 use Rattle.asl_tree.specs.Tree.{Misshapen, Trees, no_trees, tree, OperationRegion, Field, IndexField, BankField, CreateField, If, ElseIf}
-use Rattle.asl_tree.specs.Tree.{Else, While, Break, Continue, Item, Operated, Assigned, AssignedBy, Switch, Case, Default}
+use Rattle.asl_tree.specs.Tree.{Else, While, Break, Continue, Item, Operated, Assigned, AssignedBy, Switch, Case, Default, For, Print}
 
 -- a run that keeps the bodies of methods as trees
 abbrev pub SourceRun : Type 0 → Type 0
@@ -90,6 +92,17 @@ abbrev pub leave_switch : {B : Type 0} → Flow → Run B Flow
 leave_switch O.Continue = done O.Continue
 leave_switch (O.Return v) = done (O.Return v)
 leave_switch _ = done (Normal false)
+
+-- a term that may be left out
+abbrev pub unless_omitted : {B : Type 0} → Tree → Run B Flow → Run B Flow
+unless_omitted Omitted m = done (Normal false)
+unless_omitted t m = m
+
+-- after the body of a For: a Continue goes to the step, and a Break skips it
+abbrev pub then_step : {B : Type 0} → Flow → Run B Flow → Run B Flow
+then_step O.Break step = done O.Break
+then_step (O.Return v) step = done (O.Return v)
+then_step _ step = step
 
 module _ (known : Known) where
   -- the path that a name denotes, where it is there now
@@ -157,6 +170,10 @@ module _ (width : Width) (known : Known) where
   equals v other =
       then_run (size_by (apply_with width (Plain.Number IntOp.LEqual) (two_values (done v) other) (λ rs. done tt))) (λ n. done (is_true n))
 
+  -- a value as a text
+  abbrev pub text_by : SourceRun Flow → SourceRun (List ℕ)
+  text_by m = then_run (then_run m value_of) (λ v. act (and_then (data_of width v) (λ datum. give (to_string width datum))))
+
   abbrev pub element_by : Tree → SourceRun Flow → AbsolutePath → SourceRun Value
   element_by (Use at name) m scope = done (Reference (Named (element_path (is_known known) name scope)))
   element_by t m scope = then_run m value_of
@@ -219,6 +236,13 @@ module _ (width : Width) (known : Known) where
       run (Else body) scope due = if due then run_all body scope false else done (Normal false)
       run (While test body) scope due =
           loop {X = Unit {0}} turns (then_run (size_by (run test scope false)) (λ n. done (is_true n, tt))) (λ u. run_all body scope false)
+      run (For start test step body) scope due =
+          then_run (unless_omitted start (run start scope false)) (λ f.
+          loop {X = Unit {0}} turns (then_run (size_by (run test scope false)) (λ n. done (is_true n, tt)))
+          (λ u. then_run (run_all body scope false) (λ f. then_step f (unless_omitted step (run step scope false)))))
+      run (Print place format args) scope due =
+          then_run (filled (cut format).1 args scope) (λ rest. then_run (spot place scope) (λ p.
+          then_run (act (store width p (Data (V.String ((cut format).0 ++ rest))))) (λ u. done (Normal false))))
       run (Switch value cases) scope due =
           then_run (then_run (run value scope false) value_of)
           (λ v. then_run (run_cases cases v scope (run_default cases scope)) leave_switch)
@@ -306,6 +330,13 @@ module _ (width : Width) (known : Known) where
       pub first_value : Trees → AbsolutePath → SourceRun Value
       first_value no_trees scope = stop Broken
       first_value (tree t ts) scope = then_run (run t scope false) value_of
+
+      -- arguments as texts, each with the text of a format behind it
+      pub filled : List (List ℕ) → Trees → AbsolutePath → SourceRun (List ℕ)
+      filled [] no_trees scope = done []
+      filled (text ∷ texts) (tree t ts) scope =
+          then_run (text_by (run t scope false)) (λ first. then_run (filled texts ts scope) (λ rest. done (first ++ (text ++ rest))))
+      filled _ _ scope = stop Broken
 
       -- the values of arguments
       pub values : Trees → AbsolutePath → SourceRun (List Value)

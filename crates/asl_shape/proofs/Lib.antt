@@ -14,3 +14,4 @@ pub mod Shapes
 pub mod FieldSteps
 pub mod Units
 pub mod Places
+pub mod Holes

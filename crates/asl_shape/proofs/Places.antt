@@ -1,6 +1,6 @@
 -- Each error of a source stands in a file in which a part of it stands.
-use Rattle.std.proofs.Common.{ℕ, ◌<◌, Bool, true, false, List, [], ◌∷◌, ◌++◌, Option, Some, None, Result, Ok, Err, arith}
-use Rattle.std.specs.Prelude.{if◌then◌else◌, nat_le, ◌&&◌}
+use Rattle.std.proofs.Common.{ℕ, suc, ◌+◌, ◌<◌, Bool, true, false, List, [], ◌∷◌, ◌++◌, Option, Some, None, Result, Ok, Err, arith}
+use Rattle.std.specs.Prelude.{if◌then◌else◌, nat_eq, nat_le, ◌&&◌}
 use Rattle.std.specs.List.{All}
 use Rattle.std.proofs.lemmas.List.Elements.{All-cons}
 use Rattle.iasl_messages.specs.declared.place.Place.{Place}
@@ -9,6 +9,7 @@ use Rattle.asl_parser.specs.declared.raw.Raw.{Raw}
 use Rattle.asl_tree.specs.declared.constant.NoConstant.{NoConstant}
 use Rattle.asl_tree.specs.declared.path.Path.{Path}
 use Rattle.asl_tree.specs.declared.term.Op.{Op}
+use Rattle.asl_tree.specs.declared.term.Control.{Control}
 use Rattle.asl_words.specs.declared.operator.Parameter.{Parameter}
 use Rattle.asl_words.specs.declared.operator.Slot.{Slot}
 use Rattle.asl_words.specs.declared.operator.Slot.TheVariants as slot
@@ -20,7 +21,7 @@ use Rattle.asl_words.specs.declared.operator.TextMacro.{TextMacro}
 use Rattle.asl_words.specs.declared.meaning.Reading.{Reading}
 use Rattle.asl_words.specs.declared.meaning.Reading.TheVariants as read
 use Rattle.asl_parser.specs.Written as piece
-use Rattle.asl_parser.specs.Written.{Written, Writtens, WrittenGroup, item, apply, listed, comma, semicolon, empty, none, more, absent, given, writtens}
+use Rattle.asl_parser.specs.Written.{Written, Writtens, WrittenGroup, item, apply, listed, comma, semicolon, empty, none, more, absent, given, written, writtens}
 use Rattle.acpi_values.specs.Revisions.{width_of}
 use Rattle.asl_shape.specs.Around.{outside}
 use Rattle.asl_shape.specs.declared.around.Around.{Around}
@@ -30,7 +31,7 @@ use Rattle.acpi_state.specs.Outcomes.{choose}
 use Rattle.acpi_values.specs.declared.width.Width.{Width}
 use Rattle.acpi_values.specs.Paths.{NameSeg}
 use Rattle.asl_tree.specs.Names.{single_segment}
-use Rattle.asl_shape.specs.Plans.{Plan, Plans, no_plans, an_integer, a_name, is_omitted, constant_of}
+use Rattle.asl_shape.specs.Plans.{Plan, Plans, no_plans, plan_at, how_many, an_integer, a_name, is_omitted, constant_of}
 use Rattle.asl_words.specs.Paths.{path_of}
 use Rattle.asl_words.specs.declared.operator.FieldWord.{FieldWord}
 use Rattle.asl_words.specs.declared.meaning.Meaning.{Meaning}
@@ -38,14 +39,15 @@ use Rattle.asl_words.specs.Operators.{parameters_of, body_of, role_of, block_par
 use Rattle.acpi_values.specs.Integers.{wrapped}
 use Rattle.acpi_values.specs.declared.width.Width.TheVariants.{W64}
 use Rattle.asl_shape.specs.Symbols.{symbol_of}
-use Rattle.asl_shape.specs.Shapes.{Shaped, fine, fault_at, refused, room_faults, template_shape, descriptor_shape, nowhere, valued, evaluated, after, checked, is_member, is_given, takes, count, has_arguments, are_all_types, text_plan, number_shape, string_shape, text_shape, path_shape, call_shape, listed_shape, read_shape, item_shape, form_shape, symbol_shape, within, place_of, is_separator, is_listed, byte_slot, list_shape, skipped, run_after, bare, operands, call_args, arguments, arguments_in, contents, members, terms, inside_of, is_element, meaning_in, element_shape, macro_shape, macro_text, eisa_shape, uuid_shape, buffer_plan, is_field_list, begin, named_unit, begun, first_place, inner_place, element_place, unit_behind, no_comma, field_part, field_slot, due_behind, elements, case_member, case_value, is_case_member, member_count, is_case_package, cases, default_after}
+use Rattle.asl_shape.specs.Shapes.{Shaped, fine, fault_at, refused, unformed, holes_in, counted, count_faults, format_faults, room_faults, template_shape, descriptor_shape, nowhere, valued, evaluated, after, checked, is_member, is_given, takes, count, has_arguments, are_all_types, text_plan, number_shape, string_shape, text_shape, path_shape, call_shape, listed_shape, read_shape, item_shape, form_shape, symbol_shape, within, place_of, is_separator, is_listed, byte_slot, list_shape, skipped, run_after, bare, operands, call_args, arguments, arguments_in, contents, members, terms, inside_of, is_element, meaning_in, element_shape, macro_shape, macro_text, eisa_shape, uuid_shape, buffer_plan, is_field_list, begin, named_unit, begun, first_place, inner_place, element_place, unit_behind, no_comma, field_part, field_slot, due_behind, elements, case_member, case_value, is_case_member, member_count, is_case_package, cases, default_after}
 use Rattle.asl_words.specs.Resources.{descriptor_parameters, descriptor_body}
 use Rattle.resource_layout.specs.declared.descriptor.Descriptor.{Descriptor}
 use Rattle.asl_shape.specs.Descriptors.{is_roomy}
 use Rattle.asl_words.specs.Meanings.{unfit, item_fault, meaning_of, reading_of, takes_expression, takes_role, slot_as, is_whole, is_connection}
 use Rattle.asl_words.specs.Texts.{is_all_text, has_form}
 use Rattle.resource_macros.specs.Identifiers.{eisaid_of, uuid_of, utf16_of}
-use Rattle.asl_shape.specs.Forms.{start, is_block_word, block_fault, errors_inside, block_errors, no_block, errors_before, first_errors, errors_of, errors_at, block_args, revision_in}
+use Rattle.asl_shape.specs.Forms.{start, is_block_word, block_fault, errors_inside, block_errors, no_block, is_block_at, errors_before, first_errors, errors_of, errors_at, alone, errors_in_block, errors_in_blocks, stray_errors, source_errors, block_args, revision_in}
+use Rattle.asl_shape.specs.AtRaw.{place_at}
 use Rattle.asl_parser.specs.Within.{IsIn, IsWithin, AreWithin, IsGroupWithin}
 use Rattle.asl_shape.specs.Places.{AreTold}
 
@@ -63,10 +65,11 @@ module _ (files : ℕ) where
   either false x y h k = k
 
   string_told : (f : StringForm) (place : Place) (bytes : List ℕ) → IsIn files place → AreTold files (string_shape f place bytes).faults
-  string_told f place bytes h = either (has_form f bytes && is_all_text bytes) (fine (text_plan bytes)) (refused 6024 place) tt (one 6024 place h)
+  string_told f place bytes h = either (has_form f bytes && is_all_text bytes) (fine (text_plan bytes)) (refused (unformed f) place) tt (one (unformed f) place h)
 
   number_told : (s : Slot) (place : Place) (n : ℕ) → IsIn files place → AreTold files (number_shape s place n).faults
   number_told (slot.Term run) place n h = one 6025 place h
+  number_told slot.Effect place n h = one 6022 place h
   number_told s place n h = either (takes_expression s) (fine (an_integer (wrapped W64 n))) (refused (unfit s) place) tt (one (unfit s) place h)
 
   macro_told : (m : TextMacro) (place : Place) (bytes : List ℕ) → IsIn files place → AreTold files (macro_text m place bytes).faults
@@ -147,8 +150,28 @@ module _ (files : ℕ) where
   read_told s place text (read.Known known) args element expanded template described form h k l m t d go = tt
   read_told s place text (read.Form o) args element expanded template described form h k l m t d go = go o
 
+  count_told : (place : Place) (i : ℕ) (ps : Plans) → IsIn files place → AreTold files (count_faults place i ps)
+  count_told place i ps h = by (holes_in (plan_at ps i))
+    where
+      told : (b : Bool) → AreTold files (counted place b)
+      told true = tt
+      told false = one 6030 place h
+
+      by : (o : Option ℕ) → AreTold files (choose o [] (λ holes. counted place (nat_eq (how_many ps) (suc i + holes))))
+      by None = tt
+      by (Some holes) = told (nat_eq (how_many ps) (suc i + holes))
+
+  format_told : (o : Op) (place : Place) (ps : Plans) → IsIn files place → AreTold files (format_faults o place ps)
+  format_told (Op.Control Control.Printf) place ps h = count_told place 0 ps h
+  format_told (Op.Control Control.Fprintf) place ps h = count_told place 1 ps h
+  format_told _ place ps h = tt
+
+  form_told : (width : Width) (o : Op) (place : Place) (args body : Shaped Plans) → IsIn files place → AreTold files args.faults → AreTold files body.faults → AreTold files (form_shape width o place args body).faults
+  form_told width o place args body h k l =
+      both (args.faults ++ format_faults o place args.made) body.faults (both args.faults (format_faults o place args.made) k (format_told o place args.made h)) l
+
   symbol_told : (width : Width) (s : Slot) (place : Place) (o : Op) (args : Shaped Plans) → IsIn files place → AreTold files args.faults → AreTold files (symbol_shape width s place o args).faults
-  symbol_told width s place o args h k = either (takes_role s (role_of o)) (form_shape width o place args (fine no_plans)) (refused (unfit s) place) (both args.faults [] k tt) (one (unfit s) place h)
+  symbol_told width s place o args h k = either (takes_role s (role_of o)) (form_shape width o place args (fine no_plans)) (refused (unfit s) place) (form_told width o place args (fine no_plans) h k tt) (one (unfit s) place h)
 
   room_told : (room : Bool) (place : Place) → IsIn files place → AreTold files (room_faults room place)
   room_told true place h = tt
@@ -261,7 +284,7 @@ module _ (files : ℕ) where
           let rest : Shaped Plans = contents (descriptor_body d) inside place body in
           let room = is_roomy d first.made rest.made in
           both (first.faults ++ rest.faults) (room_faults room place) (both first.faults rest.faults (arguments_told (descriptor_parameters d) place inside args h.0 h.1) (contents_told (descriptor_body d) inside place body h.0 h.2)) (room_told room place h.0))
-          (λ o. both (arguments (parameters_as o s) place inside args).faults (contents (body_as o s) (within o inside) place body).faults (arguments_told (parameters_as o s) place inside args h.0 h.1) (contents_told (body_as o s) (within o inside) place body h.0 h.2)))
+          (λ o. form_told inside.width o place (arguments (parameters_as o s) place inside args) (contents (body_as o s) (within o inside) place body) h.0 (arguments_told (parameters_as o s) place inside args h.0 h.1) (contents_told (body_as o s) (within o inside) place body h.0 h.2)))
       bare_told s inside comma h = tt
       bare_told s inside semicolon h = tt
       bare_told s inside empty h = tt
@@ -367,10 +390,33 @@ module _ (files : ℕ) where
     unfolding errors_at
     errors_told raws h = all_told (writtens raws) h
 
+    -- of a source
+
+    alone_told : (r : Raw) → IsWithin files (written r) → AreTold files (errors_at (alone r))
+    unfolding writtens
+    alone_told r h = errors_told (alone r) (h, tt)
+
+    blocks_told : (raws : List Raw) → AreWithin files (writtens raws) → AreTold files (errors_in_blocks raws)
+    unfolding writtens
+    blocks_told [] h = tt
+    blocks_told (r ∷ rs) h = both (errors_in_block r) (errors_in_blocks rs) (if_told (is_block_at r) (errors_at (alone r)) [] (alone_told r h.0) tt) (blocks_told rs h.1)
+
+    strays_told : (raws : List Raw) → AreWithin files (writtens raws) → AreTold files (stray_errors raws)
+    unfolding writtens place_at
+    strays_told [] h = tt
+    strays_told (r ∷ rs) h = if_told (is_block_at r) (stray_errors rs) (no_block (place_at start r)) (strays_told rs h.1) (one 6028 (place_at start r) (place_in start (written r) main h.0))
+
+    pub source_told : (raws : List Raw) → AreWithin files (writtens raws) → AreTold files (source_errors raws)
+    source_told [] h = one 6028 start main
+    source_told (r ∷ rs) h = both (errors_in_blocks (r ∷ rs)) (stray_errors (r ∷ rs)) (blocks_told (r ∷ rs) h) (strays_told (r ∷ rs) h)
+
 pub as_all : (files : ℕ) (ms : List Message) → AreTold files ms → All (λ m. m.place.file < files) ms
 as_all files [] h = λ k d lt. absurd (omega (arith, lt))
 as_all files (m ∷ ms) h = All-cons (λ m. m.place.file < files) m ms h.0 (as_all files ms h.1)
 
--- the errors of a source whose parts stand in some files stand in these
+-- the errors of a block, and of a source, whose parts stand in some files stand in these
 pub errors_within : (files : ℕ) → 0 < files → (raws : List Raw) → AreWithin files (writtens raws) → All (λ m. m.place.file < files) (errors_at raws)
 errors_within files main raws h = as_all files (errors_at raws) (errors_told files main raws h)
+
+pub source_errors_within : (files : ℕ) → 0 < files → (raws : List Raw) → AreWithin files (writtens raws) → All (λ m. m.place.file < files) (source_errors raws)
+source_errors_within files main raws h = as_all files (source_errors raws) (source_told files main raws h)

@@ -1,5 +1,5 @@
 -- The arguments of forms, by their nodes.
-use Rattle.std.proofs.Common.{◌≡◌, ℕ, zero, suc, ◌+◌, ◌<◌, ◌≤◌, length, get_or, take, drop, add-one, arith, List, [], ◌∷◌, ◌++◌, refl, ap, ◌∙◌, sym, true, false, if◌then◌else◌, None, Vec, Global}
+use Rattle.std.proofs.Common.{◌≡◌, ℕ, zero, suc, ◌+◌, ◌<◌, ◌≤◌, length, get_or, set, take, drop, add-one, arith, List, [], ◌∷◌, ◌++◌, refl, ap, ◌∙◌, sym, true, false, if◌then◌else◌, None, Vec, Global}
 use Rattle.std.specs.List.{remove}
 use Rattle.asl_tree.specs.declared.path.Path.{Path}
 use Rattle.asl_tree.specs.declared.term.Op.{Op}
@@ -8,7 +8,7 @@ use Rattle.asl_tree.specs.declared.term.Node.{Node}
 use Rattle.asl_tree.specs.declared.term.Term as D
 use Rattle.acpi_values.specs.declared.width.Width.{Width}
 use Rattle.asl_shape.specs.Plans.{Plans, no_plans, plan, omitted, a_form, plan_of, plans_of, plan_at, number_of, first_plans, join, constant_of}
-use Rattle.asl_shape.specs.Shapes.{is_stated, one_plan, zero_plan, few_elements, is_default_plan, default_last}
+use Rattle.asl_shape.specs.Shapes.{is_stated, one_plan, zero_plan, one_word, for_settled, few_elements, is_default_plan, default_last}
 use Rattle.asl_shape.proofs.Plans.{plan_form, plan_call}
 
 pub number_form : (o : Op) (args body : Vec Node Global) → number_of (plan_of (D.Form o args body)) ≡ 0
@@ -79,6 +79,37 @@ pub zero_is : (args body : Vec Node Global) → args.items ≡ [] → body.items
 zero_is args body e f = plan_form (Op.Literal Literal.Zero) args body ∙ ap (λ ns. a_form (Op.Literal Literal.Zero) (plans_of ns) (plans_of body.items)) e ∙ ap (λ ns. a_form (Op.Literal Literal.Zero) (plans_of []) (plans_of ns)) f ∙ ap (λ ps. a_form (Op.Literal Literal.Zero) ps ps) no_nodes
 
 pub ruleset zero_rules = (zero_is)
+
+pub one_is : (args body : Vec Node Global) → args.items ≡ [] → body.items ≡ [] → plan_of (D.Form (Op.Literal Literal.One) args body) ≡ one_word
+one_is args body e f = plan_form (Op.Literal Literal.One) args body ∙ ap (λ ns. a_form (Op.Literal Literal.One) (plans_of ns) (plans_of body.items)) e ∙ ap (λ ns. a_form (Op.Literal Literal.One) (plans_of []) (plans_of ns)) f ∙ ap (λ ps. a_form (Op.Literal Literal.One) ps ps) no_nodes
+
+pub ruleset one_rules = (one_is)
+
+-- ---- the test of a For
+
+pub no_test : (nodes : List Node) → length nodes ≤ 1 → plans_of nodes ≡ for_settled (plans_of nodes)
+unfolding plans_of
+no_test [] le = refl
+no_test (start ∷ []) le = refl
+no_test (start ∷ test ∷ nodes) le = absurd (omega (arith, le))
+
+pub test_stays : (nodes : List Node) → is_stated (plan_at (plans_of nodes) 1) ≡ true → plans_of nodes ≡ for_settled (plans_of nodes)
+unfolding plans_of
+test_stays [] e = refl
+test_stays (start ∷ []) e = refl
+test_stays (start ∷ test ∷ nodes) e = ap (λ b. plan start.place (plan_of start.term) (plan test.place (if b then plan_of test.term else one_word) (plans_of nodes))) (sym e)
+
+pub test_put : (nodes : List Node) (node d : Node) → 1 < length nodes → is_stated (plan_at (plans_of nodes) 1) ≡ false → node.place ≡ (get_or nodes 1 d).place → plan_of node.term ≡ one_word
+    → plans_of (set nodes 1 node) ≡ for_settled (plans_of nodes)
+unfolding plans_of
+test_put [] node d lt e f g = absurd (omega (arith, lt))
+test_put (start ∷ []) node d lt e f g = absurd (omega (arith, lt))
+test_put (start ∷ test ∷ nodes) node d lt e f g =
+    ap (λ place. plan start.place (plan_of start.term) (plan place (plan_of node.term) (plans_of nodes))) f
+    ∙ ap (λ p. plan start.place (plan_of start.term) (plan test.place p (plans_of nodes))) g
+    ∙ ap (λ b. plan start.place (plan_of start.term) (plan test.place (if b then plan_of test.term else one_word) (plans_of nodes))) (sym e)
+
+pub ruleset test_rules = (no_test, test_stays, test_put)
 
 pub join_first : (ps : Plans) → join (plans_of []) ps ≡ ps
 unfolding plans_of

@@ -29,7 +29,7 @@ use Rattle.asl_words.specs.declared.operator.FieldWord.{FieldWord}
 use Rattle.asl_words.specs.Operators.{parameters_of, body_of, parameters_as, body_as, element_parameters, macro_parameters}
 use Rattle.asl_shape.specs.Shapes
 use Rattle.asl_shape.specs.Symbols.{symbol_of}
-use Rattle.asl_shape.specs.Shapes.{Shaped, fine, refused, template_shape, descriptor_shape, is_given, inside_of, has_arguments, after, checked, evaluated, number_shape, text_shape, listed_shape, form_shape, symbol_shape, read_shape, item_shape, path_shape, call_shape, known_plan, within, place_of, joined, left_out, list_shape, skipped, is_separator, nowhere, bare, call_args, arguments, contents, meaning_in, element_shape, macro_shape, begin}
+use Rattle.asl_shape.specs.Shapes.{Shaped, fine, refused, template_shape, descriptor_shape, is_given, inside_of, has_arguments, after, checked, evaluated, number_shape, text_shape, listed_shape, form_shape, symbol_shape, read_shape, item_shape, path_shape, call_shape, known_plan, within, place_of, joined, missing, left_out, list_shape, skipped, is_separator, nowhere, bare, call_args, arguments, contents, meaning_in, element_shape, macro_shape, begin}
 use Rattle.asl_words.specs.Meanings.{item_fault, meaning_of, reading_of, slot_as, unfit}
 use Rattle.asl_words.specs.Resources.{descriptor_parameters, descriptor_body}
 use Rattle.resource_layout.specs.declared.descriptor.Descriptor.{Descriptor}
@@ -438,7 +438,7 @@ pub argument_more : (q : Parameter) (qs : List Parameter) (place : Place) (insid
 unfolding arguments_in_at writtens place_at bare_at meaning_at
 argument_more q qs place inside r rs = refl
 
-pub argument_left : (q : Parameter) (qs : List Parameter) (place : Place) (inside : Around) → arguments_in_at (q ∷ qs) place inside [] ≡ joined place (fine omitted) (arguments_in_at qs place inside [])
+pub argument_left : (q : Parameter) (qs : List Parameter) (place : Place) (inside : Around) → arguments_in_at (q ∷ qs) place inside [] ≡ record { faults = (arguments_in_at qs place inside []).faults; made = join (missing place q) (arguments_in_at qs place inside []).made }
 unfolding arguments_in_at writtens
 argument_left q [] place inside = refl
 argument_left q (p ∷ qs) place inside = refl
@@ -448,11 +448,19 @@ unfolding arguments_in_at writtens
 argument_end place inside [] = refl
 argument_end place inside (r ∷ rs) = refl
 
+pub nothing_missing : (q : Parameter) (place : Place) → q.further ≡ true → missing place q ≡ no_plans
+nothing_missing q place e = ap (λ b. if b then no_plans else plan place omitted no_plans) e
+
+pub one_missing : (q : Parameter) (place : Place) → q.further ≡ false → missing place q ≡ left_at place
+one_missing q place e = ap (λ b. if b then no_plans else plan place omitted no_plans) e
+
+pub ruleset missing_rules = (nothing_missing, one_missing, nothing_behind, omitted_term)
+
 pub left_faults : (q : Parameter) (place : Place) (inside : Around) (o : Option Raw) → o ≡ None → (argument_at q place inside o).faults ≡ []
 unfolding argument_at
 left_faults q place inside o e = ap (λ o. (argument_at q place inside o).faults) e
 
-pub left_made : (q : Parameter) (place : Place) (inside : Around) (o : Option Raw) → o ≡ None → (argument_at q place inside o).made ≡ left_at place
+pub left_made : (q : Parameter) (place : Place) (inside : Around) (o : Option Raw) → o ≡ None → (argument_at q place inside o).made ≡ missing place q
 unfolding argument_at
 left_made q place inside o e = ap (λ o. (argument_at q place inside o).made) e
 
@@ -485,7 +493,7 @@ got_none [] (suc i) le = refl
 got_none (x ∷ xs) zero le = absurd (omega (arith, le))
 got_none (x ∷ xs) (suc i) le = got_none xs i (omega (arith, le))
 
-pub ruleset one_argument_rules = (left_faults, left_made, argument_some_faults, argument_some_made, nothing_more, nothing_behind, omitted_term, size_got)
+pub ruleset one_argument_rules = (left_faults, left_made, argument_some_faults, argument_some_made, nothing_more, nothing_behind, size_got)
 
 next_argument : (q : Parameter) (qs : List Parameter) (place : Place) (inside : Around) (raws : List Raw) (i : ℕ)
     → ((argument_at q place inside (slice_get raws i)).faults ++ (arguments_in_at qs place inside (drop (suc i) raws)).faults ≡ (arguments_in_at (q ∷ qs) place inside (drop i raws)).faults)

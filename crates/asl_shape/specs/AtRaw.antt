@@ -21,12 +21,13 @@ use Rattle.asl_words.specs.declared.meaning.Reading.{Reading}
 use Rattle.asl_shape.specs.declared.fields.Due.{Due}
 use Rattle.asl_shape.specs.declared.fields.UnitName.{UnitName}
 use Rattle.asl_parser.specs.Written.{written, writtens, written_in}
-use Rattle.asl_shape.specs.Shapes.{Shaped, fine, takes, none_empty, has_arguments, is_comma, due_after, is_text, bare, run_after, is_call}
-use Rattle.asl_shape.specs.Shapes.{is_separator, is_listed, byte_slot, skipped, joined, operands, call_args, arguments, arguments_in}
-use Rattle.asl_shape.specs.Shapes.{contents, members, terms, read_shape, form_shape, within, place_of, nowhere, checked, item_shape}
-use Rattle.asl_shape.specs.Shapes.{listed_shape, types_shape, is_type, are_types, is_type_or_list, are_all_types, meaning_in, goes_on}
-use Rattle.asl_shape.specs.Shapes.{is_field_list, field_slot, unit_behind, field_part, due_behind, element_shape, first_place, inner_place}
-use Rattle.asl_shape.specs.Shapes.{element_place, macro_shape, template_shape, descriptor_shape, elements, begin, cases, default_after}
+use Rattle.asl_shape.specs.Shapes.{missing, Shaped, fine, takes, none_empty, has_arguments, is_comma, due_after, is_text, bare, run_after}
+use Rattle.asl_shape.specs.Shapes.{is_call, is_separator, is_listed, byte_slot, skipped, joined, operands, call_args, arguments}
+use Rattle.asl_shape.specs.Shapes.{arguments_in, contents, members, terms, read_shape, form_shape, within, place_of, nowhere, checked}
+use Rattle.asl_shape.specs.Shapes.{item_shape, listed_shape, types_shape, is_type, are_types, is_type_or_list, are_all_types, meaning_in}
+use Rattle.asl_shape.specs.Shapes.{goes_on, is_field_list, field_slot, unit_behind, field_part, due_behind, element_shape, first_place}
+use Rattle.asl_shape.specs.Shapes.{inner_place, element_place, macro_shape, template_shape, descriptor_shape, elements, begin, cases}
+use Rattle.asl_shape.specs.Shapes.{default_after}
 use Rattle.asl_words.specs.Meanings.{item_fault, meaning_of, reading_of, slot_as, is_whole}
 use Rattle.asl_words.specs.Operators.{parameters_as, body_as, element_parameters, macro_parameters}
 use Rattle.asl_words.specs.Resources.{descriptor_parameters, descriptor_body}
@@ -161,7 +162,7 @@ meaning_at raw = meaning_in (written raw)
 
 -- an argument alone: one that is given, or one that is left out
 unfoldable pub argument_at : Parameter → Place → Around → Option Raw → Shaped Plans
-argument_at q place inside None = joined place (fine omitted) (fine no_plans)
+argument_at q place inside None = fine (missing place q)
 argument_at q place inside (Some raw) = joined (place_at place raw) (shape_at (slot_as q.slot (meaning_at raw)) inside raw) (fine no_plans)
 
 -- a refusal tells exactly these errors, at least one

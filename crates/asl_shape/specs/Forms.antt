@@ -1,4 +1,4 @@
--- A source as a program: one definition block (ACPI Specification 6.4, 19.6.29).
+-- A source as a program: one or more definition blocks (ACPI Specification 6.4, 19.6.29), each of which is read as if it stood alone.
 use Rattle.std.specs.Prelude.{◌≡◌, ℕ, ◌%◌, Bool, not, if◌then◌else◌, List, [], ◌∷◌, ◌++◌, codes, Option, Some, None, false}
 use Rattle.std.specs.Str.{bytes_eq}
 use Rattle.iasl_messages.specs.declared.place.Place.{Place}
@@ -6,14 +6,14 @@ use Rattle.iasl_messages.specs.declared.message.Message.{Message}
 use Rattle.asl_parser.specs.declared.raw.Raw.{Raw}
 use Rattle.asl_tree.specs.declared.program.Block.{Block}
 use Rattle.asl_tree.specs.declared.program.Program.{Program}
-use Rattle.asl_parser.specs.Written.{Written, Writtens, WrittenGroup, item, none, more, writtens}
+use Rattle.asl_parser.specs.Written.{Written, Writtens, WrittenGroup, item, none, more, written, writtens}
 use Rattle.acpi_values.specs.Revisions.{width_of}
 use Rattle.acpi_values.specs.declared.width.Width.TheVariants.{W64}
 use Rattle.asl_shape.specs.Around.{outside}
 use Rattle.asl_shape.specs.Plans.{Plans, no_plans, plans_of, plan_at, text_of, number_of}
 use Rattle.asl_words.specs.Operators.{block_parameters}
 use Rattle.asl_shape.specs.Shapes.{Shaped, fault_at, place_of, takes, inside_of, is_given, arguments, terms}
-use Rattle.asl_shape.specs.AtRaw.{arguments_in_at, terms_at, takes_at, inside_at, is_some}
+use Rattle.asl_shape.specs.AtRaw.{arguments_in_at, terms_at, takes_at, inside_at, is_some, place_at}
 
 -- the begin of the source
 abbrev pub start : Place
@@ -53,7 +53,7 @@ one_error number place = fault_at number place ∷ []
 abbrev pub no_block : Place → List Message
 no_block place = one_error 6028 place
 
--- a block stands alone
+-- nothing stands beside a block that is read alone
 abbrev pub errors_before : List Message → Writtens → List Message
 errors_before errors none = errors
 errors_before errors (more w ws) = no_block (place_of start w)
@@ -63,10 +63,15 @@ first_errors (item place word args body) rest = if is_block_word word then error
     no_block place
 first_errors w rest = no_block (place_of start w)
 
--- all errors of a source, in preorder
+-- all errors of an item that is read alone, in preorder
 abbrev pub errors_of : Writtens → List Message
 errors_of none = no_block start
 errors_of (more w ws) = first_errors w ws
+
+-- whether an item is a block
+abbrev pub is_block : Written → Bool
+is_block (item place word args body) = is_block_word word
+is_block _ = false
 
 -- what a block says: its place, its arguments and its terms
 abbrev pub block_place : Writtens → Place
@@ -97,10 +102,51 @@ errors_at raws = errors_of (writtens raws)
 unfoldable pub IsBlockOf : List Raw → Block → Type 0
 IsBlockOf raws block = IsBlock (block_place (writtens raws)) (args_of (writtens raws)) (terms_of (writtens raws)) block
 
--- a source without errors is the program of its one block
+-- an item, alone
+abbrev pub alone : Raw → List Raw
+alone raw = raw ∷ []
+
+unfoldable pub is_block_at : Raw → Bool
+is_block_at raw = is_block (written raw)
+
+-- the errors of an item, if it is a block
+abbrev pub errors_in_block : Raw → List Message
+errors_in_block raw = if is_block_at raw then errors_at (alone raw) else []
+
+-- those of each block among some items, in their order
+abbrev pub errors_in_blocks : List Raw → List Message
+errors_in_blocks [] = []
+errors_in_blocks (raw ∷ raws) = errors_in_block raw ++ errors_in_blocks raws
+
+-- of the items that are no block the first is told of, and nothing in it is looked at
+abbrev pub stray_errors : List Raw → List Message
+stray_errors [] = []
+stray_errors (raw ∷ raws) = if is_block_at raw then stray_errors raws else no_block (place_at start raw)
+
+-- all errors of a source: those of its blocks, and the first item that is none, or that there is no item
+abbrev pub source_errors : List Raw → List Message
+source_errors [] = no_block start
+source_errors (raw ∷ raws) = errors_in_blocks (raw ∷ raws) ++ stray_errors (raw ∷ raws)
+
+-- blocks that some items are, in their order
+abbrev pub AreBlocksOf : List Raw → List Block → Type 0
+AreBlocksOf [] [] = Unit {0}
+AreBlocksOf (raw ∷ raws) (block ∷ blocks) = IsBlockOf (alone raw) block × AreBlocksOf raws blocks
+AreBlocksOf _ _ = ⊥
+
+-- nothing is wrong with items, of which each is a block
+abbrev pub AreRight : List Raw → Type 0
+AreRight [] = Unit {0}
+AreRight (raw ∷ raws) = (errors_at (alone raw) ≡ []) × AreRight raws
+
+-- the block of an item is added behind others
+abbrev pub AddsBlock : Raw → List Block → List Block → Type 0
+AddsBlock raw old new = (block : Block) × IsBlockOf (alone raw) block × (new ≡ old ++ block ∷ [])
+
+-- a source without errors is the program of its blocks
 pub record Forms (raws : List Raw) (program : Program) : Type 0 where
-  pub no_errors : errors_at raws ≡ []
-  pub one_block : (block : Block) × (program.blocks ≡ block ∷ []) × IsBlockOf raws block
+  pub no_errors : source_errors raws ≡ []
+  pub blocks : AreBlocksOf raws program.blocks
 
 -- ---- the same of the tree of the syntax itself, part by part
 
@@ -117,12 +163,3 @@ unfoldable pub block_errors_at : Place → Option (List Raw) → Option (List Ra
 block_errors_at place args body =
     errors_inside (block_fault (takes_at block_parameters (inside_at args)) (is_some body)) place
     (errors_in place (inside_at args) (inside_at body))
-
-unfoldable pub item_errors_at : Place → List ℕ → Option (List Raw) → Option (List Raw) → List Raw → List Message
-item_errors_at place word args body rest =
-    if is_block_word word then errors_before (block_errors_at place args body) (writtens rest) else no_block place
-
-unfoldable pub IsItemBlock : Place → Option (List Raw) → Option (List Raw) → List Raw → Block → Type 0
-IsItemBlock place args body [] block = IsBlock place (args_in place (inside_at args)).made
-    (terms_in (args_in place (inside_at args)).made (inside_at body)).made block
-IsItemBlock place args body (r ∷ rs) block = ⊥

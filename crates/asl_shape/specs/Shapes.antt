@@ -1,6 +1,6 @@
 -- What a source comes to: a program's tree, or the errors in it.
-use Rattle.std.specs.Prelude.{ℕ, suc, ◌+◌, ◌*◌, ◌%◌, nat_le, Bool, true, false, not, ◌&&◌, ◌||◌, if◌then◌else◌, List, [], ◌∷◌, ◌++◌}
-use Rattle.std.specs.Prelude.{Option, Some, None, Result, Ok, Err}
+use Rattle.std.specs.Prelude.{ℕ, suc, ◌+◌, ◌*◌, ◌%◌, nat_eq, nat_le, Bool, true, false, not, ◌&&◌, ◌||◌, if◌then◌else◌, List, [], ◌∷◌}
+use Rattle.std.specs.Prelude.{◌++◌, length, Option, Some, None, Result, Ok, Err}
 use Rattle.acpi_state.specs.Outcomes.{choose}
 use Rattle.iasl_messages.specs.declared.place.Place.{Place}
 use Rattle.iasl_messages.specs.declared.message.Message.{Message}
@@ -9,6 +9,7 @@ use Rattle.acpi_values.specs.declared.width.Width.{Width}
 use Rattle.acpi_values.specs.declared.width.Width.TheVariants.{W64}
 use Rattle.asl_tree.specs.declared.constant.NoConstant.{NoConstant}
 use Rattle.asl_tree.specs.declared.path.Path.{Path}
+use Rattle.asl_tree.specs.Formats.{cut}
 use Rattle.asl_tree.specs.Names.{is_searched, single_segment}
 use Rattle.asl_tree.specs.declared.term.NamedDescriptor.{NamedDescriptor}
 use Rattle.asl_tree.specs.declared.term.Op.{Op}
@@ -215,13 +216,19 @@ checked width s place shape = after shape.faults shape (evaluated width s place 
 
 abbrev pub number_shape : Slot → Place → ℕ → Shaped Plan
 number_shape (slot.Term run) place n = refused 6025 place
+number_shape slot.Effect place n = refused 6022 place
 number_shape s place n = if takes_expression s then fine (an_integer (wrapped W64 n)) else refused (unfit s) place
 
 abbrev pub text_plan : List ℕ → Plan
 text_plan bytes = a_text bytes
 
+-- what is told of a string that is not what it has to be
+abbrev pub unformed : StringForm → ℕ
+unformed form.Format = 6029
+unformed _ = 6024
+
 abbrev pub string_shape : StringForm → Place → List ℕ → Shaped Plan
-string_shape f place bytes = if has_form f bytes && is_all_text bytes then fine (text_plan bytes) else refused 6024 place
+string_shape f place bytes = if has_form f bytes && is_all_text bytes then fine (text_plan bytes) else refused (unformed f) place
 
 -- ---- macros for identifiers and texts: each stands as what its string comes to
 
@@ -354,6 +361,17 @@ external_settled place ps = join (join (first_alone ps) (one_plan place (an_inte
 abbrev pub return_settled : Place → Plans → Plans
 return_settled place ps = if is_stated (plan_at ps 0) then ps else one_plan place zero_plan
 
+abbrev pub one_word : Plan
+one_word = a_form (Op.Literal Literal.One) no_plans no_plans
+
+abbrev pub or_one : Plan → Plan
+or_one p = if is_stated p then p else one_word
+
+-- a For without a test tests One
+abbrev pub for_settled : Plans → Plans
+for_settled (plan place start (plan at test ps)) = plan place start (plan at (or_one test) ps)
+for_settled ps = ps
+
 -- the flags of a field: its access, whether it takes the global lock, and what its writes do to other bits; its words
 -- stand behind so many arguments
 abbrev pub field_flags : ℕ → Plans → ℕ
@@ -376,6 +394,7 @@ settled width (Op.Declaration Declaration.Method) place ps = method_settled plac
 settled width (Op.Declaration Declaration.Mutex) place ps = mutex_settled place ps
 settled width (Op.Declaration Declaration.External) place ps = external_settled place ps
 settled width (Op.Control Control.Return) place ps = return_settled place ps
+settled width (Op.Control Control.For) place ps = for_settled ps
 settled width (Op.Special Special.Package) place ps = package_settled width place ps
 settled width (Op.Declaration Declaration.Field) place ps = field_settled 1 place ps
 settled width (Op.Declaration Declaration.IndexField) place ps = field_settled 2 place ps
@@ -400,9 +419,31 @@ abbrev pub arranged : Op → Plans → Plans
 arranged (Op.Control Control.Switch) ps = default_last ps
 arranged _ ps = ps
 
+-- how many arguments a good format asks for
+abbrev pub holes_in : Plan → Option ℕ
+holes_in (a_text bytes) = Some (length (cut bytes).1)
+holes_in _ = None
+
+abbrev pub counted : Place → Bool → List Message
+counted place true = []
+counted place false = fault_at 6030 place ∷ []
+
+-- behind a good format, which stands behind so many arguments, there are as many as it asks for
+abbrev pub count_faults : Place → ℕ → Plans → List Message
+count_faults place i ps = choose (holes_in (plan_at ps i)) [] (λ holes. counted place (nat_eq (how_many ps) (suc i + holes)))
+
+abbrev pub format_faults : Op → Place → Plans → List Message
+format_faults (Op.Control Control.Printf) place ps = count_faults place 0 ps
+format_faults (Op.Control Control.Fprintf) place ps = count_faults place 1 ps
+format_faults _ place ps = []
+
 abbrev pub form_shape : Width → Op → Place → Shaped Plans → Shaped Plans → Shaped Plan
 form_shape width o place args body =
-    record { faults = args.faults ++ body.faults; made = a_form o (settled width o place args.made) (arranged o body.made) }
+    record {
+      faults = args.faults ++ format_faults o place args.made ++ body.faults;
+      made = a_form o (settled width o place args.made)
+          (arranged o body.made);
+    }
 
 -- what is written with a symbol, by what its operands come to
 abbrev pub symbol_shape : Width → Slot → Place → Op → Shaped Plans → Shaped Plan
@@ -488,9 +529,13 @@ place_of place _ = place
 abbrev pub joined : Place → Shaped Plan → Shaped Plans → Shaped Plans
 joined place first rest = record { faults = first.faults ++ rest.faults; made = plan place first.made rest.made }
 
+-- what stands for an argument that is not there: a further one has nothing
+abbrev pub missing : Place → Parameter → Plans
+missing place q = if q.further then no_plans else plan place omitted no_plans
+
 abbrev pub left_out : Place → List Parameter → Plans
 left_out place [] = no_plans
-left_out place (q ∷ qs) = plan place omitted (left_out place qs)
+left_out place (q ∷ qs) = join (missing place q) (left_out place qs)
 
 -- ---- lists in braces
 

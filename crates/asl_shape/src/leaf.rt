@@ -16,7 +16,9 @@ use asl_words::meaning::{Meaning, meaning_of, takes_expression, takes_known, unf
 use asl_words::operator::{Known, Slot, StringForm, WordKind};
 use asl_words::paths::path_of;
 use asl_words::texts::{has_form, is_text};
-use iasl_messages::number::{NOT_ALLOWED_HERE, VALUE_OUT_OF_RANGE, WRONG_ARGUMENT_FORM};
+use iasl_messages::number::{
+    BAD_FORMAT, NOT_ALLOWED_HERE, VALUE_OUT_OF_RANGE, WRONG_ARGUMENT_FORM,
+};
 use iasl_messages::place::Place;
 use iasl_ports::list::Text;
 use std::alloc::{AllocError, Global};
@@ -51,6 +53,7 @@ pub fn number(
 {
     match slot {
         Slot::Term { .. } => refuse(alloc, work, NOT_ALLOWED_HERE, place),
+        Slot::Effect => refuse(alloc, work, WRONG_ARGUMENT_FORM, place),
         _ => {
             if takes_expression(slot) {
                 Ok(Term::Integer(wrap(Width::W64, value)))
@@ -68,6 +71,16 @@ fn copied(alloc: Global, bytes: &Text) -> Result<Term, AllocError>
     Ok(Term::Text(Text::from_bytes(alloc, bytes.as_bytes())?))
 }
 
+// The number of the error that is told of a string that is not what it has to be.
+fn unformed(form: StringForm) -> u16
+    ensures { result ≡ spec.unformed form }
+{
+    match form {
+        StringForm::Format => BAD_FORMAT,
+        StringForm::Any | StringForm::Signature | StringForm::AtMost(_) => VALUE_OUT_OF_RANGE,
+    }
+}
+
 #[tactic(auto, using(crate::proofs::Terms::nothing_more))]
 fn string(
     alloc: Global,
@@ -82,7 +95,7 @@ fn string(
     if has_form(form, bytes.as_bytes()) && is_text(bytes.as_bytes()) {
         Ok(copied(alloc, bytes)?)
     } else {
-        Ok(refuse(alloc, work, VALUE_OUT_OF_RANGE, place)?)
+        Ok(refuse(alloc, work, unformed(form), place)?)
     }
 }
 

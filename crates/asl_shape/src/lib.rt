@@ -4,6 +4,7 @@
 mod around;
 mod elements;
 mod fields;
+mod formats;
 mod item;
 mod leaf;
 mod lists;

@@ -8,7 +8,7 @@ use crate::around::Around;
 use crate::item::is_given;
 use asl_parser::Raw;
 use asl_tree::term::{Declaration, Op};
-use asl_words::meaning::{is_default, meaning_of, run_behind};
+use asl_words::meaning::{is_default, meaning_of, run_behind_word};
 use asl_words::operator::{Slot, StringForm};
 use asl_words::paths::parts;
 
@@ -139,9 +139,7 @@ pub fn run_after(run: Option<u8>, raw: &Raw) -> Option<u8>
     match raw {
         Raw::Comma => run,
         Raw::Semicolon => run,
-        Raw::Item { word, body, .. } => {
-            run_behind(run, meaning_of(word.as_bytes(), is_given(body)))
-        }
+        Raw::Item { word, body, .. } => { run_behind_word(run, word.as_bytes(), is_given(body)) }
         Raw::Number { .. } => None,
         Raw::Text { .. } => None,
         Raw::Apply { .. } => None,

@@ -138,6 +138,27 @@ fn only(alloc: Global, nodes: &mut Vec<Node>, place: Place, term: Term) -> Resul
     Ok(push(nodes, place, term)?)
 }
 
+#[tactic(auto, using(crate::proofs::Settled::one_rules))]
+fn one(alloc: Global) -> Term
+    ensures { plan_of result ≡ spec.one_word }
+{
+    Term::Form {
+        op: Op::Literal(Literal::One),
+        args: Vec::new(alloc),
+        body: Vec::new(alloc),
+    }
+}
+
+// A For without a test tests One.
+#[tactic(auto, using(crate::proofs::Settled::test_rules))]
+fn tested(alloc: Global, nodes: &mut Vec<Node>)
+    ensures { plans_of nodes.new.items ≡ spec.for_settled (plans_of nodes.old.items) }
+{
+    if nodes.len() > 1 && !is_given(nodes, 1) {
+        nodes[1].term = one(alloc);
+    }
+}
+
 #[tactic(auto)]
 fn returned(alloc: Global, nodes: &mut Vec<Node>, place: Place) -> Result<(), AllocError>
     ensures { OnOk result (plans_of nodes.new.items ≡ spec.return_settled place (plans_of nodes.old.items)) }
@@ -243,6 +264,10 @@ pub fn settle(
         Op::Declaration(Declaration::BankField) => field(nodes, place, 3),
         Op::Control(Control::Return) => returned(alloc, nodes, place),
         Op::Special(Special::Package) => package(alloc, width, nodes, place),
+        Op::Control(Control::For) => {
+            tested(alloc, nodes);
+            Ok(())
+        }
         _ => Ok(()),
     }
 }

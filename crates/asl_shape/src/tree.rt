@@ -12,6 +12,7 @@ use crate::fields::{
     BITS, Due, UnitName, add_unit, begin, due_behind, element_place, is_field_list, meaning_in,
     slot_of,
 };
+use crate::formats::count_arguments;
 use crate::item::{inside_of, is_given, item_fault};
 use crate::leaf::{known_term, listed, number, path, place_in, text};
 use crate::lists::{
@@ -434,8 +435,9 @@ fn form(
         (at.contents_at (table.body_as op slot) (spec.within op inside) place body.now)).made) }
 {
     let parameters = parameters_as(op, slot);
-    let mut nodes = Vec::with_capacity(alloc, parameters.len())?;
+    let mut nodes = Vec::with_capacity(alloc, parameters.len().min(args.len().max(8)))?;
     arguments(alloc, work, &mut nodes, parameters, inside, place, args)?;
+    count_arguments(alloc, work, op, place, &nodes)?;
     settle(alloc, inside.width, op, place, &mut nodes)?;
     let mut terms = Vec::new(alloc);
     contents(
@@ -453,6 +455,18 @@ fn form(
         args: nodes,
         body: terms,
     })
+}
+
+// What stands for an argument that is not there: a further one has nothing.
+#[tactic(auto, using(crate::proofs::Shapes::missing_rules))]
+fn add_missing(nodes: &mut Vec<Node>, place: Place, parameter: Parameter) -> Result<(), AllocError>
+    ensures { OnOk result (plans_of nodes.new.items ≡ join (plans_of nodes.old.items) (spec.missing place parameter)) }
+{
+    if parameter.further {
+        Ok(())
+    } else {
+        Ok(push(nodes, place, Term::Omitted)?)
+    }
 }
 
 // The argument of this number, by its letter.
@@ -483,7 +497,7 @@ fn add_argument(
             place,
             raw,
         )?),
-        None => Ok(push(nodes, place, Term::Omitted)?),
+        None => Ok(add_missing(nodes, place, parameter)?),
     }
 }
 

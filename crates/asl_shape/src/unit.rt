@@ -1,5 +1,5 @@
-//! A source as a program.
-ghost use Rattle.std.specs.Prelude.{◌≡◌, ◌++◌, ◌∷◌, [], length, IfOk, IfErr, OnOk};
+//! A source as a program: its blocks, one by one.
+ghost use Rattle.std.specs.Prelude.{◌≡◌, ◌++◌, ◌∷◌, [], length, true, IfOk, IfErr, OnOk};
 ghost use Rattle.asl_shape.specs.Forms as spec;
 ghost use Rattle.asl_shape.specs.AtRaw as at;
 ghost use Rattle.asl_words.specs.Operators as table;
@@ -16,7 +16,6 @@ use asl_parser::{Raw, RawUnit, Raws};
 use asl_tree::program::{Block, Blocks, Program};
 use asl_tree::term::{Node, Term};
 use asl_words::parameters::block_parameters;
-use asl_words::paths::parts;
 use iasl_messages::message::{Message, Messages, Stage};
 use iasl_messages::number::{NO_DEFINITION_BLOCK, WRONG_ARGUMENT_COUNT, WRONG_BODY};
 use iasl_messages::place::Place;
@@ -196,75 +195,132 @@ fn is_block_word(word: &Text) -> bool
     word.as_bytes() == b"DEFINITIONBLOCK".as_slice()
 }
 
-// An item, and what stands behind it.
-#[tactic(auto, using(crate::proofs::Units::item_rules))]
-fn item(
-    alloc: Global,
-    place: Place,
-    word: &Text,
-    args: &Option<Raws>,
-    body: &Option<Raws>,
-    rest: &[Raw],
-) -> Result<Block, Stage>
-    ensures formed { IfOk result (λ block. (spec.item_errors_at place word.now args.now body.now rest.now ≡ [])
-        × spec.IsItemBlock place args.now body.now rest.now block) }
-    ensures refused { IfErr result (λ stage. at.Refuses stage (spec.item_errors_at place word.now args.now body.now rest.now)) }
+// Whether an item is a block.
+#[tactic(auto, using(crate::proofs::Units::block_items))]
+fn is_block(raw: &Raw) -> bool
+    ensures { result ≡ spec.is_block_at raw.now }
 {
-    if !is_block_word(word) {
-        return Err(refusal(alloc, NO_DEFINITION_BLOCK, place));
-    }
-    match parts(rest) {
-        Some((next, _)) => Err(refusal(alloc, NO_DEFINITION_BLOCK, place_in(START, next))),
-        None => block(alloc, place, args, body),
+    match raw {
+        Raw::Item { word, .. } => is_block_word(word),
+        Raw::Number { .. } => false,
+        Raw::Text { .. } => false,
+        Raw::Apply { .. } => false,
+        Raw::List { .. } => false,
+        Raw::Comma => false,
+        Raw::Semicolon => false,
+        Raw::Empty => false,
     }
 }
 
-#[tactic(auto, using(crate::proofs::Units::first_rules))]
-fn first_block(alloc: Global, first: &Raw, rest: &[Raw]) -> Result<Block, Stage>
-    ensures formed { IfOk result (λ block. (spec.errors_at (first.now ∷ rest.now) ≡ []) × spec.IsBlockOf (first.now ∷ rest.now) block) }
-    ensures refused { IfErr result (λ stage. at.Refuses stage (spec.errors_at (first.now ∷ rest.now))) }
+// The block that an item is.
+fn block_in(alloc: Global, raw: &Raw) -> Result<Block, Stage>
+    requires { spec.is_block_at raw.now ≡ true }
+    ensures formed { IfOk result (λ block. (spec.errors_at (spec.alone raw.now) ≡ []) × spec.IsBlockOf (spec.alone raw.now) block) }
+    ensures refused { IfErr result (λ stage. at.Refuses stage (spec.errors_at (spec.alone raw.now))) }
 {
-    match first {
+    match raw {
         Raw::Item {
             place,
-            word,
             args,
             body,
-        } => item(alloc, *place, word, args, body, rest),
-        Raw::Number { place, .. } => Err(refusal(alloc, NO_DEFINITION_BLOCK, *place)),
-        Raw::Text { place, .. } => Err(refusal(alloc, NO_DEFINITION_BLOCK, *place)),
-        Raw::Apply { place, .. } => Err(refusal(alloc, NO_DEFINITION_BLOCK, *place)),
-        Raw::List { place, .. } => Err(refusal(alloc, NO_DEFINITION_BLOCK, *place)),
-        Raw::Comma => Err(refusal(alloc, NO_DEFINITION_BLOCK, START)),
-        Raw::Semicolon => Err(refusal(alloc, NO_DEFINITION_BLOCK, START)),
-        Raw::Empty => Err(refusal(alloc, NO_DEFINITION_BLOCK, START)),
+            ..
+        } => block(alloc, *place, args, body),
+        _ => Err(Stage::Memory),
     }
 }
 
-#[tactic(auto, using(crate::proofs::Units::source_rules))]
-fn source_block(alloc: Global, raws: &[Raw]) -> Result<Block, Stage>
-    ensures formed { IfOk result (λ block. (spec.errors_at raws.now ≡ []) × spec.IsBlockOf raws.now block) }
-    ensures refused { IfErr result (λ stage. at.Refuses stage (spec.errors_at raws.now)) }
+// Adds an item that is a block to the others, or its errors to theirs.
+#[tactic(auto, using(crate::proofs::Units::added_rules))]
+fn add_item(
+    alloc: Global,
+    faults: &mut Vec<Message>,
+    blocks: &mut Blocks,
+    raw: &Raw,
+) -> Result<(), AllocError>
+    ensures faults { OnOk result (faults.new.items ≡ faults.old.items ++ spec.errors_in_block raw.now) }
+    ensures blocks { OnOk result (spec.is_block_at raw.now ≡ true → spec.errors_in_block raw.now ≡ [] →
+        spec.AddsBlock raw.now blocks.old blocks.new) }
 {
-    match parts(raws) {
-        Some((first, rest)) => first_block(alloc, first, rest),
-        None => Err(refusal(alloc, NO_DEFINITION_BLOCK, START)),
+    if !is_block(raw) {
+        return Ok(());
+    }
+    match block_in(alloc, raw) {
+        Ok(block) => Ok(blocks.push(block)?),
+        Err(Stage::Refused(messages)) => Ok(faults.append(&mut messages.into_vec())?),
+        Err(Stage::Memory) => Err(AllocError),
     }
 }
 
-/// The program that a source is: one definition block (ACPI Specification 6.4, 19.6.29). The tree has no errors
-/// then, and the program is the tree of its terms, each at its place; the numbers of its nodes are not told apart
-/// yet. Otherwise it is refused with exactly its errors, 6020 to 6028, in the order of the source: for each item the
-/// first of 6020, 6025, 6021 and 6023, for any other argument the first of 6022 and 6024, and nothing inside of
-/// either. What is written with a symbol stands at the symbol. A want of memory is `Stage::Memory`.
+// The blocks among some items, or the errors of these.
+fn blocks_of(alloc: Global, faults: &mut Vec<Message>, raws: &[Raw]) -> Result<Blocks, AllocError>
+    ensures faults { OnOk result (faults.new.items ≡ faults.old.items ++ spec.errors_in_blocks raws.now) }
+    ensures blocks { IfOk result (λ blocks. spec.errors_in_blocks raws.now ≡ [] → spec.stray_errors raws.now ≡ [] →
+        spec.AreBlocksOf raws.now blocks) }
+{
+    let mut blocks = Blocks::new(alloc);
+    for raw in raws {
+        add_item(alloc, faults, &mut blocks, raw)?;
+    }
+    Ok(blocks)
+}
+
+// Tells where an item is no block.
+fn tell_stray(alloc: Global, faults: &mut Vec<Message>, place: Place) -> Result<(), AllocError>
+    ensures { OnOk result (faults.new.items ≡ faults.old.items ++ spec.no_block place) }
+{
+    Ok(faults.push(Message {
+        number: NO_DEFINITION_BLOCK,
+        place,
+        name: Text::new(alloc),
+    })?)
+}
+
+// Tells of the first item that is no block.
+fn add_stray(alloc: Global, faults: &mut Vec<Message>, raws: &[Raw]) -> Result<(), AllocError>
+    ensures { OnOk result (faults.new.items ≡ faults.old.items ++ spec.stray_errors raws.now) }
+{
+    for raw in raws {
+        if !is_block(raw) {
+            return tell_stray(alloc, faults, place_in(START, raw));
+        }
+    }
+    Ok(())
+}
+
+// The blocks of a source of some items, or its errors.
+#[tactic(auto, using(crate::proofs::Units::source_rules))]
+fn source_blocks(
+    alloc: Global,
+    faults: &mut Vec<Message>,
+    raws: &[Raw],
+) -> Result<Blocks, AllocError>
+    requires { faults.old.items ≡ [] }
+    ensures faults { OnOk result (faults.new.items ≡ spec.source_errors raws.now) }
+    ensures blocks { IfOk result (λ blocks. spec.source_errors raws.now ≡ [] → spec.AreBlocksOf raws.now blocks) }
+{
+    if raws.is_empty() {
+        tell_stray(alloc, faults, START)?;
+        return Ok(Blocks::new(alloc));
+    }
+    let blocks = blocks_of(alloc, faults, raws)?;
+    add_stray(alloc, faults, raws)?;
+    Ok(blocks)
+}
+
+/// The program that a source is: one or more definition blocks (ACPI Specification 6.4, 19.6.29), in their order. The tree has no errors
+/// then, and each block is the tree of its terms, each at its place; the numbers of its nodes are not told apart yet. Otherwise it is
+/// refused with exactly its errors, 6020 to 6028: those of each block, in the order of the source, for each item the first of 6020, 6025,
+/// 6021 and 6023, for any other argument the first of 6022 and 6024, and nothing inside of either; and behind them 6028 at the first item
+/// that is no block, or at 1:1 where there is no item. What is written with a symbol stands at the symbol. A want of memory is
+/// `Stage::Memory`.
 pub fn shape(alloc: Global, raw: &RawUnit) -> Result<Program, Stage>
     ensures formed { IfOk result (spec.Forms raw.now.items) }
-    ensures refused { IfErr result (λ stage. at.Refuses stage (spec.errors_at raw.now.items)) }
+    ensures refused { IfErr result (λ stage. at.Refuses stage (spec.source_errors raw.now.items)) }
 {
-    let block = source_block(alloc, raw.items.as_slice())?;
-    let mut blocks = Blocks::new(alloc);
-    match blocks.push(block) {
-        Ok(()) => Ok(Program { blocks }),
-        Err(_) => Err(Stage::Memory),
+    let mut faults = Vec::new(alloc);
+    match source_blocks(alloc, &mut faults, raw.items.as_slice()) {
+        Ok(blocks) if faults.is_empty() => Ok(Program { blocks }),
+        Ok(_) => Err(Stage::Refused(Messages::from_vec(faults))),
+        Err(AllocError) => Err(Stage::Memory),
     }
 }

@@ -15,7 +15,7 @@ use Rattle.acpi_names.specs.Terms.{are_terms}
 use Rattle.acpi_names.proofs.MentionErrors.{block_errors}
 use Rattle.acpi_names.proofs.MentionTypes.{block_types}
 use Rattle.name_checks.specs.Messages.{message_of, first_errors}
-use Rattle.asl_tables.specs.Compiled.{is_of_names, are_of_names}
+use Rattle.block_outcomes.specs.Joined.{is_of_names, are_of_names}
 
 -- each error is of the class of names, or none is
 abbrev pub AreOf : Bool → List NameError → Type 0

@@ -10,11 +10,12 @@ use Rattle.acpi_names.specs.Errors.{name_errors, type_errors}
 use Rattle.name_checks.specs.Messages.{message_of, first_errors, told_errors}
 use Rattle.name_checks.specs.declared.check.Names.{Names}
 use Rattle.name_checks.specs.Refusals.{Refuses}
-use Rattle.asl_tables.specs.declared.compile.Compiled.{Compiled}
-use Rattle.asl_tables.specs.declared.compile.Compiled.TheVariants.{Refused}
+use Rattle.block_outcomes.specs.declared.outcome.Outcome.{Outcome}
+use Rattle.block_outcomes.specs.declared.outcome.Outcome.TheVariants.{Faulty}
 use Rattle.asl_tables.specs.declared.compile.Findings.{Findings}
 use Rattle.asl_tables.specs.declared.compile.Findings.TheVariants.{Right, Wrong}
-use Rattle.asl_tables.specs.Compiled.{first_told, unless_wrong, with_others}
+use Rattle.asl_tables.specs.Compiled.{unless_wrong, with_others}
+use Rattle.block_outcomes.specs.Joined.{first_told}
 use Rattle.asl_tables.specs.Findings.{AreNamesOf, FindsFew, Finds}
 use Rattle.asl_tables.proofs.Programs.{refused_is, right_comes, none_behind, some_behind}
 
@@ -53,11 +54,11 @@ finds_right (Wrong errors) it names others few terms e none are h =
     (h.0 ∙ sym (ap (λ es. first_told es few) (none_behind names others e none)), λ n. h.1 (sym h.0 ∙ n))
 
 -- a block in which something is wrong
-pub wrong_all : (errors wrong few : List Message) (it : Compiled) → errors ≡ first_told wrong few → (errors ≡ [] → ⊥) → Refused errors ≡ unless_wrong wrong (unless_wrong few it)
+pub wrong_all : (errors wrong few : List Message) (it : Outcome) → errors ≡ first_told wrong few → (errors ≡ [] → ⊥) → Faulty errors ≡ unless_wrong wrong (unless_wrong few it)
 wrong_all errors [] few it e h = refused_is errors few it (e, λ n. h (e ∙ n))
-wrong_all errors (m ∷ ms) few it e h = ap Refused e
+wrong_all errors (m ∷ ms) few it e h = ap Faulty e
 
 -- and one in which nothing is
-pub right_all : (r : Result Compiled AllocError) (wrong few : List Message) (it : Compiled) → first_told wrong few ≡ [] → IfOk r (λ made. made ≡ it) → IfOk r (λ made. made ≡ unless_wrong wrong (unless_wrong few it))
+pub right_all : (r : Result Outcome AllocError) (wrong few : List Message) (it : Outcome) → first_told wrong few ≡ [] → IfOk r (λ made. made ≡ it) → IfOk r (λ made. made ≡ unless_wrong wrong (unless_wrong few it))
 right_all r [] few it e h = right_comes r few it e h
 right_all r (m ∷ ms) few it e h = absurd cc

@@ -1,13 +1,17 @@
 -- No value is left out of a formed program of which a Switch chooses.
+use Rattle.std.proofs.Common.{◌≡◌, sym, subst}
 use Rattle.asl_tree.specs.Tree.{Tree, Omitted, Package, VarPackage, Method, Container', Scope, If, ElseIf, Else, While, Switch, Case, Default, Trees, no_trees, tree}
 use Rattle.named_sessions.specs.Shaped.{AreNamed, IsCaseMember, AreCaseMembers, HaveCaseMembers, IsCaseValue, IsFormed, AreFormed, AreFormedCases}
+use Rattle.asl_formats.specs.Forms.{formed_all}
+use Rattle.form_shapes.specs.Near.{AreNear}
+use Rattle.form_shapes.proofs.Formed.{forms_formed}
 use Rattle.switch_loops.specs.Given.{HasValue, HaveValues, HasCaseValue, IsGiven, AreGiven}
 
 abbrev Formed : Tree → Type 0
-Formed = IsFormed AreNamed (Unit {0}) (Unit {0})
+Formed = IsFormed ⊥ AreNamed (Unit {0}) (Unit {0})
 
 abbrev FormedTerms : Trees → Type 0
-FormedTerms = AreFormed AreNamed (Unit {0}) (Unit {0})
+FormedTerms = AreFormed ⊥ AreNamed (Unit {0}) (Unit {0})
 
 value_given : (t : Tree) → Formed t → HasValue t
 value_given Omitted h = absurd h
@@ -49,11 +53,12 @@ mutual
   terms_given no_trees h = tt
   terms_given (tree t ts) h = (term_given t h.0, terms_given ts h.2)
 
-  cases_given : (ts : Trees) → AreFormedCases AreNamed (Unit {0}) (Unit {0}) ts → AreGiven ts
+  cases_given : (ts : Trees) → AreFormedCases ⊥ AreNamed (Unit {0}) (Unit {0}) ts → AreGiven ts
   cases_given no_trees h = tt
   cases_given (tree (Case value body) ts) h = ((case_given value h.0, terms_given body h.1), cases_given ts h.2)
   cases_given (tree (Default body) no_trees) h = (terms_given body h, tt)
   cases_given (tree _ _) h = absurd h
 
-pub are_given : (ts : Trees) → AreFormed AreNamed (Unit {0}) (Unit {0}) ts → AreGiven ts
-are_given = terms_given
+-- nor of what stands for its Fors and for what prints
+pub forms_given : (terms made : Trees) → AreFormed (Unit {0}) AreNamed (Unit {0}) (Unit {0}) terms → AreNear terms → made ≡ formed_all terms → AreGiven made
+forms_given terms made h near e = subst AreGiven (sym e) (terms_given (formed_all terms) (forms_formed AreNamed (Unit {0}) (Unit {0}) terms h near))

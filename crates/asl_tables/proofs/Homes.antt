@@ -18,10 +18,10 @@ use Rattle.acpi_names.specs.Errors.{NameError, Twice, DeclaredHere, Missing, NoC
 use Rattle.name_checks.specs.Messages.{message_of, first_errors, told_errors}
 use Rattle.named_sessions.specs.Places.{at_of, AreWithin as TreesWithin}
 use Rattle.named_sessions.proofs.Places.{errors_within as names_within}
-use Rattle.asl_parser.specs.Written.{Writtens, item, none, more, writtens}
-use Rattle.asl_parser.specs.Within.{AreWithin as PartsWithin}
-use Rattle.asl_shape.specs.Forms.{errors_at, block_place}
-use Rattle.asl_shape.proofs.Places.{errors_within}
+use Rattle.asl_parser.specs.Written.{Writtens, item, none, more, written, writtens}
+use Rattle.asl_parser.specs.Within.{IsWithin, AreWithin as PartsWithin}
+use Rattle.asl_shape.specs.Forms.{source_errors, alone, block_place}
+use Rattle.asl_shape.proofs.Places.{source_errors_within}
 use Rattle.literal_checks.proofs.Places.{literals_within}
 use Rattle.program_shapes.specs.Sources.{source_in, names_in, uses_in, plans_in, terms_in, statements_in, layouts_in, regions_in, types_in, sizes_in, values_in, locals_in, notes_in, fields_in, width_in}
 use Rattle.program_shapes.proofs.Places.{terms_within}
@@ -34,12 +34,16 @@ use Rattle.program_shapes.proofs.NotePlaces.{source_notes_within}
 use Rattle.program_shapes.proofs.TreePlaces.{plans_within, source_within}
 use Rattle.descriptor_shapes.proofs.Places.{names_told_within, kinds_told_within}
 use Rattle.aml_writer.specs.Written.{most_table_bytes}
-use Rattle.source_pieces.specs.Places.{core_places}
-use Rattle.asl_tables.specs.declared.compile.Compiled.{Compiled}
-use Rattle.asl_tables.specs.declared.compile.Compiled.TheVariants.{Table, Refused}
+use Rattle.block_outcomes.specs.declared.outcome.Class.{Class}
+use Rattle.block_outcomes.specs.declared.outcome.Class.TheVariants as class
+use Rattle.block_outcomes.specs.declared.outcome.Compiled.{Compiled}
+use Rattle.block_outcomes.specs.declared.outcome.Compiled.TheVariants.{Made}
+use Rattle.block_outcomes.specs.declared.outcome.Outcome.{Outcome}
+use Rattle.block_outcomes.specs.declared.outcome.Outcome.TheVariants.{Done, Faulty}
 use Rattle.asl_tables.specs.Syntax.{at_token}
 use Rattle.asl_tables.specs.declared.compile.Style.{Style}
-use Rattle.asl_tables.specs.Compiled.{own_in, literals_in, noted_in, first_told, told_of_names, told_in, is_of_names, with_notes, others_in, AreWithin, too_long, of_table, unless_wrong, is_of_kinds, with_others, of_terms, of_items, written_in, cut_in, TellsWithin}
+use Rattle.asl_tables.specs.Compiled.{own_in, literals_in, noted_in, all_noted, told_of_names, told_in, others_in, AreWithin, too_long, of_table, unless_wrong, is_of_kinds, with_others, outcome_in, outcomes_in, of_items, written_in, cut_in, TellsWithin}
+use Rattle.block_outcomes.specs.Joined.{first_told, unless_refused, unless_noted, class_in, is_class_in, if_class, of_class, later_errors, tables_among, joined}
 
 module _ (files : ℕ) where
   abbrev TokenHome : Token → Type 0
@@ -50,25 +54,24 @@ module _ (files : ℕ) where
   one_home : (message : Message) → message.place.file < files → AreWithin files (message ∷ [])
   one_home message h = All-push (λ (m : Message). m.place.file < files) [] message (λ i d lt. absurd (omega arith)) h
 
-  of_table_home : (place : Place) (signature own bytes : List ℕ) (pieces : List Piece) → place.file < files → TellsWithin files (of_table place signature own bytes pieces)
+  none_home : AreWithin files []
+  none_home = λ i d lt. absurd (omega arith)
+
+  -- what is wrong with a block is told in the files
+  abbrev pub OutcomeHome : Outcome → Type 0
+  OutcomeHome (Done signature own pieces) = Unit {0}
+  OutcomeHome (Faulty messages) = AreWithin files messages
+
+  of_table_home : (place : Place) (signature own bytes : List ℕ) (pieces : List Piece) → place.file < files → OutcomeHome (of_table place signature own bytes pieces)
   of_table_home place signature own bytes pieces h = by_length (nat_le (length bytes) most_table_bytes)
     where
-      by_length : (c : Bool) → TellsWithin files (if c then Table signature own pieces [] else Refused (too_long place ∷ []))
-      by_length true = λ i d lt. absurd (omega arith)
+      by_length : (c : Bool) → OutcomeHome (if c then Done signature own pieces else Faulty (too_long place ∷ []))
+      by_length true = tt
       by_length false = one_home (too_long place) h
 
-  wrong_home : (errors : List Message) (it : Compiled) → AreWithin files errors → TellsWithin files it → TellsWithin files (unless_wrong errors it)
+  wrong_home : (errors : List Message) (it : Outcome) → AreWithin files errors → OutcomeHome it → OutcomeHome (unless_wrong errors it)
   wrong_home [] it h k = k
   wrong_home (m ∷ ms) it h k = h
-
-  notes_home : (notes : List Message) (it : Compiled) → AreWithin files notes → TellsWithin files it → TellsWithin files (with_notes notes it)
-  notes_home notes (Table signature own pieces others) h k = All-append (λ (m : Message). m.place.file < files) others notes k h
-  notes_home notes (Refused []) h k = k
-  notes_home notes (Refused (m ∷ ms)) h k = by (is_of_names m.number)
-    where
-      by : (b : Bool) → AreWithin files (if b then m ∷ ms else (m ∷ ms) ++ notes)
-      by true = k
-      by false = All-append (λ (m : Message). m.place.file < files) (m ∷ ms) notes k h
 
   messages_home : (errors : List NameError) → All (λ e. (at_of e).place.file < files) errors → AreWithin files (map message_of errors)
   messages_home errors h = All-map (λ (m : Message). m.place.file < files) message_of errors (each errors h)
@@ -112,9 +115,9 @@ module _ (files : ℕ) where
   block_home (more (item place word args body) none) h main = h.0.0
   block_home _ h main = main
 
-  -- a tree whose parts stand in the files tells nothing outside them
-  pub items_home : (style : Style) (lines : List Line) (items : List Raw) → PartsWithin files (writtens items) → 0 < files → TellsWithin files (of_items style lines items)
-  items_home style lines items parts main =
+  -- a block whose parts stand in the files tells nothing outside them
+  outcome_home : (style : Style) (lines : List Line) (items : List Raw) → PartsWithin files (writtens items) → 0 < files → OutcomeHome (outcome_in style lines items)
+  outcome_home style lines items parts main =
       let written = terms_within files (writtens items) parts in
       let before = first_home (names_in items) (uses_in items) (names_told_within files (source_in items) written) (kinds_told_within files (source_in items) written) in
       let names = first_home (told_of_names (source_in items)) (told_errors (terms_in items)) before (told_home (terms_in items) (source_within files 0 (writtens items) parts)) in
@@ -125,14 +128,65 @@ module _ (files : ℕ) where
       let types = All-append (λ (m : Message). m.place.file < files) (statements_in items ++ layouts_in items ++ regions_in items) (types_in items) accesses (types_within files (terms_in items) (plans_in items) plans) in
       let sizes = All-append (λ (m : Message). m.place.file < files) (statements_in items ++ layouts_in items ++ regions_in items ++ types_in items) (sizes_in items) types (sizes_within files (width_in items) (plans_in items) plans) in
       let others = All-append (λ (m : Message). m.place.file < files) (statements_in items ++ layouts_in items ++ regions_in items ++ types_in items ++ sizes_in items) (values_in items) sizes (repeats_within files (width_in items) (plans_in items) plans) in
-      let notes = All-append (λ (m : Message). m.place.file < files) (literals_in items) (notes_in items) (literals_within files (width_in items) items parts) (source_notes_within files 0 (writtens items) parts) in
-      let told = of_terms style lines (block_place (writtens items)) (core_places (plans_in items)) (own_in items) (fields_in items) (told_in items) (others_in items) (locals_in items) (terms_in items) in
       let table = of_table (block_place (writtens items)) (fields_in items).signature (own_in items) (written_in style items) (cut_in style lines items) in
-      wrong_home (errors_at items) (with_notes (noted_in items) told) (errors_within files main items parts)
-      (notes_home (noted_in items) told notes
-      (wrong_home (with_others (told_in items) (others_in items)) (unless_wrong (locals_in items) table) (statements_home (told_in items) (others_in items) names others)
+      wrong_home (with_others (told_in items) (others_in items)) (unless_wrong (locals_in items) table) (statements_home (told_in items) (others_in items) names others)
       (wrong_home (locals_in items) table (locals_within files (terms_in items) (plans_in items) main plans)
-      (of_table_home (block_place (writtens items)) (fields_in items).signature (own_in items) (written_in style items) (cut_in style lines items) (block_home (writtens items) parts main)))))
+      (of_table_home (block_place (writtens items)) (fields_in items).signature (own_in items) (written_in style items) (cut_in style lines items) (block_home (writtens items) parts main)))
+
+  noted_home : (items : List Raw) → PartsWithin files (writtens items) → AreWithin files (noted_in items)
+  noted_home items parts = All-append (λ (m : Message). m.place.file < files) (literals_in items) (notes_in items) (literals_within files (width_in items) items parts) (source_notes_within files 0 (writtens items) parts)
+
+  -- ---- blocks together
+
+  if_home : (b : Bool) (messages : List Message) → AreWithin files messages → AreWithin files (if b then messages else [])
+  if_home true messages h = h
+  if_home false messages h = none_home
+
+  add_home : (messages : List Message) (c : Class) (others : List Message) → AreWithin files messages → AreWithin files others → AreWithin files (if_class c messages ++ others)
+  add_home messages c others h k = All-append (λ (m : Message). m.place.file < files) (if_class c messages) others (if_home (is_class_in c (class_in messages)) messages h) k
+
+  abbrev OutcomesHome : List Outcome → Type 0
+  OutcomesHome [] = Unit {0}
+  OutcomesHome (o ∷ os) = OutcomeHome o × OutcomesHome os
+
+  class_home : (c : Class) (os : List Outcome) → OutcomesHome os → AreWithin files (of_class c os)
+  class_home c [] h = none_home
+  class_home c (Done signature own pieces ∷ os) h = class_home c os h.1
+  class_home c (Faulty messages ∷ os) h = add_home messages c (of_class c os) h.0 (class_home c os h.1)
+
+  refused_home : (errors : List Message) (it : Compiled) → AreWithin files errors → TellsWithin files it → TellsWithin files (unless_refused errors it)
+  refused_home [] it h k = k
+  refused_home (m ∷ ms) it h k = h
+
+  later_home : (errors notes : List Message) (it : Compiled) → AreWithin files errors → AreWithin files notes → TellsWithin files it → TellsWithin files (unless_noted errors notes it)
+  later_home [] notes it h n k = k
+  later_home (m ∷ ms) notes it h n k = All-append (λ (m : Message). m.place.file < files) (m ∷ ms) notes h n
+
+  joined_home : (notes : List Message) (os : List Outcome) → AreWithin files notes → OutcomesHome os → TellsWithin files (joined notes os)
+  joined_home notes os n h =
+      let sizes = first_home (of_class class.Lowering os) (of_class class.Sizes os) (class_home class.Lowering os h) (class_home class.Sizes os h) in
+      refused_home (of_class class.Names os) (unless_noted (later_errors os) notes (Made (tables_among os) notes)) (class_home class.Names os h)
+      (later_home (later_errors os) notes (Made (tables_among os) notes) (first_home (of_class class.Kinds os) (first_told (of_class class.Lowering os) (of_class class.Sizes os)) (class_home class.Kinds os h) sizes) n n)
+
+  alone_home : (r : Raw) → IsWithin files (written r) → PartsWithin files (writtens (alone r))
+  unfolding writtens
+  alone_home r h = (h, tt)
+
+  outcomes_home : (style : Style) (lines : List Line) (raws : List Raw) → PartsWithin files (writtens raws) → 0 < files → OutcomesHome (outcomes_in style lines raws)
+  unfolding writtens
+  outcomes_home style lines [] parts main = tt
+  outcomes_home style lines (r ∷ rs) parts main = (outcome_home style lines (alone r) (alone_home r parts.0) main, outcomes_home style lines rs parts.1 main)
+
+  all_noted_home : (raws : List Raw) → PartsWithin files (writtens raws) → AreWithin files (all_noted raws)
+  unfolding writtens
+  all_noted_home [] parts = none_home
+  all_noted_home (r ∷ rs) parts = All-append (λ (m : Message). m.place.file < files) (noted_in (alone r)) (all_noted rs) (noted_home (alone r) (alone_home r parts.0)) (all_noted_home rs parts.1)
+
+  -- a tree whose parts stand in the files tells nothing outside them
+  pub items_home : (style : Style) (lines : List Line) (items : List Raw) → PartsWithin files (writtens items) → 0 < files → TellsWithin files (of_items style lines items)
+  items_home style lines items parts main =
+      refused_home (source_errors items) (joined (all_noted items) (outcomes_in style lines items)) (source_errors_within files main items parts)
+      (joined_home (all_noted items) (outcomes_in style lines items) (all_noted_home items parts) (outcomes_home style lines items parts main))
 
   -- ---- tokens that are no source
 

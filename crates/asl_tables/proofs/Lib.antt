@@ -2,6 +2,8 @@ pub mod Programs
 pub mod Written
 pub mod Findings
 pub mod Outcomes
+pub mod Items
+pub mod Sources
 pub mod Homes
 pub mod Given
 pub mod Classes

@@ -13,11 +13,11 @@ use Rattle.asl_parser.specs.Parse.{outcome, read, stopped, sunk, tall}
 use Rattle.std.proofs.lemmas.List.{length-drop}
 use Rattle.std.specs.Prelude.{IfOk}
 use Rattle.std.specs.declared.alloc.AllocError.{AllocError}
-use Rattle.asl_tables.specs.declared.compile.Compiled.{Compiled}
-use Rattle.asl_tables.specs.declared.compile.Compiled.TheVariants.{Refused}
+use Rattle.block_outcomes.specs.declared.outcome.Compiled.{Compiled}
+use Rattle.block_outcomes.specs.declared.outcome.Compiled.TheVariants.{Refused}
 use Rattle.asl_tables.specs.Syntax.{not_source, too_deep}
 use Rattle.asl_tables.specs.declared.compile.Style.{Style}
-use Rattle.asl_tables.specs.Compiled.{of_items, of_outcome, of_tokens, of_lines, HasAsciiName}
+use Rattle.asl_tables.specs.Compiled.{of_items, of_outcome, of_tokens, of_lines, HasAsciiNames}
 
 length-marks : (n : ℕ) (tokens : List Token) → length (marks n tokens) ≡ length tokens
 length-marks n [] = refl
@@ -51,6 +51,6 @@ pub fault_is : (style : Style) (lines : List Line) (stage : Stage) (messages : L
 fault_is style lines stage messages m e = by_fault style lines messages (tokens_of lines) (subst (λ (s : Stage). Answers (Err s) (tokens_of lines)) e m)
 
 -- a refusal has no name for a file
-pub refused_own : (r : Result Compiled AllocError) (message : Message) → IfOk r (λ compiled. compiled ≡ Refused (message ∷ [])) → IfOk r HasAsciiName
-refused_own (Ok compiled) message e = subst HasAsciiName (sym e) tt
+pub refused_own : (r : Result Compiled AllocError) (message : Message) → IfOk r (λ compiled. compiled ≡ Refused (message ∷ [])) → IfOk r HasAsciiNames
+refused_own (Ok compiled) message e = subst HasAsciiNames (sym e) tt
 refused_own (Err error) message e = tt

@@ -1,6 +1,6 @@
 -- What a block, a program and a source come to.
 use Rattle.std.proofs.Common.{ℕ, ◌≡◌, ◌<◌, ◌≤◌, ◌^◌, length, List, [], ◌∷◌, Result, Ok, Err, refl, sym, ap, ◌∙◌, subst, arith}
-use Rattle.std.specs.Prelude.{map, IfOk, nat_le, if◌then◌else◌, ◌++◌, Bool, true, false}
+use Rattle.std.specs.Prelude.{map, IfOk, if◌then◌else◌, ◌++◌, Bool, true, false}
 use Rattle.statement_checks.specs.Statements.{errors_of_statements}
 use Rattle.std.specs.declared.alloc.AllocError.{AllocError}
 use Rattle.iasl_messages.specs.declared.message.Stage.{Stage}
@@ -15,6 +15,8 @@ use Rattle.aml_code.specs.Header.{HeaderFields, fields_of}
 use Rattle.acpi_names.specs.Errors.{NameError, name_errors, type_errors}
 use Rattle.named_sessions.specs.Shaped.{AreFormed, AreNamed, AreShaped}
 use Rattle.asl_lower.specs.Nodes.{named_all}
+use Rattle.asl_formats.specs.Forms.{formed_all}
+use Rattle.form_shapes.specs.Near.{AreNear}
 use Rattle.hidden_locals.specs.Switches.{without_switches}
 use Rattle.asl_parser.specs.declared.raw.Raw.{Raw}
 use Rattle.asl_parser.specs.Written.{writtens}
@@ -29,42 +31,35 @@ use Rattle.type_checks.specs.Sizes.{long_lists}
 use Rattle.switch_checks.specs.Repeats.{repeated_values}
 use Rattle.switch_checks.specs.Locals.{few_locals}
 use Rattle.name_notes.specs.Notes.{name_notes}
-use Rattle.std.specs.Str.{IsAscii}
 use Rattle.iasl_messages.specs.declared.place.Place.{Place}
 use Rattle.iasl_messages.specs.declared.place.Line.{Line}
-use Rattle.aml_writer.specs.Written.{most_table_bytes}
 use Rattle.source_pieces.specs.Places.{core_places}
-use Rattle.program_shapes.proofs.OwnNames.{own_is_ascii}
 use Rattle.program_shapes.proofs.Blocks.{terms_as, room_in}
 use Rattle.descriptor_names.specs.Resolved.{resolved_terms}
 use Rattle.program_shapes.proofs.Headers.{HaveRoom}
 use Rattle.field_checks.specs.Lists.{all_errors}
 use Rattle.region_checks.specs.Regions.{region_errors}
-use Rattle.program_shapes.proofs.Tables.{terms_are_formed, core_is_shaped}
+use Rattle.program_shapes.proofs.Tables.{terms_are_formed, terms_are_near, core_is_shaped}
 use Rattle.acpi_values.specs.declared.width.Width.{Width}
 use Rattle.acpi_values.specs.Revisions.{width_of}
 use Rattle.literal_checks.specs.Literals.{cut_literals_at}
-use Rattle.asl_tables.specs.declared.compile.Compiled.{Compiled}
-use Rattle.asl_tables.specs.declared.compile.Compiled.TheVariants.{Table, Refused}
+use Rattle.block_outcomes.specs.declared.outcome.Compiled.{Compiled}
+use Rattle.block_outcomes.specs.declared.outcome.Compiled.TheVariants.{Refused}
+use Rattle.block_outcomes.specs.declared.outcome.Outcome.{Outcome}
+use Rattle.block_outcomes.specs.declared.outcome.Outcome.TheVariants.{Faulty}
 use Rattle.asl_tables.specs.declared.compile.Style.{Style}
-use Rattle.asl_tables.specs.Compiled.{table_with, its_pieces, with_notes, noted_in, unless_wrong, first_told, told_of_names, told_in, is_of_kinds, others_in, with_others, own_in, of_table, of_terms, of_items, written_in, cut_in, too_long, HasAsciiName}
+use Rattle.asl_tables.specs.Compiled.{table_with, its_pieces, noted_in, unless_wrong, told_of_names, told_in, is_of_kinds, others_in, with_others, own_in, of_table, of_terms, outcome_in}
+use Rattle.block_outcomes.specs.Joined.{unless_refused, first_told}
 use Rattle.asl_tables.specs.Ready.{HasRoom}
 
-abbrev pub ok_block : Block → Result Block AllocError
-ok_block block = Ok block
-
 -- errors that there are
-pub refused_is : (messages errors : List Message) (it : Compiled) → (messages ≡ errors) × (errors ≡ [] → ⊥) → Refused messages ≡ unless_wrong errors it
+pub refused_is : (messages errors : List Message) (it : Outcome) → (messages ≡ errors) × (errors ≡ [] → ⊥) → Faulty messages ≡ unless_wrong errors it
 refused_is messages [] it h = absurd (h.1 refl)
-refused_is messages (m ∷ ms) it h = ap Refused h.0
+refused_is messages (m ∷ ms) it h = ap Faulty h.0
 
 -- none
-pub right_is : (errors : List Message) (it other : Compiled) → errors ≡ [] → it ≡ other → it ≡ unless_wrong errors other
+pub right_is : (errors : List Message) (it other : Outcome) → errors ≡ [] → it ≡ other → it ≡ unless_wrong errors other
 right_is errors it other e h = h ∙ sym (ap (λ es. unless_wrong es other) e)
-
--- the block that is found
-pub found_block : (found block : Block) → ok_block found ≡ ok_block block → found ≡ block
-found_block found block e = cc
 
 -- no errors of names, nor of kinds
 pub none_told : (terms : Trees) → name_errors terms ≡ [] → type_errors terms ≡ [] → told_errors terms ≡ []
@@ -97,7 +92,7 @@ some_behind (m ∷ ms) statements h e = by (is_of_kinds m.number) e
     by false e = absurd cc
 
 -- messages that come first, with errors of statements behind them
-pub told_comes : (told errors statements all : List Message) (it : Compiled) → (length told ≡ 0 → ⊥) → all ≡ with_others told statements → Refused all ≡ unless_wrong (with_others (first_told told errors) statements) it
+pub told_comes : (told errors statements all : List Message) (it : Outcome) → (length told ≡ 0 → ⊥) → all ≡ with_others told statements → Faulty all ≡ unless_wrong (with_others (first_told told errors) statements) it
 told_comes [] errors statements all it h is = absurd (h refl)
 told_comes (m ∷ ms) errors statements all it h is = refused_is all (with_others (m ∷ ms) statements) it (is, some_behind (m ∷ ms) statements (λ e. absurd cc))
 
@@ -119,9 +114,9 @@ resolved_block items block made h place file fields terms = record {
 }
 
 -- the terms of a source's block are formed as they are written
-pub written_formed : (items : List Raw) (block : Block) → errors_at items ≡ [] → IsBlockOf items block → IsKeptSource (writtens items) → AreFormed AreNamed (Unit {0}) (Unit {0}) (numbered_all 0 (plans_of block.terms.items))
+pub written_formed : (items : List Raw) (block : Block) → errors_at items ≡ [] → IsBlockOf items block → IsKeptSource (writtens items) → AreFormed (Unit {0}) AreNamed (Unit {0}) (Unit {0}) (numbered_all 0 (plans_of block.terms.items))
 unfolding errors_at IsBlockOf
-written_formed items block e h k = subst (λ ps. AreFormed AreNamed (Unit {0}) (Unit {0}) (numbered_all 0 ps)) (sym h.terms) (terms_as (writtens items) e k 0)
+written_formed items block e h k = subst (λ ps. AreFormed (Unit {0}) AreNamed (Unit {0}) (Unit {0}) (numbered_all 0 ps)) (sym h.terms) (terms_as (writtens items) e k 0)
 
 -- what is told of the names of a block's terms is what is told of those of its source
 pub same_told : (items : List Raw) (block : Block) (names : List Message) → IsBlockOf items block → names ≡ first_told (told_of_names (plans_of block.terms.items)) (told_errors (numbered_all 0 (resolved_terms (plans_of block.terms.items)))) → names ≡ told_in items
@@ -154,8 +149,8 @@ same_others items block terms h is =
     ∙ ap (others_of (width_in items) (terms_in items)) h.terms
 
 -- its terms, numbered, are formed
-pub block_formed : (items : List Raw) (block : Block) (terms : Trees) → errors_at items ≡ [] → IsResolvedOf items block → IsKeptSource (writtens items) → terms ≡ numbered_all 0 (plans_of block.terms.items) → AreFormed AreNamed (Unit {0}) (Unit {0}) terms
-block_formed items block terms e h k is = subst (AreFormed AreNamed (Unit {0}) (Unit {0})) (sym (same_terms items block terms h is)) (terms_are_formed items e k)
+pub block_formed : (items : List Raw) (block : Block) (terms : Trees) → errors_at items ≡ [] → IsResolvedOf items block → IsKeptSource (writtens items) → terms ≡ numbered_all 0 (plans_of block.terms.items) → AreFormed (Unit {0}) AreNamed (Unit {0}) (Unit {0}) terms
+block_formed items block terms e h k is = subst (AreFormed (Unit {0}) AreNamed (Unit {0}) (Unit {0})) (sym (same_terms items block terms h is)) (terms_are_formed items e k)
 
 both_nil : (xs ys : List Message) → xs ++ ys ≡ [] → (xs ≡ []) × (ys ≡ [])
 both_nil [] ys e = (refl, e)
@@ -188,11 +183,17 @@ both_right items right =
     ∙ ap (λ ms. ms ++ values_in items) right.sizes
     ∙ right.values
 
+-- no Continue of a For stands in a container in it, where nothing else is wrong
+pub block_near : (items : List Raw) (block : Block) (terms : Trees) (others : List Message) → IsResolvedOf items block → terms ≡ numbered_all 0 (plans_of block.terms.items) → others ≡ others_of (width_of block.revision) terms (plans_of block.terms.items) → others ≡ [] → AreNear terms
+block_near items block terms others h is are none =
+    let nothing : others_in items ≡ [] = sym (same_others items block terms h is) ∙ sym are ∙ none in
+    subst AreNear (sym (same_terms items block terms h is)) (terms_are_near items (none_of_others items nothing).statements)
+
 -- and shaped, where nothing else is wrong
-pub block_shaped : (items : List Raw) (block : Block) (terms : Trees) (others : List Message) → errors_at items ≡ [] → IsResolvedOf items block → IsKeptSource (writtens items) → terms ≡ numbered_all 0 (plans_of block.terms.items) → others ≡ others_of (width_of block.revision) terms (plans_of block.terms.items) → others ≡ [] → AreShaped (named_all (without_switches terms))
+pub block_shaped : (items : List Raw) (block : Block) (terms : Trees) (others : List Message) → errors_at items ≡ [] → IsResolvedOf items block → IsKeptSource (writtens items) → terms ≡ numbered_all 0 (plans_of block.terms.items) → others ≡ others_of (width_of block.revision) terms (plans_of block.terms.items) → others ≡ [] → AreShaped (named_all (without_switches (formed_all terms)))
 block_shaped items block terms others e h k is are none =
     let nothing : others_in items ≡ [] = sym (same_others items block terms h is) ∙ sym are ∙ none in
-    subst (λ ts. AreShaped (named_all (without_switches ts))) (sym (same_terms items block terms h is)) (core_is_shaped items e (none_of_others items nothing).layouts k)
+    subst (λ ts. AreShaped (named_all (without_switches (formed_all ts)))) (sym (same_terms items block terms h is)) (core_is_shaped items e (none_of_others items nothing).statements (none_of_others items nothing).layouts k)
 
 same_fields : (items : List Raw) (block : Block) → IsResolvedOf items block → fields_of block ≡ fields_in items
 same_fields items block h = cc (h.signature, h.revision, h.oem_id, h.table_id, h.oem_revision)
@@ -216,40 +217,37 @@ abbrev pub noted_at : Width → List Raw → Trees → List Message
 noted_at width items terms = cut_literals_at width items ++ name_notes terms
 
 -- are those of its source
-same_notes : (items : List Raw) (block : Block) (terms : Trees) → IsResolvedOf items block → terms ≡ numbered_all 0 (plans_of block.terms.items) → noted_at (width_of block.revision) items terms ≡ noted_in items
+pub same_notes : (items : List Raw) (block : Block) (terms : Trees) → IsResolvedOf items block → terms ≡ numbered_all 0 (plans_of block.terms.items) → noted_at (width_of block.revision) items terms ≡ noted_in items
 same_notes items block terms h is = ap (λ n. noted_at (width_of n) items terms) h.revision ∙ ap (noted_at (width_in items) items) (same_terms items block terms h is)
 
 -- and it comes to what its source comes to
-pub block_comes : (style : Style) (lines : List Line) (items : List Raw) (block : Block) (terms : Trees) (inner : List Place) (names statements few : List Message) (it : Compiled) → errors_at items ≡ [] → IsResolvedOf items block → terms ≡ numbered_all 0 (plans_of block.terms.items)
+pub block_comes : (style : Style) (lines : List Line) (items : List Raw) (block : Block) (terms : Trees) (inner : List Place) (names statements few : List Message) (it : Outcome) → IsResolvedOf items block → terms ≡ numbered_all 0 (plans_of block.terms.items)
     → inner ≡ core_places (plans_of block.terms.items) → names ≡ told_in items → statements ≡ others_of (width_of block.revision) terms (plans_of block.terms.items) → few ≡ few_locals terms (plans_of block.terms.items)
-    → it ≡ with_notes (noted_at (width_of block.revision) items terms) (of_terms style lines block.place inner block.file (fields_of block) names statements few terms) → it ≡ of_items style lines items
-block_comes style lines items block terms inner names statements few it e h is places told are lacks comes =
+    → it ≡ of_terms style lines block.place inner block.file (fields_of block) names statements few terms → it ≡ outcome_in style lines items
+block_comes style lines items block terms inner names statements few it h is places told are lacks comes =
     let at = block_place (writtens items) in
     let core = core_places (plans_in items) in
-    let whole = of_terms style lines at core (own_in items) (fields_in items) (told_in items) (others_in items) (locals_in items) (terms_in items) in
-    let same : of_terms style lines block.place inner block.file (fields_of block) names statements few terms ≡ whole =
-    ap (λ p. of_terms style lines p inner block.file (fields_of block) names statements few terms) (same_place items block h)
+    comes
+    ∙ ap (λ p. of_terms style lines p inner block.file (fields_of block) names statements few terms) (same_place items block h)
     ∙ ap (λ ps. of_terms style lines at ps block.file (fields_of block) names statements few terms) (places ∙ same_places items block h)
     ∙ ap (λ own. of_terms style lines at core own (fields_of block) names statements few terms) (same_own items block h)
     ∙ ap (λ f. of_terms style lines at core (own_in items) f names statements few terms) (same_fields items block h)
     ∙ ap (λ ns. of_terms style lines at core (own_in items) (fields_in items) ns statements few terms) told
     ∙ ap (λ ss. of_terms style lines at core (own_in items) (fields_in items) (told_in items) ss few terms) (are ∙ same_others items block terms h is)
     ∙ ap (λ fs. of_terms style lines at core (own_in items) (fields_in items) (told_in items) (others_in items) fs terms) (lacks ∙ same_locals items block terms h is)
-    ∙ ap (of_terms style lines at core (own_in items) (fields_in items) (told_in items) (others_in items) (locals_in items)) (same_terms items block terms h is) in
-    right_is (errors_at items) it (with_notes (noted_in items) whole) e
-    (comes ∙ ap (λ it. with_notes (noted_at (width_of block.revision) items terms) it) same ∙ ap (λ ns. with_notes ns whole) (same_notes items block terms h is))
+    ∙ ap (of_terms style lines at core (own_in items) (fields_in items) (told_in items) (others_in items) (locals_in items)) (same_terms items block terms h is)
 
 -- a block in whose names nothing is wrong
-pub right_comes : (r : Result Compiled AllocError) (errors : List Message) (it : Compiled) → errors ≡ [] → IfOk r (λ made. made ≡ it) → IfOk r (λ made. made ≡ unless_wrong errors it)
+pub right_comes : (r : Result Outcome AllocError) (errors : List Message) (it : Outcome) → errors ≡ [] → IfOk r (λ made. made ≡ it) → IfOk r (λ made. made ≡ unless_wrong errors it)
 right_comes (Ok made) errors it e h = right_is errors made it e h
 right_comes (Err error) errors it e h = tt
 
 -- what these parts of a block come to
-abbrev part_table : Style → List Line → Place → List Place → List ℕ → HeaderFields → Trees → Compiled
+abbrev part_table : Style → List Line → Place → List Place → List ℕ → HeaderFields → Trees → Outcome
 part_table style lines place inner file fields terms = of_table place fields.signature file (table_with style fields terms) (its_pieces style lines (place ∷ inner) fields terms)
 
 -- a block with the place, the places, the file and the header of another
-pub like_another : (style : Style) (lines : List Line) (r : Result Compiled AllocError) (place other : Place) (inner places : List Place) (file own : List ℕ) (fields header : HeaderFields) (terms : Trees) → place ≡ other → inner ≡ places → file ≡ own → fields ≡ header
+pub like_another : (style : Style) (lines : List Line) (r : Result Outcome AllocError) (place other : Place) (inner places : List Place) (file own : List ℕ) (fields header : HeaderFields) (terms : Trees) → place ≡ other → inner ≡ places → file ≡ own → fields ≡ header
     → IfOk r (λ it. it ≡ of_table place fields.signature file (table_with style fields terms) (its_pieces style lines (place ∷ inner) fields terms))
     → IfOk r (λ it. it ≡ of_table other header.signature own (table_with style header terms) (its_pieces style lines (other ∷ places) header terms))
 like_another style lines r place other inner places file own fields header terms p i f h e =
@@ -259,57 +257,24 @@ like_another style lines r place other inner places file own fields header terms
     (subst (λ (h : HeaderFields). IfOk r (λ it. it ≡ part_table style lines place inner file h terms)) h e)))
 
 -- a stage that refuses, with errors of statements behind its own
-pub stage_comes : (stage : Stage) (messages errors statements all : List Message) (it : Compiled) → Refuses stage errors → stage ≡ Refused' messages → all ≡ with_others messages statements → Refused all ≡ unless_wrong (with_others errors statements) it
+pub stage_comes : (stage : Stage) (messages errors statements all : List Message) (it : Outcome) → Refuses stage errors → stage ≡ Refused' messages → all ≡ with_others messages statements → Faulty all ≡ unless_wrong (with_others errors statements) it
 stage_comes stage messages errors statements all it h e is =
     let told = subst (λ (s : Stage). Refuses s errors) e h in
     refused_is all (with_others errors statements) it (is ∙ ap (λ es. with_others es statements) told.0, some_behind errors statements told.1)
 
-pub shape_comes : (stage : Stage) (messages errors : List Message) (it : Compiled) → ShapeRefuses stage errors → stage ≡ Refused' messages → Refused messages ≡ unless_wrong errors it
-shape_comes stage messages errors it h e = refused_is messages errors it (subst (λ (s : Stage). ShapeRefuses s errors) e h)
+-- errors of the form
+shape_told : (messages errors : List Message) (it : Compiled) → (messages ≡ errors) × (errors ≡ [] → ⊥) → Refused messages ≡ unless_refused errors it
+shape_told messages [] it h = absurd (h.1 refl)
+shape_told messages (m ∷ ms) it h = ap Refused h.0
 
--- what a block that is compiled comes to is what its source comes to
-pub program_comes : (style : Style) (lines : List Line) (r : Result Compiled AllocError) (items : List Raw) (block : Block) (terms : Trees) (inner : List Place) (names statements few : List Message) → errors_at items ≡ [] → IsResolvedOf items block → terms ≡ numbered_all 0 (plans_of block.terms.items)
-    → inner ≡ core_places (plans_of block.terms.items) → names ≡ told_in items → statements ≡ others_of (width_of block.revision) terms (plans_of block.terms.items) → few ≡ few_locals terms (plans_of block.terms.items)
-    → IfOk r (λ it. it ≡ with_notes (noted_at (width_of block.revision) items terms) (of_terms style lines block.place inner block.file (fields_of block) names statements few terms)) → IfOk r (λ it. it ≡ of_items style lines items)
-program_comes style lines (Ok it) items block terms inner names statements few e h is places told are lacks comes = block_comes style lines items block terms inner names statements few it e h is places told are lacks comes
-program_comes style lines (Err error) items block terms inner names statements few e h is places told are lacks comes = tt
+pub shape_comes : (stage : Stage) (messages errors : List Message) (it : Compiled) → ShapeRefuses stage errors → stage ≡ Refused' messages → Refused messages ≡ unless_refused errors it
+shape_comes stage messages errors it h e = shape_told messages errors it (subst (λ (s : Stage). ShapeRefuses s errors) e h)
 
 -- lists that are empty, and others
 pub no_length : (messages : List Message) → length messages ≡ 0 → messages ≡ []
 no_length [] e = refl
 no_length (m ∷ ms) e = absurd (omega (arith, e))
 
-pub some_length : (messages : List Message) (it : Compiled) (errors : List Message) → errors ≡ [] → (length messages ≡ 0 → ⊥) → Refused messages ≡ unless_wrong (with_others errors messages) it
+pub some_length : (messages : List Message) (it : Outcome) (errors : List Message) → errors ≡ [] → (length messages ≡ 0 → ⊥) → Faulty messages ≡ unless_wrong (with_others errors messages) it
 some_length [] it errors e h = absurd (h refl)
 some_length (m ∷ ms) it errors e h = sym (ap (λ es. unless_wrong (with_others es (m ∷ ms)) it) e)
-
--- the name that a source states for its file
-pub named_in_ascii : (style : Style) (lines : List Line) (items : List Raw) → IsKeptSource (writtens items) → HasAsciiName (of_items style lines items)
-named_in_ascii style lines items kept = by (errors_at items) refl
-  where
-    place : Place
-    place = block_place (writtens items)
-
-    by_length : (c : Bool) → IsAscii (own_in items) → HasAsciiName (if c then Table (fields_in items).signature (own_in items) (cut_in style lines items) [] else Refused (too_long place ∷ []))
-    by_length true h = h
-    by_length false h = tt
-
-    by_locals : (ms : List Message) → IsAscii (own_in items) → HasAsciiName (unless_wrong ms (of_table place (fields_in items).signature (own_in items) (written_in style items) (cut_in style lines items)))
-    by_locals [] h = by_length (nat_le (length (written_in style items)) most_table_bytes) h
-    by_locals (m ∷ ms) h = tt
-
-    by_names : (ms : List Message) → IsAscii (own_in items) → HasAsciiName (unless_wrong ms (unless_wrong (locals_in items) (of_table place (fields_in items).signature (own_in items) (written_in style items) (cut_in style lines items))))
-    by_names [] h = by_locals (locals_in items) h
-    by_names (m ∷ ms) h = tt
-
-    noted : (it : Compiled) → HasAsciiName it → HasAsciiName (with_notes (noted_in items) it)
-    noted (Table signature own pieces notes) h = h
-    noted (Refused messages) h = tt
-
-    by : (ms : List Message) → errors_at items ≡ ms → HasAsciiName (unless_wrong ms (with_notes (noted_in items) (of_terms style lines place (core_places (plans_in items)) (own_in items) (fields_in items) (told_in items) (others_in items) (locals_in items) (terms_in items))))
-    by [] e = noted (of_terms style lines place (core_places (plans_in items)) (own_in items) (fields_in items) (told_in items) (others_in items) (locals_in items) (terms_in items)) (by_names (with_others (told_in items) (others_in items)) (own_is_ascii items e kept))
-    by (m ∷ ms) e = tt
-
-pub ascii_comes : (r : Result Compiled AllocError) (it : Compiled) → HasAsciiName it → IfOk r (λ made. made ≡ it) → IfOk r HasAsciiName
-ascii_comes (Ok made) it h e = subst HasAsciiName (sym e) h
-ascii_comes (Err error) it h e = tt

@@ -14,7 +14,8 @@ use Rattle.descriptor_names.specs.Declaring.{names_descriptors}
 use Rattle.descriptor_names.specs.Resolved.{resolved_terms, use_errors}
 use Rattle.descriptor_names.specs.Told.{besides, with_uses, is_of_names, name_uses_told, checked_trees, names_below, kinds_told}
 use Rattle.descriptor_shapes.proofs.Unnamed.{unnamed_checked, unnamed_resolved, unnamed_uses, unnamed_below}
-use Rattle.asl_tables.specs.Compiled.{first_told, told_of_names}
+use Rattle.asl_tables.specs.Compiled.{told_of_names}
+use Rattle.block_outcomes.specs.Joined.{first_told}
 
 -- ---- messages with those of uses
 

@@ -25,8 +25,8 @@ use Rattle.named_sessions.specs.Core.{core_of}
 use Rattle.named_sessions.proofs.Settles.{knows_start}
 use Rattle.named_sessions.proofs.Main.{is_ready}
 use Rattle.asl_tables.specs.declared.compile.Style.{Style}
-use Rattle.asl_tables.specs.declared.compile.Compiled.{Compiled}
-use Rattle.asl_tables.specs.declared.compile.Compiled.TheVariants.{Table, Refused}
+use Rattle.block_outcomes.specs.declared.outcome.Outcome.{Outcome}
+use Rattle.block_outcomes.specs.declared.outcome.Outcome.TheVariants.{Done, Faulty}
 use Rattle.asl_tables.specs.Compiled.{too_long, its_table, its_pieces, of_table}
 use Rattle.asl_tables.specs.Ready.{IsCoreOf}
 
@@ -39,16 +39,16 @@ block_ready shorten terms block is = record {
   terms = subst (λ ts. AreReady (known_of terms) ts []) (sym is.core) (is_ready shorten terms is.shaped is.names is.counts);
 }
 
-abbrev by_size : Bool → Place → List ℕ → List ℕ → List Piece → Compiled
-by_size c place signature own pieces = if c then Table signature own pieces [] else Refused (too_long place ∷ [])
+abbrev by_size : Bool → Place → List ℕ → List ℕ → List Piece → Outcome
+by_size c place signature own pieces = if c then Done signature own pieces else Faulty (too_long place ∷ [])
 
 -- the pieces of a core's block
 abbrev pub pieces_of : Style → List Line → Trees → Block → List Piece
 pieces_of style lines terms block = its_pieces style lines (block.place ∷ places_of block.terms.items) (fields_of block) terms
 
-pub table_written : (style : Style) (lines : List Line) (terms : Trees) (block : Block) (signature own : List ℕ) (pieces : List Piece) (notes : List Message) → IsCoreOf style.shorten terms block → signature ≡ block.signature → own ≡ block.file → notes ≡ []
-    → IsTable block style.short (joined_pieces pieces) → IsCut lines block style.short pieces → Table signature own pieces notes ≡ of_table block.place block.signature block.file (its_table style terms block) (pieces_of style lines terms block)
-table_written style lines terms block signature own pieces notes is esig eown enotes any cut =
+pub table_written : (style : Style) (lines : List Line) (terms : Trees) (block : Block) (signature own : List ℕ) (pieces : List Piece) → IsCoreOf style.shorten terms block → signature ≡ block.signature → own ≡ block.file
+    → IsTable block style.short (joined_pieces pieces) → IsCut lines block style.short pieces → Done signature own pieces ≡ of_table block.place block.signature block.file (its_table style terms block) (pieces_of style lines terms block)
+table_written style lines terms block signature own pieces is esig eown any cut =
     let ready : IsReadyBlock (known_of terms) block = block_ready style.shorten terms block is in
     let table : IsTableOf (known_of terms) (externals terms) block style.short (joined_pieces pieces) = any.table (known_of terms) (externals terms) (knows_start terms is.names) ready in
     let are : pieces ≡ pieces_of style lines terms block =
@@ -56,7 +56,7 @@ table_written style lines terms block signature own pieces notes is esig eown en
     let e : joined_pieces pieces ≡ its_table style terms block = table.encoded ∙ ap (λ ts. table_bytes (fields_of block) (encoded_all (width_of block.revision) style.short ts)) is.core in
     let within : length (its_table style terms block) ≤ most_table_bytes = subst (λ bs. length bs ≤ most_table_bytes) e table.within in
     let fits : nat_le (length (its_table style terms block)) most_table_bytes ≡ true = grind (arith, nat_tests) in
-    ap (Table signature own pieces) enotes ∙ ap (λ s. Table s own pieces []) esig ∙ ap (λ o. Table block.signature o pieces []) eown ∙ ap (λ ps. Table block.signature block.file ps []) are
+    ap (λ s. Done s own pieces) esig ∙ ap (λ o. Done block.signature o pieces) eown ∙ ap (λ ps. Done block.signature block.file ps) are
     ∙ sym (ap (λ c. by_size c block.place block.signature block.file (pieces_of style lines terms block)) fits)
 
 abbrev made : ℕ → Place → List ℕ → Message
@@ -65,7 +65,7 @@ made number place name = record { number = number; place = place; name = name }
 message_is : (message other : Message) → message.number ≡ other.number → message.place ≡ other.place → message.name ≡ other.name → message ≡ other
 message_is message other en ep ex = ap (λ n. made n message.place message.name) en ∙ ap (λ p. made other.number p message.name) ep ∙ ap (λ name. made other.number other.place name) ex
 
-pub refused_written : (style : Style) (lines : List Line) (terms : Trees) (block : Block) (message : Message) (messages : List Message) → IsCoreOf style.shorten terms block → messages ≡ message ∷ [] → IsTooLong block style.short message → Refused messages ≡ of_table block.place block.signature block.file (its_table style terms block) (pieces_of style lines terms block)
+pub refused_written : (style : Style) (lines : List Line) (terms : Trees) (block : Block) (message : Message) (messages : List Message) → IsCoreOf style.shorten terms block → messages ≡ message ∷ [] → IsTooLong block style.short message → Faulty messages ≡ of_table block.place block.signature block.file (its_table style terms block) (pieces_of style lines terms block)
 refused_written style lines terms block message messages is em long =
     let written = style_of block style.short in
     let size : most_table_bytes < length (its_table style terms block) =
@@ -75,4 +75,4 @@ refused_written style lines terms block message messages is em long =
     omega (arith, long.passes, l, n) in
     let passes : nat_le (length (its_table style terms block)) most_table_bytes ≡ false = grind (arith, nat_tests) in
     let same : message ≡ too_long block.place = message_is message (too_long block.place) long.number long.place long.no_name in
-    ap Refused (em ∙ ap (λ m. m ∷ []) same) ∙ sym (ap (λ c. by_size c block.place block.signature block.file (pieces_of style lines terms block)) passes)
+    ap Faulty (em ∙ ap (λ m. m ∷ []) same) ∙ sym (ap (λ c. by_size c block.place block.signature block.file (pieces_of style lines terms block)) passes)

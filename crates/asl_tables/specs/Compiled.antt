@@ -1,6 +1,6 @@
--- What a source of ASL comes to: its table, or its errors.
-use Rattle.std.specs.Prelude.{ℕ, suc, ◌-◌, nat_le, nat_eq, Bool, false, ◌||◌, ◌&&◌, if◌then◌else◌, List, [], ◌∷◌, ◌++◌, length, All, ◌<◌}
-use Rattle.std.specs.Prelude.{⊤, Result, Ok, Err}
+-- What a source of ASL comes to: a table for each of its blocks, or errors.
+use Rattle.std.specs.Prelude.{ℕ, suc, ◌-◌, nat_le, nat_eq, Bool, ◌||◌, if◌then◌else◌, List, [], ◌∷◌, ◌++◌, length, All, ◌<◌, ◌≤◌, ⊤}
+use Rattle.std.specs.Prelude.{Result, Ok, Err}
 use Rattle.iasl_messages.specs.declared.place.Place.{Place}
 use Rattle.iasl_messages.specs.declared.place.Line.{Line}
 use Rattle.iasl_messages.specs.declared.place.Piece.{Piece}
@@ -20,6 +20,7 @@ use Rattle.asl_lower.specs.Nodes.{named_all}
 use Rattle.asl_fold.specs.Folds.{folded_where}
 use Rattle.wrapped_externals.specs.Wraps.{wrapped_where}
 use Rattle.wrapped_externals.specs.Starts.{placed_where}
+use Rattle.asl_formats.specs.Forms.{formed_all}
 use Rattle.hidden_locals.specs.Switches.{without_switches}
 use Rattle.name_checks.specs.Messages.{told_errors}
 use Rattle.descriptor_names.specs.Told.{names_told, kinds_told}
@@ -28,15 +29,19 @@ use Rattle.asl_parser.specs.Parse.{ParseOutcome, outcome, read, stopped, sunk, t
 use Rattle.asl_parser.specs.Written.{writtens}
 use Rattle.std.specs.Str.{IsAscii}
 use Rattle.asl_shape.specs.Plans.{Plans, plan_at, text_of}
-use Rattle.asl_shape.specs.Forms.{errors_at, block_place, args_of}
+use Rattle.asl_shape.specs.Forms.{source_errors, alone, block_place, args_of}
 use Rattle.program_shapes.specs.Sources.{source_in, plans_in, terms_in, statements_in, layouts_in, regions_in, types_in, sizes_in}
 use Rattle.program_shapes.specs.Sources.{values_in, locals_in, notes_in, fields_in, width_in, table_in}
 use Rattle.source_pieces.specs.Places.{core_places}
 use Rattle.source_pieces.specs.Pieces.{pieces_in}
 use Rattle.literal_checks.specs.Literals.{cut_literals_at}
 use Rattle.asl_tables.specs.declared.compile.Style.{Style}
-use Rattle.asl_tables.specs.declared.compile.Compiled.{Compiled}
-use Rattle.asl_tables.specs.declared.compile.Compiled.TheVariants.{Table, Refused}
+use Rattle.block_outcomes.specs.declared.outcome.Compiled.{Compiled}
+use Rattle.block_outcomes.specs.declared.outcome.Compiled.TheVariants.{Made, Refused}
+use Rattle.block_outcomes.specs.declared.outcome.Outcome.{Outcome}
+use Rattle.block_outcomes.specs.declared.outcome.Outcome.TheVariants.{Done, Faulty}
+use Rattle.block_outcomes.specs.declared.outcome.Table.{Table}
+use Rattle.block_outcomes.specs.Joined.{first_told, unless_refused, joined}
 use Rattle.asl_tables.specs.Syntax.{not_source, too_deep}
 
 -- a table of more than 16 MiB: 6080 at the block
@@ -44,9 +49,9 @@ abbrev pub too_long : Place → Message
 too_long place = record { number = 6080; place = place; name = [] }
 
 -- a table of these bytes in pieces, if it is not too long, with its signature and the name that its block states for its file
-abbrev pub of_table : Place → List ℕ → List ℕ → List ℕ → List Piece → Compiled
-of_table place signature own bytes pieces = if nat_le (length bytes) most_table_bytes then Table signature own pieces [] else
-    Refused (too_long place ∷ [])
+abbrev pub of_table : Place → List ℕ → List ℕ → List ℕ → List Piece → Outcome
+of_table place signature own bytes pieces = if nat_le (length bytes) most_table_bytes then Done signature own pieces else
+    Faulty (too_long place ∷ [])
 
 -- the table with this header of these terms, at the width that its revision gives
 abbrev pub table_with : Style → HeaderFields → Trees → List ℕ
@@ -60,19 +65,15 @@ its_table style terms block = table_with style (fields_of block) terms
 abbrev pub its_pieces : Style → List Line → List Place → HeaderFields → Trees → List Piece
 its_pieces style lines places fields terms = pieces_with lines places (table_parts fields style.short (core_of style.shorten terms))
 
--- terms with loops for their Switches, their symbols named, and their constants folded where that is asked for
+-- terms with what stands for their Fors and for what prints, loops for their Switches, their symbols named, and their
+-- constants folded where that is asked for
 abbrev pub lowered_as : Style → HeaderFields → Trees → Trees
-lowered_as style fields terms = folded_where style.fold (width_of fields.revision) (named_all (without_switches terms))
+lowered_as style fields terms = folded_where style.fold (width_of fields.revision) (named_all (without_switches (formed_all terms)))
 
--- errors, where there are any
-abbrev pub unless_wrong : List Message → Compiled → Compiled
+-- errors of a block, where there are any
+abbrev pub unless_wrong : List Message → Outcome → Outcome
 unless_wrong [] it = it
-unless_wrong (m ∷ ms) it = Refused (m ∷ ms)
-
--- messages, or others where there are none
-abbrev pub first_told : List Message → List Message → List Message
-first_told [] others = others
-first_told (m ∷ ms) others = m ∷ ms
+unless_wrong (m ∷ ms) it = Faulty (m ∷ ms)
 
 -- what is told of the names of terms as they are written, those of resource descriptors among these, or where nothing
 -- is, of what names stand for
@@ -90,7 +91,7 @@ with_others [] others = others
 with_others (m ∷ ms) others = if is_of_kinds m.number then (m ∷ ms) ++ others else m ∷ ms
 
 -- the table of a block of this form in which nothing is wrong, whose terms stand at these places once they are lowered
-abbrev pub of_right : Style → List Line → Place → List Place → List ℕ → HeaderFields → Trees → Compiled
+abbrev pub of_right : Style → List Line → Place → List Place → List ℕ → HeaderFields → Trees → Outcome
 of_right style lines place inner own fields terms =
     let lowered = lowered_as style fields terms in
     let core = wrapped_where style.wrap lowered in
@@ -99,30 +100,11 @@ of_right style lines place inner own fields terms =
 
 -- a block of this form that is refused with what is wrong with its names, its statements or the lists of its fields,
 -- and where nothing is, with its Switches for which too few Locals are free
-abbrev pub of_terms : Style → List Line → Place → List Place → List ℕ → HeaderFields → (names others few : List Message) → Trees → Compiled
+abbrev pub of_terms : Style → List Line → Place → List Place → List ℕ → HeaderFields → (names others few : List Message) → Trees → Outcome
 of_terms style lines place inner own fields names others few terms =
     unless_wrong (with_others names others) (unless_wrong few (of_right style lines place inner own fields terms))
 
--- the numbers of the errors of the class of names
-abbrev pub is_of_names : ℕ → Bool
-is_of_names number = nat_le 6040 number && nat_le number 6046
-
--- whether errors are of the class of names, of which the first then is
-abbrev pub are_of_names : List Message → Bool
-are_of_names [] = false
-are_of_names (m ∷ ms) = is_of_names m.number
-
--- notes are told behind errors of a later class than that of names
-abbrev pub with_notes_behind : List Message → List Message → List Message
-with_notes_behind notes [] = []
-with_notes_behind notes (m ∷ ms) = if is_of_names m.number then m ∷ ms else (m ∷ ms) ++ notes
-
--- what terms come to, with the notes on them
-abbrev pub with_notes : List Message → Compiled → Compiled
-with_notes notes (Table signature own pieces others) = Table signature own pieces (others ++ notes)
-with_notes notes (Refused messages) = Refused (with_notes_behind notes messages)
-
--- the table of a source in which nothing is wrong
+-- the table of a block in which nothing is wrong, which is read alone
 abbrev pub written_in : Style → List Raw → List ℕ
 written_in style items = table_in style.wrap style.fold style.short style.shorten items
 
@@ -130,15 +112,15 @@ written_in style items = table_in style.wrap style.fold style.short style.shorte
 abbrev pub cut_in : Style → List Line → List Raw → List Piece
 cut_in style lines items = pieces_in lines style.wrap style.fold style.short style.shorten items
 
--- the literals of a source that are cut to 32 bits
+-- its literals that are cut to 32 bits
 abbrev pub literals_in : List Raw → List Message
 literals_in items = cut_literals_at (width_in items) items
 
--- the notes on a source: its literals that are cut, and what is noted of its names
+-- the notes on it: its literals that are cut, and what is noted of its names
 abbrev pub noted_in : List Raw → List Message
 noted_in items = literals_in items ++ notes_in items
 
--- the name that a source's block states for its file
+-- the name that it states for its file
 abbrev pub own_in : List Raw → List ℕ
 own_in items = text_of (plan_at (args_of (writtens items)) 0)
 
@@ -151,13 +133,40 @@ others_in items = statements_in items ++ layouts_in items ++ regions_in items ++
 abbrev pub told_in : List Raw → List Message
 told_in items = first_told (told_of_names (source_in items)) (told_errors (terms_in items))
 
+-- what a block comes to
+abbrev pub outcome_in : Style → List Line → List Raw → Outcome
+outcome_in style lines items =
+    of_terms style lines (block_place (writtens items)) (core_places (plans_in items)) (own_in items) (fields_in items) (told_in items)
+    (others_in items) (locals_in items) (terms_in items)
+
+-- what each of some blocks comes to, in a namespace of its own
+abbrev pub outcomes_in : Style → List Line → List Raw → List Outcome
+outcomes_in style lines [] = []
+outcomes_in style lines (item ∷ items) = outcome_in style lines (alone item) ∷ outcomes_in style lines items
+
+-- the notes on each
+abbrev pub all_noted : List Raw → List Message
+all_noted [] = []
+all_noted (item ∷ items) = noted_in (alone item) ++ all_noted items
+
+-- the tables of blocks in which nothing is wrong
+abbrev pub tables_of : Style → List Line → List Raw → List Table
+tables_of style lines [] = []
+tables_of style lines (item ∷ items) = record {
+  signature = (fields_in (alone item)).signature;
+  own = own_in (alone item);
+  pieces =
+      cut_in style lines (alone item);
+} ∷ tables_of style lines items
+
+-- none of which is too long
+abbrev pub EachWithin : Style → List Raw → Type 0
+EachWithin style [] = ⊤
+EachWithin style (item ∷ items) = (length (written_in style (alone item)) ≤ most_table_bytes) × EachWithin style items
+
 -- the tree of a source's syntax, that is refused with what is wrong with its form
 abbrev pub of_items : Style → List Line → List Raw → Compiled
-of_items style lines items =
-    let place = block_place (writtens items) in
-    let told = of_terms style lines place (core_places (plans_in items)) (own_in items) (fields_in items) (told_in items) (others_in items)
-    (locals_in items) (terms_in items) in
-    unless_wrong (errors_at items) (with_notes (noted_in items) told)
+of_items style lines items = unless_refused (source_errors items) (joined (all_noted items) (outcomes_in style lines items))
 
 -- tokens that are a source, or the place where they stop being one or nest too deep
 abbrev pub of_outcome : Style → List Line → List Token → ParseOutcome → Compiled
@@ -181,10 +190,15 @@ AreWithin files messages = All (λ m. m.place.file < files) messages
 
 -- each note, or each message of a refusal, is told in one of so many files
 abbrev pub TellsWithin : ℕ → Compiled → Type 0
-TellsWithin files (Table signature own pieces notes) = AreWithin files notes
+TellsWithin files (Made tables notes) = AreWithin files notes
 TellsWithin files (Refused messages) = AreWithin files messages
 
--- the name that the block states for its file is ASCII
-abbrev pub HasAsciiName : Compiled → Type 0
-HasAsciiName (Table signature own pieces notes) = IsAscii own
-HasAsciiName (Refused messages) = ⊤
+-- the name that a block states for its file is ASCII
+abbrev pub HaveAsciiNames : List Table → Type 0
+HaveAsciiNames [] = ⊤
+HaveAsciiNames (table ∷ tables) = IsAscii table.own × HaveAsciiNames tables
+
+-- the names that the blocks state for their files are
+abbrev pub HasAsciiNames : Compiled → Type 0
+HasAsciiNames (Made tables notes) = HaveAsciiNames tables
+HasAsciiNames (Refused messages) = ⊤

@@ -10,7 +10,8 @@ use Rattle.asl_tree.specs.Tree.{Trees}
 use Rattle.name_checks.specs.declared.check.Names.{Names}
 use Rattle.asl_tables.specs.declared.compile.Findings.{Findings}
 use Rattle.asl_tables.specs.declared.compile.Findings.TheVariants.{Right, Wrong}
-use Rattle.asl_tables.specs.Compiled.{first_told, with_others}
+use Rattle.asl_tables.specs.Compiled.{with_others}
+use Rattle.block_outcomes.specs.Joined.{first_told}
 
 -- nothing is wrong with the names of terms, and these are they
 pub record AreNamesOf (terms : Trees) (found : Names) : Type 0 where

@@ -1,15 +1,13 @@
-//! An ASL source to its table, or its errors.
+//! An ASL source to its tables, or its errors.
 ghost use Rattle.std.specs.Prelude.{◌≡◌, ◌↔◌, ℕ, ◌<◌, ◌^◌, ◌++◌, ◌∷◌, [], length, All, Ok, IfOk, IfErr, IsTrue, true};
 ghost use Rattle.acpi_values.specs.Revisions.{width_of};
 ghost use Rattle.literal_checks.specs.Literals.{cut_literals_at};
 ghost use Rattle.name_notes.specs.Notes.{name_notes};
 ghost use Rattle.asl_tree.specs.Tree.{Trees};
 ghost use Rattle.asl_tree.specs.View.{trees_of};
-ghost use Rattle.asl_tree.specs.declared.program.Block.{Block as SpecBlock};
 ghost use Rattle.aml_code.specs.Header.{fields_of};
-ghost use Rattle.asl_parser.specs.declared.raw.Raw.{Raw};
 ghost use Rattle.asl_parser.specs.Parse.{outcome};
-ghost use Rattle.asl_shape.specs.Forms.{Forms};
+ghost use Rattle.asl_shape.specs.Forms.{errors_at, alone, IsBlockOf, AreBlocksOf, AreRight};
 ghost use Rattle.asl_parser.specs.Written.{writtens};
 ghost use Rattle.field_checks.specs.Lists.{all_errors};
 ghost use Rattle.region_checks.specs.Regions.{region_errors};
@@ -17,6 +15,8 @@ ghost use Rattle.type_checks.specs.Types.{wrong_types};
 ghost use Rattle.type_checks.specs.Sizes.{long_lists};
 ghost use Rattle.switch_checks.specs.Repeats.{repeated_values};
 ghost use Rattle.switch_checks.specs.Locals.{few_locals};
+ghost use Rattle.asl_formats.specs.Forms.{formed_all};
+ghost use Rattle.form_shapes.specs.Near.{AreNear};
 ghost use Rattle.hidden_locals.specs.Switches.{without_switches};
 ghost use Rattle.acpi_names.specs.Terms.{are_terms};
 ghost use Rattle.statement_checks.specs.Statements.{errors_of_statements};
@@ -25,7 +25,7 @@ ghost use Rattle.term_places.specs.Places.{places_of};
 ghost use Rattle.source_pieces.specs.Places.{core_places};
 ghost use Rattle.named_sessions.specs.Shaped.{AreFormed, AreNamed, AreShaped};
 ghost use Rattle.asl_lower.specs.Nodes.{named_all};
-ghost use Rattle.program_shapes.specs.Kept.{IsKeptSource};
+ghost use Rattle.program_shapes.specs.Kept.{IsKeptSource, AreKeptAlone};
 ghost use Rattle.asl_fold.specs.Folds.{folded_where};
 ghost use Rattle.wrapped_externals.specs.Wraps.{wrapped_where};
 ghost use Rattle.wrapped_externals.specs.Starts.{placed_where};
@@ -37,38 +37,43 @@ ghost use Rattle.aml_writer.specs.Written.{IsTable, RefusedFor};
 ghost use Rattle.asl_tables.specs.Syntax.{at_token};
 ghost use Rattle.asl_tables.specs.Ready.{HasRoom, IsCoreOf};
 ghost use Rattle.asl_tables.specs.Findings.{AreNamesOf, FindsFew, Finds};
-ghost use Rattle.asl_tables.specs.declared.compile.Compiled.TheVariants.{Refused};
+ghost use Rattle.block_outcomes.specs.declared.outcome.Compiled.TheVariants.{Refused};
 ghost use Rattle.name_checks.specs.Messages.{told_errors};
-ghost use Rattle.asl_tables.specs.Compiled.{first_told, are_of_names as are_names, its_table, its_pieces, of_table, of_right, of_terms};
-ghost use Rattle.asl_tables.specs.Compiled.{is_of_kinds as of_kinds, is_of_names as of_names, with_notes, with_notes_behind, with_others};
-ghost use Rattle.asl_tables.specs.Compiled.{of_items, of_lines, of_outcome, HasAsciiName, TellsWithin};
+ghost use Rattle.asl_tables.specs.Compiled.{its_table, its_pieces, of_table, of_right, of_terms, is_of_kinds as of_kinds, with_others};
+ghost use Rattle.asl_tables.specs.Compiled.{outcome_in, outcomes_in, noted_in, all_noted, of_items, of_lines, of_outcome, HasAsciiNames};
+ghost use Rattle.asl_tables.specs.Compiled.{TellsWithin};
+ghost use Rattle.block_outcomes.specs.Joined.{first_told, joined};
 
-use crate::messages::{both, one_message, refusal};
+use crate::count::count_nodes;
 use crate::resolved::{Resolved, resolve_block};
 use acpi_values::width::Width;
 use aml_writer::stop::WriteStop;
-use aml_writer::write::write;
+use aml_writer::write::write_block;
 use asl_fold::fold::fold_where;
+use asl_formats::program::forms;
 use asl_lexer::token::Tokens;
 use asl_lexer::tokens;
 use asl_lower::lower::lower;
-use asl_parser::{RawUnit, Syntax, parse, place_at};
+use asl_parser::{Raw, RawUnit, Raws, Syntax, parse, place_at};
 use asl_shape::shape;
-use asl_tree::program::{Block, Blocks, Core, Program};
+use asl_tree::program::{Block, Blocks};
 use asl_tree::term::Node;
+use block_outcomes::messages::{both, one_message, refusal};
+use block_outcomes::outcome::{Compiled, Outcome, join, none_sorted, with_outcome};
 use field_checks::check::list_faults;
 use iasl_messages::message::{Message, Messages, Stage};
 use iasl_messages::number::{
-    FIELD_NOT_WHOLE_BYTES, NAME_DECLARED_TWICE, NESTING_TOO_DEEP, PATH_IS_TOO_LONG, SYNTAX,
-    UNKNOWN_OPERATOR, WRONG_CALL_ARGUMENT_COUNT, WRONG_OBJECT_KIND, WRONG_TYPE,
+    FIELD_NOT_WHOLE_BYTES, NESTING_TOO_DEEP, SYNTAX, UNKNOWN_OPERATOR, WRONG_CALL_ARGUMENT_COUNT,
+    WRONG_OBJECT_KIND, WRONG_TYPE,
 };
-use iasl_messages::place::{Lines, Pieces};
+use iasl_messages::place::{Line, Lines, Pieces};
 use iasl_ports::list::{List, Text};
 use literal_checks::check::cut_literals;
 use name_checks::check::{Names, check};
 use name_notes::check::notes as notes_on_names;
 use name_spelling::spell::spell;
 use region_checks::check::region_faults;
+use source_lines::lines::SourceLines;
 use statement_checks::check::statement_errors;
 use std::alloc::{AllocError, Global};
 use std::mem::{drop, forget, replace};
@@ -95,70 +100,43 @@ pub struct Style {
     pub shorten: bool,
 }
 
-/// What a source comes to.
-#[derive(Drop)]
-pub enum Compiled {
-    /// Its table in pieces, with the signature, the name that the block states for its file, which is empty where it states none, and
-    /// the notes on its text.
-    Table {
-        signature: Text,
-        own: Text,
-        pieces: Pieces,
-        notes: Messages,
-    },
-    /// Its errors, of which there is at least one.
-    Refused(Messages),
-}
-
-// The core of one block.
-fn core_of(alloc: Global, block: Block) -> Result<Core, AllocError>
-    ensures { IfOk result (λ core. core.program.blocks ≡ block ∷ []) }
-{
-    let mut blocks = Blocks::new(alloc);
-    blocks.push(block)?;
-    Ok(Core {
-        program: Program { blocks },
-    })
-}
-
 // The pieces of a core's block, with the texts of the lines.
-fn pieces_of(alloc: Global, short: bool, lines: &Lines, block: Block) -> Result<Pieces, WriteStop>
+fn pieces_of(
+    alloc: Global,
+    short: bool,
+    lines: &SourceLines<'_>,
+    block: Block,
+) -> Result<Pieces, WriteStop>
     ensures table { IfOk result (λ pieces. IsTable block short (joined_pieces pieces)) }
-    ensures cut { IfOk result (λ pieces. IsCut lines.now.list block short pieces) }
+    ensures cut { IfOk result (λ pieces. IsCut lines.now block short pieces) }
     ensures refused { IfErr result (RefusedFor block short) }
 {
-    match core_of(alloc, block) {
-        Ok(core) => {
-            let made = write(alloc, &core, lines, 0, short);
-            // the process ends soon, so nobody needs the room of the terms
-            forget(core);
-            made
-        }
-        Err(AllocError) => Err(WriteStop::Memory),
-    }
+    let made = write_block(alloc, &block, lines, short);
+    // the process ends soon, so nobody needs the room of the terms
+    forget(block);
+    made
 }
 
 // The table of a core's block in pieces, with the texts of the lines, or its refusal where that is too long.
-fn write_block(
+fn write_core(
     alloc: Global,
     style: Style,
-    lines: &Lines,
+    lines: &SourceLines<'_>,
     block: Block,
-) -> Result<Compiled, AllocError>
+) -> Result<Outcome, AllocError>
     ensures { (terms : Trees) → IsCoreOf style.shorten terms block →
         IfOk result (λ it. it ≡ of_table block.place block.signature block.file (its_table style terms block)
-        (its_pieces style lines.now.list (block.place ∷ places_of block.terms.items) (fields_of block) terms)) }
+        (its_pieces style lines.now (block.place ∷ places_of block.terms.items) (fields_of block) terms)) }
 {
     let signature = Text::from_bytes(alloc, block.signature.as_bytes())?;
     let own = Text::from_bytes(alloc, block.file.as_bytes())?;
     match pieces_of(alloc, style.short, lines, block) {
-        Ok(pieces) => Ok(Compiled::Table {
+        Ok(pieces) => Ok(Outcome::Done {
             signature,
             own,
             pieces,
-            notes: Messages::new(alloc),
         }),
-        Err(WriteStop::TooLong(message)) => Ok(Compiled::Refused(one_message(alloc, message)?)),
+        Err(WriteStop::TooLong(message)) => Ok(Outcome::Faulty(one_message(alloc, message)?)),
         Err(WriteStop::Memory) => Err(AllocError),
     }
 }
@@ -189,21 +167,26 @@ fn with_others(errors: Messages, others: Messages) -> Result<Messages, AllocErro
     }
 }
 
-// Terms with loops for their Switches, their symbolic operators named and their ElseIfs nested, and their constants
-// folded where that is asked for.
-#[tactic(auto, using(crate::proofs::Given::are_given, source_pieces::proofs::Planned::places_planned))]
+// Terms with what stands for their Fors and for what prints, loops for their Switches, their symbolic operators named
+// and their ElseIfs nested, and their constants folded where that is asked for.
+#[tactic(auto, using(crate::proofs::Given::forms_given, source_pieces::proofs::Planned::places_planned))]
 fn lowered_terms(
     alloc: Global,
     fold: bool,
     width: Width,
     terms: Vec<Node>,
 ) -> Result<Vec<Node>, AllocError>
-    requires { AreFormed AreNamed (Unit {0}) (Unit {0}) (trees_of terms.items) }
-    ensures terms { IfOk result (λ core. trees_of core.items ≡ folded_where fold width (named_all (without_switches (trees_of terms.items)))) }
+    requires formed { AreFormed (Unit {0}) AreNamed (Unit {0}) (Unit {0}) (trees_of terms.items) }
+    requires near { AreNear (trees_of terms.items) }
+    ensures terms { IfOk result
+        (λ core. trees_of core.items ≡ folded_where fold width (named_all (without_switches (formed_all (trees_of terms.items))))) }
     ensures places { IfOk result (λ core. places_of core.items ≡ core_places (plans_of terms.items)) }
 {
-    let terms = loops(alloc, terms)?;
-    let named = lower(alloc, terms)?;
+    // (the nodes have the numbers before this one)
+    let next = count_nodes(&terms).ok_or(AllocError)?;
+    let plain = forms(alloc, terms, next)?;
+    let turns = loops(alloc, plain)?;
+    let named = lower(alloc, turns)?;
     fold_where(alloc, fold, width, named)
 }
 
@@ -214,14 +197,16 @@ fn core_terms(
     width: Width,
     terms: Vec<Node>,
 ) -> Result<Vec<Node>, AllocError>
-    requires { AreFormed AreNamed (Unit {0}) (Unit {0}) (trees_of terms.items) }
+    requires formed { AreFormed (Unit {0}) AreNamed (Unit {0}) (Unit {0}) (trees_of terms.items) }
+    requires near { AreNear (trees_of terms.items) }
     ensures terms { IfOk result
         (λ core. trees_of core.items ≡ wrapped_where style.wrap
-        (folded_where style.fold width (named_all (without_switches (trees_of terms.items))))) }
-    ensures places { AreShaped (folded_where style.fold width (named_all (without_switches (trees_of terms.items)))) →
+        (folded_where style.fold width (named_all (without_switches (formed_all (trees_of terms.items)))))) }
+    ensures places { AreShaped (folded_where style.fold width (named_all (without_switches (formed_all (trees_of terms.items))))) →
         IfOk result
         (λ core. places_of core.items ≡ placed_where style.wrap
-        (folded_where style.fold width (named_all (without_switches (trees_of terms.items)))) (core_places (plans_of terms.items))) }
+        (folded_where style.fold width (named_all (without_switches (formed_all (trees_of terms.items)))))
+        (core_places (plans_of terms.items))) }
 {
     let lowered = lowered_terms(alloc, style.fold, width, terms)?;
     let core = wrap_where(alloc, style.wrap, lowered)?;
@@ -230,14 +215,16 @@ fn core_terms(
 
 // The block with the terms of its core, whose names are not spelled yet.
 fn lowered(alloc: Global, style: Style, block: Block) -> Result<Block, AllocError>
-    requires { AreFormed AreNamed (Unit {0}) (Unit {0}) (trees_of block.terms.items) }
+    requires formed { AreFormed (Unit {0}) AreNamed (Unit {0}) (Unit {0}) (trees_of block.terms.items) }
+    requires near { AreNear (trees_of block.terms.items) }
     ensures terms { IfOk result
         (λ core. trees_of core.terms.items ≡ wrapped_where style.wrap
-        (folded_where style.fold (width_of block.revision) (named_all (without_switches (trees_of block.terms.items))))) }
-    ensures places { AreShaped (folded_where style.fold (width_of block.revision) (named_all (without_switches (trees_of block.terms.items)))) →
+        (folded_where style.fold (width_of block.revision) (named_all (without_switches (formed_all (trees_of block.terms.items)))))) }
+    ensures places { AreShaped
+        (folded_where style.fold (width_of block.revision) (named_all (without_switches (formed_all (trees_of block.terms.items))))) →
         IfOk result
         (λ core. places_of core.terms.items ≡ placed_where style.wrap
-        (folded_where style.fold (width_of block.revision) (named_all (without_switches (trees_of block.terms.items))))
+        (folded_where style.fold (width_of block.revision) (named_all (without_switches (formed_all (trees_of block.terms.items)))))
         (core_places (plans_of block.terms.items))) }
     ensures place { IfOk result (λ core. core.place ≡ block.place) }
     ensures file { IfOk result (λ core. core.file ≡ block.file) }
@@ -291,20 +278,21 @@ fn find(
     }
 }
 
-// The table of a block in which nothing is wrong, whose names are these: with loops for its Switches, its symbols named
-// and its names spelled.
+// The table of a block in which nothing is wrong, whose names are these: with what stands for its Fors and for what prints, loops for its
+// Switches, its symbols named and its names spelled.
 fn table_of(
     alloc: Global,
     style: Style,
-    lines: &Lines,
+    lines: &SourceLines<'_>,
     block: Block,
     names: Names,
-) -> Result<Compiled, AllocError>
+) -> Result<Outcome, AllocError>
     requires room { HasRoom (fields_of block) }
-    requires formed { AreFormed AreNamed (Unit {0}) (Unit {0}) (trees_of block.terms.items) }
-    requires shaped { AreShaped (named_all (without_switches (trees_of block.terms.items))) }
+    requires formed { AreFormed (Unit {0}) AreNamed (Unit {0}) (Unit {0}) (trees_of block.terms.items) }
+    requires near { AreNear (trees_of block.terms.items) }
+    requires shaped { AreShaped (named_all (without_switches (formed_all (trees_of block.terms.items)))) }
     requires names { AreNamesOf (trees_of block.terms.items) names }
-    ensures { IfOk result (λ it. it ≡ of_right style lines.now.list block.place (core_places (plans_of block.terms.items)) block.file
+    ensures { IfOk result (λ it. it ≡ of_right style lines.now block.place (core_places (plans_of block.terms.items)) block.file
         (fields_of block) (trees_of block.terms.items)) }
 {
     let mut core = lowered(alloc, style, block)?;
@@ -312,7 +300,7 @@ fn table_of(
     let terms = replace(&mut core.terms, Vec::new(alloc));
     let spelled = spell(alloc, index, calls.as_slice(), style.shorten, terms)?;
     core.terms = spelled;
-    write_block(alloc, style, lines, core)
+    write_core(alloc, style, lines, core)
 }
 
 // A block whose nodes have their numbers: its table, or what is wrong with its names, some of which may be told of
@@ -320,108 +308,54 @@ fn table_of(
 fn compile_block(
     alloc: Global,
     style: Style,
-    lines: &Lines,
+    lines: &SourceLines<'_>,
     block: Block,
     told: Messages,
     others: Messages,
-) -> Result<Compiled, AllocError>
+) -> Result<Outcome, AllocError>
     requires room { HasRoom (fields_of block) }
-    requires formed { AreFormed AreNamed (Unit {0}) (Unit {0}) (trees_of block.terms.items) }
-    requires shaped { others ≡ [] → AreShaped (named_all (without_switches (trees_of block.terms.items))) }
-    ensures { IfOk result (λ it. it ≡ of_terms style lines.now.list block.place (core_places (plans_of block.terms.items)) block.file
+    requires formed { AreFormed (Unit {0}) AreNamed (Unit {0}) (Unit {0}) (trees_of block.terms.items) }
+    requires near { others ≡ [] → AreNear (trees_of block.terms.items) }
+    requires shaped { others ≡ [] → AreShaped (named_all (without_switches (formed_all (trees_of block.terms.items)))) }
+    ensures { IfOk result (λ it. it ≡ of_terms style lines.now block.place (core_places (plans_of block.terms.items)) block.file
         (fields_of block) (first_told told (told_errors (trees_of block.terms.items))) others
         (few_locals (trees_of block.terms.items) (plans_of block.terms.items)) (trees_of block.terms.items)) }
 {
     match find(alloc, block.terms.as_slice(), told, others)? {
         Findings::Right(names) => table_of(alloc, style, lines, block, names),
-        Findings::Wrong(errors) => Ok(Compiled::Refused(errors)),
+        Findings::Wrong(errors) => Ok(Outcome::Faulty(errors)),
     }
 }
 
-// Whether an error is of the class of names.
-fn is_of_names(number: u16) -> bool
-    ensures { result ≡ of_names number }
-{
-    NAME_DECLARED_TWICE <= number && number <= PATH_IS_TOO_LONG
-}
-
-/// Whether errors are of the class of names, of which the first then is.
-pub(crate) fn are_of_names(errors: &Messages) -> bool
-    ensures { result ≡ are_names errors.now }
-{
-    match errors.get(0) {
-        Some(first) => is_of_names(first.number),
-        None => false,
-    }
-}
-
-// Notes behind errors of a later class than that of names.
-fn with_notes_behind(notes: Messages, errors: Messages) -> Result<Messages, AllocError>
-    ensures { IfOk result (λ all. all ≡ with_notes_behind notes errors) }
-{
-    let number = match errors.get(0) {
-        Some(first) => first.number,
-        None => return Ok(errors),
-    };
-    if is_of_names(number) {
-        Ok(errors)
-    } else {
-        both(errors, notes)
-    }
-}
-
-// What a block comes to, with the notes on it.
-fn with_notes(notes: Messages, it: Compiled) -> Result<Compiled, AllocError>
-    ensures { IfOk result (λ noted. noted ≡ with_notes notes it) }
-{
-    match it {
-        Compiled::Table {
-            signature,
-            own,
-            pieces,
-            notes: others,
-        } => Ok(Compiled::Table {
-            signature,
-            own,
-            pieces,
-            notes: both(others, notes)?,
-        }),
-        Compiled::Refused(errors) => Ok(Compiled::Refused(with_notes_behind(notes, errors)?)),
-    }
+// What a block comes to, and the notes on it.
+#[derive(Drop)]
+struct Noted {
+    outcome: Outcome,
+    notes: Messages,
 }
 
 // A block, with the notes on the literals of its source, which are found before, and on its names.
 fn compile_noted(
     alloc: Global,
     style: Style,
-    lines: &Lines,
+    lines: &SourceLines<'_>,
     literals: Messages,
     block: Block,
     told: Messages,
     others: Messages,
-) -> Result<Compiled, AllocError>
+) -> Result<Noted, AllocError>
     requires room { HasRoom (fields_of block) }
-    requires formed { AreFormed AreNamed (Unit {0}) (Unit {0}) (trees_of block.terms.items) }
-    requires shaped { others ≡ [] → AreShaped (named_all (without_switches (trees_of block.terms.items))) }
-    ensures { IfOk result
-        (λ it. it ≡ with_notes (literals ++ name_notes (trees_of block.terms.items))
-        (of_terms style lines.now.list block.place (core_places (plans_of block.terms.items)) block.file (fields_of block)
-        (first_told told (told_errors (trees_of block.terms.items))) others
-        (few_locals (trees_of block.terms.items) (plans_of block.terms.items)) (trees_of block.terms.items))) }
+    requires formed { AreFormed (Unit {0}) AreNamed (Unit {0}) (Unit {0}) (trees_of block.terms.items) }
+    requires near { others ≡ [] → AreNear (trees_of block.terms.items) }
+    requires shaped { others ≡ [] → AreShaped (named_all (without_switches (formed_all (trees_of block.terms.items)))) }
+    ensures notes { IfOk result (λ it. it.notes ≡ literals ++ name_notes (trees_of block.terms.items)) }
+    ensures outcome { IfOk result (λ it. it.outcome ≡ of_terms style lines.now block.place (core_places (plans_of block.terms.items)) block.file
+        (fields_of block) (first_told told (told_errors (trees_of block.terms.items))) others
+        (few_locals (trees_of block.terms.items) (plans_of block.terms.items)) (trees_of block.terms.items)) }
 {
     let notes = both(literals, notes_on_names(alloc, block.terms.as_slice())?)?;
-    let it = compile_block(alloc, style, lines, block, told, others)?;
-    with_notes(notes, it)
-}
-
-// The one block of a program.
-fn block_of(program: Program) -> Result<Block, AllocError>
-    ensures { (block : SpecBlock) → program.blocks ≡ block ∷ [] → result ≡ Ok block }
-{
-    match program.blocks.into_vec().pop() {
-        Some(block) => Ok(block),
-        None => Err(AllocError),
-    }
+    let outcome = compile_block(alloc, style, lines, block, told, others)?;
+    Ok(Noted { outcome, notes })
 }
 
 // What is wrong with statements, then with the lists of fields and their accesses, and then with the kinds of
@@ -439,26 +373,70 @@ fn other_errors(alloc: Global, width: Width, terms: &[Node]) -> Result<Messages,
     both(errors, repeated_values(alloc, width, terms)?)
 }
 
+// An item that is a block, read alone.
+fn compile_item(
+    alloc: Global,
+    style: Style,
+    lines: &SourceLines<'_>,
+    raw: Raw,
+    block: Block,
+) -> Result<Noted, AllocError>
+    requires kept { IsKeptSource (writtens (alone raw)) }
+    requires right { errors_at (alone raw) ≡ [] }
+    requires block { IsBlockOf (alone raw) block }
+    ensures outcome { IfOk result (λ it. it.outcome ≡ outcome_in style lines.now (alone raw)) }
+    ensures notes { IfOk result (λ it. it.notes ≡ noted_in (alone raw)) }
+{
+    let Resolved { block, told } = resolve_block(alloc, block)?;
+    let width = Width::of_revision(block.revision);
+    let literals = cut_literals(alloc, width, &raw)?;
+    drop(raw);
+    let others = other_errors(alloc, width, block.terms.as_slice())?;
+    compile_noted(alloc, style, lines, literals, block, told, others)
+}
+
+// Items that are these blocks, each read alone. What was read of an item is let go with it.
+fn compile_items(
+    alloc: Global,
+    style: Style,
+    lines: &SourceLines<'_>,
+    raws: Raws,
+    blocks: Blocks,
+) -> Result<Compiled, AllocError>
+    requires kept { AreKeptAlone raws }
+    requires right { AreRight raws }
+    requires blocks { AreBlocksOf raws blocks }
+    ensures { IfOk result (λ it. it ≡ joined (all_noted raws) (outcomes_in style lines.now raws)) }
+{
+    let mut rest = raws.into_vec();
+    rest.reverse();
+    let mut left = blocks.into_vec();
+    left.reverse();
+    let mut sorted = none_sorted(alloc);
+    let mut notes = Messages::new(alloc);
+    while let Some(raw) = rest.pop() {
+        // (there are as many blocks)
+        let block = left.pop().ok_or(AllocError)?;
+        let it = compile_item(alloc, style, lines, raw, block)?;
+        sorted = with_outcome(alloc, sorted, it.outcome)?;
+        notes = both(notes, it.notes)?;
+    }
+    join(sorted, notes)
+}
+
 // The tree of a source's syntax.
 fn compile_unit(
     alloc: Global,
     style: Style,
-    lines: &Lines,
+    lines: &SourceLines<'_>,
     unit: RawUnit,
 ) -> Result<Compiled, AllocError>
-    requires { IsKeptSource (writtens unit.items) }
-    ensures value { IfOk result (λ compiled. compiled ≡ of_items style lines.now.list unit.items) }
-    ensures own { IfOk result HasAsciiName }
+    requires { AreKeptAlone unit.items }
+    ensures value { IfOk result (λ compiled. compiled ≡ of_items style lines.now unit.items) }
+    ensures own { IfOk result HasAsciiNames }
 {
     match shape(alloc, &unit) {
-        Ok(program) => {
-            let Resolved { block, told } = resolve_block(alloc, block_of(program)?)?;
-            let width = Width::of_revision(block.revision);
-            let literals = cut_literals(alloc, width, &unit)?;
-            drop(unit);
-            let others = other_errors(alloc, width, block.terms.as_slice())?;
-            compile_noted(alloc, style, lines, literals, block, told, others)
-        }
+        Ok(program) => compile_items(alloc, style, lines, unit.items, program.blocks),
         Err(stage) => Ok(Compiled::Refused(refusal(stage)?)),
     }
 }
@@ -487,13 +465,13 @@ fn refuse_at(
 fn compile_tokens(
     alloc: Global,
     style: Style,
-    lines: &Lines,
+    lines: &SourceLines<'_>,
     tokens: Tokens,
 ) -> Result<Compiled, AllocError>
     requires few { length tokens < 2 ^ 32 }
     requires short { HaveShortTexts tokens }
-    ensures value { IfOk result (λ compiled. compiled ≡ of_outcome style lines.now.list tokens (outcome tokens)) }
-    ensures own { IfOk result HasAsciiName }
+    ensures value { IfOk result (λ compiled. compiled ≡ of_outcome style lines.now tokens (outcome tokens)) }
+    ensures own { IfOk result HasAsciiNames }
     ensures within { (files : ℕ) → 0 < files → All (λ token. token.place.file < files) tokens → IfOk result (TellsWithin files) }
 {
     match parse(alloc, &tokens) {
@@ -507,6 +485,23 @@ fn compile_tokens(
     }
 }
 
+// The tokens of lines, which are looked through once for all tables.
+fn compile_lines(
+    alloc: Global,
+    style: Style,
+    lines: &[Line],
+    tokens: Tokens,
+) -> Result<Compiled, AllocError>
+    requires few { length tokens < 2 ^ 32 }
+    requires short { HaveShortTexts tokens }
+    ensures value { IfOk result (λ compiled. compiled ≡ of_outcome style lines.now tokens (outcome tokens)) }
+    ensures own { IfOk result HasAsciiNames }
+    ensures within { (files : ℕ) → 0 < files → All (λ token. token.place.file < files) tokens → IfOk result (TellsWithin files) }
+{
+    let lines = SourceLines::new(alloc, lines)?;
+    compile_tokens(alloc, style, &lines, tokens)
+}
+
 // Whether so many tokens have numbers of 32 bits.
 fn are_numbered(count: usize) -> bool
     ensures { IsTrue result ↔ count < 2 ^ 32 }
@@ -514,21 +509,21 @@ fn are_numbered(count: usize) -> bool
     count <= MOST_TOKENS
 }
 
-/// What lines of ASL come to: a table in pieces (ACPI Specification 6.4, 19.6 and 20.2), or errors, of which there is
-/// at least one. Each refusal stands in one of their files.
+/// What lines of ASL come to: a table in pieces for each block (ACPI Specification 6.4, 19.6 and 20.2), or errors, of which there is at
+/// least one: those of one class, of all blocks. Each refusal stands in one of their files.
 #[tactic(auto, using(crate::proofs::Outcomes::fault_is))]
 pub fn compile(alloc: Global, style: Style, lines: &Lines) -> Result<Compiled, AllocError>
     requires short { All (λ line. length line.text < 2 ^ 32) lines.now.list }
     requires main { 0 < length lines.now.files }
     requires files { All (λ line. line.file < length lines.now.files) lines.now.list }
     ensures value { IfOk result (λ it. it ≡ of_lines style lines.now.list) }
-    ensures own { IfOk result HasAsciiName }
+    ensures own { IfOk result HasAsciiNames }
     ensures within { IfOk result (TellsWithin (length lines.now.files)) }
 {
     match tokens(alloc, lines) {
         // (no more tokens have room)
         Ok(tokens) if !are_numbered(tokens.len()) => Err(AllocError),
-        Ok(tokens) => compile_tokens(alloc, style, lines, tokens),
+        Ok(tokens) => compile_lines(alloc, style, lines.list.as_slice(), tokens),
         Err(stage) => Ok(Compiled::Refused(refusal(stage)?)),
     }
 }

@@ -2,5 +2,5 @@
 #![tactic(auto)]
 
 pub mod compile;
-pub mod messages;
+mod count;
 mod resolved;

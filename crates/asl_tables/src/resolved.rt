@@ -12,14 +12,14 @@ ghost use Rattle.named_sessions.specs.Shaped.{AreFormed, AreNamed};
 ghost use Rattle.descriptor_names.specs.Resolved.{resolved_terms};
 ghost use Rattle.descriptor_names.specs.Told as spec;
 ghost use Rattle.iasl_messages.specs.declared.place.Place.{Place as APlace};
-ghost use Rattle.asl_tables.specs.Compiled.{first_told as first_of, told_of_names};
+ghost use Rattle.asl_tables.specs.Compiled.{told_of_names};
+ghost use Rattle.block_outcomes.specs.Joined.{first_told as first_of};
 ghost use Rattle.asl_tables.specs.Spots.{spot, has_place};
 
-use crate::compile::are_of_names;
-use crate::messages::{both, refusal};
 use asl_numbers::number::numbered;
 use asl_tree::program::Block;
 use asl_tree::term::Node;
+use block_outcomes::messages::{are_of_names, both, first_told, refusal};
 use descriptor_names::check::{Checked, check as check_descriptors};
 use descriptor_names::declare::names_descriptors;
 use descriptor_names::strip::stripped;
@@ -165,16 +165,6 @@ fn name_uses_of(uses: Messages) -> Messages
     Messages::from_vec(left)
 }
 
-// Messages, or others where there are none.
-fn first_told(first: Messages, others: Messages) -> Messages
-    ensures { result ≡ first_of first others }
-{
-    match first.get(0) {
-        Some(_) => first,
-        None => others,
-    }
-}
-
 // What is told of both classes with the uses of descriptors: of the class of names with those that are of it, or where that is nothing,
 // of the class of kinds with all.
 fn told_with(
@@ -214,7 +204,7 @@ fn told_of(
 
 // The terms of a block as they are compiled, and what is told of their names where descriptors have names.
 fn resolve_terms(alloc: Global, terms: Vec<Node>) -> Result<Described, AllocError>
-    requires { AreFormed AreNamed (Unit {0}) (Unit {0}) (numbered_all 0 (plans_of terms.items)) }
+    requires { AreFormed (Unit {0}) AreNamed (Unit {0}) (Unit {0}) (numbered_all 0 (plans_of terms.items)) }
     ensures terms { IfOk result (λ d. plans_of d.terms.items ≡ resolved_terms (plans_of terms.items)) }
     ensures told { IfOk result (λ d. first_of d.told (told_errors (numbered_all 0 (plans_of d.terms.items))) ≡ first_of
         (told_of_names (plans_of terms.items)) (told_errors (numbered_all 0 (resolved_terms (plans_of terms.items))))) }
@@ -242,7 +232,7 @@ fn resolve_terms(alloc: Global, terms: Vec<Node>) -> Result<Described, AllocErro
 
 // The terms of a block as they are compiled, whose nodes have their numbers, and what is told of their names where descriptors have names.
 fn describe(alloc: Global, terms: Vec<Node>) -> Result<Described, AllocError>
-    requires { AreFormed AreNamed (Unit {0}) (Unit {0}) (numbered_all 0 (plans_of terms.items)) }
+    requires { AreFormed (Unit {0}) AreNamed (Unit {0}) (Unit {0}) (numbered_all 0 (plans_of terms.items)) }
     ensures plans { IfOk result (λ d. plans_of d.terms.items ≡ resolved_terms (plans_of terms.items)) }
     ensures trees { IfOk result (λ d. trees_of d.terms.items ≡ numbered_all 0 (plans_of d.terms.items)) }
     ensures told { IfOk result (λ d. first_of d.told (told_errors (trees_of d.terms.items)) ≡ first_of (told_of_names (plans_of terms.items))
@@ -255,7 +245,7 @@ fn describe(alloc: Global, terms: Vec<Node>) -> Result<Described, AllocError>
 
 /// A block as it is compiled, and what is told of the names of its descriptors.
 pub(crate) fn resolve_block(alloc: Global, block: Block) -> Result<Resolved, AllocError>
-    requires { AreFormed AreNamed (Unit {0}) (Unit {0}) (numbered_all 0 (plans_of block.terms.items)) }
+    requires { AreFormed (Unit {0}) AreNamed (Unit {0}) (Unit {0}) (numbered_all 0 (plans_of block.terms.items)) }
     ensures plans { IfOk result (λ made. plans_of made.block.terms.items ≡ resolved_terms (plans_of block.terms.items)) }
     ensures trees { IfOk result (λ made. trees_of made.block.terms.items ≡ numbered_all 0 (plans_of made.block.terms.items)) }
     ensures told { IfOk result (λ made. first_of made.told (told_errors (trees_of made.block.terms.items)) ≡ first_of

@@ -1,6 +1,7 @@
 pub mod Literals
 pub mod Names
 pub mod FieldItems
+pub mod Formats
 pub mod Symbols
 pub mod Tree
 pub mod View

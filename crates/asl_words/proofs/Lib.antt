@@ -1,2 +1,4 @@
 mod Tables
+pub mod FormatLaws
 mod PathLaws
+mod Runs

@@ -1,6 +1,6 @@
 -- What a word is, where it may stand, and what it is read as.
-use Rattle.std.specs.Prelude.{ℕ, suc, nat_le, nat_lt, Bool, true, false, not, ◌&&◌, ◌||◌, if◌then◌else◌, List, [], ◌∷◌, length, Option}
-use Rattle.std.specs.Prelude.{Some, None}
+use Rattle.std.specs.Prelude.{ℕ, suc, nat_le, nat_lt, Bool, true, false, not, ◌==◌, ◌&&◌, ◌||◌, if◌then◌else◌, List, [], ◌∷◌, length}
+use Rattle.std.specs.Prelude.{Option, Some, None}
 use Rattle.acpi_state.specs.Outcomes.{choose}
 use Rattle.asl_tree.specs.declared.term.Op.{Op}
 use Rattle.asl_tree.specs.declared.term.Control.{Control}
@@ -72,6 +72,11 @@ abbrev pub run_behind : Option ℕ → Meaning → Option ℕ
 run_behind run (is.Operator (Op.Control Control.If)) = Some 0
 run_behind run (is.Operator (Op.Control Control.ElseIf)) = Some (one_longer run)
 run_behind run _ = None
+
+-- whether a word may go on with a run, or begin one, by its first letter
+abbrev pub may_run : List ℕ → Bool
+may_run [] = true
+may_run (letter ∷ letters) = letter == 73 || letter == 69
 
 abbrev pub is_term : Slot → Bool
 is_term (slot.Term run) = true
@@ -193,7 +198,7 @@ unfit s = if takes_descriptor s || takes_branch s then 6025 else 6022
 -- nothing is left out that has to stand
 abbrev pub may_end : List Parameter → Bool
 may_end [] = true
-may_end (q ∷ qs) = q.omittable && may_end qs
+may_end (q ∷ qs) = (q.omittable || q.further) && may_end qs
 
 abbrev pub has_braces : Body → Bool
 has_braces braces.No = false
@@ -233,6 +238,7 @@ is_place _ = false
 -- where an expression is read
 abbrev pub takes_expression : Slot → Bool
 takes_expression slot.Expression = true
+takes_expression slot.Effect = true
 takes_expression (slot.Constant least most) = true
 takes_expression slot.Measure = true
 takes_expression slot.Element = true

@@ -110,6 +110,8 @@ operators =
     row (codes "FROMBCD") (number IntOp.FromBcd) ∷
     row (codes "FATAL") (event EventOp.Fatal) ∷
     row (codes "FIELD") (declaration Declaration.Field) ∷
+    row (codes "FOR") (control Control.For) ∷
+    row (codes "FPRINTF") (control Control.Fprintf) ∷
     row (codes "IF") (control Control.If) ∷
     row (codes "INCREMENT") (data' DataOp.Increment) ∷
     row (codes "INDEX") (data' DataOp.Index) ∷
@@ -143,6 +145,7 @@ operators =
     row (codes "PACKAGE") (special Special.Package) ∷
     row (codes "POWERRESOURCE") (declaration Declaration.PowerResource) ∷
     row (codes "PROCESSOR") (declaration Declaration.Processor) ∷
+    row (codes "PRINTF") (control Control.Printf) ∷
     row (codes "RETURN") (control Control.Return) ∷
     row (codes "REFOF") (data' DataOp.RefOf) ∷
     row (codes "REVISION") (event EventOp.Revision) ∷
@@ -234,7 +237,6 @@ words =
     word (codes "FFIXEDHW") (known.Word (kind.Resource k.Space) 127) ∷
     word (codes "FIXEDDMA") (known.Descriptor d.FixedDma) ∷
     word (codes "FIXEDIO") (known.Descriptor d.FixedIo) ∷
-    word (codes "FOR") known.LeftOut ∷
     word (codes "GENERALPURPOSEIO") (known.Word kind.Space 8) ∷
     word (codes "GENERICSERIALBUS") (known.Word kind.Space 9) ∷
     word (codes "GPIOINT") (known.Descriptor d.GpioInt) ∷
@@ -378,11 +380,19 @@ word_of text = known_in (named_in words text)
 -- ---- arguments
 
 abbrev pub asked : Slot → Parameter
-asked s = record { slot = s; omittable = false }
+asked s = record { slot = s; omittable = false; further = false }
 
 -- one that may be left out
 abbrev pub optional : Slot → Parameter
-optional s = record { slot = s; omittable = true }
+optional s = record { slot = s; omittable = true; further = false }
+
+-- one that may be missing at the end, with all behind it
+abbrev pub further : Slot → Parameter
+further s = record { slot = s; omittable = false; further = true }
+
+-- a format, and then up to 60 arguments
+abbrev pub printed : List Parameter
+printed = asked (slot.String form.Format) ∷ replicate 60 (further slot.Expression)
 
 abbrev pub expression : Parameter
 expression = asked slot.Expression
@@ -452,7 +462,10 @@ parameters_of (Op.Control Control.If) = expression ∷ []
 parameters_of (Op.Control Control.ElseIf) = expression ∷ []
 parameters_of (Op.Control Control.While) = expression ∷ []
 parameters_of (Op.Control Control.Switch) = expression ∷ []
+parameters_of (Op.Control Control.For) = optional slot.Effect ∷ optional slot.Expression ∷ optional slot.Effect ∷ []
 parameters_of (Op.Control Control.Case) = asked slot.CaseValue ∷ []
+parameters_of (Op.Control Control.Printf) = printed
+parameters_of (Op.Control Control.Fprintf) = place ∷ printed
 parameters_of (Op.Control op) = []
 parameters_of (Op.Declaration Declaration.Name) = declared ∷ expression ∷ []
 parameters_of (Op.Declaration Declaration.Alias) = used ∷ declared ∷ []
@@ -516,6 +529,7 @@ body_of (Op.Control Control.If) = braces.Terms
 body_of (Op.Control Control.ElseIf) = braces.Terms
 body_of (Op.Control Control.Else) = braces.Terms
 body_of (Op.Control Control.While) = braces.Terms
+body_of (Op.Control Control.For) = braces.Terms
 body_of (Op.Control Control.Switch) = braces.Cases
 body_of (Op.Control Control.Case) = braces.Terms
 body_of (Op.Control Control.Default) = braces.Terms

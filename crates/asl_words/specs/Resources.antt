@@ -41,7 +41,7 @@ has_default None = false
 has_default (Some value) = true
 
 abbrev pub given_parameter : Field → Parameter
-given_parameter field = record { slot = given_slot field.giver field.bits; omittable = has_default field.default }
+given_parameter field = record { slot = given_slot field.giver field.bits; omittable = has_default field.default; further = false }
 
 -- the arguments of a descriptor
 unfoldable pub descriptor_parameters : Descriptor → List Parameter

@@ -2,6 +2,7 @@
 use Rattle.std.specs.Prelude.{ℕ, nat_le, ◌==◌, Bool, true, false, ◌&&◌, ◌||◌, List, [], ◌∷◌, length, codes}
 use Rattle.std.specs.List.{list_all}
 use Rattle.std.specs.Str.{bytes_eq}
+use Rattle.asl_tree.specs.Formats.{is_format}
 use Rattle.asl_words.specs.declared.operator.StringForm.{StringForm}
 use Rattle.asl_words.specs.declared.operator.StringForm.TheVariants as form
 
@@ -28,3 +29,4 @@ abbrev pub has_form : StringForm → List ℕ → Bool
 has_form form.Any bytes = true
 has_form form.Signature bytes = is_signature bytes
 has_form (form.AtMost most) bytes = nat_le (length bytes) most
+has_form form.Format bytes = is_format bytes

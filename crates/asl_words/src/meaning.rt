@@ -145,6 +145,28 @@ pub fn run_behind(run: Option<u8>, meaning: Meaning) -> Option<u8>
     }
 }
 
+// Whether a word may go on with a run, or begin one, by its first letter.
+fn may_run(text: &[u8]) -> bool
+    ensures { result ≡ spec.may_run text.now }
+{
+    match text.first() {
+        Some(letter) => *letter == b'I' || *letter == b'E',
+        None => true,
+    }
+}
+
+/// The run behind a term by its word. What begins with neither I nor E is no If and no ElseIf, and is not looked up.
+#[tactic(auto, using(crate::proofs::Runs::runs_not))]
+pub fn run_behind_word(run: Option<u8>, text: &[u8], has_body: bool) -> Option<u8>
+    ensures { result ≡ spec.run_behind run (spec.meaning_of text.now has_body) }
+{
+    if may_run(text) {
+        run_behind(run, meaning_of(text, has_body))
+    } else {
+        None
+    }
+}
+
 fn is_term(slot: Slot) -> bool
     ensures { result ≡ spec.is_term slot }
 {
@@ -359,7 +381,7 @@ pub fn may_end(parameters: &[Parameter]) -> bool
     match parts(parameters) {
         None => true,
         Some((first, rest)) => {
-            if first.omittable {
+            if first.omittable || first.further {
                 may_end(rest)
             } else {
                 false
@@ -451,7 +473,7 @@ pub fn takes_expression(slot: Slot) -> bool
     ensures { result ≡ spec.takes_expression slot }
 {
     match slot {
-        Slot::Expression => true,
+        Slot::Expression | Slot::Effect => true,
         Slot::Constant { .. } => true,
         Slot::Measure => true,
         Slot::Element => true,

@@ -34,6 +34,8 @@ pub enum StringForm {
     Signature,
     /// A string of at most so many bytes.
     AtMost(u8),
+    /// What is printed, where `%o` stands for the next argument and `%%` for `%`.
+    Format,
 }
 
 /// A word with arguments in brackets that stands in a field's list alone: an element of it, or an attribute of an
@@ -67,6 +69,8 @@ pub enum TextMacro {
 pub enum Slot {
     /// An expression.
     Expression,
+    /// An expression that may stand as a statement.
+    Effect,
     /// What can be stored to, or referred to.
     Place,
     /// A name, a Local or an Arg.
@@ -131,6 +135,8 @@ pub struct Parameter {
     pub slot: Slot,
     /// Whether it may be left out.
     pub omittable: bool,
+    /// Whether it may be missing at the end, with all behind it; nothing stands for it then.
+    pub further: bool,
 }
 
 /// What stands in the braces of an operator.

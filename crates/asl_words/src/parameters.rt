@@ -14,6 +14,7 @@ macro_rules! asked {
         Parameter {
             slot: $slot,
             omittable: false,
+            further: false,
         }
     };
 }
@@ -23,6 +24,7 @@ macro_rules! optional {
         Parameter {
             slot: $slot,
             omittable: true,
+            further: false,
         }
     };
 }
@@ -63,6 +65,36 @@ const LOCK: Parameter = asked!(Slot::Word(WordKind::Lock));
 const SIZE: Parameter = optional!(Slot::Measure);
 
 const UPDATE: Parameter = asked!(Slot::Word(WordKind::Update));
+
+const FORMAT: Parameter = asked!(Slot::String(StringForm::Format));
+
+const FURTHER: Parameter = Parameter {
+    slot: Slot::Expression,
+    omittable: false,
+    further: true,
+};
+
+// A format, and then up to 60 arguments.
+const PRINTED: &[Parameter] = &[
+    FORMAT, FURTHER, FURTHER, FURTHER, FURTHER, FURTHER, FURTHER, FURTHER, FURTHER, FURTHER,
+    FURTHER, FURTHER, FURTHER, FURTHER, FURTHER, FURTHER, FURTHER, FURTHER, FURTHER, FURTHER,
+    FURTHER, FURTHER, FURTHER, FURTHER, FURTHER, FURTHER, FURTHER, FURTHER, FURTHER, FURTHER,
+    FURTHER, FURTHER, FURTHER, FURTHER, FURTHER, FURTHER, FURTHER, FURTHER, FURTHER, FURTHER,
+    FURTHER, FURTHER, FURTHER, FURTHER, FURTHER, FURTHER, FURTHER, FURTHER, FURTHER, FURTHER,
+    FURTHER, FURTHER, FURTHER, FURTHER, FURTHER, FURTHER, FURTHER, FURTHER, FURTHER, FURTHER,
+    FURTHER,
+];
+
+// The place, and then the same.
+const PRINTED_INTO: &[Parameter] = &[
+    PLACE, FORMAT, FURTHER, FURTHER, FURTHER, FURTHER, FURTHER, FURTHER, FURTHER, FURTHER, FURTHER,
+    FURTHER, FURTHER, FURTHER, FURTHER, FURTHER, FURTHER, FURTHER, FURTHER, FURTHER, FURTHER,
+    FURTHER, FURTHER, FURTHER, FURTHER, FURTHER, FURTHER, FURTHER, FURTHER, FURTHER, FURTHER,
+    FURTHER, FURTHER, FURTHER, FURTHER, FURTHER, FURTHER, FURTHER, FURTHER, FURTHER, FURTHER,
+    FURTHER, FURTHER, FURTHER, FURTHER, FURTHER, FURTHER, FURTHER, FURTHER, FURTHER, FURTHER,
+    FURTHER, FURTHER, FURTHER, FURTHER, FURTHER, FURTHER, FURTHER, FURTHER, FURTHER, FURTHER,
+    FURTHER,
+];
 
 #[tactic(auto, unfolding(crate::specs::Operators::parameters_of))]
 fn of_number(op: IntOp) -> &'static [Parameter]
@@ -194,7 +226,14 @@ fn of_control(op: Control) -> &'static [Parameter]
     match op {
         Control::Return => &[optional!(Slot::Expression)],
         Control::If | Control::ElseIf | Control::While | Control::Switch => &[EXPRESSION],
+        Control::For => &[
+            optional!(Slot::Effect),
+            optional!(Slot::Expression),
+            optional!(Slot::Effect),
+        ],
         Control::Case => &[asked!(Slot::CaseValue)],
+        Control::Printf => PRINTED,
+        Control::Fprintf => PRINTED_INTO,
         Control::Else | Control::Default | Control::Break | Control::Continue => &[],
     }
 }
@@ -353,6 +392,7 @@ pub fn body_of(op: Op) -> Body
             | Control::ElseIf
             | Control::Else
             | Control::While
+            | Control::For
             | Control::Case
             | Control::Default,
         ) => Body::Terms,
@@ -410,8 +450,14 @@ fn control_role(op: Control) -> Role
         Control::ElseIf => Role::ElseIf,
         Control::Case => Role::Case,
         Control::Default => Role::Default,
-        Control::If | Control::While | Control::Switch | Control::Break | Control::Continue =>
-            Role::Statement,
+        Control::If
+        | Control::While
+        | Control::For
+        | Control::Switch
+        | Control::Break
+        | Control::Continue
+        | Control::Printf
+        | Control::Fprintf => Role::Statement,
     }
 }
 

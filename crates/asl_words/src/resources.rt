@@ -10,6 +10,7 @@ macro_rules! asked {
         Parameter {
             slot: $slot,
             omittable: false,
+            further: false,
         }
     };
 }
@@ -19,6 +20,7 @@ macro_rules! optional {
         Parameter {
             slot: $slot,
             omittable: true,
+            further: false,
         }
     };
 }

@@ -108,6 +108,8 @@ pub const OPERATORS: &[&[Operator]] = &[
         number!(b"FROMBCD                     ", FromBcd),
         event!(b"FATAL                       ", Fatal),
         declaration!(b"FIELD                       ", Field),
+        control!(b"FOR                         ", For),
+        control!(b"FPRINTF                     ", Fprintf),
     ],
     &[],
     &[],
@@ -157,6 +159,7 @@ pub const OPERATORS: &[&[Operator]] = &[
         special!(b"PACKAGE                     ", Package),
         declaration!(b"POWERRESOURCE               ", PowerResource),
         declaration!(b"PROCESSOR                   ", Processor),
+        control!(b"PRINTF                      ", Printf),
     ],
     &[],
     &[

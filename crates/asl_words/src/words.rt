@@ -126,7 +126,6 @@ pub const WORDS: &[&[Named]] = &[
         resource!(b"FFIXEDHW                    ", Space, 0x7F),
         descriptor!(b"FIXEDDMA                    ", FixedDma),
         descriptor!(b"FIXEDIO                     ", FixedIo),
-        word!(b"FOR                         ", Known::LeftOut),
     ],
     &[
         number!(b"GENERALPURPOSEIO            ", Space, 8),

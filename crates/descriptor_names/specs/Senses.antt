@@ -10,6 +10,7 @@ use Rattle.asl_tree.specs.Names.{is_searched, place_of, denoted}
 use Rattle.asl_tree.specs.declared.path.Path.{Path}
 use Rattle.asl_tree.specs.declared.term.Op.{Op}
 use Rattle.asl_tree.specs.declared.term.Declaration.{Declaration}
+use Rattle.asl_tree.specs.declared.term.Control.{Control}
 use Rattle.asl_tree.specs.declared.term.Symbolic.{Symbolic}
 use Rattle.asl_tree.specs.declared.term.Special.{Special}
 use Rattle.asl_tree.specs.declared.term.NamedDescriptor.{NamedDescriptor}
@@ -121,6 +122,7 @@ position (Op.Symbolic (Symbolic.Operator op)) n = operand_position (row_of op).o
 position (Op.Symbolic Symbolic.Assign) n = paths_first Spot 1 n
 position (Op.Symbolic (Symbolic.AssignBy op)) n = paths_first Spot 1 n
 position (Op.Special Special.CondRefOf) n = Spot
+position (Op.Control Control.Fprintf) n = paths_first Spot 1 n
 position _ n = Value
 
 -- what stands in the body of a form: the bytes of a Buffer are numbers, and a name in the list of a field is what units are connected to

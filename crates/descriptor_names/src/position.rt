@@ -7,7 +7,7 @@ ghost use Rattle.descriptor_names.specs.Resolved.{position_in as place_in, is_in
 
 use asl_operators::letter::Letter;
 use asl_operators::rows::letters;
-use asl_tree::term::{Declaration, Op, Special, Symbolic};
+use asl_tree::term::{Control, Declaration, Op, Special, Symbolic};
 
 /// Where a name stands.
 #[derive(Clone, Copy, PartialEq, Eq, Debug)]
@@ -142,6 +142,7 @@ fn argument_position(op: Op, number: usize) -> Position
         Op::Symbolic(Symbolic::Operator(op)) => operand_position(letters(op), number),
         Op::Symbolic(_) => paths_first(Position::Spot, 1, number),
         Op::Special(Special::CondRefOf) => Position::Spot,
+        Op::Control(Control::Fprintf) => paths_first(Position::Spot, 1, number),
         _ => Position::Value,
     }
 }

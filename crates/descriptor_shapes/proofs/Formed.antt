@@ -6,9 +6,9 @@ use Rattle.asl_meaning.specs.Meaning.{SpotForm, OfResult, OfInside, NoSpot, spot
 use Rattle.asl_tree.specs.FieldItems.{FieldItem}
 use Rattle.asl_tree.specs.Tree.{Tree, Trees, count, UnitName}
 use Rattle.aml_sessions.specs.Ready.{is_expression, RawReady, SpotReady}
-use Rattle.named_sessions.specs.Shaped.{UsedShaped, LetterShaped, ElementShaped, IsFormed, IsFormedSpot, IsFormedAlone, AreFormedOperands, AreFormedSpots, AreFormedValues, AreFormedElements, AreFormed, AreFormedCases, IsNumber, IsCaseMember, AreCaseMembers, HaveCaseMembers, IsCaseValue, StartsNoElse, IsFollowed, AreNamed}
+use Rattle.named_sessions.specs.Shaped.{UsedShaped, LetterShaped, ElementShaped, EffectShaped, IsFormed, IsFormedSpot, IsFormedAlone, AreFormedOperands, AreFormedSpots, AreFormedValues, AreFormedElements, AreFormed, AreFormedCases, IsNumber, IsCaseMember, AreCaseMembers, HaveCaseMembers, IsCaseValue, StartsNoElse, IsFollowed, AreNamed}
 use Rattle.descriptor_names.specs.Senses.{Position, by_letter}
-use Rattle.descriptor_shapes.proofs.Like.{MayCount, Like, LikeInteger, LikeConstant, LikeString, LikeSlot, LikeDebug, LikeOmitted, LikeRaw, LikeMisshapen, Declared, Moved, Counted, LikeCall, LikeApply, LikeOperated, LikeAssigned, LikeAssignedBy, LikeBuffer, LikeBytes, LikePackage, LikeVarPackage, LikeSized, LikeCondRefOf, LikeReturn, LikeName, LikeAlias, LikeMethod, LikeContainer, LikeScope, LikeIf, LikeElseIf, LikeElse, LikeWhile, LikeSwitch, LikeCase, LikeDefault, LikeRegion, LikeField, LikeIndexField, LikeBankField, LikeCreate, LikeBy, NoneBy, FirstBy, TargetBy, LikeAll, NoneAll, MoreAll, SameUnit, SameSkip, SameOffset, SameAccess, LikeConnected, SameResource, LikeUnits, NoUnits, MoreUnits, same_targets}
+use Rattle.descriptor_shapes.proofs.Like.{MayCount, Like, LikeInteger, LikeConstant, LikeString, LikeSlot, LikeDebug, LikeOmitted, LikeRaw, LikeMisshapen, Declared, Moved, Counted, LikeCall, LikeApply, LikeOperated, LikeAssigned, LikeAssignedBy, LikeBuffer, LikeBytes, LikePackage, LikeVarPackage, LikeSized, LikeCondRefOf, LikeReturn, LikeName, LikeAlias, LikeMethod, LikeContainer, LikeScope, LikeIf, LikeElseIf, LikeElse, LikeWhile, LikeFor, LikePrint, LikeSwitch, LikeCase, LikeDefault, LikeRegion, LikeField, LikeIndexField, LikeBankField, LikeCreate, LikeBy, NoneBy, FirstBy, TargetBy, LikeAll, NoneAll, MoreAll, SameUnit, SameSkip, SameOffset, SameAccess, LikeConnected, SameResource, LikeUnits, NoUnits, MoreUnits, same_targets, same_count}
 
 never : {A : Type 0} → false ≡ true → A
 never e = absurd cc
@@ -67,28 +67,28 @@ case_shaped (LikeVarPackage size members) h = (number_shaped size h.0, some_shap
 case_shaped (LikeSized n less members) h = some_shaped members h.1
 case_shaped _ h = absurd h
 
--- ---- formed trees, whether symbols and Switches may stand there or not
-module _ (Symbols Switches : Type 0) where
+-- ---- formed trees, whether Fors and what prints, symbols and Switches may stand there or not
+module _ (Forms Symbols Switches : Type 0) where
   abbrev Formed : Tree → Type 0
-  Formed = IsFormed AreNamed Symbols Switches
+  Formed = IsFormed Forms AreNamed Symbols Switches
 
   abbrev Spot : Tree → Type 0
-  Spot = IsFormedSpot AreNamed Symbols Switches
+  Spot = IsFormedSpot Forms AreNamed Symbols Switches
 
   abbrev Spots : Trees → Type 0
-  Spots = AreFormedSpots AreNamed Symbols Switches
+  Spots = AreFormedSpots Forms AreNamed Symbols Switches
 
   abbrev Operands : List Letter → Trees → Type 0
-  Operands = AreFormedOperands AreNamed Symbols Switches
+  Operands = AreFormedOperands Forms AreNamed Symbols Switches
 
   abbrev Alone : Trees → Trees → Type 0
-  Alone = IsFormedAlone AreNamed Symbols Switches
+  Alone = IsFormedAlone Forms AreNamed Symbols Switches
 
   abbrev Elements : Trees → Type 0
-  Elements = AreFormedElements AreNamed Symbols Switches
+  Elements = AreFormedElements Forms AreNamed Symbols Switches
 
   abbrev All : Trees → Type 0
-  All = AreFormed AreNamed Symbols Switches
+  All = AreFormed Forms AreNamed Symbols Switches
 
   abbrev Value : Tree → Type 0
   Value t = (is_expression t ≡ true) × Formed t
@@ -108,6 +108,11 @@ module _ (Symbols Switches : Type 0) where
   letter_shaped Placed like value spot h = spot (λ may. may) h
   letter_shaped Used like value spot h = used_shaped (λ may. may) like h
   letter_shaped (L.Raw size) like value spot h = raw_shaped size like h
+
+  -- what may be left out
+  effect_shaped : {p : Position} {t u : Tree} → Like p t u → (Formed t → Formed u) → EffectShaped t (Formed t) → EffectShaped u (Formed u)
+  effect_shaped LikeOmitted go h = h
+  effect_shaped like go h = (expression like h.0, go h.1)
 
   -- what stands behind a Switch
   starts_no_else : {ts us : Trees} → LikeAll ts us → All ts → StartsNoElse ts → StartsNoElse us
@@ -153,6 +158,8 @@ module _ (Symbols Switches : Type 0) where
     formed (LikeElseIf test body) h = (h.0, expression test h.1, formed test h.2, all_formed body h.3)
     formed (LikeElse body) h = all_formed body h
     formed (LikeWhile test body) h = (expression test h.0, formed test h.1, all_formed body h.2)
+    formed (LikeFor start test step body) h = (h.0, effect_shaped start (λ k. formed start k) h.1, expression test h.2, formed test h.3, effect_shaped step (λ k. formed step k) h.4, all_formed body h.5)
+    formed (LikePrint format place args) h = (h.0, spot_formed (λ may. may) place h.1, h.2, values_formed args h.3, sym (same_count args) ∙ h.4)
     formed (LikeSwitch value cases) h = (h.0, expression value h.1, formed value h.2, cases_formed cases h.3)
     formed (LikeCase value body) h = absurd h
     formed (LikeDefault body) h = absurd h
@@ -190,7 +197,7 @@ module _ (Symbols Switches : Type 0) where
     spots_formed NoneBy h = h
     spots_formed (TargetBy like rest) h = (spot_formed (λ may. may) like h.0, spots_formed rest h.1)
 
-    values_formed : {ts us : Trees} → LikeAll ts us → AreFormedValues AreNamed Symbols Switches ts → AreFormedValues AreNamed Symbols Switches us
+    values_formed : {ts us : Trees} → LikeAll ts us → AreFormedValues Forms AreNamed Symbols Switches ts → AreFormedValues Forms AreNamed Symbols Switches us
     values_formed NoneAll h = h
     values_formed (MoreAll like rest) h = (expression like h.0, formed like h.1, values_formed rest h.2)
 
@@ -216,7 +223,7 @@ module _ (Symbols Switches : Type 0) where
     all_formed NoneAll h = h
     all_formed (MoreAll like rest) h = (formed like h.0, followed like rest h.0 h.2 h.1, all_formed rest h.2)
 
-    cases_formed : {ts us : Trees} → LikeAll ts us → AreFormedCases AreNamed Symbols Switches ts → AreFormedCases AreNamed Symbols Switches us
+    cases_formed : {ts us : Trees} → LikeAll ts us → AreFormedCases Forms AreNamed Symbols Switches ts → AreFormedCases Forms AreNamed Symbols Switches us
     cases_formed NoneAll h = h
     cases_formed (MoreAll (LikeCase value body) rest) h = (case_shaped value h.0, all_formed body h.1, cases_formed rest h.2)
     cases_formed (MoreAll (LikeDefault body) NoneAll) h = all_formed body h

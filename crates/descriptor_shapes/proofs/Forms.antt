@@ -1,6 +1,6 @@
 -- A form whose arguments and contents are like those of another is like it.
 use Rattle.std.proofs.Common.{◌≡◌, ℕ, suc, ◌<◌, Bool, true, false, List, [], ◌∷◌, Option, Some, None, refl, subst, arith}
-use Rattle.std.specs.Prelude.{nat_le, if◌then◌else◌}
+use Rattle.std.specs.Prelude.{nat_le, nat_lt, if◌then◌else◌}
 use Rattle.std.proofs.lemmas.Grind.{common_steps}
 use Rattle.acpi_values.specs.declared.operator.IntOp.{IntOp}
 use Rattle.acpi_values.specs.declared.operator.Plain.{Plain}
@@ -21,7 +21,7 @@ use Rattle.asl_tree.specs.declared.term.Literal.TheVariants as literals
 use Rattle.asl_tree.specs.Tree.{At, Tree, Integer, Package, VarPackage, Field, IndexField, BankField, Misshapen, UnitName, Trees, tree, count}
 use Rattle.asl_tree.specs.View.{operands_as, targets_of, plain_of, not_of, apply_of, fits, operated, symbol_of, buffer, body_bytes, counted, packaged, items_in, form}
 use Rattle.descriptor_names.specs.Senses.{Position, Value, Spot, AnyPath, Written, by_letter, operand_position, position, content_position}
-use Rattle.descriptor_shapes.proofs.Like.{Like, LikeInteger, LikeConstant, LikeOmitted, LikeRaw, LikeItem, LikeExternal, LikeMutex, LikeEvent, LikeBreak, LikeContinue, LikeMisshapen, Declared, Moved, Counted, LikeApply, LikeOperated, LikeAssigned, LikeAssignedBy, LikeBuffer, LikeBytes, LikePackage, LikeVarPackage, LikeSized, LikeCondRefOf, LikeReturn, LikeName, LikeAlias, LikeMethod, LikeContainer, LikeScope, LikeIf, LikeElseIf, LikeElse, LikeWhile, LikeSwitch, LikeCase, LikeDefault, LikeRegion, LikeField, LikeIndexField, LikeBankField, LikeCreate, LikeBy, NoneBy, FirstBy, TargetBy, LikeAll, NoneAll, MoreAll, LikeUnit, LikeUnits, NoUnits, MoreUnits, LikeFrom, NoneFrom, MoreFrom, same_count, LikeFill, LikeConnected, SameResource}
+use Rattle.descriptor_shapes.proofs.Like.{Like, LikeInteger, LikeConstant, LikeOmitted, LikeRaw, LikeItem, LikeExternal, LikeMutex, LikeEvent, LikeBreak, LikeContinue, LikeMisshapen, Declared, Moved, Counted, LikeApply, LikeOperated, LikeAssigned, LikeAssignedBy, LikeBuffer, LikeBytes, LikePackage, LikeVarPackage, LikeSized, LikeCondRefOf, LikeReturn, LikeName, LikeAlias, LikeMethod, LikeContainer, LikeScope, LikeIf, LikeElseIf, LikeElse, LikeWhile, LikeFor, LikePrint, LikeSwitch, LikeCase, LikeDefault, LikeRegion, LikeField, LikeIndexField, LikeBankField, LikeCreate, LikeBy, NoneBy, FirstBy, TargetBy, LikeAll, NoneAll, MoreAll, LikeUnit, LikeUnits, NoUnits, MoreUnits, LikeFrom, NoneFrom, MoreFrom, same_count, LikeFill, LikeConnected, SameResource, LikeString, LikeDebug}
 
 -- ---- operands
 
@@ -335,6 +335,31 @@ while_like : {p : Position} (here there : At) {ts us bs cs : Trees} → Args (Op
 while_like here there (MoreFrom test NoneFrom) body = LikeWhile test body
 while_like here there _ _ = LikeMisshapen
 
+for_like : {p : Position} (here there : At) {ts us bs cs : Trees} → Args (Op.Control Control.For) ts us → LikeAll bs cs → Like p (form here (Op.Control Control.For) ts bs) (form there (Op.Control Control.For) us cs)
+for_like here there (MoreFrom start (MoreFrom test (MoreFrom step NoneFrom))) body = LikeFor start test step body
+for_like here there _ _ = LikeMisshapen
+
+printf_like : {p : Position} (here there : At) {ts us bs cs : Trees} → Args (Op.Control Control.Printf) ts us → LikeAll bs cs → Like p (form here (Op.Control Control.Printf) ts bs) (form there (Op.Control Control.Printf) us cs)
+printf_like here there (MoreFrom (LikeString text) args) NoneAll = LikePrint text LikeDebug (values_by (λ n. refl) args)
+printf_like here there (MoreFrom (LikeString text) args) (MoreAll first rest) = LikeMisshapen
+printf_like here there (MoreFrom _ args) body = LikeMisshapen
+printf_like here there NoneFrom body = LikeMisshapen
+
+-- the arguments behind a place
+not_first : (n : ℕ) → nat_lt (suc n) 1 ≡ false
+not_first n = grind (arith, common_steps)
+
+pub behind_place : {n : ℕ} {ts us : Trees} → nat_lt n 1 ≡ false → LikeFrom (position (Op.Control Control.Fprintf)) n ts us → LikeAll ts us
+behind_place e NoneFrom = NoneAll
+behind_place {n = n} e (MoreFrom {t = t} {u = u} like rest) = MoreAll (subst (λ b. Like (if b then Spot else Value) t u) e like) (behind_place (not_first n) rest)
+
+fprintf_like : {p : Position} (here there : At) {ts us bs cs : Trees} → Args (Op.Control Control.Fprintf) ts us → LikeAll bs cs → Like p (form here (Op.Control Control.Fprintf) ts bs) (form there (Op.Control Control.Fprintf) us cs)
+fprintf_like here there (MoreFrom place (MoreFrom (LikeString text) args)) NoneAll = LikePrint text place (behind_place refl args)
+fprintf_like here there (MoreFrom place (MoreFrom (LikeString text) args)) (MoreAll first rest) = LikeMisshapen
+fprintf_like here there (MoreFrom place (MoreFrom _ args)) body = LikeMisshapen
+fprintf_like here there (MoreFrom place NoneFrom) body = LikeMisshapen
+fprintf_like here there NoneFrom body = LikeMisshapen
+
 switch_like : {p : Position} (here there : At) {ts us bs cs : Trees} → Args (Op.Control Control.Switch) ts us → LikeAll bs cs → Like p (form here (Op.Control Control.Switch) ts bs) (form there (Op.Control Control.Switch) us cs)
 switch_like here there (MoreFrom value NoneFrom) cases = LikeSwitch value cases
 switch_like here there _ _ = LikeMisshapen
@@ -421,6 +446,9 @@ form_like here there (Op.Control Control.If) args body = if_like here there args
 form_like here there (Op.Control Control.ElseIf) args body = else_if_like here there args (values_by (λ n. refl) body)
 form_like here there (Op.Control Control.Else) args body = else_like here there args (values_by (λ n. refl) body)
 form_like here there (Op.Control Control.While) args body = while_like here there args (values_by (λ n. refl) body)
+form_like here there (Op.Control Control.For) args body = for_like here there args (values_by (λ n. refl) body)
+form_like here there (Op.Control Control.Printf) args body = printf_like here there args (values_by (λ n. refl) body)
+form_like here there (Op.Control Control.Fprintf) args body = fprintf_like here there args (values_by (λ n. refl) body)
 form_like here there (Op.Control Control.Switch) args body = switch_like here there args (values_by (λ n. refl) body)
 form_like here there (Op.Control Control.Case) args body = case_like here there args (values_by (λ n. refl) body)
 form_like here there (Op.Control Control.Default) args body = default_like here there args (values_by (λ n. refl) body)

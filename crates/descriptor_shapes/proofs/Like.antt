@@ -11,7 +11,7 @@ use Rattle.asl_tree.specs.FieldItems.{FieldItem, UnitItem, SkipItem, OffsetItem,
 use Rattle.asl_tree.specs.declared.path.Path.{Path}
 use Rattle.asl_tree.specs.declared.term.Compound.{Compound}
 use Rattle.asl_tree.specs.declared.term.Literal.{Literal}
-use Rattle.asl_tree.specs.Tree.{At, Tree, Integer, Constant, String, InSlot, Debug, Omitted, Raw, Use, Call, Apply, Buffer, Package, VarPackage, CondRefOf, Return, Name, Alias, External, Method, Mutex, Event, Container', Scope, Fill, Misshapen, Operated, Assigned, AssignedBy, Trees, no_trees, tree, count, OperationRegion, Field, IndexField, BankField, CreateField, UnitName, If, ElseIf, Else, While, Break, Continue, Item, Switch, Case, Default}
+use Rattle.asl_tree.specs.Tree.{At, Tree, Integer, Constant, String, InSlot, Debug, Omitted, Raw, Use, Call, Apply, Buffer, Package, VarPackage, CondRefOf, Return, Name, Alias, External, Method, Mutex, Event, Container', Scope, Fill, Misshapen, Operated, Assigned, AssignedBy, Trees, no_trees, tree, count, OperationRegion, Field, IndexField, BankField, CreateField, UnitName, If, ElseIf, Else, While, Break, Continue, Item, Switch, Case, Default, For, Print}
 use Rattle.std.specs.Prelude.{Option}
 use Rattle.aml_code.specs.Fronts.{IsUsedName}
 use Rattle.descriptor_names.specs.Senses.{Position, Value, Spot, Written, by_letter}
@@ -85,6 +85,9 @@ mutual
     LikeElseIf : {p : Position} {test other : Tree} {body more : Trees} → Like Value test other → LikeAll body more → Like p (ElseIf test body) (ElseIf other more)
     LikeElse : {p : Position} {body more : Trees} → LikeAll body more → Like p (Else body) (Else more)
     LikeWhile : {p : Position} {test other : Tree} {body more : Trees} → Like Value test other → LikeAll body more → Like p (While test body) (While other more)
+    LikeFor : {p : Position} {start begin test other step end : Tree} {body more : Trees} → Like Value start begin → Like Value test other → Like Value step end → LikeAll body more
+        → Like p (For start test step body) (For begin other end more)
+    LikePrint : {p : Position} (format : List ℕ) {place spot : Tree} {args others : Trees} → Like Spot place spot → LikeAll args others → Like p (Print place format args) (Print spot format others)
     LikeSwitch : {p : Position} {value other : Tree} {cases more : Trees} → Like Value value other → LikeAll cases more → Like p (Switch value cases) (Switch other more)
     LikeCase : {p : Position} {value other : Tree} {body more : Trees} → Like Value value other → LikeAll body more → Like p (Case value body) (Case other more)
     LikeDefault : {p : Position} {body more : Trees} → LikeAll body more → Like p (Default body) (Default more)

@@ -6,7 +6,7 @@ use Rattle.acpi_values.specs.Operators.{Letter, Used, row_of}
 use Rattle.acpi_state.specs.FieldActs.{region_letters, field_letters}
 use Rattle.asl_tree.specs.FieldItems.{FieldItem, UnitItem, SkipItem, OffsetItem, AccessItem, ConnectionItem, ToName, ToBytes}
 use Rattle.asl_tree.specs.Names.{place_of}
-use Rattle.asl_tree.specs.Tree.{Tree, Use, Call, Apply, Buffer, Package, VarPackage, CondRefOf, Return, Name, Alias, External, Method, Mutex, Event, Container', Scope, Trees, no_trees, tree, OperationRegion, Field, IndexField, BankField, CreateField, UnitName, If, ElseIf, Else, While, Operated, Assigned, AssignedBy, Switch, Case, Default}
+use Rattle.asl_tree.specs.Tree.{Tree, Use, Call, Apply, Buffer, Package, VarPackage, CondRefOf, Return, Name, Alias, External, Method, Mutex, Event, Container', Scope, Trees, no_trees, tree, OperationRegion, Field, IndexField, BankField, CreateField, UnitName, If, ElseIf, Else, While, Operated, Assigned, AssignedBy, Switch, Case, Default, For, Print}
 use Rattle.asl_meaning.specs.Declarations.{Declarations, scope_path, declare}
 use Rattle.acpi_names.specs.Errors.{Asked, Anything}
 use Rattle.acpi_names.specs.Mentions.{Mention, Declares, is_spot, is_use, asks, asked_use, letter_mention, cond_place, mentions, mentions_all, operand_mentions, target_mentions, element_mentions, item_mentions, term_mentions, block_mentions}
@@ -97,6 +97,11 @@ module _ (files : ℕ) where
     term_in (ElseIf test body) scope d h = both (mentions true test scope) (block_mentions body scope d) (value_in true test scope) (block_in body scope d h.1)
     term_in (Else body) scope d h = block_in body scope d h
     term_in (While test body) scope d h = both (mentions true test scope) (block_mentions body scope d) (value_in true test scope) (block_in body scope d h.1)
+    term_in (For start test step body) scope d h =
+        both (mentions true start scope) (mentions true test scope ++ (mentions true step scope ++ block_mentions body scope d)) (value_in true start scope)
+        (both (mentions true test scope) (mentions true step scope ++ block_mentions body scope d) (value_in true test scope)
+        (both (mentions true step scope) (block_mentions body scope d) (value_in true step scope) (block_in body scope d h.3)))
+    term_in (Print place format args) scope d h = both (mentions (is_spot place) place scope) (mentions_all true args scope) (value_in (is_spot place) place scope) (values_in true args scope)
     term_in (Switch value cases) scope d h = both (mentions true value scope) (block_mentions cases scope d) (value_in true value scope) (block_in cases scope d h.1)
     term_in (Case value body) scope d h = both (mentions true value scope) (block_mentions body scope d) (value_in true value scope) (block_in body scope d h.1)
     term_in (Default body) scope d h = block_in body scope d h

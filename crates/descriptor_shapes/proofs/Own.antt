@@ -3,7 +3,7 @@ use Rattle.std.proofs.Common.{◌≡◌, ℕ, suc, ◌+◌, Bool, true, false, L
 use Rattle.asl_tree.specs.declared.term.Op.{Op}
 use Rattle.asl_tree.specs.declared.term.Declaration.TheVariants as Declaration
 use Rattle.asl_tree.specs.declared.term.Control.TheVariants as Control
-use Rattle.asl_tree.specs.Tree.{At, Tree, Integer, Use, Name, Method, Container', Scope, If, ElseIf, Else, While, Switch, Case, Default, Fill, Misshapen, Trees, no_trees, tree}
+use Rattle.asl_tree.specs.Tree.{At, Tree, Integer, Use, Name, Method, Container', Scope, If, ElseIf, Else, While, Switch, Case, Default, Fill, Misshapen, Trees, no_trees, tree, String, For}
 use Rattle.asl_tree.specs.View.{form}
 use Rattle.asl_shape.specs.Plans.{Plan, a_fill, a_form, Plans, no_plans, plan, plan_at}
 use Rattle.asl_shape.specs.Descriptors.{named_of}
@@ -23,6 +23,7 @@ abbrev mutual
   IsOwnTree (ElseIf test body) = AreOwnTrees body
   IsOwnTree (Else body) = AreOwnTrees body
   IsOwnTree (While test body) = AreOwnTrees body
+  IsOwnTree (For start test step body) = AreOwnTrees body
   IsOwnTree (Switch value cases) = AreOwnTrees cases
   IsOwnTree (Case value body) = AreOwnTrees body
   IsOwnTree (Default body) = AreOwnTrees body
@@ -34,7 +35,7 @@ abbrev mutual
   AreOwnTrees (tree t ts) = IsOwnTree t × AreOwnTrees ts
 
 mutual
-  tree_own : (t : Tree) → IsFormed AreNamed (Unit {0}) (Unit {0}) t → IsOwnTree t
+  tree_own : (t : Tree) → IsFormed (Unit {0}) AreNamed (Unit {0}) (Unit {0}) t → IsOwnTree t
   tree_own (Name at name (Fill bytes)) h = absurd cc
   tree_own (Method at name flags body) h = trees_own body h.2
   tree_own (Container' kind at name body) h = trees_own body h.2
@@ -43,17 +44,18 @@ mutual
   tree_own (ElseIf test body) h = trees_own body h.3
   tree_own (Else body) h = trees_own body h
   tree_own (While test body) h = trees_own body h.2
+  tree_own (For start test step body) h = trees_own body h.5
   tree_own (Switch value cases) h = cases_own cases h.3
   tree_own (Case value body) h = absurd h
   tree_own (Default body) h = absurd h
   tree_own Misshapen h = absurd h
   tree_own _ h = tt
 
-  pub trees_own : (ts : Trees) → AreFormed AreNamed (Unit {0}) (Unit {0}) ts → AreOwnTrees ts
+  pub trees_own : (ts : Trees) → AreFormed (Unit {0}) AreNamed (Unit {0}) (Unit {0}) ts → AreOwnTrees ts
   trees_own no_trees h = tt
   trees_own (tree t ts) h = (tree_own t h.0, trees_own ts h.2)
 
-  cases_own : (ts : Trees) → AreFormedCases AreNamed (Unit {0}) (Unit {0}) ts → AreOwnTrees ts
+  cases_own : (ts : Trees) → AreFormedCases (Unit {0}) AreNamed (Unit {0}) (Unit {0}) ts → AreOwnTrees ts
   cases_own no_trees h = tt
   cases_own (tree (Case value body) ts) h = (trees_own body h.1, cases_own ts h.2)
   cases_own (tree (Default body) no_trees) h = (trees_own body h, tt)
@@ -77,6 +79,9 @@ body_own here (Op.Control Control.If) (tree test no_trees) bs e h = h
 body_own here (Op.Control Control.ElseIf) (tree test no_trees) bs e h = h
 body_own here (Op.Control Control.Else) no_trees bs e h = h
 body_own here (Op.Control Control.While) (tree test no_trees) bs e h = h
+body_own here (Op.Control Control.For) (tree start (tree test (tree step no_trees))) bs e h = h
+body_own here (Op.Control Control.Printf) (tree (String text) args) no_trees e h = tt
+body_own here (Op.Control Control.Fprintf) (tree place (tree (String text) args)) no_trees e h = tt
 body_own here (Op.Control Control.Switch) (tree value no_trees) bs e h = h
 body_own here (Op.Control Control.Case) (tree value no_trees) bs e h = h
 body_own here (Op.Control Control.Default) no_trees bs e h = h
@@ -133,5 +138,5 @@ mutual
   terms_own (plan place p ps) next h = (term_own p (record { id = next; place = place }) (suc next) h.0, terms_own ps (suc (next + inside p)) h.1)
 
 -- a formed program declares no descriptor itself
-pub own : (ps : Plans) (next : ℕ) → AreFormed AreNamed (Unit {0}) (Unit {0}) (numbered_all next ps) → AreOwn ps
+pub own : (ps : Plans) (next : ℕ) → AreFormed (Unit {0}) AreNamed (Unit {0}) (Unit {0}) (numbered_all next ps) → AreOwn ps
 own ps next h = terms_own ps next (trees_own (numbered_all next ps) h)

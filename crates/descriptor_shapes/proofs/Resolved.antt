@@ -11,10 +11,10 @@ use Rattle.descriptor_shapes.proofs.Own.{own}
 use Rattle.descriptor_shapes.proofs.Uses.{all_like}
 
 -- the block's own terms, where uses are resolved
-pub own_resolved : (next : ℕ) (ps : Plans) → AreFormed AreNamed (Unit {0}) (Unit {0}) (numbered_all next ps) → resolved_terms ps ≡ resolved_from (names_of (declaring ps)) (table_of (declaring ps)) OfCall 0 false ps []
+pub own_resolved : (next : ℕ) (ps : Plans) → AreFormed (Unit {0}) AreNamed (Unit {0}) (Unit {0}) (numbered_all next ps) → resolved_terms ps ≡ resolved_from (names_of (declaring ps)) (table_of (declaring ps)) OfCall 0 false ps []
 own_resolved next ps h = all_again (names_of (declaring ps)) (table_of (declaring ps)) false ps [] (own ps next h)
 
-pub resolved_formed : (next : ℕ) (ps : Plans) → AreFormed AreNamed (Unit {0}) (Unit {0}) (numbered_all next ps) → AreFormed AreNamed (Unit {0}) (Unit {0}) (numbered_all next (resolved_terms ps))
+pub resolved_formed : (next : ℕ) (ps : Plans) → AreFormed (Unit {0}) AreNamed (Unit {0}) (Unit {0}) (numbered_all next ps) → AreFormed (Unit {0}) AreNamed (Unit {0}) (Unit {0}) (numbered_all next (resolved_terms ps))
 resolved_formed next ps h =
-    subst (λ qs. AreFormed AreNamed (Unit {0}) (Unit {0}) (numbered_all next qs)) (sym (own_resolved next ps h))
-    (all_formed (Unit {0}) (Unit {0}) (all_like (names_of (declaring ps)) (table_of (declaring ps)) false ps [] next next) h)
+    subst (λ qs. AreFormed (Unit {0}) AreNamed (Unit {0}) (Unit {0}) (numbered_all next qs)) (sym (own_resolved next ps h))
+    (all_formed (Unit {0}) (Unit {0}) (Unit {0}) (all_like (names_of (declaring ps)) (table_of (declaring ps)) false ps [] next next) h)

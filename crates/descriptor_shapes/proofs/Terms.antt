@@ -10,7 +10,7 @@ use Rattle.asl_tree.specs.declared.term.Op.{Op}
 use Rattle.asl_tree.specs.declared.term.Declaration.TheVariants as Declaration
 use Rattle.asl_tree.specs.declared.term.Control.TheVariants as Control
 use Rattle.asl_tree.specs.declared.term.NamedDescriptor.{NamedDescriptor}
-use Rattle.asl_tree.specs.Tree.{At, Tree, Trees, no_trees, tree}
+use Rattle.asl_tree.specs.Tree.{At, Tree, Trees, no_trees, tree, String}
 use Rattle.asl_tree.specs.View.{form}
 use Rattle.asl_shape.specs.Plans.{Plan, a_form, Plans, no_plans, plan, join}
 use Rattle.asl_numbers.specs.Numbers.{inside, nodes, numbered, numbered_all}
@@ -21,7 +21,8 @@ use Rattle.descriptor_names.specs.Declaring.{has_terms, names_inside, declaratio
 use Rattle.descriptor_names.specs.Senses.{Position, Value, position}
 use Rattle.descriptor_names.specs.Resolved.{Arguments, OfCall, names_of, table_of}
 use Rattle.descriptor_names.specs.Told.{checked_trees}
-use Rattle.descriptor_shapes.proofs.Like.{Like, LikeInteger, Declared, Moved, Counted, LikeCall, LikeApply, LikeOperated, LikeAssigned, LikeAssignedBy, LikeBuffer, LikePackage, LikeVarPackage, LikeSized, LikeCondRefOf, LikeReturn, LikeName, LikeMethod, LikeContainer, LikeScope, LikeIf, LikeElseIf, LikeElse, LikeWhile, LikeSwitch, LikeCase, LikeDefault, LikeRegion, LikeBankField, LikeCreate, LikeBy, NoneBy, FirstBy, TargetBy, LikeAll, NoneAll, MoreAll, LikeFrom, NoneFrom, MoreFrom}
+use Rattle.descriptor_shapes.proofs.Like.{Like, LikeInteger, Declared, Moved, Counted, LikeCall, LikeApply, LikeOperated, LikeAssigned, LikeAssignedBy, LikeBuffer, LikePackage, LikeVarPackage, LikeSized, LikeCondRefOf, LikeReturn, LikeName, LikeMethod, LikeContainer, LikeScope, LikeIf, LikeElseIf, LikeElse, LikeWhile, LikeFor, LikePrint, LikeSwitch, LikeCase, LikeDefault, LikeRegion, LikeBankField, LikeCreate, LikeBy, NoneBy, FirstBy, TargetBy, LikeAll, NoneAll, MoreAll, LikeFrom, NoneFrom, MoreFrom, LikeString}
+use Rattle.descriptor_shapes.proofs.Forms.{values_by, behind_place}
 use Rattle.descriptor_shapes.proofs.Uses.{term_like, from_like, all_like}
 use Rattle.descriptor_shapes.proofs.Unnamed.{no_descriptor, resolved_same, all_same}
 use Rattle.descriptor_shapes.proofs.Own.{IsOwnTree, AreOwnTrees, trees_own}
@@ -76,6 +77,9 @@ mutual
   is_term_like (LikeElseIf test body) e = both_like _ _ _ _ (λ k. value_like test k) (λ k. terms_like body k) e
   is_term_like (LikeElse body) e = terms_like body e
   is_term_like (LikeWhile test body) e = both_like _ _ _ _ (λ k. value_like test k) (λ k. terms_like body k) e
+  is_term_like (LikeFor start test step body) e =
+      both_like _ _ _ _ (λ k. value_like start k) (λ k. both_like _ _ _ _ (λ l. value_like test l) (λ l. both_like _ _ _ _ (λ m. value_like step m) (λ m. terms_like body m) l) k) e
+  is_term_like (LikePrint format place args) e = both_like _ _ _ _ (λ k. value_like place k) (λ k. values_like args k) e
   is_term_like (LikeSwitch value cases) e = both_like _ _ _ _ (λ k. value_like value k) (λ k. terms_like cases k) e
   is_term_like (LikeCase value body) e = both_like _ _ _ _ (λ k. value_like value k) (λ k. terms_like body k) e
   is_term_like (LikeDefault body) e = terms_like body e
@@ -128,6 +132,19 @@ form_opened here there (Op.Control Control.If) bs cs (MoreFrom test NoneFrom) b 
 form_opened here there (Op.Control Control.ElseIf) bs cs (MoreFrom test NoneFrom) b none terms own e = both_like _ _ _ _ (λ k. value_like test k) (λ k. terms own k) e
 form_opened here there (Op.Control Control.Else) bs cs NoneFrom b none terms own e = terms own e
 form_opened here there (Op.Control Control.While) bs cs (MoreFrom test NoneFrom) b none terms own e = both_like _ _ _ _ (λ k. value_like test k) (λ k. terms own k) e
+form_opened here there (Op.Control Control.For) bs cs (MoreFrom start (MoreFrom test (MoreFrom step NoneFrom))) b none terms own e =
+    both_like _ _ _ _ (λ k. value_like start k) (λ k. both_like _ _ _ _ (λ l. value_like test l) (λ l. both_like _ _ _ _ (λ m. value_like step m) (λ m. terms own m) l) k) e
+form_opened here there (Op.Control Control.Printf) no_trees cs (MoreFrom {us = us} (LikeString text) args) b none terms own e =
+    subst (λ cs. is_term (form there (Op.Control Control.Printf) (tree (String text) us) cs) ≡ true) (sym (none refl)) (values_like (values_by (λ n. refl) args) e)
+form_opened here there (Op.Control Control.Fprintf) no_trees cs (MoreFrom {u = u} place (MoreFrom {us = us} (LikeString text) args)) b none terms own e =
+    subst (λ cs. is_term (form there (Op.Control Control.Fprintf) (tree u (tree (String text) us)) cs) ≡ true) (sym (none refl)) (both_like _ _ _ _ (λ k. value_like place k) (λ k. values_like (behind_place refl args) k) e)
+form_opened here there (Op.Control Control.Printf) (tree first rest) cs (MoreFrom (LikeString text) args) b none terms own e = absurd own
+form_opened here there (Op.Control Control.Printf) (tree first rest) cs (MoreFrom _ args) b none terms own e = absurd own
+form_opened here there (Op.Control Control.Printf) (tree first rest) cs NoneFrom b none terms own e = absurd own
+form_opened here there (Op.Control Control.Fprintf) (tree first rest) cs (MoreFrom place (MoreFrom (LikeString text) args)) b none terms own e = absurd own
+form_opened here there (Op.Control Control.Fprintf) (tree first rest) cs (MoreFrom place (MoreFrom _ args)) b none terms own e = absurd own
+form_opened here there (Op.Control Control.Fprintf) (tree first rest) cs (MoreFrom place NoneFrom) b none terms own e = absurd own
+form_opened here there (Op.Control Control.Fprintf) (tree first rest) cs NoneFrom b none terms own e = absurd own
 form_opened here there (Op.Control Control.Switch) bs cs (MoreFrom value NoneFrom) b none terms own e = both_like _ _ _ _ (λ k. value_like value k) (λ k. terms own k) e
 form_opened here there (Op.Control Control.Case) bs cs (MoreFrom value NoneFrom) b none terms own e = both_like _ _ _ _ (λ k. value_like value k) (λ k. terms own k) e
 form_opened here there (Op.Control Control.Default) bs cs NoneFrom b none terms own e = terms own e
@@ -220,7 +237,7 @@ mutual
       (alone_term place (opened p) more (opened_term p (record { id = next; place = place }) (record { id = more; place = place }) (suc next) (suc more) own.0 h.0)))
       (declaring_terms ps (suc (next + inside p)) more own.1 h.1)
 
-pub checked_are_terms : (next : ℕ) (ps : Plans) → AreFormed AreNamed (Unit {0}) (Unit {0}) (numbered_all next ps) → are_terms (checked_trees ps) ≡ true
+pub checked_are_terms : (next : ℕ) (ps : Plans) → AreFormed (Unit {0}) AreNamed (Unit {0}) (Unit {0}) (numbered_all next ps) → are_terms (checked_trees ps) ≡ true
 checked_are_terms next ps h =
     terms_like (all_like (names_of (declaring ps)) (table_of (declaring ps)) false (declaring ps) [] 0 0)
-    (declaring_terms ps next 0 (trees_own (numbered_all next ps) h) (formed_terms AreNamed (Unit {0}) (Unit {0}) (numbered_all next ps) h))
+    (declaring_terms ps next 0 (trees_own (numbered_all next ps) h) (formed_terms (Unit {0}) AreNamed (Unit {0}) (Unit {0}) (numbered_all next ps) h))

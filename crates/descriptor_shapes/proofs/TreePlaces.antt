@@ -12,7 +12,7 @@ use Rattle.asl_tree.specs.declared.term.Declaration.TheVariants as Declaration
 use Rattle.asl_tree.specs.declared.term.Control.TheVariants as Control
 use Rattle.asl_tree.specs.declared.term.Special.TheVariants as Special
 use Rattle.asl_tree.specs.declared.term.Symbolic.TheVariants as Symbolic
-use Rattle.asl_tree.specs.Tree.{At, Tree, Integer, Omitted, Use, Package, VarPackage, Field, IndexField, BankField, Item, Fill, Misshapen, UnitName, Trees, no_trees, tree, count}
+use Rattle.asl_tree.specs.Tree.{At, Tree, Integer, Omitted, Use, Package, VarPackage, Field, IndexField, BankField, Item, Fill, Misshapen, UnitName, Trees, no_trees, tree, count, String}
 use Rattle.asl_tree.specs.View.{fits, operated, symbol_of, form, operands_as, targets_of, plain_of, not_of, apply_of, buffer, body_bytes, counted, packaged, items_in}
 use Rattle.asl_shape.specs.Plans.{Plan, an_integer, a_text, a_fill, a_word, a_local, an_arg, debug, omitted, a_name, a_unit, a_skip, an_offset, an_access, a_call, a_form, Plans, no_plans, plan}
 use Rattle.asl_numbers.specs.Numbers.{inside, nodes, numbered, numbered_all}
@@ -139,6 +139,9 @@ module _ (files : ℕ) where
   form_within here (Op.Control Control.ElseIf) (tree test no_trees) body h a b = (a.0, b)
   form_within here (Op.Control Control.Else) no_trees body h a b = b
   form_within here (Op.Control Control.While) (tree test no_trees) body h a b = (a.0, b)
+  form_within here (Op.Control Control.For) (tree start (tree test (tree step no_trees))) body h a b = (a.0, a.1.0, a.1.1.0, b)
+  form_within here (Op.Control Control.Printf) (tree (String text) args) no_trees h a b = (tt, a.1)
+  form_within here (Op.Control Control.Fprintf) (tree place (tree (String text) args)) no_trees h a b = (a.0, a.1.1)
   form_within here (Op.Control Control.Switch) (tree value no_trees) cases h a b = (a.0, b)
   form_within here (Op.Control Control.Case) (tree value no_trees) body h a b = (a.0, b)
   form_within here (Op.Control Control.Default) no_trees body h a b = b

@@ -13,9 +13,9 @@ ghost use Rattle.descriptor_names.specs.Declaring.{names_descriptors};
 
 /// Terms that have their forms have them where uses of descriptors are resolved, and those with the declared descriptors are terms.
 pub fn resolved_are_formed()
-    ensures formed { (next : ℕ) (ps : Plans) → AreFormed AreNamed (Unit {0}) (Unit {0}) (numbered_all next ps) →
-        AreFormed AreNamed (Unit {0}) (Unit {0}) (numbered_all next (resolved_terms ps)) }
-    ensures terms { (next : ℕ) (ps : Plans) → AreFormed AreNamed (Unit {0}) (Unit {0}) (numbered_all next ps) →
+    ensures formed { (next : ℕ) (ps : Plans) → AreFormed (Unit {0}) AreNamed (Unit {0}) (Unit {0}) (numbered_all next ps) →
+        AreFormed (Unit {0}) AreNamed (Unit {0}) (Unit {0}) (numbered_all next (resolved_terms ps)) }
+    ensures terms { (next : ℕ) (ps : Plans) → AreFormed (Unit {0}) AreNamed (Unit {0}) (Unit {0}) (numbered_all next ps) →
         are_terms (checked_trees ps) ≡ true }
 {}
 

@@ -15,7 +15,6 @@ pub mod Steps
 pub mod Crossing
 pub mod Flags
 pub mod Flows
-pub mod Lasting
 pub mod Tests
 pub mod Chains
 pub mod Statements
@@ -25,3 +24,4 @@ pub mod Unswitched
 pub mod Rows
 pub mod Declared
 pub mod Enough
+pub mod Steady

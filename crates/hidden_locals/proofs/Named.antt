@@ -5,7 +5,7 @@ use Rattle.std.proofs.lemmas.Bool.Decides.{nat_tests}
 use Rattle.acpi_values.specs.declared.width.Width.{Width}
 use Rattle.acpi_state.specs.Forms.{Slot, LocalSlot, ArgSlot}
 use Rattle.asl_tree.specs.Names.{Known}
-use Rattle.asl_tree.specs.Tree.{Tree, InSlot, Call, Apply, Operated, Assigned, AssignedBy, Buffer, Package, VarPackage, CondRefOf, Return, Name, Method, Container', Scope, If, ElseIf, Else, While, Switch, Case, Default, OperationRegion, BankField, CreateField, Trees, no_trees, tree}
+use Rattle.asl_tree.specs.Tree.{Tree, InSlot, Call, Apply, Operated, Assigned, AssignedBy, Buffer, Package, VarPackage, CondRefOf, Return, Name, Method, Container', Scope, If, ElseIf, Else, While, For, Print, Switch, Case, Default, OperationRegion, BankField, CreateField, Trees, no_trees, tree}
 use Rattle.asl_meaning.specs.Meaning.{call_method}
 use Rattle.hidden_locals.specs.Runs.{Reach, Outside}
 use Rattle.hidden_locals.specs.Terms.{IsShownSlot, UsesShown, UseShown}
@@ -72,6 +72,11 @@ module _ (shown : ℕ → Bool) where
     uses (ElseIf test body) h = (uses test (shows_left (locals test) (locals_all body) h), use_all body (shows_right (locals test) (locals_all body) h))
     uses (Else body) h = use_all body h
     uses (While test body) h = (uses test (shows_left (locals test) (locals_all body) h), use_all body (shows_right (locals test) (locals_all body) h))
+    uses (For start test step body) h =
+        let later = shows_right (locals start) (locals test ++ (locals step ++ locals_all body)) h in
+        let last = shows_right (locals test) (locals step ++ locals_all body) later in
+        (uses start (shows_left (locals start) (locals test ++ (locals step ++ locals_all body)) h), uses test (shows_left (locals test) (locals step ++ locals_all body) later), uses step (shows_left (locals step) (locals_all body) last), use_all body (shows_right (locals step) (locals_all body) last))
+    uses (Print place format args) h = (uses place (shows_left (locals place) (locals_all args) h), use_all args (shows_right (locals place) (locals_all args) h))
     uses (Switch value cases) h = (uses value (shows_left (locals value) (locals_all cases) h), use_all cases (shows_right (locals value) (locals_all cases) h))
     uses (Case value body) h = (uses value (shows_left (locals value) (locals_all body) h), use_all body (shows_right (locals value) (locals_all body) h))
     uses (Default body) h = use_all body h

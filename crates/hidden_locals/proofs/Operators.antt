@@ -9,7 +9,7 @@ use Rattle.acpi_values.specs.declared.operator.Plain.{Plain}
 use Rattle.acpi_values.specs.declared.fault.Fault.{Fault}
 use Rattle.acpi_values.specs.declared.fault.Fault.TheVariants.{NotFound, WrongType, OutOfRange}
 use Rattle.acpi_values.specs.Paths.{AbsolutePath}
-use Rattle.acpi_values.specs.Conversions.{to_integer, to_kind_of, to_buffer, decimal_string, hex_string, if_ok, read_integer}
+use Rattle.acpi_values.specs.Conversions.{to_integer, to_kind_of, to_buffer, to_string, decimal_string, hex_string, if_ok, read_integer}
 use Rattle.acpi_state.specs.Objects as O
 use Rattle.acpi_values.specs.Integers.{applied, truth, wrapped, difference}
 use Rattle.acpi_values.specs.Values.{Datum, Integer, String, Buffer, Value, Data, Package, Reference, Elements, no_elements, uninitialized, element, Place, Named, LocalOf, ArgOf, ElementAt, ElementOf}
@@ -64,6 +64,10 @@ module _ (w : World) where
 
   pub blind_number : (width : Width) (v : Value) → Clear w v → Sees w (number_of width v)
   blind_number width v h = blind_then w (Fine w) (data_of width v) (λ d. computed (to_integer width d)) (blind_data width v h) (λ d p. counted (to_integer width d))
+
+  -- as a text
+  pub blind_text : (width : Width) (v : Value) → Clear w v → Sees w (and_then (data_of width v) (λ datum. give (to_string width datum)))
+  blind_text width v h = blind_then w (Fine w) (data_of width v) (λ datum. give (to_string width datum)) (blind_data width v h) (λ datum p. blind_give w (Fine w) (to_string width datum) tt)
 
   with_number : (width : Width) (v : Value) (k : ℕ → Action (List Value)) → Clear w v → ((n : ℕ) → Results (k n)) → Results (and_then (number_of width v) k)
   with_number width v k h hk = blind_then w (ClearAll w) (number_of width v) k (blind_number width v h) (λ n p. hk n)

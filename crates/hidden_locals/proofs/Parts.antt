@@ -17,7 +17,9 @@ use Rattle.acpi_state.specs.Loops.{is_true, after_turn, loop}
 use Rattle.acpi_state.specs.Activations.{create}
 use Rattle.acpi_state.specs.BufferFields.{keep_own}
 use Rattle.acpi_state.specs.Stores.{Spot, At, store}
-use Rattle.acpi_state.specs.Acts.{Operand, OfValue, OfKept, OfSpot, OfNumber, number_of, act_of, last_of}
+use Rattle.acpi_values.specs.Conversions.{to_string}
+use Rattle.acpi_state.specs.Actions.{give, and_then}
+use Rattle.acpi_state.specs.Acts.{Operand, OfValue, OfKept, OfSpot, OfNumber, data_of, number_of, act_of, last_of}
 use Rattle.acpi_state.specs.FieldActs.{region_extent, make_region, FieldForm, new_field, make_buffer_field}
 use Rattle.acpi_state.specs.Forms.{Slot, LocalSlot, ArgSlot, slot_here, if_data, object_value, spot_in}
 use Rattle.acpi_state.specs.Registers.{register_of}
@@ -33,7 +35,7 @@ use Rattle.hidden_locals.specs.Worlds.{World, shown_here, Clear, ClearPlace, Cle
 use Rattle.hidden_locals.specs.Runs.{Reach, From}
 use Rattle.hidden_locals.specs.Terms.{IsShownSlot}
 use Rattle.hidden_locals.specs.Programs.{CallAlike}
-use Rattle.hidden_locals.proofs.Operators.{blind_number, blind_act}
+use Rattle.hidden_locals.proofs.Operators.{blind_number, blind_text, blind_act}
 use Rattle.hidden_locals.proofs.Stores.{blind_store}
 use Rattle.hidden_locals.proofs.Forms as F
 use Rattle.hidden_locals.proofs.Worlds.{same_world, later_then, here_later, clear_later, place_later, spot_later, option_later, operands_later, flow_later, source_later}
@@ -125,6 +127,12 @@ module _ (convert : Trees → Trees) (IsKept : Trees → Type 0) (reach : Reach)
   pub from_size : (w : World) (width : Width) (known : Known) {m m' : Run Trees Flow} → Same w ClearFlow m m' → Same w Any (S.size_by width known m) (S.size_by width known m')
   from_size w width known h =
       from_then convert IsKept reach w Any (λ n. n) _ (from_valued w h) (λ w' later v p. from_act convert IsKept reach w' Any (number_of width v) (λ u after. blind_number u width v (clear_later w' u after.shown v p)))
+
+  -- a value as a text
+  pub from_text : (w : World) (width : Width) (known : Known) {m m' : Run Trees Flow} → Same w ClearFlow m m' → Same w Any (S.text_by width known m) (S.text_by width known m')
+  from_text w width known h =
+      from_then convert IsKept reach w Any (λ text. text) _ (from_valued w h)
+      (λ w' later v p. from_act convert IsKept reach w' Any (and_then (data_of width v) (λ datum. give (to_string width datum))) (λ u after. blind_text u width v (clear_later w' u after.shown v p)))
 
   -- a branch, a loop and a Scope are what their parts are
   pub from_branch : (w : World) (width : Width) (known : Known) {m m' b b' : Run Trees Flow} → Same w ClearFlow m m' → ((w' : World) → Later w w' → Same w' ClearFlow b b') →

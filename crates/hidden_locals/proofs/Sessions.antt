@@ -23,7 +23,7 @@ use Rattle.hidden_locals.proofs.Worlds.{same_world, all_later, shows_begun}
 use Rattle.hidden_locals.proofs.Runs.{from_stop, from_fault, from_then, from_if}
 use Rattle.hidden_locals.proofs.Calls.{new_veiled, none_clear, from_activation, from_body, from_external}
 use Rattle.hidden_locals.proofs.Terms.{lists}
-use Rattle.hidden_locals.proofs.Lasting.{lasting_call}
+use Rattle.asl_meaning.proofs.Lasting.{lasting_call}
 
 -- answers and arguments are clear in every world
 module _ (width : Width) (w : World) where

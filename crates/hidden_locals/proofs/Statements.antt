@@ -1,6 +1,6 @@
 -- Terms of which bodies are asked one thing, and Locals another.
 use Rattle.std.proofs.Common.{ℕ, Bool}
-use Rattle.asl_tree.specs.Tree.{Tree, InSlot, Call, Apply, Operated, Assigned, AssignedBy, Buffer, Package, VarPackage, CondRefOf, Return, Name, Method, Container', Scope, If, ElseIf, Else, While, Switch, Case, Default, OperationRegion, BankField, CreateField, Trees, no_trees, tree}
+use Rattle.asl_tree.specs.Tree.{Tree, InSlot, Call, Apply, Operated, Assigned, AssignedBy, Buffer, Package, VarPackage, CondRefOf, Return, Name, Method, Container', Scope, If, ElseIf, Else, While, For, Print, Switch, Case, Default, OperationRegion, BankField, CreateField, Trees, no_trees, tree}
 use Rattle.hidden_locals.specs.Terms.{UsesShown, UseShown}
 
 module _ (IsBody AnyBody : Trees → Type 0) (all shown : ℕ → Bool) where
@@ -25,6 +25,8 @@ module _ (IsBody AnyBody : Trees → Type 0) (all shown : ℕ → Bool) where
     both (ElseIf test body) h g = (both test h.0 g.0, both_all body h.1 g.1)
     both (Else body) h g = both_all body h g
     both (While test body) h g = (both test h.0 g.0, both_all body h.1 g.1)
+    both (For start test step body) h g = (both start h.0 g.0, both test h.1 g.1, both step h.2 g.2, both_all body h.3 g.3)
+    both (Print place format args) h g = (both place h.0 g.0, both_all args h.1 g.1)
     both (Switch value cases) h g = (both value h.0 g.0, both_all cases h.1 g.1)
     both (Case value body) h g = (both value h.0 g.0, both_all body h.1 g.1)
     both (Default body) h g = both_all body h g

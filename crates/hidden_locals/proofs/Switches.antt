@@ -30,7 +30,7 @@ use Rattle.hidden_locals.proofs.Terms as T
 use Rattle.hidden_locals.proofs.Terms.{are_shown_later}
 use Rattle.hidden_locals.proofs.Named.{Shows, AnyBody, shows_left, shows_right, uses}
 use Rattle.hidden_locals.proofs.Statements.{both}
-use Rattle.hidden_locals.proofs.Lasting.{lasting, lasting_cases, lasting_default}
+use Rattle.asl_meaning.proofs.Lasting.{lasting, lasting_cases, lasting_default}
 use Rattle.hidden_locals.proofs.Flows.{from_lasting}
 use Rattle.hidden_locals.proofs.Steps.{goes_so}
 use Rattle.hidden_locals.proofs.Crossing as X

@@ -1,5 +1,5 @@
 -- A term that names shown Locals alone does the same where the others are hidden.
-use Rattle.std.specs.Prelude.{◌||◌}
+use Rattle.std.specs.Prelude.{◌||◌, ◌++◌}
 use Rattle.std.proofs.Common.{◌≡◌, ℕ, Bool, false, List, [], ◌∷◌, Option, Some, None, subst}
 use Rattle.acpi_values.specs.declared.width.Width.{Width}
 use Rattle.acpi_values.specs.declared.operator.Plain.{Plain}
@@ -21,12 +21,14 @@ use Rattle.acpi_state.specs.Acts.{Operand, OfValue, OfSpot}
 use Rattle.acpi_state.specs.FieldActs.{region_letters, field_letters}
 use Rattle.acpi_state.specs.Forms.{buffer_of, package_of, cond_ref_of}
 use Rattle.asl_meaning.specs.FieldTerms.{first_unit}
+use Rattle.acpi_state.specs.Loops.{is_true}
+use Rattle.asl_tree.specs.Formats.{cut}
 use Rattle.asl_tree.specs.Literals.{literal_number}
 use Rattle.asl_tree.specs.Names.{Known, place_of}
 use Rattle.asl_tree.specs.Symbols.{compound_operator}
-use Rattle.asl_tree.specs.Tree.{Tree, Integer, Constant, String, InSlot, Debug, Omitted, Raw, Use, Call, Apply, Buffer, Package, VarPackage, CondRefOf, Return, Name, Alias, External, Method, Mutex, Event, Container', Scope, Fill, Misshapen, Trees, no_trees, tree, OperationRegion, Field, IndexField, BankField, CreateField, If, ElseIf, Else, While, Switch, Case, Default, Break, Continue, Item, Operated, Assigned, AssignedBy}
+use Rattle.asl_tree.specs.Tree.{Tree, Integer, Constant, String, InSlot, Debug, Omitted, Raw, Use, Call, Apply, Buffer, Package, VarPackage, CondRefOf, Return, Name, Alias, External, Method, Mutex, Event, Container', Scope, Fill, Misshapen, Trees, no_trees, tree, OperationRegion, Field, IndexField, BankField, CreateField, If, ElseIf, Else, While, For, Print, Switch, Case, Default, Break, Continue, Item, Operated, Assigned, AssignedBy}
 use Rattle.asl_meaning.specs.Meaning as S
-use Rattle.asl_meaning.specs.Meaning.{spot_form, assign_with, target_operator, leave_switch}
+use Rattle.asl_meaning.specs.Meaning.{spot_form, assign_with, target_operator, leave_switch, unless_omitted, then_step}
 use Rattle.hidden_locals.specs.Worlds.{World, Clear, AreClear, ClearAll, ClearSpot, ClearOperands, ClearFlow, Later}
 use Rattle.hidden_locals.specs.Blind.{GivenOk}
 use Rattle.hidden_locals.specs.Runs.{Reach}
@@ -109,6 +111,19 @@ module _ (convert : Trees → Trees) (IsKept : Trees → Type 0) (reach : Reach)
   leave w NoValue h = normal w
   leave w O.Break h = normal w
 
+  -- a term that may be left out
+  unless : (w : World) (t : Tree) {m m' : Run Trees Flow} → D w ClearFlow m m' → D w ClearFlow (unless_omitted t m) (unless_omitted t m')
+  unless w Omitted h = normal w
+  unless w t h = h
+
+  stepped : (w : World) (f : Flow) → ClearFlow w f → {m m' : Run Trees Flow} → D w ClearFlow m m' → D w ClearFlow (then_step f m) (then_step f m')
+  stepped w O.Break c h = P.same_flow convert IsKept reach w O.Break (λ u. tt)
+  stepped w (O.Return v) c h = from_done convert IsKept reach w ClearFlow (λ f. f) (O.Return v) (λ w' later. clear_later w w' later.shown v c)
+  stepped w (Normal d) c h = h
+  stepped w (Gives v) c h = h
+  stepped w NoValue c h = h
+  stepped w O.Continue c h = h
+
   mutual
     pub runs : (t : Tree) → Uses t → (w : World) → AreShown shown w → (scope : AbsolutePath) (due : Bool) → D w ClearFlow (R t scope due) (R' t scope due)
     runs (Integer number) h w f scope due = given w (Data (V.Integer (wrapped width number))) tt
@@ -165,6 +180,16 @@ module _ (convert : Trees → Trees) (IsKept : Trees → Type 0) (reach : Reach)
     runs (Else body) h w f scope due = from_if convert IsKept reach w ClearFlow (λ f. f) due (lists body h w f scope false) (normal w)
     runs (While test body) h w f scope due =
         P.from_while convert IsKept reach w width known turns (λ w' later. runs test h.0 w' (are_shown_later shown w w' later f) scope false) (λ w' later. lists body h.1 w' (are_shown_later shown w w' later f) scope false)
+    runs (For start test step body) h w f scope due =
+        then_flow w (unless w start (runs start h.0 w f scope false))
+        (λ w' later g p. P.from_loop convert IsKept reach w' turns _ _ _ _
+        (λ u after. from_then convert IsKept reach u Any (λ b. b) _ (P.from_size convert IsKept reach u width known (runs test h.1 u (are_shown_later shown w u (later_then w w' u later after) f) scope false)) (λ x last n q. P.same_any convert IsKept reach x (is_true n, tt)))
+        (λ u after. then_flow u (lists body h.3 u (are_shown_later shown w u (later_then w w' u later after) f) scope false)
+        (λ x last g q. stepped x g q (unless x step (runs step h.2 x (are_shown_later shown w x (later_then w u x (later_then w w' u later after) last) f) scope false)))))
+    runs (Print place format args) h w f scope due =
+        then_flow w (filled_of (cut format).1 args h.1 w f scope)
+        (λ w' later rest p. then_flow w' (spots place h.0 w' (are_shown_later shown w w' later f) scope)
+        (λ u after q k. then_flow u (from_act convert IsKept reach u Any (store width q (Data (V.String ((cut format).0 ++ rest)))) (λ x last. blind_store x width q (Data (V.String ((cut format).0 ++ rest))) (spot_later u x last.shown q k) tt)) (λ x last y r. normal x)))
     runs (Switch value cases) h w f scope due =
         then_flow w (P.from_valued convert IsKept reach w (runs value h.0 w f scope false))
         (λ w' later v p. then_flow w' (cases_of cases h.1 w' (are_shown_later shown w w' later f) v p scope (λ u after. default_of cases h.1 u (are_shown_later shown w u (later_then w w' u later after) f) scope)) (λ u after g q. leave u g q))
@@ -204,6 +229,15 @@ module _ (convert : Trees → Trees) (IsKept : Trees → Type 0) (reach : Reach)
     inner_of : (letters : List Letter) (t : Tree) → Uses t → (w : World) → AreShown shown w → (scope : AbsolutePath) → D w ClearOperands (S.inner_operands width known turns call letters t scope) (S.inner_operands width known turns call' letters t scope)
     inner_of letters (Operated op args) h w f scope = operands_of letters args h w f scope
     inner_of letters _ h w f scope = P.same_broken convert IsKept reach w ClearOperands
+
+    -- arguments as texts
+    filled_of : (texts : List (List ℕ)) (ts : Trees) → Use' ts → (w : World) → AreShown shown w → (scope : AbsolutePath) → D w Any (S.filled width known turns call texts ts scope) (S.filled width known turns call' texts ts scope)
+    filled_of [] no_trees h w f scope = P.same_any convert IsKept reach w []
+    filled_of [] (tree t ts) h w f scope = P.same_broken convert IsKept reach w Any
+    filled_of (text ∷ texts) no_trees h w f scope = P.same_broken convert IsKept reach w Any
+    filled_of (text ∷ texts) (tree t ts) h w f scope =
+        from_then convert IsKept reach w Any (λ all. all) _ (P.from_text convert IsKept reach w width known (runs t h.0 w f scope false))
+        (λ w' later first p. from_then convert IsKept reach w' Any (λ all. all) _ (filled_of texts ts h.1 w' (are_shown_later shown w w' later f) scope) (λ u after rest q. P.same_any convert IsKept reach u (first ++ (text ++ rest))))
 
     hits_of : (t : Tree) → Uses t → (w : World) → AreShown shown w → (v : Value) → Clear w v → (scope : AbsolutePath) {alone alone' : Run Trees Bool} → D w Any alone alone' → D w Any (S.hits width known turns call t alone v scope) (S.hits width known turns call' t alone' v scope)
     hits_of (Package count members) h w f v p scope a = hits_any_of members h w f v p scope

@@ -1,13 +1,13 @@
 -- The flag of an activation, a hidden Local which says that a Continue is on its way out of loops of one turn.
-use Rattle.std.specs.Prelude.{◌≡◌, ℕ, Bool, true, false, ◌||◌, if◌then◌else◌, List, Option, Some}
+use Rattle.std.specs.Prelude.{◌≡◌, ℕ, Bool, true, false, if◌then◌else◌, List, Option, Some}
 use Rattle.acpi_values.specs.declared.width.Width.{Width}
 use Rattle.acpi_values.specs.Paths.{AbsolutePath}
 use Rattle.acpi_values.specs.Values.{Value, Data, Integer}
-use Rattle.acpi_state.specs.State.{State}
 use Rattle.acpi_state.specs.Outcomes.{Flow, Normal, Return, Result, Done, Stopped, Run, done, then_run, value_of}
 use Rattle.acpi_state.specs.Outcomes as O
 use Rattle.asl_tree.specs.Names.{Known}
-use Rattle.asl_tree.specs.Tree.{Tree, Container', Scope, If, ElseIf, Else, Switch, Case, Default, Continue, Trees, no_trees, tree}
+use Rattle.asl_tree.specs.Tree.{Tree, Trees}
+pub use Rattle.asl_meaning.specs.Continues.{NoContinue, Lasts, Lasting, has_continue, have_continue}
 use Rattle.asl_meaning.specs.Meaning.{run}
 use Rattle.hidden_locals.specs.Worlds.{World, ClearFlow}
 use Rattle.hidden_locals.specs.Runs.{Veiled}
@@ -51,38 +51,6 @@ abbrev pub past_break : Flow → Flow
 past_break O.Continue = O.Continue
 past_break (Return v) = Return v
 past_break f = Normal false
-
--- no Continue
-abbrev pub NoContinue : Flow → Type 0
-NoContinue O.Continue = ⊥
-NoContinue f = Unit {0}
-
--- a result that is no Continue
-abbrev pub Lasts : Result Flow → Type 0
-Lasts (Done f) = NoContinue f
-Lasts (Stopped x) = Unit {0}
-
--- a run that never ends with one
-pub record Lasting (m : Run Trees Flow) : Type 0 where
-  pub by : (s : State Trees) → Lasts (m s).result
-
--- whether a Continue may leave a term
-abbrev mutual
-  pub has_continue : Tree → Bool
-  has_continue Continue = true
-  has_continue (Container' kind at name body) = have_continue body
-  has_continue (Scope here at name body) = have_continue body
-  has_continue (If test body) = have_continue body
-  has_continue (ElseIf test body) = have_continue body
-  has_continue (Else body) = have_continue body
-  has_continue (Switch value cases) = have_continue cases
-  has_continue (Case value body) = have_continue body
-  has_continue (Default body) = have_continue body
-  has_continue _ = false
-
-  pub have_continue : Trees → Bool
-  have_continue no_trees = false
-  have_continue (tree term terms) = has_continue term || have_continue terms
 
 -- the value of a term, and a run that goes on with it until a Break
 abbrev pub value_at : Width → Known → ℕ → (AbsolutePath → List Value → Run Trees Flow) → Tree → AbsolutePath → Run Trees Value

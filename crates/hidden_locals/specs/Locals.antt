@@ -3,8 +3,8 @@ use Rattle.std.specs.Prelude.{ℕ, Bool, nat_eq, List, [], ◌∷◌, ◌++◌}
 use Rattle.std.specs.List.{list_any}
 use Rattle.acpi_state.specs.Forms.{Slot, LocalSlot, ArgSlot}
 use Rattle.asl_tree.specs.Tree.{Tree, InSlot, Call, Apply, Operated, Assigned, AssignedBy, Buffer, Package, VarPackage, CondRefOf, Return}
-use Rattle.asl_tree.specs.Tree.{Name, Method, Container', Scope, If, ElseIf, Else, While, Switch, Case, Default, OperationRegion}
-use Rattle.asl_tree.specs.Tree.{BankField, CreateField, Trees, no_trees, tree}
+use Rattle.asl_tree.specs.Tree.{Name, Method, Container', Scope, If, ElseIf, Else, While, For, Print, Switch, Case, Default}
+use Rattle.asl_tree.specs.Tree.{OperationRegion, BankField, CreateField, Trees, no_trees, tree}
 
 abbrev pub slot_locals : Slot → List ℕ
 slot_locals (LocalSlot i) = i ∷ []
@@ -32,6 +32,8 @@ abbrev mutual
   locals (ElseIf test body) = locals test ++ locals_all body
   locals (Else body) = locals_all body
   locals (While test body) = locals test ++ locals_all body
+  locals (For start test step body) = locals start ++ (locals test ++ (locals step ++ locals_all body))
+  locals (Print place format args) = locals place ++ locals_all args
   locals (Switch value cases) = locals value ++ locals_all cases
   locals (Case value body) = locals value ++ locals_all body
   locals (Default body) = locals_all body

@@ -1,6 +1,6 @@
 -- A Switch as a loop of one turn, and where it may stand so.
 use Rattle.std.specs.Prelude.{◌≤◌, ◌+◌, ℕ, suc, max, nat_le, Bool, true, false, ◌||◌, if◌then◌else◌, length, Option, Some, None}
-use Rattle.asl_tree.specs.Tree.{Tree, Package, VarPackage, Method, Container', Scope, If, ElseIf, Else, While, Switch, Case, Default}
+use Rattle.asl_tree.specs.Tree.{Tree, Package, VarPackage, Method, Container', Scope, If, ElseIf, Else, While, For, Switch, Case, Default}
 use Rattle.asl_tree.specs.Tree.{Continue, Trees, no_trees, tree}
 use Rattle.hidden_locals.specs.Locals.{locals_all}
 use Rattle.hidden_locals.specs.Terms.{UsesShown}
@@ -14,6 +14,7 @@ abbrev mutual
   depth (ElseIf test body) = depth_all body
   depth (Else body) = depth_all body
   depth (While test body) = depth_all body
+  depth (For start test step body) = depth_all body
   depth (Container' kind at name body) = depth_all body
   depth (Scope here at name body) = depth_all body
   depth (Switch value cases) = suc (depth_all cases)
@@ -32,6 +33,7 @@ abbrev mutual
   is_crossed (ElseIf test body) = are_crossed body
   is_crossed (Else body) = are_crossed body
   is_crossed (While test body) = are_crossed body
+  is_crossed (For start test step body) = are_crossed body
   is_crossed (Container' kind at name body) = are_crossed body
   is_crossed (Scope here at name body) = are_crossed body
   is_crossed (Switch value cases) = have_continue cases || are_crossed cases
@@ -65,7 +67,8 @@ abbrev pub chain_of : Option Trees → Trees
 chain_of None = no_trees
 chain_of (Some terms) = terms
 
--- `level` is how many Switches of the method are around a term, and `inside` whether one of them stands between it and its loop
+-- `level` is how many Switches of the method are around a term, and `inside` whether one of them stands between it and
+-- its loop; a For, which is taken out before, stays as it is
 abbrev mutual
   pub unswitched : Plan → ℕ → Bool → Tree → Tree
   unswitched plan level inside (If test body) = If test (unswitched_all plan level inside body)
@@ -154,6 +157,7 @@ abbrev mutual
   HasLocals (ElseIf test body) = HaveLocalsInside body
   HasLocals (Else body) = HaveLocalsInside body
   HasLocals (While test body) = HaveLocalsInside body
+  HasLocals (For start test step body) = HaveLocalsInside body
   HasLocals (Container' kind at name body) = HaveLocalsInside body
   HasLocals (Scope here at name body) = HaveLocalsInside body
   HasLocals (Method at name flags body) = IsEnough body × HaveLocalsInside body
@@ -177,6 +181,7 @@ abbrev mutual
   HasDefaultsLast (ElseIf test body) = HaveDefaultsLast body
   HasDefaultsLast (Else body) = HaveDefaultsLast body
   HasDefaultsLast (While test body) = HaveDefaultsLast body
+  HasDefaultsLast (For start test step body) = HaveDefaultsLast body
   HasDefaultsLast (Container' kind at name body) = HaveDefaultsLast body
   HasDefaultsLast (Scope here at name body) = HaveDefaultsLast body
   HasDefaultsLast (Method at name flags body) = HaveDefaultsLast body

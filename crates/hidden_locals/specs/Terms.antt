@@ -2,8 +2,8 @@
 use Rattle.std.specs.Prelude.{◌≡◌, ℕ, Bool, true}
 use Rattle.acpi_state.specs.Forms.{Slot, LocalSlot, ArgSlot}
 use Rattle.asl_tree.specs.Tree.{Tree, InSlot, Call, Apply, Operated, Assigned, AssignedBy, Buffer, Package, VarPackage, CondRefOf, Return}
-use Rattle.asl_tree.specs.Tree.{Name, Method, Container', Scope, If, ElseIf, Else, While, Switch, Case, Default, OperationRegion}
-use Rattle.asl_tree.specs.Tree.{BankField, CreateField, Trees, no_trees, tree}
+use Rattle.asl_tree.specs.Tree.{Name, Method, Container', Scope, If, ElseIf, Else, While, For, Print, Switch, Case, Default}
+use Rattle.asl_tree.specs.Tree.{OperationRegion, BankField, CreateField, Trees, no_trees, tree}
 use Rattle.hidden_locals.specs.Worlds.{World, shown_here}
 
 abbrev pub IsShownSlot : (ℕ → Bool) → Slot → Type 0
@@ -37,6 +37,8 @@ module _ (IsBody : Trees → Type 0) (shown : ℕ → Bool) where
     UsesShown (ElseIf test body) = UsesShown test × UseShown body
     UsesShown (Else body) = UseShown body
     UsesShown (While test body) = UsesShown test × UseShown body
+    UsesShown (For start test step body) = UsesShown start × UsesShown test × UsesShown step × UseShown body
+    UsesShown (Print place format args) = UsesShown place × UseShown args
     UsesShown (Switch value cases) = UsesShown value × UseShown cases
     UsesShown (Case value body) = UsesShown value × UseShown body
     UsesShown (Default body) = UseShown body

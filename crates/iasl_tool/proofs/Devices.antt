@@ -1,6 +1,6 @@
 -- What is due of generated devices: their lines are good, and it is the same of one file without a name as of none.
 use Rattle.std.proofs.Common.{◌≡◌, ℕ, zero, suc, ◌≤◌, Bool, true, false, List, [], ◌∷◌, ◌++◌, length, Some, refl, sym, ap, ◌∙◌, arith}
-use Rattle.std.specs.Prelude.{All, codes}
+use Rattle.std.specs.Prelude.{All, cond, map, codes}
 use Rattle.std.proofs.lemmas.List.Elements.{All-weaker}
 use Rattle.iasl_ports.specs.Gained.{Named}
 use Rattle.iasl_ports.specs.Delivery.{Answer}
@@ -8,17 +8,19 @@ use Rattle.iasl_messages.specs.declared.place.Line.{Line}
 use Rattle.iasl_messages.specs.declared.place.Piece.{Piece}
 use Rattle.iasl_messages.specs.declared.message.Message.{Message}
 use Rattle.iasl_messages.specs.Order.{sorted_messages}
-use Rattle.iasl_messages.specs.Console.{file_name, brief_line, full_line, message_line, messages_text, summary_line, table_line, devices_line}
-use Rattle.iasl_backends.specs.Table.{table_bytes}
+use Rattle.iasl_messages.specs.Console.{file_name, brief_line, full_line, message_line, messages_text, summary_line, devices_line}
+use Rattle.std.specs.List.{list_any}
+use Rattle.iasl_ports.specs.Fetched.{same_name}
 use Rattle.asl_preprocess.specs.Sound.{IsGoodLine}
 use Rattle.iasl_options.specs.Asking.{Asked}
 use Rattle.iasl_options.specs.Task.{generated_settings}
 use Rattle.generated_lines.specs.Generated.{generated_lines}
-use Rattle.table_outputs.specs.Files.{table_name, table_files}
-use Rattle.asl_tables.specs.declared.compile.Compiled.{Compiled}
-use Rattle.asl_tables.specs.declared.compile.Compiled.TheVariants.{Table, Refused}
+use Rattle.table_outputs.specs.Files.{first_in_use, name_in_use, table_files}
+use Rattle.block_outcomes.specs.declared.outcome.Compiled.{Compiled}
+use Rattle.block_outcomes.specs.declared.outcome.Compiled.TheVariants.{Made, Refused}
+use Rattle.block_outcomes.specs.declared.outcome.Table.{Table}
 use Rattle.iasl_tool.specs.Sources.{of_source}
-use Rattle.iasl_tool.specs.Due.{console_text, made_or_in_use, style_of, answer_to_compiled, answer_to_generated}
+use Rattle.iasl_tool.specs.Due.{console_text, made_files, unless_in_use, made_or_in_use, lines_of_tables, files_of_tables, style_of, answer_to_compiled, answer_to_generated}
 
 -- small lines of the first file are good ones of one file
 pub good_lines : (files : List (List ℕ)) (lines : List Line) → files ≡ [] ∷ [] → All (λ line. (length line.text ≤ 100) × (line.file ≡ 0)) lines → All (IsGoodLine (length files)) lines
@@ -46,14 +48,34 @@ console_same brief messages made = ap (λ text. text ++ made ++ summary_line (so
 abbrev ends_with : ℕ → List Named → List ℕ → Answer
 ends_with status due text = record { status = status; text = text; due = due }
 
--- a table of this name is made alike
-table_same : (own : List ℕ) (notes : List Message) (line : List ℕ) (pieces : List Piece)
-    → made_or_in_use false ([] ∷ []) notes line (table_files generated_settings (codes "generated") own pieces) ≡ made_or_in_use false [] notes line (table_files generated_settings (codes "generated") own pieces)
-table_same [] notes line pieces = ap (ends_with 0 (table_files generated_settings (codes "generated") [] pieces)) (console_same false notes line)
-table_same (c ∷ own) notes line pieces = ap (ends_with 0 (table_files generated_settings (codes "generated") (c ∷ own) pieces)) (console_same false notes line)
+-- no name is empty
+abbrev AreNamed : List (List ℕ) → Type 0
+AreNamed [] = Unit {0}
+AreNamed ([] ∷ names) = ⊥
+AreNamed ((c ∷ cs) ∷ names) = AreNamed names
+
+-- such names are in use alike
+same_use : (names : List (List ℕ)) → AreNamed names → first_in_use ([] ∷ []) names ≡ first_in_use [] names
+same_use [] h = refl
+same_use ([] ∷ names) h = absurd h
+same_use ((c ∷ cs) ∷ names) h = ap (λ o. cond (list_any (λ other. same_name other (c ∷ cs)) names) (Some (c ∷ cs)) o) (same_use names h)
+
+table_named : (own : List ℕ) (pieces : List Piece) (rest : List Named) → AreNamed (map (λ file. file.0) rest) → AreNamed (map (λ file. file.0) (table_files generated_settings (codes "generated") own pieces ++ rest))
+table_named [] pieces rest h = h
+table_named (c ∷ own) pieces rest h = h
+
+tables_named : (tables : List Table) → AreNamed (map (λ file. file.0) (files_of_tables generated_settings (codes "generated") tables))
+tables_named [] = tt
+tables_named (table ∷ tables) = table_named table.own table.pieces (files_of_tables generated_settings (codes "generated") tables) (tables_named tables)
+
+-- tables of such names are made alike
+tables_same : (notes : List Message) (line : List ℕ) (due : List Named) → AreNamed (map (λ file. file.0) due) → made_or_in_use false ([] ∷ []) notes line due ≡ made_or_in_use false [] notes line due
+tables_same notes line due h =
+    ap (λ o. unless_in_use o (made_files false ([] ∷ []) notes line due)) (same_use (map (λ file. file.0) due) h)
+    ∙ ap (λ text. unless_in_use (name_in_use [] due) (ends_with 0 due text)) (console_same false notes line)
 
 no_file : (more : List ℕ) (it : Compiled) → answer_to_compiled generated_settings (codes "generated") ([] ∷ []) [] more it ≡ answer_to_compiled generated_settings (codes "generated") [] [] more it
-no_file more (Table signature own pieces told) = table_same own told (table_line (table_name generated_settings (codes "generated") own) signature (length (table_bytes pieces)) ++ more) pieces
+no_file more (Made tables told) = tables_same told (lines_of_tables generated_settings (codes "generated") tables ++ more) (files_of_tables generated_settings (codes "generated") tables) (tables_named tables)
 no_file more (Refused messages) = ap (ends_with 1 []) (console_same false messages [])
 
 some_file : (file name : List ℕ) → Some file ≡ Some name → file ≡ name

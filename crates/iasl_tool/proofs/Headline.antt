@@ -1,8 +1,7 @@
 -- A source that is read is put as a table that does what the source says.
+use Rattle.std.proofs.lemmas.List.{append-nil}
 use Rattle.std.proofs.Common.{◌≡◌, ℕ, ◌≤◌, Bool, true, false, refl, subst, ◌⊎◌, inl, inr, Err, List, [], ◌∷◌, length, Option, Some, None, Result, Ok, ap, sym, ◌∙◌, arith}
-use Rattle.std.proofs.lemmas.Bool.{le-leb}
-use Rattle.std.proofs.lemmas.Bool.Decides.{nat_tests}
-use Rattle.std.specs.Prelude.{◌<◌, ◌^◌, nat_le, ◌&&◌, cond, map, ◌++◌, if◌then◌else◌}
+use Rattle.std.specs.Prelude.{◌<◌, ◌^◌, ◌&&◌, cond, ◌++◌}
 use Rattle.iasl_ports.specs.Gained.{Named, Gains}
 use Rattle.iasl_ports.specs.Delivery.{Answer, due_of, status_of}
 use Rattle.iasl_messages.specs.declared.place.Line.{Line}
@@ -19,12 +18,9 @@ use Rattle.asl_parser.specs.Parse.{ParseOutcome, outcome, read, stopped, sunk, t
 use Rattle.asl_parser.proofs.Told.{is_spelled, is_not_deep}
 use Rattle.iasl_tool.proofs.Readings.{spelled_is_outcome}
 use Rattle.asl_parser.specs.Written.{writtens}
-use Rattle.asl_shape.specs.Forms.{errors_at, block_place}
-use Rattle.source_pieces.specs.Places.{core_places}
+use Rattle.asl_shape.specs.Forms.{errors_at, alone}
 use Rattle.source_pieces.proofs.Joined.{joined_is_table}
 use Rattle.iasl_backends.specs.Table.{table_bytes}
-use Rattle.acpi_names.specs.Errors.{NameError, name_errors, type_errors}
-use Rattle.name_checks.specs.Messages.{message_of, first_errors, told_errors}
 use Rattle.data_tables.specs.declared.compiled.Compiled.{Compiled as DataTable}
 use Rattle.data_tables.specs.Compiling.{Answer as DataAnswer, joined}
 use Rattle.data_tables.specs.Entries.{unsealed_bytes}
@@ -38,71 +34,58 @@ use Rattle.iasl_options.specs.Task.{Task, Compiles, Generates, Templates, settin
 use Rattle.iasl_options.proofs.Tasks.{task_from, task_to}
 use Rattle.generated_lines.specs.Generated.{generated_lines}
 use Rattle.iasl_messages.specs.Console.{devices_line}
-use Rattle.program_shapes.specs.Kept.{IsKeptSource}
-use Rattle.program_shapes.specs.Sources.{source_in, names_in, uses_in, plans_in, terms_in, locals_in, fields_in, IsRight}
+use Rattle.program_shapes.specs.Kept.{IsKeptSource, AreKeptAlone}
+use Rattle.program_shapes.specs.Sources.{statements_in, EachRight, IsRightSource}
 use Rattle.program_shapes.proofs.Kept.{is_kept}
 use Rattle.program_shapes.proofs.Lexed.{lexed_short}
 use Rattle.program_shapes.proofs.Few.{few_tokens}
 use Rattle.program_shapes.proofs.Tables.{does_as}
-use Rattle.aml_writer.specs.Written.{most_table_bytes}
-use Rattle.asl_tables.specs.declared.compile.Compiled.{Compiled}
-use Rattle.asl_tables.specs.declared.compile.Compiled.TheVariants.{Table, Refused}
-use Rattle.asl_tables.specs.declared.compile.Style.{Style}
-use Rattle.asl_tables.specs.Compiled.{own_in, noted_in, with_notes, first_told, told_of_names, told_in, others_in, of_lines, of_items, of_terms, of_table, unless_wrong, with_others, of_outcome, of_tokens, written_in, cut_in, too_long}
+use Rattle.block_outcomes.specs.declared.outcome.Compiled.{Compiled}
+use Rattle.block_outcomes.specs.declared.outcome.Compiled.TheVariants.{Made, Refused}
+use Rattle.asl_tables.specs.Compiled.{all_noted, of_lines, of_items, of_outcome, of_tokens, cut_in, tables_of, EachWithin}
+use Rattle.asl_tables.proofs.Sources.{made_of, made_from}
 use Rattle.iasl_tool.specs.Sources.{is_data_source, data_answer, of_data, of_source}
-use Rattle.table_outputs.specs.Files.{table_name, table_files, name_in_use}
+use Rattle.table_outputs.specs.Files.{name_in_use}
 use Rattle.table_outputs.specs.Decision.{only_by, asks_for_text, wants_template, asks_for_template}
-use Rattle.iasl_tool.specs.Due.{style_of, unless_in_use, made_files, refusal, made_or_in_use, has_warning, answer_to_text, answer_to_compiled, answer_to_preprocessed, answer_to_file, answer_to_task, answer_for}
-use Rattle.iasl_tool.specs.Headline.{Request, ComeFrom, a_file, devices, more_of, generated_request, table_of, table_for, its_pieces, data_file_of, further_of, further_data, files_of, data_files_of, LetsPass, NamesLines, NamesSource, NamesData, ReadsBack, PutsFaithfulTable, PutsDataTable, AreItsFiles, WritesItsTable, WritesItsDataTable}
+use Rattle.iasl_tool.specs.Due.{style_of, lines_of_tables, files_of_tables, unless_in_use, made_files, refusal, made_or_in_use, has_warning, answer_to_text, answer_to_compiled, answer_to_preprocessed, answer_to_file, answer_to_task, answer_for}
+use Rattle.iasl_tool.specs.Headline.{Request, ComeFrom, a_file, devices, more_of, generated_request, table_of, table_for, data_file_of, further_of, further_data, files_of, source_files, data_files_of, EachDoes, LetsPass, NamesLines, NamesSource, NamesData, ReadsBack, PutsFaithfulTables, PutsDataTable, AreItsTables, AreItsFiles, WritesItsTables, WritesItsDataTable}
 use Rattle.iasl_tool.proofs.Bytes.{as_joined_pieces, as_joined}
-use Rattle.asl_tables.proofs.Programs.{none_told, none_first, none_behind, none_of_others, both_right, some_behind}
 use Rattle.iasl_tool.proofs.Sizes.{come_sizes}
 use Rattle.iasl_tool.proofs.Strict.{is_passed, lets_pass}
 
-abbrev pub signature_of : List Raw → List ℕ
-signature_of items = (fields_in items).signature
+-- the files of a source of these lines, of the tables of whose blocks these are the pieces
+abbrev files_with : Request → List Line → List Raw → List Named
+files_with request lines items = files_of_tables request.asked request.file (tables_of (style_of request.asked) lines items)
 
--- nothing is told of its names
-nothing_told : (items : List Raw) → IsRight items → told_in items ≡ []
-nothing_told items right =
-    none_first (told_of_names (source_in items)) (told_errors (terms_in items)) (none_first (names_in items) (uses_in items) right.declared right.uses) (none_told (terms_in items) right.names right.counts)
+abbrev lines_with : Request → List Line → List Raw → List ℕ → List ℕ
+lines_with request lines items more = lines_of_tables request.asked request.file (tables_of (style_of request.asked) lines items) ++ more
 
--- nothing is wrong behind its form
-pub nothing_behind : (items : List Raw) → IsRight items → with_others (told_in items) (others_in items) ≡ []
-nothing_behind items right = none_behind (told_in items) (others_in items) (nothing_told items right) (both_right items right)
+-- what is due of a source in which no warning refuses these files, whose names are free
+abbrev due_with : Request → List (List ℕ) → List Message → List ℕ → List Line → List Raw → List Named → Answer
+due_with request files notes more lines items due = made_files request.asked.switches.brief files (notes ++ all_noted items) (lines_with request lines items more) due
 
--- what the tree of a right source comes to
-pub items_are : (style : Style) (lines : List Line) (items : List Raw) → IsRight items → length (written_in style items) ≤ most_table_bytes → of_items style lines items ≡ Table (signature_of items) (own_in items) (cut_in style lines items) (noted_in items)
-items_are style lines items right within =
-    let place = block_place (writtens items) in
-    let le : nat_le (length (written_in style items)) most_table_bytes ≡ true = le-leb (length (written_in style items)) most_table_bytes within in
-    ap (λ es. unless_wrong es (with_notes (noted_in items) (of_terms style lines place (core_places (plans_in items)) (own_in items) (fields_in items) (told_in items) (others_in items) (locals_in items) (terms_in items)))) right.form
-    ∙ ap (λ es. with_notes (noted_in items) (unless_wrong es (unless_wrong (locals_in items) (of_table place (signature_of items) (own_in items) (written_in style items) (cut_in style lines items))))) (nothing_behind items right)
-    ∙ ap (λ es. with_notes (noted_in items) (unless_wrong es (of_table place (signature_of items) (own_in items) (written_in style items) (cut_in style lines items)))) right.locals
-    ∙ ap (λ c. with_notes (noted_in items) (if c then Table (signature_of items) (own_in items) (cut_in style lines items) [] else Refused (too_long place ∷ []))) le
+-- what is due of a source in which no warning refuses these files
+abbrev named_with : Request → List (List ℕ) → List Message → List ℕ → List Line → List Raw → List Named → Answer
+named_with request files notes more lines items due = unless_in_use (name_in_use files due) (due_with request files notes more lines items due)
 
--- the files of a source of these lines, of which the first has these bytes
-abbrev pub files_with : Request → List Line → List Raw → List ℕ → List Named
-files_with request lines items bytes = (table_of request items, bytes) ∷ further_of request lines items
+-- what is due of these files, whatever warnings there are
+abbrev noted_with : Request → List (List ℕ) → List Message → List ℕ → List Line → List Raw → List Named → Answer
+noted_with request files notes more lines items due =
+    cond (request.asked.switches.strict && has_warning (notes ++ all_noted items)) (refusal request.asked.switches.brief files (notes ++ all_noted items)) (named_with request files notes more lines items due)
 
--- what is due of a source in which no warning refuses these bytes, whose name is free
-abbrev pub due_with : Request → List (List ℕ) → List Message → List ℕ → List Line → List Raw → List ℕ → Answer
-due_with request files notes more lines items bytes = made_files request.asked.switches.brief files (notes ++ noted_in items) (table_line (table_of request items) (signature_of items) (length bytes) ++ more) (files_with request lines items bytes)
-
--- what is due of a source in which no warning refuses these bytes
-abbrev pub named_with : Request → List (List ℕ) → List Message → List ℕ → List Line → List Raw → List ℕ → Answer
-named_with request files notes more lines items bytes = unless_in_use (name_in_use files (files_with request lines items bytes)) (due_with request files notes more lines items bytes)
-
--- what is due of these bytes, whatever warnings there are
-abbrev pub noted_with : Request → List (List ℕ) → List Message → List ℕ → List Line → List Raw → List ℕ → Answer
-noted_with request files notes more lines items bytes =
-    cond (request.asked.switches.strict && has_warning (notes ++ noted_in items)) (refusal request.asked.switches.brief files (notes ++ noted_in items)) (named_with request files notes more lines items bytes)
-
--- the bytes of its pieces are its table
-pub bytes_are : (request : Request) (lines : List Line) (items : List Raw) → errors_at items ≡ [] → IsKeptSource (writtens items) → table_bytes (cut_in (style_of request.asked) lines items) ≡ table_for request items
-bytes_are request lines items e kept =
+-- the bytes of a block's pieces are its table
+pub bytes_are : (request : Request) (lines : List Line) (items : List Raw) → errors_at items ≡ [] → statements_in items ≡ [] → IsKeptSource (writtens items) → table_bytes (cut_in (style_of request.asked) lines items) ≡ table_for request items
+bytes_are request lines items e s kept =
     let style = style_of request.asked in
-    as_joined_pieces (cut_in style lines items) ∙ joined_is_table lines style.wrap style.fold style.short style.shorten items e kept
+    as_joined_pieces (cut_in style lines items) ∙ joined_is_table lines style.wrap style.fold style.short style.shorten items e s kept
+
+-- the files of its tables are its files
+files_are : (request : Request) (lines : List Line) (items : List Raw) → EachRight items → AreKeptAlone items → files_with request lines items ≡ source_files request lines items
+files_are request lines [] right kept = refl
+files_are request lines (item ∷ items) right kept =
+    let one = alone item in
+    ap (λ bytes. ((table_of request one, bytes) ∷ further_of request lines one) ++ files_with request lines items) (bytes_are request lines one right.0.form right.0.statements kept.0)
+    ∙ ap (λ fs. files_of request lines one ++ fs) (files_are request lines items right.1 kept.1)
 
 -- what is due of lines that are read
 pub come_is : (words : List (List ℕ)) (told : List Named) (request : Request) (files : List (List ℕ)) (lines : List Line) (notes : List Message) (come : ComeFrom words told request files lines notes) (it : Compiled) → of_source request.asked.switches.generic (style_of request.asked) lines ≡ it
@@ -126,74 +109,99 @@ pub given_is : (words : List (List ℕ)) (told : List Named) (request : Request)
 given_is words told request h it e = come_is words told request h.files h.lines h.notes h.come it e
 
 -- the parser keeps what it reads
-pub kept_from : (words : List (List ℕ)) (told : List Named) (request : Request) (n : NamesLines words told request) (tokens : List Token) (items : List Raw) → tokens_of n.lines ≡ Ok tokens → Spells items tokens → IsKeptSource (writtens items)
+pub kept_from : (words : List (List ℕ)) (told : List Named) (request : Request) (n : NamesLines words told request) (tokens : List Token) (items : List Raw) → tokens_of n.lines ≡ Ok tokens → Spells items tokens → AreKeptAlone items
 kept_from words told request n tokens items cut spelled =
     let sizes = come_sizes words told request n.files n.lines n.notes n.come in
     is_kept items tokens spelled (few_tokens n.lines tokens cut sizes.0) (lexed_short n.lines tokens cut sizes.1)
 
-kept_source : (words : List (List ℕ)) (told : List Named) (request : Request) (items : List Raw) → NamesSource words told request items → IsKeptSource (writtens items)
+kept_source : (words : List (List ℕ)) (told : List Named) (request : Request) (items : List Raw) → NamesSource words told request items → AreKeptAlone items
 kept_source words told request items h = kept_from words told request h.named h.tokens items (cut_is_tokens h.named.lines h.tokens h.tokens_are) h.spelled
 
 -- what a source that the words name comes to
 pub compiled_is : (words : List (List ℕ)) (told : List Named) (request : Request) (items : List Raw) (h : NamesSource words told request items)
-    → of_source request.asked.switches.generic (style_of request.asked) h.named.lines ≡ Table (signature_of items) (own_in items) (its_pieces request h.named.lines items) (noted_in items)
+    → of_source request.asked.switches.generic (style_of request.asked) h.named.lines ≡ Made (tables_of (style_of request.asked) h.named.lines items) (all_noted items)
 compiled_is words told request items h =
     let lines = h.named.lines in
     let style = style_of request.asked in
     ap (λ c. cond c (of_data (data_answer request.asked.switches.generic lines)) (of_lines style lines)) h.is_asl
-    ∙ ap (of_tokens style lines) (cut_is_tokens lines h.tokens h.tokens_are) ∙ ap (of_outcome style lines h.tokens) (spelled_is_outcome items h.tokens h.spelled h.shallow h.low) ∙ items_are style lines items h.right h.table_within
+    ∙ ap (of_tokens style lines) (cut_is_tokens lines h.tokens h.tokens_are) ∙ ap (of_outcome style lines h.tokens) (spelled_is_outcome items h.tokens h.spelled h.shallow h.low) ∙ made_of style lines items h.right h.tables_within
 
-answer_is : (words : List (List ℕ)) (told : List Named) (request : Request) (items : List Raw) (h : NamesSource words told request items) → answer_for words told ≡ Some (due_with request h.named.files h.named.notes (more_of h.named.come) h.named.lines items (table_for request items))
+answer_is : (words : List (List ℕ)) (told : List Named) (request : Request) (items : List Raw) (h : NamesSource words told request items) → answer_for words told ≡ Some (due_with request h.named.files h.named.notes (more_of h.named.come) h.named.lines items (source_files request h.named.lines items))
 answer_is words told request items h =
     let lines = h.named.lines in
     let files = h.named.files in
     let notes = h.named.notes in
     let more = more_of h.named.come in
-    given_is words told request h.named (Table (signature_of items) (own_in items) (its_pieces request lines items) (noted_in items)) (compiled_is words told request items h)
-    ∙ ap (λ bytes. Some (noted_with request files notes more lines items bytes)) (bytes_are request lines items h.right.form (kept_source words told request items h))
-    ∙ ap (λ c. Some (cond c (refusal request.asked.switches.brief files (notes ++ noted_in items)) (named_with request files notes more lines items (table_for request items)))) (is_passed request.asked (notes ++ noted_in items) h.notes_pass)
-    ∙ ap (λ o. Some (unless_in_use o (due_with request files notes more lines items (table_for request items)))) h.names_are_free
+    given_is words told request h.named (Made (tables_of (style_of request.asked) lines items) (all_noted items)) (compiled_is words told request items h)
+    ∙ ap (λ due. Some (noted_with request files notes more lines items due)) (files_are request lines items h.right.blocks (kept_source words told request items h))
+    ∙ ap (λ c. Some (cond c (refusal request.asked.switches.brief files (notes ++ all_noted items)) (named_with request files notes more lines items (source_files request lines items)))) (is_passed request.asked (notes ++ all_noted items) h.notes_pass)
+    ∙ ap (λ o. Some (unless_in_use o (due_with request files notes more lines items (source_files request lines items)))) h.names_are_free
 
-pub puts_faithful_table : (words : List (List ℕ)) (told : List Named) (request : Request) (items : List Raw) (h : NamesSource words told request items) → PutsFaithfulTable words told request h.named.lines items
-puts_faithful_table words told request items h =
+each_does : (request : Request) (lines : List Line) (items : List Raw) → EachRight items → AreKeptAlone items → EachWithin (style_of request.asked) items → EachDoes request lines items
+each_does request lines [] right kept within = tt
+each_does request lines (item ∷ items) right kept within =
+    let asked = request.asked.switches in (
+      record {
+        does = does_as asked.wrap asked.fold asked.short asked.shorten (alone item) right.0 kept.0 within.0;
+        joined_pieces = bytes_are request lines (alone item) right.0.form right.0.statements kept.0;
+      },
+      each_does request lines items right.1 kept.1 within.1,
+    )
+
+pub puts_faithful_tables : (words : List (List ℕ)) (told : List Named) (request : Request) (items : List Raw) (h : NamesSource words told request items) → PutsFaithfulTables words told request h.named.lines items
+puts_faithful_tables words told request items h =
     let answer = answer_is words told request items h in
     record {
       status = ap status_of answer;
       due = ap due_of answer;
-      does = does_as request.asked.switches.wrap request.asked.switches.fold request.asked.switches.short request.asked.switches.shorten items h.right (kept_source words told request items h) h.table_within;
-      joined_pieces = bytes_are request h.named.lines items h.right.form (kept_source words told request items h);
+      does = each_does request h.named.lines items h.right.blocks (kept_source words told request items h) h.tables_within;
     }
 
 -- ---- data tables
 
--- the files of a data table, of which the first has these bytes
-abbrev pub data_files_with : Request → DataTable → List ℕ → List Named
-data_files_with request table bytes = (data_file_of request, bytes) ∷ further_data request table
+-- the line that tells of a data table, and a further line
+abbrev data_line : Request → DataTable → List ℕ → List ℕ
+data_line request table more = table_line (data_file_of request) table.signature (length (joined table.pieces)) ++ more
 
--- what is due of a data table where no warning refuses these bytes, whose file's name is free
-abbrev pub due_data : Request → List (List ℕ) → List Message → List ℕ → DataTable → List ℕ → Answer
-due_data request files notes more table bytes = made_files request.asked.switches.brief files (notes ++ table.notes) (table_line (data_file_of request) table.signature (length bytes) ++ more) (data_files_with request table bytes)
+-- what is due of a data table where no warning refuses these files, whose names are free
+abbrev due_data : Request → List (List ℕ) → List Message → List ℕ → DataTable → List Named → Answer
+due_data request files notes line table due = made_files request.asked.switches.brief files (notes ++ table.notes) line due
 
--- what is due of a data table where no warning refuses these bytes
-abbrev pub named_data : Request → List (List ℕ) → List Message → List ℕ → DataTable → List ℕ → Answer
-named_data request files notes more table bytes = unless_in_use (name_in_use files (data_files_with request table bytes)) (due_data request files notes more table bytes)
+-- what is due of a data table where no warning refuses these files
+abbrev named_data : Request → List (List ℕ) → List Message → List ℕ → DataTable → List Named → Answer
+named_data request files notes line table due = unless_in_use (name_in_use files due) (due_data request files notes line table due)
 
--- what is due of these bytes, whatever warnings there are
-abbrev pub noted_data : Request → List (List ℕ) → List Message → List ℕ → DataTable → List ℕ → Answer
-noted_data request files notes more table bytes =
-    cond (request.asked.switches.strict && has_warning (notes ++ table.notes)) (refusal request.asked.switches.brief files (notes ++ table.notes)) (named_data request files notes more table bytes)
+-- what is due of these files, whatever warnings there are
+abbrev noted_data : Request → List (List ℕ) → List Message → List ℕ → DataTable → List Named → Answer
+noted_data request files notes line table due =
+    cond (request.asked.switches.strict && has_warning (notes ++ table.notes)) (refusal request.asked.switches.brief files (notes ++ table.notes)) (named_data request files notes line table due)
+
+-- what is due of the one table of a text of fields
+data_due : (request : Request) (files : List (List ℕ)) (notes : List Message) (more : List ℕ) (table : DataTable)
+    → answer_to_compiled request.asked request.file files notes more (of_data (Ok table)) ≡ noted_data request files notes (data_line request table more) table (data_files_of request table)
+data_due request files notes more table =
+    let line = λ (bytes : List ℕ). table_line (data_file_of request) table.signature (length bytes) in
+    let own = λ (bytes : List ℕ). (data_file_of request, bytes) ∷ further_data request table in
+    let bytes = table_bytes table.pieces in
+    ap (λ due. noted_data request files notes ((line bytes ++ []) ++ more) table due) (append-nil (own bytes))
+    ∙ ap (λ l. noted_data request files notes (l ++ more) table (own bytes)) (append-nil (line bytes))
+    ∙ ap (λ bytes. noted_data request files notes (line bytes ++ more) table (own bytes)) (as_joined table.pieces)
 
 -- what a data table that the words name comes to
-pub data_comes : (words : List (List ℕ)) (told : List Named) (request : Request) (table : DataTable) (h : NamesData words told request table) → of_source request.asked.switches.generic (style_of request.asked) h.named.lines ≡ Table table.signature [] table.pieces table.notes
+pub data_comes : (words : List (List ℕ)) (told : List Named) (request : Request) (table : DataTable) (h : NamesData words told request table) → of_source request.asked.switches.generic (style_of request.asked) h.named.lines ≡ of_data (Ok table)
 data_comes words told request table h =
     ap (λ c. cond c (of_data (data_answer request.asked.switches.generic h.named.lines)) (of_lines (style_of request.asked) h.named.lines)) h.is_data ∙ ap of_data h.table_is
 
-data_is : (words : List (List ℕ)) (told : List Named) (request : Request) (table : DataTable) (h : NamesData words told request table) → answer_for words told ≡ Some (due_data request h.named.files h.named.notes (more_of h.named.come) table (joined table.pieces))
+data_is : (words : List (List ℕ)) (told : List Named) (request : Request) (table : DataTable) (h : NamesData words told request table) → answer_for words told ≡ Some (due_data request h.named.files h.named.notes (data_line request table (more_of h.named.come)) table (data_files_of request table))
 data_is words told request table h =
-    given_is words told request h.named (Table table.signature [] table.pieces table.notes) (data_comes words told request table h)
-    ∙ ap (λ bytes. Some (noted_data request h.named.files h.named.notes (more_of h.named.come) table bytes)) (as_joined table.pieces)
-    ∙ ap (λ c. Some (cond c (refusal request.asked.switches.brief h.named.files (h.named.notes ++ table.notes)) (named_data request h.named.files h.named.notes (more_of h.named.come) table (joined table.pieces)))) (is_passed request.asked (h.named.notes ++ table.notes) h.notes_pass)
-    ∙ ap (λ o. Some (unless_in_use o (due_data request h.named.files h.named.notes (more_of h.named.come) table (joined table.pieces)))) h.names_are_free
+    let files = h.named.files in
+    let notes = h.named.notes in
+    let line = data_line request table (more_of h.named.come) in
+    let due = data_files_of request table in
+    given_is words told request h.named (of_data (Ok table)) (data_comes words told request table h)
+    ∙ ap Some (data_due request files notes (more_of h.named.come) table)
+    ∙ ap (λ c. Some (cond c (refusal request.asked.switches.brief files (notes ++ table.notes)) (named_data request files notes line table due))) (is_passed request.asked (notes ++ table.notes) h.notes_pass)
+    ∙ ap (λ o. Some (unless_in_use o (due_data request files notes line table due))) h.names_are_free
 
 -- the table reads back, of whichever kind it is
 reads_back : (generic : Bool) (lines : List Line) (table : DataTable) → data_answer generic lines ≡ Ok table → length (unsealed_bytes lines) < 2 ^ 32 → ReadsBack generic lines (joined table.pieces)
@@ -214,24 +222,6 @@ puts_data_table words told request table h =
 
 -- ---- which sources have status 0
 
--- no errors of names are told where there are none of either class
-pub right_names : (terms : _) → told_errors terms ≡ [] → (name_errors terms ≡ []) × (type_errors terms ≡ [])
-right_names terms e = by (name_errors terms) (type_errors terms) e
-  where
-    by : (ns ts : List NameError) → map message_of (first_errors ns ts) ≡ [] → (ns ≡ []) × (ts ≡ [])
-    by [] [] e = (refl, refl)
-    by [] (t ∷ ts) e = absurd cc
-    by (n ∷ ns) ts e = absurd cc
-
--- nothing is told where there is none of either
-pub both_first : (messages others : List Message) → first_told messages others ≡ [] → (messages ≡ []) × (others ≡ [])
-both_first [] others e = (refl, e)
-both_first (m ∷ ms) others e = absurd cc
-
-pub both_none : (errors statements : List Message) → with_others errors statements ≡ [] → (errors ≡ []) × (statements ≡ [])
-both_none [] statements e = (refl, e)
-both_none (m ∷ ms) statements e = absurd (some_behind (m ∷ ms) statements (λ f. absurd cc) e)
-
 -- what the words name
 data Found (words : List (List ℕ)) (told : List Named) : Type 0 where
   a_source : (request : Request) (items : List Raw) (names : NamesSource words told request items) → Found words told
@@ -246,10 +236,11 @@ abbrev status_with : (words : List (List ℕ)) (told : List Named) → Known wor
 status_with words told k it = status_of (Some (answer_to_compiled k.request.asked k.request.file k.named.files k.named.notes (more_of k.named.come) it))
 
 module _ (words : List (List ℕ)) (told : List Named) where
-  by_name : (k : Known words told) (asl : is_data_source k.request.asked.switches.generic k.named.lines ≡ false) (tokens : List Token) (items : List Raw) (o : Option (List ℕ)) → tokens_of k.named.lines ≡ Ok tokens → outcome tokens ≡ read items → IsRight items → nat_le (length (table_for k.request items)) most_table_bytes ≡ true
-      → LetsPass k.request.asked (k.named.notes ++ noted_in items) → name_in_use k.named.files (files_of k.request k.named.lines items) ≡ o → status_of (Some (unless_in_use o (due_with k.request k.named.files k.named.notes (more_of k.named.come) k.named.lines items (table_for k.request items)))) ≡ 0 → Found words told
-  by_name k asl tokens items (Some name) et eo es ec ep en h = absurd (omega (arith, h))
-  by_name k asl tokens items None et eo es ec ep en h = a_source k.request items (record {
+  by_name : (k : Known words told) (asl : is_data_source k.request.asked.switches.generic k.named.lines ≡ false) (tokens : List Token) (items : List Raw) (o : Option (List ℕ)) → tokens_of k.named.lines ≡ Ok tokens → outcome tokens ≡ read items → IsRightSource items → EachWithin (style_of k.request.asked) items
+      → LetsPass k.request.asked (k.named.notes ++ all_noted items) → name_in_use k.named.files (source_files k.request k.named.lines items) ≡ o
+      → status_of (Some (unless_in_use o (due_with k.request k.named.files k.named.notes (more_of k.named.come) k.named.lines items (source_files k.request k.named.lines items)))) ≡ 0 → Found words told
+  by_name k asl tokens items (Some name) et eo es ew ep en h = absurd (omega (arith, h))
+  by_name k asl tokens items None et eo es ew ep en h = a_source k.request items (record {
     named = k.named;
     tokens = tokens;
     is_asl = asl;
@@ -258,48 +249,36 @@ module _ (words : List (List ℕ)) (told : List Named) where
     shallow = (is_not_deep tokens (Ok (record { items = items })) eo).0;
     low = (is_not_deep tokens (Ok (record { items = items })) eo).1;
     right = es;
-    table_within = grind (arith, nat_tests);
+    tables_within = ew;
     notes_pass = ep;
     names_are_free = en;
   })
 
-  by_notes : (k : Known words told) (asl : is_data_source k.request.asked.switches.generic k.named.lines ≡ false) (tokens : List Token) (items : List Raw) (c : Bool) → tokens_of k.named.lines ≡ Ok tokens → outcome tokens ≡ read items → IsRight items → nat_le (length (table_for k.request items)) most_table_bytes ≡ true
-      → (k.request.asked.switches.strict && has_warning (k.named.notes ++ noted_in items)) ≡ c → status_of (Some (cond c (refusal k.request.asked.switches.brief k.named.files (k.named.notes ++ noted_in items)) (named_with k.request k.named.files k.named.notes (more_of k.named.come) k.named.lines items (table_for k.request items)))) ≡ 0 → Found words told
-  by_notes k asl tokens items true et eo es ec ep h = absurd (omega (arith, h))
-  by_notes k asl tokens items false et eo es ec ep h =
-      by_name k asl tokens items (name_in_use k.named.files (files_of k.request k.named.lines items)) et eo es ec (lets_pass k.request.asked (k.named.notes ++ noted_in items) ep) refl h
+  by_notes : (k : Known words told) (asl : is_data_source k.request.asked.switches.generic k.named.lines ≡ false) (tokens : List Token) (items : List Raw) (c : Bool) → tokens_of k.named.lines ≡ Ok tokens → outcome tokens ≡ read items → IsRightSource items → EachWithin (style_of k.request.asked) items
+      → (k.request.asked.switches.strict && has_warning (k.named.notes ++ all_noted items)) ≡ c
+      → status_of (Some (cond c (refusal k.request.asked.switches.brief k.named.files (k.named.notes ++ all_noted items)) (named_with k.request k.named.files k.named.notes (more_of k.named.come) k.named.lines items (source_files k.request k.named.lines items)))) ≡ 0 → Found words told
+  by_notes k asl tokens items true et eo es ew ep h = absurd (omega (arith, h))
+  by_notes k asl tokens items false et eo es ew ep h =
+      by_name k asl tokens items (name_in_use k.named.files (source_files k.request k.named.lines items)) et eo es ew (lets_pass k.request.asked (k.named.notes ++ all_noted items) ep) refl h
 
-  by_table : (k : Known words told) (asl : is_data_source k.request.asked.switches.generic k.named.lines ≡ false) (tokens : List Token) (items : List Raw) (c : Bool) → tokens_of k.named.lines ≡ Ok tokens → outcome tokens ≡ read items → IsRight items → nat_le (length (table_for k.request items)) most_table_bytes ≡ c
-      → status_with words told k (with_notes (noted_in items) (if c then Table (signature_of items) (own_in items) (cut_in (style_of k.request.asked) k.named.lines items) [] else Refused (too_long (block_place (writtens items)) ∷ []))) ≡ 0 → Found words told
-  by_table k asl tokens items true et eo es ec h =
+  -- of tables that are made nothing is wrong with the source
+  by_made : (k : Known words told) (asl : is_data_source k.request.asked.switches.generic k.named.lines ≡ false) (tokens : List Token) (items : List Raw) → tokens_of k.named.lines ≡ Ok tokens → outcome tokens ≡ read items → IsRightSource items → EachWithin (style_of k.request.asked) items
+      → status_with words told k (Made (tables_of (style_of k.request.asked) k.named.lines items) (all_noted items)) ≡ 0 → Found words told
+  by_made k asl tokens items et eo es ew h =
       let kept = kept_from words told k.request k.named tokens items et (is_spelled tokens (Ok (record { items = items })) eo) in
-      by_notes k asl tokens items (k.request.asked.switches.strict && has_warning (k.named.notes ++ noted_in items)) et eo es ec refl
-      (subst (λ bytes. status_of (Some (noted_with k.request k.named.files k.named.notes (more_of k.named.come) k.named.lines items bytes)) ≡ 0) (bytes_are k.request k.named.lines items es.form kept) h)
-  by_table k asl tokens items false et eo es ec h = absurd (omega (arith, h))
+      by_notes k asl tokens items (k.request.asked.switches.strict && has_warning (k.named.notes ++ all_noted items)) et eo es ew refl
+      (subst (λ due. status_of (Some (noted_with k.request k.named.files k.named.notes (more_of k.named.come) k.named.lines items due)) ≡ 0) (files_are k.request k.named.lines items es.blocks kept) h)
 
-  by_locals : (k : Known words told) (asl : is_data_source k.request.asked.switches.generic k.named.lines ≡ false) (tokens : List Token) (items : List Raw) (ms : List Message) → tokens_of k.named.lines ≡ Ok tokens → outcome tokens ≡ read items → locals_in items ≡ ms → (locals_in items ≡ [] → IsRight items)
-      → status_with words told k (with_notes (noted_in items) (unless_wrong ms (of_table (block_place (writtens items)) (signature_of items) (own_in items) (table_for k.request items) (cut_in (style_of k.request.asked) k.named.lines items)))) ≡ 0 → Found words told
-  by_locals k asl tokens items [] et eo el right h = by_table k asl tokens items (nat_le (length (table_for k.request items)) most_table_bytes) et eo (right el) refl h
-  by_locals k asl tokens items (m ∷ ms) et eo el right h = absurd (omega (arith, h))
-
-  by_names : (k : Known words told) (asl : is_data_source k.request.asked.switches.generic k.named.lines ≡ false) (tokens : List Token) (items : List Raw) (ms : List Message) → tokens_of k.named.lines ≡ Ok tokens → outcome tokens ≡ read items → errors_at items ≡ [] → with_others (told_in items) (others_in items) ≡ ms
-      → status_with words told k (with_notes (noted_in items) (unless_wrong ms (unless_wrong (locals_in items) (of_table (block_place (writtens items)) (signature_of items) (own_in items) (table_for k.request items) (cut_in (style_of k.request.asked) k.named.lines items))))) ≡ 0 → Found words told
-  by_names k asl tokens items [] et eo form en h =
-      let none = both_none (told_in items) (others_in items) en in
-      let told = both_first (told_of_names (source_in items)) (told_errors (terms_in items)) none.0 in
-      let written = both_first (names_in items) (uses_in items) told.0 in
-      let names = right_names (terms_in items) told.1 in
-      let others = none_of_others items none.1 in
-      by_locals k asl tokens items (locals_in items) et eo refl (λ locals. record { form = form; declared = written.0; uses = written.1; names = names.0; counts = names.1; statements = others.statements; layouts = others.layouts; regions = others.regions; types = others.types; sizes = others.sizes; values = others.values; locals = locals }) h
-  by_names k asl tokens items (m ∷ ms) et eo form en h = absurd (omega (arith, h))
-
-  by_items : (k : Known words told) (asl : is_data_source k.request.asked.switches.generic k.named.lines ≡ false) (tokens : List Token) (items : List Raw) (ms : List Message) → tokens_of k.named.lines ≡ Ok tokens → outcome tokens ≡ read items → errors_at items ≡ ms
-      → status_with words told k (unless_wrong ms (with_notes (noted_in items) (of_terms (style_of k.request.asked) k.named.lines (block_place (writtens items)) (core_places (plans_in items)) (own_in items) (fields_in items) (told_in items) (others_in items) (locals_in items) (terms_in items)))) ≡ 0 → Found words told
-  by_items k asl tokens items [] et eo form h = by_names k asl tokens items (with_others (told_in items) (others_in items)) et eo form refl h
-  by_items k asl tokens items (m ∷ ms) et eo form h = absurd (omega (arith, h))
+  by_items : (k : Known words told) (asl : is_data_source k.request.asked.switches.generic k.named.lines ≡ false) (tokens : List Token) (items : List Raw) (it : Compiled) → tokens_of k.named.lines ≡ Ok tokens → outcome tokens ≡ read items → of_items (style_of k.request.asked) k.named.lines items ≡ it
+      → status_with words told k it ≡ 0 → Found words told
+  by_items k asl tokens items (Made tables notes) et eo ei h =
+      let style = style_of k.request.asked in
+      let right = made_from style k.named.lines items tables notes ei in
+      by_made k asl tokens items et eo right.0 right.1 (subst (λ it. status_with words told k it ≡ 0) (sym ei ∙ made_of style k.named.lines items right.0 right.1) h)
+  by_items k asl tokens items (Refused messages) et eo ei h = absurd (omega (arith, h))
 
   by_outcome : (k : Known words told) (asl : is_data_source k.request.asked.switches.generic k.named.lines ≡ false) (tokens : List Token) (o : ParseOutcome) → tokens_of k.named.lines ≡ Ok tokens → outcome tokens ≡ o → status_with words told k (of_outcome (style_of k.request.asked) k.named.lines tokens o) ≡ 0 → Found words told
-  by_outcome k asl tokens (read items) et eo h = by_items k asl tokens items (errors_at items) et eo refl h
+  by_outcome k asl tokens (read items) et eo h = by_items k asl tokens items (of_items (style_of k.request.asked) k.named.lines items) et eo refl h
   by_outcome k asl tokens (stopped rest) et eo h = absurd (omega (arith, h))
   by_outcome k asl tokens (sunk rest) et eo h = absurd (omega (arith, h))
   by_outcome k asl tokens (tall number) et eo h = absurd (omega (arith, h))
@@ -311,19 +290,19 @@ module _ (words : List (List ℕ)) (told : List Named) where
   -- ---- a data table
 
   by_data_name : (k : Known words told) (table : DataTable) (o : Option (List ℕ)) → is_data_source k.request.asked.switches.generic k.named.lines ≡ true → data_answer k.request.asked.switches.generic k.named.lines ≡ Ok table → LetsPass k.request.asked (k.named.notes ++ table.notes) → name_in_use k.named.files (data_files_of k.request table) ≡ o
-      → status_of (Some (unless_in_use o (due_data k.request k.named.files k.named.notes (more_of k.named.come) table (joined table.pieces)))) ≡ 0 → Found words told
+      → status_of (Some (unless_in_use o (due_data k.request k.named.files k.named.notes (data_line k.request table (more_of k.named.come)) table (data_files_of k.request table)))) ≡ 0 → Found words told
   by_data_name k table (Some name) kind et ep en h = absurd (omega (arith, h))
   by_data_name k table None kind et ep en h = a_data_table k.request table (record { named = k.named; is_data = kind; table_is = et; notes_pass = ep; names_are_free = en })
 
   by_data_notes : (k : Known words told) (table : DataTable) (c : Bool) → is_data_source k.request.asked.switches.generic k.named.lines ≡ true → data_answer k.request.asked.switches.generic k.named.lines ≡ Ok table → (k.request.asked.switches.strict && has_warning (k.named.notes ++ table.notes)) ≡ c
-      → status_of (Some (cond c (refusal k.request.asked.switches.brief k.named.files (k.named.notes ++ table.notes)) (named_data k.request k.named.files k.named.notes (more_of k.named.come) table (joined table.pieces)))) ≡ 0 → Found words told
+      → status_of (Some (cond c (refusal k.request.asked.switches.brief k.named.files (k.named.notes ++ table.notes)) (named_data k.request k.named.files k.named.notes (data_line k.request table (more_of k.named.come)) table (data_files_of k.request table)))) ≡ 0 → Found words told
   by_data_notes k table true kind et ep h = absurd (omega (arith, h))
   by_data_notes k table false kind et ep h = by_data_name k table (name_in_use k.named.files (data_files_of k.request table)) kind et (lets_pass k.request.asked (k.named.notes ++ table.notes) ep) refl h
 
   by_answer : (k : Known words told) (answer : DataAnswer) → is_data_source k.request.asked.switches.generic k.named.lines ≡ true → data_answer k.request.asked.switches.generic k.named.lines ≡ answer → status_with words told k (of_data answer) ≡ 0 → Found words told
   by_answer k (Ok table) kind et h =
       by_data_notes k table (k.request.asked.switches.strict && has_warning (k.named.notes ++ table.notes)) kind et refl
-      (subst (λ bytes. status_of (Some (noted_data k.request k.named.files k.named.notes (more_of k.named.come) table bytes)) ≡ 0) (as_joined table.pieces) h)
+      (subst (λ answer. status_of (Some answer) ≡ 0) (data_due k.request k.named.files k.named.notes (more_of k.named.come) table) h)
   by_answer k (Err faults) kind et h = absurd (omega (arith, h))
 
   by_kind : (k : Known words told) (c : Bool) → is_data_source k.request.asked.switches.generic k.named.lines ≡ c
@@ -354,23 +333,23 @@ module _ (words : List (List ℕ)) (told : List Named) where
       let lines = generated_lines count in
       by_kind (record { request = generated_request; named = record { files = []; lines = lines; notes = []; come = devices count (task_from words (Generates count) ew) refl refl refl refl } }) (is_data_source false lines) refl h
 
--- status 0 comes, where preprocessed text alone is not asked for, only of a source, whose table is then what was gained
-pub writes_its_table : (words : List (List ℕ)) (told : List Named) (old new : Option (List Named)) → asks_for_text words ≡ false → asks_for_template words ≡ false → status_of (answer_for words told) ≡ 0 → Gains old new (due_of (answer_for words told)) → WritesItsTable words told old new ⊎ WritesItsDataTable words told old new
-writes_its_table words told old new z t h gained = by (by_words words told (task_by words) refl z t h)
+-- status 0 comes, where preprocessed text alone is not asked for, only of a source, whose tables are then what was gained
+pub writes_its_tables : (words : List (List ℕ)) (told : List Named) (old new : Option (List Named)) → asks_for_text words ≡ false → asks_for_template words ≡ false → status_of (answer_for words told) ≡ 0 → Gains old new (due_of (answer_for words told)) → WritesItsTables words told old new ⊎ WritesItsDataTable words told old new
+writes_its_tables words told old new z t h gained = by (by_words words told (task_by words) refl z t h)
   where
-    by : Found words told → WritesItsTable words told old new ⊎ WritesItsDataTable words told old new
+    by : Found words told → WritesItsTables words told old new ⊎ WritesItsDataTable words told old new
     by (a_source request items names) =
-        let puts : PutsFaithfulTable words told request names.named.lines items = puts_faithful_table words told request items names in
-        inl (record { request = request; items = items; names = names; table = subst (Gains old new) puts.due gained; does = puts.does; joined_pieces = puts.joined_pieces })
+        let puts : PutsFaithfulTables words told request names.named.lines items = puts_faithful_tables words told request items names in
+        inl (record { request = request; items = items; names = names; tables = subst (Gains old new) puts.due gained; does = puts.does })
     by (a_data_table request table names) =
         let puts : PutsDataTable words told request table names.named.lines = puts_data_table words told request table names in
         inr (record { request = request; table = table; names = names; gained = subst (Gains old new) puts.due gained; reads = puts.reads; joined_pieces = puts.joined_pieces })
 
 -- each source that the words name is put
 pub source_is_put : (words : List (List ℕ)) (told : List Named) (request : Request) (items : List Raw) (result : ℕ) (old new : Option (List Named)) (names : NamesSource words told request items) → (result ≡ status_of (answer_for words told)) ⊎ (result ≡ 4) → (result ≤ 2 → Gains old new (due_of (answer_for words told)))
-    → ((result ≡ 0) × PutsFaithfulTable words told request names.named.lines items × Gains old new (files_of request names.named.lines items)) ⊎ (result ≡ 4)
+    → ((result ≡ 0) × PutsFaithfulTables words told request names.named.lines items × Gains old new (source_files request names.named.lines items)) ⊎ (result ≡ 4)
 source_is_put words told request items result old new names (inl e) gained =
-    let puts : PutsFaithfulTable words told request names.named.lines items = puts_faithful_table words told request items names in
+    let puts : PutsFaithfulTables words told request names.named.lines items = puts_faithful_tables words told request items names in
     let zero : result ≡ 0 = e ∙ puts.status in
     inl (zero, puts, subst (Gains old new) puts.due (gained (omega (arith, zero))))
 source_is_put words told request items result old new names (inr e) gained = inr e
@@ -399,10 +378,9 @@ module _ (words : List (List ℕ)) (told : List Named) where
   strict_settled brief false files notes answer h = h
 
   compiled_settled : (asked : Asked) (file : List ℕ) (files : List (List ℕ)) (notes : List Message) (more : List ℕ) (it : Compiled) → Settled (Some (answer_to_compiled asked file files notes more it))
-  compiled_settled asked file files notes more (Table signature own pieces told) =
-      let name = table_name asked file own in
-      let line = table_line name signature (length (table_bytes pieces)) ++ more in
-      let due = table_files asked file own pieces in
+  compiled_settled asked file files notes more (Made tables told) =
+      let line = lines_of_tables asked file tables ++ more in
+      let due = files_of_tables asked file tables in
       strict_settled asked.switches.brief (asked.switches.strict && has_warning (notes ++ told)) files (notes ++ told) (made_or_in_use asked.switches.brief files (notes ++ told) line due) (named_settled asked.switches.brief (name_in_use files due) files (notes ++ told) line due)
   compiled_settled asked file files notes more (Refused messages) = inr refl
 
@@ -425,10 +403,15 @@ module _ (words : List (List ℕ)) (told : List Named) where
   words_settled (Ok (Compiles asked)) z = file_settled asked asked.file z
   words_settled (Ok (Generates count)) z = compiled_settled generated_request.asked generated_request.file [] [] (devices_line count) (of_source false (style_of generated_request.asked) (generated_lines count))
 
+  -- files that are there are those of the source's tables
+  its_files : (files : List Named) → AreItsTables words told files → AreItsFiles words told files
+  its_files [] h = tt
+  its_files (file ∷ further) h = inl h
+
   found_tables : Found words told → AreItsFiles words told (due_of (answer_for words told))
   found_tables (a_source request items names) =
-      let puts : PutsFaithfulTable words told request names.named.lines items = puts_faithful_table words told request items names in
-      subst (AreItsFiles words told) (sym puts.due) (inl (record { request = request; items = items; names = names; name = refl; bytes = refl; does = puts.does; others = refl; joined_pieces = puts.joined_pieces }))
+      let puts : PutsFaithfulTables words told request names.named.lines items = puts_faithful_tables words told request items names in
+      its_files (due_of (answer_for words told)) (record { request = request; items = items; names = names; are = puts.due; does = puts.does })
   found_tables (a_data_table request table names) =
       let puts : PutsDataTable words told request table names.named.lines = puts_data_table words told request table names in
       subst (AreItsFiles words told) (sym puts.due) (inr (record { request = request; table = table; names = names; name = refl; bytes = refl; reads = puts.reads; others = refl; joined_pieces = puts.joined_pieces }))

@@ -10,3 +10,4 @@ pub mod TemplateLaws
 pub mod Pieces
 pub mod Fates
 pub mod Refusals
+mod Outputs

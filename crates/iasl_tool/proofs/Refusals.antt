@@ -1,12 +1,12 @@
 -- What is refused, by relations, is what has status 1.
 use Rattle.std.proofs.Common.{◌≡◌, ℕ, ◌<◌, ◌≤◌, ◌⊎◌, inl, inr, Bool, true, false, List, [], ◌∷◌, ◌++◌, length, drop, suc, Option, Some, None, Result, Ok, Err, refl, sym, ap, ◌∙◌, subst, arith}
-use Rattle.std.proofs.lemmas.Bool.Decides.{nat_tests}
 use Rattle.std.specs.Prelude.{nat_le, ◌&&◌, cond, if◌then◌else◌}
 use Rattle.iasl_ports.specs.Gained.{Named, Gains}
 use Rattle.iasl_ports.specs.Delivery.{Answer, status_of, text_of}
 use Rattle.iasl_messages.specs.declared.place.Line.{Line}
 use Rattle.iasl_messages.specs.declared.message.Message.{Message}
-use Rattle.iasl_messages.specs.Console.{preprocessed_line, table_line}
+use Rattle.iasl_messages.specs.declared.place.Place.{Place}
+use Rattle.iasl_messages.specs.Console.{preprocessed_line}
 use Rattle.iasl_runs.specs.Ends.{World, IsQuiet, Ends}
 use Rattle.asl_preprocess.specs.Preprocess.{Preprocessed, Given, Stopped, Absent, preprocessed}
 use Rattle.asl_lexer.specs.declared.token.Token.{Token}
@@ -18,8 +18,7 @@ use Rattle.asl_parser.specs.declared.raw.Raw.{Raw}
 use Rattle.asl_parser.specs.Marks.{marks}
 use Rattle.asl_parser.specs.Parse.{ParseOutcome, outcome, sunk, tall}
 use Rattle.asl_parser.specs.Written.{writtens}
-use Rattle.asl_shape.specs.Forms.{errors_at, block_place}
-use Rattle.iasl_backends.specs.Table.{table_bytes}
+use Rattle.asl_shape.specs.Forms.{source_errors, alone, block_place}
 use Rattle.aml_writer.specs.Written.{most_table_bytes}
 use Rattle.data_tables.specs.Compiling.{Answer as DataAnswer}
 use Rattle.iasl_options.specs.Asking.{Asked}
@@ -27,73 +26,128 @@ use Rattle.iasl_options.specs.CommandLine.{IsCommandLine}
 use Rattle.iasl_options.specs.Task.{Task, Compiles, Generates, Templates, task_by}
 use Rattle.iasl_options.proofs.Tasks.{task_from, task_to}
 use Rattle.generated_lines.specs.Generated.{generated_lines}
-use Rattle.program_shapes.specs.Sources.{source_in, names_in, uses_in, terms_in, locals_in, IsRight}
-use Rattle.name_checks.specs.Messages.{told_errors}
-use Rattle.asl_tables.specs.declared.compile.Compiled.{Compiled}
-use Rattle.asl_tables.specs.declared.compile.Compiled.TheVariants.{Table, Refused}
+use Rattle.program_shapes.specs.Sources.{locals_in, fields_in, IsRightSource}
+use Rattle.block_outcomes.specs.declared.outcome.Class.{Class}
+use Rattle.block_outcomes.specs.declared.outcome.Class.TheVariants as class
+use Rattle.block_outcomes.specs.declared.outcome.Compiled.{Compiled}
+use Rattle.block_outcomes.specs.declared.outcome.Compiled.TheVariants.{Made, Refused}
+use Rattle.block_outcomes.specs.declared.outcome.Outcome.{Outcome}
+use Rattle.block_outcomes.specs.declared.outcome.Outcome.TheVariants.{Done, Faulty}
+use Rattle.block_outcomes.specs.declared.outcome.Table.{Table}
+use Rattle.block_outcomes.specs.Joined.{first_told, if_class, of_class, tables_among, unless_refused, unless_noted}
 use Rattle.asl_tables.specs.declared.compile.Style.{Style}
 use Rattle.asl_tables.specs.Syntax.{not_source, too_deep}
-use Rattle.asl_tables.specs.Compiled.{own_in, noted_in, with_notes, with_notes_behind, told_of_names, told_in, others_in, of_lines, of_items, unless_wrong, with_others, of_outcome, of_tokens, written_in, cut_in, too_long}
-use Rattle.asl_tables.proofs.Programs.{none_of_others}
-use Rattle.table_outputs.specs.Files.{table_name, table_files, name_in_use}
+use Rattle.asl_tables.specs.Compiled.{own_in, all_noted, told_in, others_in, of_lines, of_items, outcome_in, outcomes_in, tables_of, unless_wrong, with_others, of_outcome, of_tokens, written_in, cut_in, too_long, EachWithin}
+use Rattle.asl_tables.proofs.Sources.{made_of, made_from}
+use Rattle.table_outputs.specs.Files.{name_in_use}
 use Rattle.iasl_tool.specs.Sources.{is_data_source, data_answer, of_data, of_source}
-use Rattle.iasl_tool.specs.Due.{style_of, unless_in_use, made_files, refusal, made_or_in_use, has_warning, text_name, text_of_lines, answer_to_text, answer_to_compiled, answer_to_preprocessed, answer_to_file, answer_to_task, answer_for, fault_text, memory_text}
+use Rattle.iasl_tool.specs.Due.{style_of, lines_of_tables, files_of_tables, unless_in_use, made_files, refusal, made_or_in_use, has_warning, text_name, text_of_lines, answer_to_text, answer_to_compiled, answer_to_preprocessed, answer_to_file, answer_to_task, answer_for, fault_text, memory_text}
 use Rattle.iasl_tool.specs.Headline.{Request, a_file, devices, more_of, generated_request, NamesLines}
-use Rattle.iasl_tool.specs.Refusals.{AreItsErrors, of_form, of_names, of_locals, of_length, IsSpelled, AreRefused, no_tokens, no_source, nested, wrong, RefusesNotes, IsRefused, stopped, text_warned, source_refused, source_warned, data_refused, data_warned, refusal_text, TellsRefusal}
+use Rattle.iasl_tool.specs.Refusals.{errors_alone, class_errors, AreItsErrors, of_form, of_names, of_kinds, of_lowering, of_length, IsSpelled, AreRefused, no_tokens, no_source, nested, wrong, RefusesNotes, IsRefused, stopped, text_warned, source_refused, source_warned, data_refused, data_warned, refusal_text, TellsRefusal}
 use Rattle.iasl_tool.proofs.Readings.{spelled_is_outcome}
 use Rattle.iasl_tool.proofs.Fates.{Fate, is_read, is_stopped, is_sunk, is_tall, fate, stop_is, deep_is, stop_number, deep_number, front_within}
-use Rattle.iasl_tool.proofs.Headline.{signature_of, given_is, items_are, both_none, both_first, right_names, nothing_behind}
+use Rattle.iasl_tool.proofs.Headline.{given_is}
 
 -- ---- what lines come to
 
--- a source by the classes of its errors, where the last says whether its table is short enough
-abbrev by_classes : Style → List Line → List Raw → (form names locals : List Message) → Bool → Compiled
-by_classes style lines items form names locals fits =
-    unless_wrong form (with_notes (noted_in items) (unless_wrong names (unless_wrong locals (if fits then Table (signature_of items) (own_in items) (cut_in style lines items) [] else Refused (too_long (block_place (writtens items)) ∷ [])))))
+-- what a block's outcome tells
+abbrev told_of : Outcome → List Message
+told_of (Done signature own pieces) = []
+told_of (Faulty messages) = messages
 
-abbrev all_classes : Style → List Line → List Raw → Compiled
-all_classes style lines items = by_classes style lines items (errors_at items) (with_others (told_in items) (others_in items)) (locals_in items) (nat_le (length (written_in style items)) most_table_bytes)
+first_class : (c : Class) (o : Outcome) (os : List Outcome) → of_class c (o ∷ os) ≡ if_class c (told_of o) ++ of_class c os
+first_class c (Done signature own pieces) os = refl
+first_class c (Faulty messages) os = refl
 
-classes_are : (style : Style) (lines : List Line) (items : List Raw) → of_items style lines items ≡ all_classes style lines items
-classes_are style lines items = refl
+-- it is what is wrong with the block that is read alone
+alone_told : (style : Style) (lines : List Line) (item : Raw) → told_of (outcome_in style lines (alone item)) ≡ errors_alone style item
+alone_told style lines item = by (with_others (told_in (alone item)) (others_in (alone item))) (locals_in (alone item)) (nat_le (length (written_in style (alone item))) most_table_bytes)
+  where
+    place : Place
+    place = block_place (writtens (alone item))
+
+    by : (wrong locals : List Message) (fits : Bool)
+        → told_of (unless_wrong wrong (unless_wrong locals (if fits then Done (fields_in (alone item)).signature (own_in (alone item)) (cut_in style lines (alone item)) else Faulty (too_long place ∷ []))))
+        ≡ first_told wrong (first_told locals (if fits then [] else too_long place ∷ []))
+    by [] [] true = refl
+    by [] [] false = refl
+    by [] (l ∷ ls) fits = refl
+    by (w ∷ ws) locals fits = refl
+
+classes_are : (c : Class) (style : Style) (lines : List Line) (items : List Raw) → of_class c (outcomes_in style lines items) ≡ class_errors c style items
+classes_are c style lines [] = refl
+classes_are c style lines (item ∷ items) =
+    first_class c (outcome_in style lines (alone item)) (outcomes_in style lines items)
+    ∙ ap (λ es. if_class c es ++ of_class c (outcomes_in style lines items)) (alone_told style lines item)
+    ∙ ap (λ es. if_class c (errors_alone style item) ++ es) (classes_are c style lines items)
+
+-- a source by the classes of its errors
+abbrev by_classes : Style → List Line → List Raw → (form names kinds lowering sizes : List Message) → Compiled
+by_classes style lines items form names kinds lowering sizes =
+    unless_refused form (unless_refused names (unless_noted (first_told kinds (first_told lowering sizes)) (all_noted items) (Made (tables_among (outcomes_in style lines items)) (all_noted items))))
+
+abbrev class_in : Style → List Line → List Raw → Class → List Message
+class_in style lines items c = of_class c (outcomes_in style lines items)
+
+same_refused : (xs ys : List Message) → Refused xs ≡ Refused ys → xs ≡ ys
+same_refused xs ys e = cc
 
 -- Lines that are refused, or spell a source in which nothing is wrong.
 data Comes (style : Style) (lines : List Line) : Compiled → Type 0 where
   are_refused : (messages : List Message) → AreRefused style lines messages → Comes style lines (Refused messages)
-  are_right : (tokens : List Token) (items : List Raw) → IsSpelled lines tokens items → IsRight items → length (written_in style items) ≤ most_table_bytes → Comes style lines (Table (signature_of items) (own_in items) (cut_in style lines items) (noted_in items))
+  are_right : (tokens : List Token) (items : List Raw) → IsSpelled lines tokens items → IsRightSource items → EachWithin style items → Comes style lines (Made (tables_of style lines items) (all_noted items))
 
 module _ (style : Style) (lines : List Line) where
-  right_by : (items : List Raw) → errors_at items ≡ [] → with_others (told_in items) (others_in items) ≡ [] → locals_in items ≡ [] → IsRight items
-  right_by items form en locals =
-      let none = both_none (told_in items) (others_in items) en in
-      let told = both_first (told_of_names (source_in items)) (told_errors (terms_in items)) none.0 in
-      let written = both_first (names_in items) (uses_in items) told.0 in
-      let names = right_names (terms_in items) told.1 in
-      let others = none_of_others items none.1 in
-      record { form = form; declared = written.0; uses = written.1; names = names.0; counts = names.1; statements = others.statements; layouts = others.layouts; regions = others.regions; types = others.types; sizes = others.sizes; values = others.values; locals = locals }
+  -- ---- what is told is what is wrong, by its first class
 
-  by_length : (tokens : List Token) (items : List Raw) (fits : Bool) → IsSpelled lines tokens items → IsRight items → nat_le (length (written_in style items)) most_table_bytes ≡ fits → Comes style lines (by_classes style lines items [] [] [] fits)
-  by_length tokens items true spelled right e = are_right tokens items spelled right (grind (arith, nat_tests))
-  by_length tokens items false spelled right e = are_refused (with_notes_behind (noted_in items) (too_long (block_place (writtens items)) ∷ [])) (wrong tokens items (with_notes_behind (noted_in items) (too_long (block_place (writtens items)) ∷ [])) spelled (of_length right (grind (arith, nat_tests))))
+  module _ (items : List Raw) (messages : List Message) where
+    abbrev names_in : List Message
+    names_in = class_in style lines items class.Names
 
-  by_locals : (tokens : List Token) (items : List Raw) (locals : List Message) (fits : Bool) → IsSpelled lines tokens items → errors_at items ≡ [] → with_others (told_in items) (others_in items) ≡ [] → locals_in items ≡ locals → nat_le (length (written_in style items)) most_table_bytes ≡ fits
-      → Comes style lines (by_classes style lines items [] [] locals fits)
-  by_locals tokens items [] fits spelled form names locals e = by_length tokens items fits spelled (right_by items form names locals) e
-  by_locals tokens items (m ∷ ms) fits spelled form names locals e = are_refused (with_notes_behind (noted_in items) (m ∷ ms)) (wrong tokens items (with_notes_behind (noted_in items) (m ∷ ms)) spelled (of_locals m ms form names locals))
+    abbrev kinds_in : List Message
+    kinds_in = class_in style lines items class.Kinds
 
-  by_names : (tokens : List Token) (items : List Raw) (names : List Message) → IsSpelled lines tokens items → errors_at items ≡ [] → with_others (told_in items) (others_in items) ≡ names
-      → Comes style lines (by_classes style lines items [] names (locals_in items) (nat_le (length (written_in style items)) most_table_bytes))
-  by_names tokens items [] spelled form names = by_locals tokens items (locals_in items) (nat_le (length (written_in style items)) most_table_bytes) spelled form names refl refl
-  by_names tokens items (m ∷ ms) spelled form names = are_refused (with_notes_behind (noted_in items) (m ∷ ms)) (wrong tokens items (with_notes_behind (noted_in items) (m ∷ ms)) spelled (of_names m ms form names))
+    abbrev lowering_in : List Message
+    lowering_in = class_in style lines items class.Lowering
 
-  by_form : (tokens : List Token) (items : List Raw) (form : List Message) → IsSpelled lines tokens items → errors_at items ≡ form
-      → Comes style lines (by_classes style lines items form (with_others (told_in items) (others_in items)) (locals_in items) (nat_le (length (written_in style items)) most_table_bytes))
-  by_form tokens items [] spelled form = by_names tokens items (with_others (told_in items) (others_in items)) spelled form refl
-  by_form tokens items (m ∷ ms) spelled form = are_refused (m ∷ ms) (wrong tokens items (m ∷ ms) spelled (of_form m ms form))
+    abbrev sizes_in : List Message
+    sizes_in = class_in style lines items class.Sizes
+
+    are : (c : Class) (es : List Message) → class_in style lines items c ≡ es → class_errors c style items ≡ es
+    are c es e = sym (classes_are c style lines items) ∙ e
+
+    by_sizes : (sizes : List Message) → source_errors items ≡ [] → names_in ≡ [] → kinds_in ≡ [] → lowering_in ≡ [] → sizes_in ≡ sizes → by_classes style lines items [] [] [] [] sizes ≡ Refused messages → AreItsErrors style items messages
+    by_sizes [] form names kinds lowering sizes e = absurd cc
+    by_sizes (m ∷ ms) form names kinds lowering sizes e =
+        subst (AreItsErrors style items) (same_refused ((m ∷ ms) ++ all_noted items) messages e) (of_length m ms form (are class.Names [] names) (are class.Kinds [] kinds) (are class.Lowering [] lowering) (are class.Sizes (m ∷ ms) sizes))
+
+    by_lowering : (lowering : List Message) → source_errors items ≡ [] → names_in ≡ [] → kinds_in ≡ [] → lowering_in ≡ lowering → by_classes style lines items [] [] [] lowering sizes_in ≡ Refused messages → AreItsErrors style items messages
+    by_lowering [] form names kinds lowering e = by_sizes sizes_in form names kinds lowering refl e
+    by_lowering (m ∷ ms) form names kinds lowering e =
+        subst (AreItsErrors style items) (same_refused ((m ∷ ms) ++ all_noted items) messages e) (of_lowering m ms form (are class.Names [] names) (are class.Kinds [] kinds) (are class.Lowering (m ∷ ms) lowering))
+
+    by_kinds : (kinds : List Message) → source_errors items ≡ [] → names_in ≡ [] → kinds_in ≡ kinds → by_classes style lines items [] [] kinds lowering_in sizes_in ≡ Refused messages → AreItsErrors style items messages
+    by_kinds [] form names kinds e = by_lowering lowering_in form names kinds refl e
+    by_kinds (m ∷ ms) form names kinds e =
+        subst (AreItsErrors style items) (same_refused ((m ∷ ms) ++ all_noted items) messages e) (of_kinds m ms form (are class.Names [] names) (are class.Kinds (m ∷ ms) kinds))
+
+    by_names : (names : List Message) → source_errors items ≡ [] → names_in ≡ names → by_classes style lines items [] names kinds_in lowering_in sizes_in ≡ Refused messages → AreItsErrors style items messages
+    by_names [] form names e = by_kinds kinds_in form names refl e
+    by_names (m ∷ ms) form names e = subst (AreItsErrors style items) (same_refused (m ∷ ms) messages e) (of_names m ms form (are class.Names (m ∷ ms) names))
+
+    by_form : (form : List Message) → source_errors items ≡ form → by_classes style lines items form names_in kinds_in lowering_in sizes_in ≡ Refused messages → AreItsErrors style items messages
+    by_form [] form e = by_names names_in form refl e
+    by_form (m ∷ ms) form e = subst (AreItsErrors style items) (same_refused (m ∷ ms) messages e) (of_form m ms form)
+
+  by_items : (tokens : List Token) (items : List Raw) (it : Compiled) → IsSpelled lines tokens items → of_items style lines items ≡ it → Comes style lines it
+  by_items tokens items (Made tables notes) spelled e =
+      let right = made_from style lines items tables notes e in
+      subst (Comes style lines) (sym (made_of style lines items right.0 right.1) ∙ e) (are_right tokens items spelled right.0 right.1)
+  by_items tokens items (Refused messages) spelled e = are_refused messages (wrong tokens items messages spelled (by_form items messages (source_errors items) refl e))
 
   by_fate : (tokens : List Token) (o : ParseOutcome) → IsCut lines tokens → Fate tokens o → Comes style lines (of_outcome style lines tokens o)
   by_fate tokens o cut (is_read items spelled shallow low) =
-      subst (Comes style lines) (sym (classes_are style lines items)) (by_form tokens items (errors_at items) (record { tokens_are = cut; spelled = spelled; shallow = shallow; low = low }) refl)
+      by_items tokens items (of_items style lines items) (record { tokens_are = cut; spelled = spelled; shallow = shallow; low = low }) refl
   by_fate tokens o cut (is_stopped k front shallow) =
       subst (λ (n : ℕ). Comes style lines (Refused (not_source tokens n ∷ []))) (sym (stop_number tokens k (front_within tokens k front))) (are_refused (not_source tokens k ∷ []) (no_source tokens k cut front shallow))
   by_fate tokens o cut (is_sunk k lt deep) =
@@ -109,14 +163,31 @@ module _ (style : Style) (lines : List Line) where
 
   -- ---- what is refused has its messages
 
-  errors_are : (items : List Raw) (messages : List Message) → AreItsErrors style items messages → all_classes style lines items ≡ Refused messages
-  errors_are items messages (of_form m ms form) = λ i. by_classes style lines items (form i) (with_others (told_in items) (others_in items)) (locals_in items) (nat_le (length (written_in style items)) most_table_bytes)
-  errors_are items messages (of_names m ms form names) = λ i. by_classes style lines items (form i) (names i) (locals_in items) (nat_le (length (written_in style items)) most_table_bytes)
-  errors_are items messages (of_locals m ms form names locals) = λ i. by_classes style lines items (form i) (names i) (locals i) (nat_le (length (written_in style items)) most_table_bytes)
-  errors_are items messages (of_length right over) =
-      let fits : nat_le (length (written_in style items)) most_table_bytes ≡ false = grind (arith, nat_tests) in
-      let names : with_others (told_in items) (others_in items) ≡ [] = nothing_behind items right in
-      λ i. by_classes style lines items (right.form i) (names i) (right.locals i) (fits i)
+  module _ (items : List Raw) where
+    -- the classes of a source's outcomes
+    told : (c : Class) (es : List Message) → class_errors c style items ≡ es → class_in style lines items c ≡ es
+    told c es e = classes_are c style lines items ∙ e
+
+    errors_are : (messages : List Message) → AreItsErrors style items messages → of_items style lines items ≡ Refused messages
+    errors_are messages (of_form m ms form) = λ i. by_classes style lines items (form i) (class_in style lines items class.Names) (class_in style lines items class.Kinds) (class_in style lines items class.Lowering) (class_in style lines items class.Sizes)
+    errors_are messages (of_names m ms form names) =
+        let ns = told class.Names (m ∷ ms) names in
+        λ i. by_classes style lines items (form i) (ns i) (class_in style lines items class.Kinds) (class_in style lines items class.Lowering) (class_in style lines items class.Sizes)
+    errors_are messages (of_kinds m ms form names kinds) =
+        let ns = told class.Names [] names in
+        let ks = told class.Kinds (m ∷ ms) kinds in
+        λ i. by_classes style lines items (form i) (ns i) (ks i) (class_in style lines items class.Lowering) (class_in style lines items class.Sizes)
+    errors_are messages (of_lowering m ms form names kinds lowering) =
+        let ns = told class.Names [] names in
+        let ks = told class.Kinds [] kinds in
+        let ls = told class.Lowering (m ∷ ms) lowering in
+        λ i. by_classes style lines items (form i) (ns i) (ks i) (ls i) (class_in style lines items class.Sizes)
+    errors_are messages (of_length m ms form names kinds lowering sizes) =
+        let ns = told class.Names [] names in
+        let ks = told class.Kinds [] kinds in
+        let ls = told class.Lowering [] lowering in
+        let ss = told class.Sizes (m ∷ ms) sizes in
+        λ i. by_classes style lines items (form i) (ns i) (ks i) (ls i) (ss i)
 
   cut_to : (tokens : List Token) → IsCut lines tokens → of_lines style lines ≡ of_outcome style lines tokens (outcome tokens)
   cut_to tokens cut = ap (of_tokens style lines) (cut_is_tokens lines tokens cut)
@@ -133,7 +204,7 @@ module _ (style : Style) (lines : List Line) where
       by : ((k < length tokens) × (outcome tokens ≡ sunk (drop (suc k) (marks 0 tokens)))) ⊎ (outcome tokens ≡ tall k) → of_outcome style lines tokens (outcome tokens) ≡ Refused (too_deep tokens k ∷ [])
       by (inl h) = ap (of_outcome style lines tokens) h.1 ∙ ap (λ (n : ℕ). Refused (too_deep tokens n ∷ [])) (deep_number tokens k h.0)
       by (inr h) = ap (of_outcome style lines tokens) h
-  refused_are messages (wrong tokens items ms spelled errors) = spelled_to tokens items spelled ∙ classes_are style lines items ∙ errors_are items ms errors
+  refused_are messages (wrong tokens items ms spelled errors) = spelled_to tokens items spelled ∙ errors_are items ms errors
 
 -- ---- what a call is to end with
 
@@ -157,11 +228,11 @@ module _ (words : List (List ℕ)) (told : List Named) where
   data_is : (request : Request) (lines : List Line) (answer : DataAnswer) → is_data_source request.asked.switches.generic lines ≡ true → data_answer request.asked.switches.generic lines ≡ answer → of_source request.asked.switches.generic (style_of request.asked) lines ≡ of_data answer
   data_is request lines answer kind e = ap (λ c. cond c (of_data (data_answer request.asked.switches.generic lines)) (of_lines (style_of request.asked) lines)) kind ∙ ap of_data e
 
-  -- a table of which a note is a warning is refused
-  warned_is : (asked : Asked) (file : List ℕ) (files : List (List ℕ)) (notes : List Message) (more signature own : List ℕ) (pieces : _) (behind : List Message) → RefusesNotes asked (notes ++ behind)
-      → answer_to_compiled asked file files notes more (Table signature own pieces behind) ≡ refusal asked.switches.brief files (notes ++ behind)
-  warned_is asked file files notes more signature own pieces behind h =
-      let made = made_or_in_use asked.switches.brief files (notes ++ behind) (table_line (table_name asked file own) signature (length (table_bytes pieces)) ++ more) (table_files asked file own pieces) in
+  -- tables of which a note is a warning are refused
+  warned_is : (asked : Asked) (file : List ℕ) (files : List (List ℕ)) (notes : List Message) (more : List ℕ) (tables : List Table) (behind : List Message) → RefusesNotes asked (notes ++ behind)
+      → answer_to_compiled asked file files notes more (Made tables behind) ≡ refusal asked.switches.brief files (notes ++ behind)
+  warned_is asked file files notes more tables behind h =
+      let made = made_or_in_use asked.switches.brief files (notes ++ behind) (lines_of_tables asked file tables ++ more) (files_of_tables asked file tables) in
       ap (λ c. cond c (refusal asked.switches.brief files (notes ++ behind)) made) (both_true asked (notes ++ behind) h)
 
   preprocessed_is : (request : Request) (p : Preprocessed) → IsCommandLine words request.asked → request.asked.file ≡ Some request.file → preprocessed told request.file request.asked.directories request.asked.definitions request.asked.enabled ≡ p → answer_for words told ≡ answer_to_preprocessed request.asked request.file p
@@ -184,13 +255,13 @@ module _ (words : List (List ℕ)) (told : List Named) where
       given_is words told request named (Refused ms) (asl_is request named.lines (Refused ms) asl (refused_are (style_of request.asked) named.lines ms h))
   refused_answer request files messages (source_warned named tokens items asl spelled right within h) =
       let style = style_of request.asked in
-      let it : Compiled = Table (signature_of items) (own_in items) (cut_in style named.lines items) (noted_in items) in
-      given_is words told request named it (asl_is request named.lines it asl (spelled_to style named.lines tokens items spelled ∙ items_are style named.lines items right within))
-      ∙ ap Some (warned_is request.asked request.file named.files named.notes (more_of named.come) (signature_of items) (own_in items) (cut_in style named.lines items) (noted_in items) h)
+      let it : Compiled = Made (tables_of style named.lines items) (all_noted items) in
+      given_is words told request named it (asl_is request named.lines it asl (spelled_to style named.lines tokens items spelled ∙ made_of style named.lines items right within))
+      ∙ ap Some (warned_is request.asked request.file named.files named.notes (more_of named.come) (tables_of style named.lines items) (all_noted items) h)
   refused_answer request files messages (data_refused named faults kind e) = given_is words told request named (Refused faults) (data_is request named.lines (Err faults) kind e)
   refused_answer request files messages (data_warned named table kind e h) =
-      given_is words told request named (Table table.signature [] table.pieces table.notes) (data_is request named.lines (Ok table) kind e)
-      ∙ ap Some (warned_is request.asked request.file named.files named.notes (more_of named.come) table.signature [] table.pieces table.notes h)
+      given_is words told request named (of_data (Ok table)) (data_is request named.lines (Ok table) kind e)
+      ∙ ap Some (warned_is request.asked request.file named.files named.notes (more_of named.come) (record { signature = table.signature; own = []; pieces = table.pieces } ∷ []) table.notes h)
 
   -- ---- and nothing else has status 1
 
@@ -211,21 +282,21 @@ module _ (words : List (List ℕ)) (told : List Named) where
   by_warning asked files notes line due true e h = warned_from asked notes e
   by_warning asked files notes line due false e h = absurd (not_one asked.switches.brief (name_in_use files due) files notes line due h)
 
-  table_warned : (asked : Asked) (file : List ℕ) (files : List (List ℕ)) (notes : List Message) (more signature own : List ℕ) (pieces : _) (behind : List Message)
-      → status_of (Some (answer_to_compiled asked file files notes more (Table signature own pieces behind))) ≡ 1 → RefusesNotes asked (notes ++ behind)
-  table_warned asked file files notes more signature own pieces behind h =
-      by_warning asked files (notes ++ behind) (table_line (table_name asked file own) signature (length (table_bytes pieces)) ++ more) (table_files asked file own pieces) (asked.switches.strict && has_warning (notes ++ behind)) refl h
+  tables_warned : (asked : Asked) (file : List ℕ) (files : List (List ℕ)) (notes : List Message) (more : List ℕ) (tables : List Table) (behind : List Message)
+      → status_of (Some (answer_to_compiled asked file files notes more (Made tables behind))) ≡ 1 → RefusesNotes asked (notes ++ behind)
+  tables_warned asked file files notes more tables behind h =
+      by_warning asked files (notes ++ behind) (lines_of_tables asked file tables ++ more) (files_of_tables asked file tables) (asked.switches.strict && has_warning (notes ++ behind)) refl h
 
   by_source : (request : Request) (named : NamesLines words told request) (it : Compiled) → is_data_source request.asked.switches.generic named.lines ≡ false → Comes (style_of request.asked) named.lines it → status_with words told request named it ≡ 1 → Refusal words told
   by_source request named it asl (are_refused ms h) one = record { request = request; files = named.files; messages = named.notes ++ ms; refused = source_refused named ms asl h }
   by_source request named it asl (are_right tokens items spelled right within) one =
-      let warned = table_warned request.asked request.file named.files named.notes (more_of named.come) (signature_of items) (own_in items) (cut_in (style_of request.asked) named.lines items) (noted_in items) one in
-      record { request = request; files = named.files; messages = named.notes ++ noted_in items; refused = source_warned named tokens items asl spelled right within warned }
+      let warned = tables_warned request.asked request.file named.files named.notes (more_of named.come) (tables_of (style_of request.asked) named.lines items) (all_noted items) one in
+      record { request = request; files = named.files; messages = named.notes ++ all_noted items; refused = source_warned named tokens items asl spelled right within warned }
 
   by_data : (request : Request) (named : NamesLines words told request) (answer : DataAnswer) → is_data_source request.asked.switches.generic named.lines ≡ true → data_answer request.asked.switches.generic named.lines ≡ answer → status_with words told request named (of_data answer) ≡ 1 → Refusal words told
   by_data request named (Err faults) kind e one = record { request = request; files = named.files; messages = named.notes ++ faults; refused = data_refused named faults kind e }
   by_data request named (Ok table) kind e one =
-      let warned = table_warned request.asked request.file named.files named.notes (more_of named.come) table.signature [] table.pieces table.notes one in
+      let warned = tables_warned request.asked request.file named.files named.notes (more_of named.come) (record { signature = table.signature; own = []; pieces = table.pieces } ∷ []) table.notes one in
       record { request = request; files = named.files; messages = named.notes ++ table.notes; refused = data_warned named table kind e warned }
 
   by_kind : (request : Request) (named : NamesLines words told request) (c : Bool) → is_data_source request.asked.switches.generic named.lines ≡ c

@@ -23,8 +23,9 @@ use Rattle.iasl_backends.specs.Lines.{piece_lines}
 use Rattle.data_generic.specs.Templates.{signature_of, default_pieces}
 use Rattle.table_outputs.specs.Files.{name_in_use, table_name, table_files}
 use Rattle.asl_tables.specs.declared.compile.Style.{Style}
-use Rattle.asl_tables.specs.declared.compile.Compiled.{Compiled}
-use Rattle.asl_tables.specs.declared.compile.Compiled.TheVariants.{Table, Refused}
+use Rattle.block_outcomes.specs.declared.outcome.Compiled.{Compiled}
+use Rattle.block_outcomes.specs.declared.outcome.Compiled.TheVariants.{Made, Refused}
+use Rattle.block_outcomes.specs.declared.outcome.Table.{Table}
 use Rattle.iasl_tool.specs.Sources.{of_source}
 
 -- the messages in order, in the brief form or the full one, a line of what was made, and how many messages there are
@@ -78,14 +79,24 @@ abbrev pub answer_to_text : Asked → List ℕ → List (List ℕ) → List Line
 answer_to_text asked file files lines notes = made_or_refused asked files notes (preprocessed_line (text_name asked file))
     ((text_name asked file, text_of_lines lines) ∷ [])
 
--- of what lines come to, with a further line of the console behind that of the table
+-- the lines that tell of tables, one for each
+abbrev pub lines_of_tables : Asked → List ℕ → List Table → List ℕ
+lines_of_tables asked file [] = []
+lines_of_tables asked file (table ∷ tables) = table_line (table_name asked file table.own) table.signature
+    (length (table_bytes table.pieces)) ++ lines_of_tables asked file tables
+
+-- the files of tables, those of each in turn
+abbrev pub files_of_tables : Asked → List ℕ → List Table → List Named
+files_of_tables asked file [] = []
+files_of_tables asked file (table ∷ tables) = table_files asked file table.own table.pieces ++ files_of_tables asked file tables
+
+-- of what lines come to, with a further line of the console behind those of the tables
 abbrev pub answer_to_compiled : Asked → List ℕ → List (List ℕ) → List Message → List ℕ → Compiled → Answer
-answer_to_compiled asked file files notes more (Table signature own pieces told) =
-    made_or_refused asked files (notes ++ told) (table_line (table_name asked file own) signature (length (table_bytes pieces)) ++ more)
-    (table_files asked file own pieces)
+answer_to_compiled asked file files notes more (Made tables told) =
+    made_or_refused asked files (notes ++ told) (lines_of_tables asked file tables ++ more) (files_of_tables asked file tables)
 answer_to_compiled asked file files notes more (Refused messages) = refusal asked.switches.brief files (notes ++ messages)
 
--- how a table is to be written
+-- how tables are to be written
 abbrev pub style_of : Asked → Style
 style_of asked = record {
   wrap = asked.switches.wrap;
@@ -140,12 +151,18 @@ answer_to_task told (Err word) = Some usage
 abbrev pub answer_for : List (List ℕ) → List Named → Option Answer
 answer_for words told = answer_to_task told (task_by words)
 
--- the pieces of what lines come to: those of a table, and none where they are refused
+-- the pieces of the last of some tables
+abbrev pub last_pieces : List Table → List Piece
+last_pieces [] = []
+last_pieces (table ∷ []) = table.pieces
+last_pieces (table ∷ (other ∷ others)) = last_pieces (other ∷ others)
+
+-- the pieces of what lines come to: those of the last table, and none where they are refused
 abbrev pub pieces_in : Compiled → List Piece
-pieces_in (Table signature own pieces told) = pieces
+pieces_in (Made tables told) = last_pieces tables
 pieces_in (Refused messages) = []
 
--- those of the table of lines, as it is asked for
+-- those of the last table of lines, as it is asked for
 abbrev pub pieces_of_lines : Asked → List Line → List Piece
 pieces_of_lines asked lines = pieces_in (of_source asked.switches.generic (style_of asked) lines)
 
@@ -160,14 +177,14 @@ pieces_of_file asked told None = []
 pieces_of_file asked told (Some file) =
     pieces_of_preprocessed asked (preprocessed told file asked.directories asked.definitions asked.enabled)
 
--- those of the last table of a task, which is its only one, or of a template
+-- those of the last table of a task, or of a template
 abbrev pub pieces_of_task : List Named → Result Task ℕ → List Piece
 pieces_of_task told (Ok (Compiles asked)) = pieces_of_file asked told asked.file
 pieces_of_task told (Ok (Generates count)) = pieces_of_lines generated_settings (generated_lines count)
 pieces_of_task told (Ok (Templates table)) = default_pieces table
 pieces_of_task told (Err word) = []
 
--- the pieces of which the outputs of a call with these words are, where these are the files
+-- the pieces of which the last outputs of a call with these words are, where these are the files
 abbrev pub pieces_for : List (List ℕ) → List Named → List Piece
 pieces_for words told = pieces_of_task told (task_by words)
 

@@ -1,5 +1,5 @@
 -- What a call does with a source that is read.
-use Rattle.std.specs.Prelude.{◌≡◌, ◌⊎◌, ℕ, ◌≤◌, Bool, true, false, List, [], ◌∷◌, ◌++◌, length, codes, All, Option, None, Some, Ok}
+use Rattle.std.specs.Prelude.{◌≡◌, ◌⊎◌, ℕ, Bool, true, false, List, [], ◌∷◌, ◌++◌, codes, All, Option, None, Some, Ok}
 use Rattle.iasl_ports.specs.Gained.{Named, Gains}
 use Rattle.iasl_ports.specs.Delivery.{due_of, status_of}
 use Rattle.iasl_messages.specs.declared.place.Line.{Line}
@@ -15,7 +15,7 @@ use Rattle.asl_parser.specs.Depth.{IsShallow, IsLow}
 use Rattle.asl_parser.specs.Grammar.{Spells}
 use Rattle.asl_parser.specs.Grow.{limit}
 use Rattle.asl_parser.specs.Marks.{marks}
-use Rattle.aml_writer.specs.Written.{most_table_bytes}
+use Rattle.asl_shape.specs.Forms.{alone}
 use Rattle.iasl_backends.specs.Table.{table_bytes}
 use Rattle.data_tables.specs.declared.compiled.Compiled.{Compiled as DataTable}
 use Rattle.data_tables.specs.Compiling.{joined}
@@ -28,8 +28,8 @@ use Rattle.iasl_options.specs.CommandLine.{IsCommandLine}
 use Rattle.iasl_options.specs.Task.{Generates, IsTask, generated_settings}
 use Rattle.generated_lines.specs.Generated.{generated_lines}
 use Rattle.iasl_messages.specs.Console.{devices_line}
-use Rattle.program_shapes.specs.Sources.{IsRight, IsTableOf}
-use Rattle.asl_tables.specs.Compiled.{own_in, noted_in, written_in, cut_in}
+use Rattle.program_shapes.specs.Sources.{IsRightSource, IsTableOf}
+use Rattle.asl_tables.specs.Compiled.{own_in, all_noted, written_in, cut_in, EachWithin}
 use Rattle.table_outputs.specs.Files.{table_name, further_files, name_in_use}
 use Rattle.iasl_tool.specs.Sources.{is_data_source, data_answer}
 use Rattle.iasl_tool.specs.Due.{style_of, answer_for}
@@ -39,7 +39,7 @@ pub record Request : Type 0 where
   pub asked : Asked
   pub file : List ℕ
 
--- the name of the table's file
+-- the name of the file of a block's table
 abbrev pub table_of : Request → List Raw → List ℕ
 table_of request items = table_name request.asked request.file (own_in items)
 
@@ -47,7 +47,7 @@ table_of request items = table_name request.asked request.file (own_in items)
 abbrev pub data_file_of : Request → List ℕ
 data_file_of request = table_name request.asked request.file []
 
--- the table of a source in which nothing is wrong, as it is asked for
+-- the table of a block in which nothing is wrong, as it is asked for
 abbrev pub table_for : Request → List Raw → List ℕ
 table_for request items = written_in (style_of request.asked) items
 
@@ -67,9 +67,31 @@ is_generic request = request.asked.switches.generic
 abbrev pub further_data : Request → DataTable → List Named
 further_data request table = further_files request.asked request.file [] table.pieces
 
--- the files of the table of a source of these lines, in the order of their putting
+-- the files of the table of a block of these lines, in the order of their putting
 abbrev pub files_of : Request → List Line → List Raw → List Named
 files_of request lines items = (table_of request items, table_for request items) ∷ further_of request lines items
+
+-- the files of the tables of a source's blocks, those of each in turn
+abbrev pub source_files : Request → List Line → List Raw → List Named
+source_files request lines [] = []
+source_files request lines (item ∷ items) = files_of request lines (alone item) ++ source_files request lines items
+
+-- the pieces of the table of the last of them
+abbrev pub last_its_pieces : Request → List Line → List Raw → List Piece
+last_its_pieces request lines [] = []
+last_its_pieces request lines (item ∷ []) = its_pieces request lines (alone item)
+last_its_pieces request lines (item ∷ (other ∷ others)) = last_its_pieces request lines (other ∷ others)
+
+-- The table of a block has the header that the block states, and every session over its bytes is the block's. Its
+-- further outputs are of pieces that are its own bytes, one piece behind another.
+pub record IsBlocksTable (request : Request) (lines : List Line) (items : List Raw) : Type 0 where
+  pub does : IsTableOf items (table_for request items)
+  pub joined_pieces : table_bytes (its_pieces request lines items) ≡ table_for request items
+
+-- so do those of all of them
+abbrev pub EachDoes : Request → List Line → List Raw → Type 0
+EachDoes request lines [] = Unit {0}
+EachDoes request lines (item ∷ items) = IsBlocksTable request lines (alone item) × EachDoes request lines items
 
 -- those of a data table
 abbrev pub data_files_of : Request → DataTable → List Named
@@ -107,9 +129,10 @@ abbrev pub LetsPass : Asked → List Message → Type 0
 LetsPass asked notes = asked.switches.strict ≡ true → All (λ note. severity_of note.number ≡ Warning → ⊥) notes
 
 -- The words name lines (`ComeFrom`), which are no data table and are
--- cut into tokens that spell this source, nowhere too deep; nothing is wrong with it, and its table is not too long;
--- none of its notes, those on its literals among them, is a warning, where warnings refuse a source; and no name of the
--- table's files is that of a file that was fetched, or of another of them.
+-- cut into tokens that spell this source, nowhere too deep; nothing is wrong with it, each of its items being a block
+-- with a namespace of its own, and none of its tables is too long; none of its notes, those on its literals among them,
+-- is a warning, where warnings refuse a source; and no name of the files of its tables is that of a file that was
+-- fetched, or of another of them.
 pub record NamesSource (words : List (List ℕ)) (told : List Named) (request : Request) (items : List Raw) : Type 0 where
   pub named : NamesLines words told request
   pub tokens : List Token
@@ -118,10 +141,10 @@ pub record NamesSource (words : List (List ℕ)) (told : List Named) (request : 
   pub spelled : Spells items tokens
   pub shallow : IsShallow limit (marks 0 tokens)
   pub low : IsLow limit (marks 0 tokens)
-  pub right : IsRight items
-  pub table_within : length (table_for request items) ≤ most_table_bytes
-  pub notes_pass : LetsPass request.asked (named.notes ++ noted_in items)
-  pub names_are_free : name_in_use named.files (files_of request named.lines items) ≡ None
+  pub right : IsRightSource items
+  pub tables_within : EachWithin (style_of request.asked) items
+  pub notes_pass : LetsPass request.asked (named.notes ++ all_noted items)
+  pub names_are_free : name_in_use named.files (source_files request named.lines items) ≡ None
 
 -- The words name lines (`ComeFrom`), which are a data table in whose text there is no fault, with
 -- this table; none of its notes and the table's is a warning, where warnings refuse a source; and no name of the table's files is that of
@@ -133,15 +156,13 @@ pub record NamesData (words : List (List ℕ)) (told : List Named) (request : Re
   pub notes_pass : LetsPass request.asked (named.notes ++ table.notes)
   pub names_are_free : name_in_use named.files (data_files_of request table) ≡ None
 
--- The call puts the files of the table of a source of these lines, and nothing else. The table has the source's header
--- and does what the source says, and its further outputs are of pieces that are its own bytes, one piece behind
--- another.
-pub record PutsFaithfulTable (words : List (List ℕ)) (told : List Named) (request : Request) (lines : List Line) (items : List Raw) : Type 0
-  where
-    pub status : status_of (answer_for words told) ≡ 0
-    pub due : due_of (answer_for words told) ≡ files_of request lines items
-    pub does : IsTableOf items (table_for request items)
-    pub joined_pieces : table_bytes (its_pieces request lines items) ≡ table_for request items
+-- The call puts the files of the tables of a source of these lines, and nothing else. Each table has its block's header
+-- and does what its block says.
+pub record PutsFaithfulTables (words : List (List ℕ)) (told : List Named) (request : Request) (lines : List Line) (items : List Raw) : Type
+    0 where
+  pub status : status_of (answer_for words told) ≡ 0
+  pub due : due_of (answer_for words told) ≡ source_files request lines items
+  pub does : EachDoes request lines items
 
 -- bytes that read by offset as the values that some lines write, and as no others
 pub record ReadsByLayout (lines : List Line) (bytes : List ℕ) : Type 0 where
@@ -168,18 +189,15 @@ pub record PutsDataTable (words : List (List ℕ)) (told : List Named) (request 
     pub reads : ReadsBack (is_generic request) lines (joined table.pieces)
     pub joined_pieces : table_bytes table.pieces ≡ joined table.pieces
 
--- A file is the table of an ASL source that the words name: it has the source's header and does what the source says. The files that
--- follow it are its further outputs: its bytes as an array of C, and the source's lines with their bytes, where these
--- are asked for. They are of pieces that are the file's own bytes, one piece behind another.
-pub record IsItsTable (words : List (List ℕ)) (told : List Named) (file : Named) (further : List Named) : Type 0 where
+-- Files are those of the tables of an ASL source that the words name: for each of its blocks in turn the table, which
+-- has the block's header and does what the block says, and behind it its further outputs: its bytes as an array of C,
+-- and the source's lines with their bytes, where these are asked for.
+pub record AreItsTables (words : List (List ℕ)) (told : List Named) (files : List Named) : Type 0 where
   pub request : Request
   pub items : List Raw
   pub names : NamesSource words told request items
-  pub name : file.0 ≡ table_of request items
-  pub bytes : file.1 ≡ table_for request items
-  pub does : IsTableOf items file.1
-  pub others : further ≡ further_of request names.named.lines items
-  pub joined_pieces : table_bytes (its_pieces request names.named.lines items) ≡ file.1
+  pub are : files ≡ source_files request names.named.lines items
+  pub does : EachDoes request names.named.lines items
 
 -- A file is the data table whose text the words name: its bytes read as the values that the text writes. The files that follow it are its
 -- further outputs, which are of pieces that are its own bytes.
@@ -193,21 +211,20 @@ pub record IsItsDataTable (words : List (List ℕ)) (told : List Named) (file : 
   pub others : further ≡ further_data request table
   pub joined_pieces : table_bytes table.pieces ≡ file.1
 
--- the first file is the table, and the others are its further outputs
+-- the files are those of a source's tables, or the first is a data table and the others are its further outputs
 abbrev pub AreItsFiles : List (List ℕ) → List Named → List Named → Type 0
 AreItsFiles words told [] = Unit {0}
-AreItsFiles words told (file ∷ further) = IsItsTable words told file further ⊎ IsItsDataTable words told file further
+AreItsFiles words told (file ∷ further) = AreItsTables words told (file ∷ further) ⊎ IsItsDataTable words told file further
 
--- The words name an ASL source, and the outputs gained the files of its table and nothing else. The table, which is the first of them, has
--- the header that the source states, and every session over its bytes is the source's; the others are its further
--- outputs, which are of pieces that are the table's own bytes.
-pub record WritesItsTable (words : List (List ℕ)) (told : List Named) (old new : Option (List Named)) : Type 0 where
+-- The words name an ASL source, and the outputs gained the files of its tables and nothing else: for each block in turn
+-- its table, which has the header that the block states, and over whose bytes every session is the block's, and the
+-- table's further outputs.
+pub record WritesItsTables (words : List (List ℕ)) (told : List Named) (old new : Option (List Named)) : Type 0 where
   pub request : Request
   pub items : List Raw
   pub names : NamesSource words told request items
-  pub table : Gains old new ((table_of request items, table_for request items) ∷ further_of request names.named.lines items)
-  pub does : IsTableOf items (table_for request items)
-  pub joined_pieces : table_bytes (its_pieces request names.named.lines items) ≡ table_for request items
+  pub tables : Gains old new (source_files request names.named.lines items)
+  pub does : EachDoes request names.named.lines items
 
 -- The words name the text of a data table, and the outputs gained its files and nothing else. The bytes of the first, the table, read as
 -- the values that the text writes; the others are its further outputs, which are of pieces that are the table's own bytes.

@@ -1,5 +1,6 @@
 -- What is refused, in relations: why status 1 comes, and what is told then.
-use Rattle.std.specs.Prelude.{◌≡◌, ℕ, ◌<◌, ◌≤◌, true, false, List, [], ◌∷◌, ◌++◌, length, Option, Some, Ok, Err}
+use Rattle.std.specs.Prelude.{◌≡◌, ℕ, nat_le, true, false, if◌then◌else◌, List, [], ◌∷◌, ◌++◌, length, Option, Some, Ok, Err}
+use Rattle.std.specs.List.{flat_map}
 use Rattle.iasl_ports.specs.Gained.{Named, Gains}
 use Rattle.iasl_messages.specs.declared.place.Line.{Line}
 use Rattle.iasl_messages.specs.declared.message.Message.{Message}
@@ -15,31 +16,54 @@ use Rattle.asl_parser.specs.Grammar.{Spells}
 use Rattle.asl_parser.specs.Grow.{limit}
 use Rattle.asl_parser.specs.Marks.{marks}
 use Rattle.asl_parser.specs.Written.{writtens}
-use Rattle.asl_shape.specs.Forms.{errors_at, block_place}
+use Rattle.asl_shape.specs.Forms.{source_errors, alone, block_place}
+use Rattle.block_outcomes.specs.declared.outcome.Class.{Class}
+use Rattle.block_outcomes.specs.declared.outcome.Class.TheVariants as class
+use Rattle.block_outcomes.specs.Joined.{first_told, if_class}
 use Rattle.aml_writer.specs.Written.{most_table_bytes}
 use Rattle.data_tables.specs.declared.compiled.Compiled.{Compiled as DataTable}
 use Rattle.iasl_options.specs.Asking.{Asked}
 use Rattle.iasl_options.specs.CommandLine.{IsCommandLine}
-use Rattle.program_shapes.specs.Sources.{IsRight, locals_in}
+use Rattle.program_shapes.specs.Sources.{IsRightSource, locals_in}
 use Rattle.asl_tables.specs.declared.compile.Style.{Style}
 use Rattle.asl_tables.specs.Syntax.{not_source, too_deep}
-use Rattle.asl_tables.specs.Compiled.{noted_in, written_in, told_in, others_in, with_others, with_notes_behind, too_long}
+use Rattle.asl_tables.specs.Compiled.{all_noted, written_in, told_in, others_in, with_others, too_long, EachWithin}
 use Rattle.iasl_tool.specs.Sources.{is_data_source, data_answer}
 use Rattle.iasl_tool.specs.Due.{style_of, has_warning, refusal}
-use Rattle.iasl_tool.specs.Headline.{Request, NamesLines, is_generic, table_for}
+use Rattle.iasl_tool.specs.Headline.{Request, NamesLines, is_generic}
 
--- All that is told of a source that tokens spell, by the first class of errors that has some: its form; its names, or
+-- its table, if that is too long
+abbrev pub length_wrong : Style → Raw → List Message
+length_wrong style item = if nat_le (length (written_in style (alone item))) most_table_bytes then [] else
+    too_long (block_place (writtens (alone item))) ∷ []
+
+-- All that is wrong with a block that is read alone, of the first class of errors that has some in it: its names, or
 -- behind what is wrong with the kinds of its objects its statements, fields, accesses, arguments, lists and Cases;
--- Switches for which too few Locals are free; or a table that is too long. Behind errors of a later class than that of
--- names the notes on it stand.
+-- Switches for which too few Locals are free; or that its table is too long.
+abbrev pub errors_alone : Style → Raw → List Message
+errors_alone style item = first_told (with_others (told_in (alone item)) (others_in (alone item)))
+    (first_told (locals_in (alone item)) (length_wrong style item))
+
+-- what is so wrong with the blocks in which it is of this class, in their order
+abbrev pub class_errors : Class → Style → List Raw → List Message
+class_errors c style items = flat_map (λ item. if_class c (errors_alone style item)) items
+
+-- All that is told of a source that tokens spell, by the first class of errors that has some in any of its blocks, with
+-- those of all of them: their form, and the first item that is no block; their names; kinds, statements and fields;
+-- what cannot be lowered; or tables that are too long. Behind errors of a later class than that of names the notes on
+-- all blocks stand.
 pub data AreItsErrors (style : Style) (items : List Raw) : List Message → Type 0 where
-  of_form : (m : Message) (ms : List Message) → errors_at items ≡ m ∷ ms → AreItsErrors style items (m ∷ ms)
-  of_names : (m : Message) (ms : List Message) → errors_at items ≡ [] → with_others (told_in items) (others_in items) ≡ m ∷ ms →
-      AreItsErrors style items (with_notes_behind (noted_in items) (m ∷ ms))
-  of_locals : (m : Message) (ms : List Message) → errors_at items ≡ [] → with_others (told_in items) (others_in items) ≡ [] →
-      locals_in items ≡ m ∷ ms → AreItsErrors style items (with_notes_behind (noted_in items) (m ∷ ms))
-  of_length : IsRight items → most_table_bytes < length (written_in style items) →
-      AreItsErrors style items (with_notes_behind (noted_in items) (too_long (block_place (writtens items)) ∷ []))
+  of_form : (m : Message) (ms : List Message) → source_errors items ≡ m ∷ ms → AreItsErrors style items (m ∷ ms)
+  of_names : (m : Message) (ms : List Message) → source_errors items ≡ [] → class_errors class.Names style items ≡ m ∷ ms →
+      AreItsErrors style items (m ∷ ms)
+  of_kinds : (m : Message) (ms : List Message) → source_errors items ≡ [] → class_errors class.Names style items ≡ [] →
+      class_errors class.Kinds style items ≡ m ∷ ms → AreItsErrors style items ((m ∷ ms) ++ all_noted items)
+  of_lowering : (m : Message) (ms : List Message) → source_errors items ≡ [] → class_errors class.Names style items ≡ [] →
+      class_errors class.Kinds style items ≡ [] → class_errors class.Lowering style items ≡ m ∷ ms
+      → AreItsErrors style items ((m ∷ ms) ++ all_noted items)
+  of_length : (m : Message) (ms : List Message) → source_errors items ≡ [] → class_errors class.Names style items ≡ [] →
+      class_errors class.Kinds style items ≡ [] → class_errors class.Lowering style items ≡ []
+      → class_errors class.Sizes style items ≡ m ∷ ms → AreItsErrors style items ((m ∷ ms) ++ all_noted items)
 
 -- these lines are cut into these tokens, which spell this source, nowhere too deep
 pub record IsSpelled (lines : List Line) (tokens : List Token) (items : List Raw) : Type 0 where
@@ -80,9 +104,9 @@ pub data IsRefused (words : List (List ℕ)) (told : List Named) (request : Requ
       is_data_source (is_generic request) named.lines ≡ false → AreRefused (style_of request.asked) named.lines messages
       → IsRefused words told request named.files (named.notes ++ messages)
   source_warned : (named : NamesLines words told request) (tokens : List Token) (items : List Raw) →
-      is_data_source (is_generic request) named.lines ≡ false → IsSpelled named.lines tokens items → IsRight items
-      → length (table_for request items) ≤ most_table_bytes → RefusesNotes request.asked (named.notes ++ noted_in items) →
-      IsRefused words told request named.files (named.notes ++ noted_in items)
+      is_data_source (is_generic request) named.lines ≡ false → IsSpelled named.lines tokens items → IsRightSource items
+      → EachWithin (style_of request.asked) items → RefusesNotes request.asked (named.notes ++ all_noted items) →
+      IsRefused words told request named.files (named.notes ++ all_noted items)
   data_refused : (named : NamesLines words told request) (faults : List Message) → is_data_source (is_generic request) named.lines ≡ true →
       data_answer (is_generic request) named.lines ≡ Err faults
       → IsRefused words told request named.files (named.notes ++ faults)

@@ -8,14 +8,14 @@ ghost use Rattle.iasl_messages.specs.declared.place.Piece.{Piece as SpecPiece};
 ghost use Rattle.asl_preprocess.specs.Sound.{IsGoodLine, IsGoodNote};
 ghost use Rattle.iasl_options.specs.Shown.{AreTexts, asked_of};
 ghost use Rattle.iasl_options.specs.Asking.{Asked};
-ghost use Rattle.asl_tables.specs.Compiled.{AreWithin};
+ghost use Rattle.asl_tables.specs.Compiled.{AreWithin, HaveAsciiNames};
 ghost use Rattle.iasl_tool.specs.Sources.{of_source};
 ghost use Rattle.iasl_backends.specs.Table.{table_bytes};
-ghost use Rattle.table_outputs.specs.Files.{table_name, table_files};
-ghost use Rattle.table_outputs.specs.Decision.{end_of, IsDecidedBy, IsDecidedFor, IsMadeOf, Settles};
-ghost use Rattle.iasl_tool.specs.Due.{console_text, refusal, made_files, in_use, has_warning, made_or_refused, text_of_lines};
-ghost use Rattle.iasl_tool.specs.Due.{answer_to_text, answer_to_compiled, answer_to_lines, answer_to_file, usage, answer_for};
-ghost use Rattle.iasl_tool.specs.Due.{pieces_of_lines, pieces_of_file, pieces_for, style_of as style_by};
+ghost use Rattle.table_outputs.specs.Decision.{end_of, all_files, kinds_in, HaveKinds, IsDecidedBy, IsDecidedFor, IsMadeOf, Settles};
+ghost use Rattle.iasl_tool.specs.Outputs.{PutsTable, AreOutputsOf, last_made};
+ghost use Rattle.iasl_tool.specs.Due.{console_text, refusal, made_files, in_use, has_warning, made_or_refused, lines_of_tables};
+ghost use Rattle.iasl_tool.specs.Due.{files_of_tables, last_pieces, text_of_lines, answer_to_text, answer_to_compiled, answer_to_lines};
+ghost use Rattle.iasl_tool.specs.Due.{answer_to_file, usage, answer_for, pieces_of_lines, pieces_of_file, pieces_for, style_of as style_by};
 ghost use Rattle.iasl_messages.specs.declared.severity.Severity.TheVariants.{Warning};
 ghost use Rattle.iasl_messages.specs.Severity.{severity_of, is_same};
 ghost use Rattle.iasl_messages.specs.Console.{table_line};
@@ -25,12 +25,13 @@ use crate::generated::answer_to_generated;
 use crate::source::compile_source;
 use crate::template::answer_to_template;
 use asl_preprocess::{PreStop, Preprocessed, preprocess};
-use asl_tables::compile::{Compiled, Style};
-use asl_tables::messages::{both, one_message};
+use asl_tables::compile::Style;
+use block_outcomes::messages::{both, one_message};
+use block_outcomes::outcome::{Compiled, Table, Tables};
 use iasl_messages::console::{preprocessed_line, render, summary, table_line};
 use iasl_messages::message::{Message, Messages};
 use iasl_messages::order::sort;
-use iasl_messages::place::{Line, Lines, Piece, Pieces};
+use iasl_messages::place::{Line, Lines, Piece};
 use iasl_messages::severity::{Severity, severity_of};
 use iasl_options::names::{file_name, output_name};
 use iasl_options::request::{Options, WordsStop};
@@ -41,7 +42,7 @@ use iasl_ports::list::{List, Text, Texts};
 use std::alloc::{AllocError, Global};
 use std::borrow::CowSlice;
 use std::mem::forget;
-use table_outputs::decision::{Decision, Making, OutputNames};
+use table_outputs::decision::{Decision, Making, OutputNames, TableList, TableOutputs};
 use table_outputs::names::{is_fetched, name_in_use, names_of_table};
 
 // Adds a line to the text.
@@ -269,90 +270,124 @@ fn size_of(pieces: &[Piece]) -> Result<u64, AllocError>
     Ok(size)
 }
 
-// What is known of a table beside its pieces: its signature, the name that its block states for its file, and a further
-// line of the console.
-#[derive(Clone, Copy)]
-struct Heading<'a> {
-    signature: &'a Text,
-    own: &'a Text,
-    more: &'a Text,
-}
-
-// The line of a table in pieces whose file has this name, and the further line behind it.
-fn table_lines(
+// Adds the line of a table in pieces whose file has this name.
+fn push_line(
     alloc: Global,
+    lines: &mut Vec<u8>,
     name: &[u8],
-    heading: &Heading<'_>,
+    signature: &[u8],
     pieces: &[Piece],
-) -> Result<Text, AllocError>
-    ensures { IfOk result (λ text. text ≡ table_line name.now heading.now.signature.now (length (table_bytes pieces.now))
-        ++ heading.now.more.now) }
+) -> Result<(), AllocError>
+    ensures { OnOk result (lines.new.items ≡ lines.old.items ++ table_line name.now signature.now (length (table_bytes pieces.now))) }
 {
-    let size = size_of(pieces)?;
-    let line = table_line(alloc, name, heading.signature.as_bytes(), size)?;
-    let mut lines = Vec::new(alloc);
-    push_text(&mut lines, &line)?;
-    push_text(&mut lines, heading.more)?;
-    Text::from_vec(alloc, lines)
+    let line = table_line(alloc, name, signature, size_of(pieces)?)?;
+    push_text(lines, &line)
 }
 
-// What the console is told of a table in pieces.
-fn table_text(
-    alloc: Global,
-    brief: bool,
-    files: &Texts,
-    notes: Messages,
-    name: &[u8],
-    heading: &Heading<'_>,
-    pieces: &[Piece],
-) -> Result<Text, AllocError>
-    requires { AreWithin (length files.now) notes }
-    ensures { IfOk result
-        (λ text. text ≡ console_text brief files.now notes (table_line name.now heading.now.signature.now (length (table_bytes pieces.now))
-        ++ heading.now.more.now)) }
-{
-    let line = table_lines(alloc, name, heading, pieces)?;
-    console_text(alloc, brief, files, notes, &line)
+// The lines that tell of tables, and what is put of them.
+#[derive(Drop)]
+struct Outputs {
+    lines: Vec<u8>,
+    tables: TableList,
 }
 
-// What is due of a table in pieces.
-fn make_table(
+// Adds a table to others.
+fn push_table(
     alloc: Global,
     options: &Options,
-    files: &Texts,
-    notes: Messages,
-    heading: &Heading<'_>,
-    pieces: Pieces,
-) -> Result<Decision, AllocError>
+    all: &mut Outputs,
+    table: Table,
+) -> Result<(), AllocError>
     requires texts { AreTexts options.now }
-    requires own { IsAscii heading.now.own.now }
-    requires compiles { options.now.only ≡ false }
-    requires notes { AreWithin (length files.now) notes }
-    ensures due { IfOk result (λ decision. end_of decision ≡ made_or_refused (asked_of options.now) files.now notes
-        (table_line (table_name (asked_of options.now) options.now.file heading.now.own.now) heading.now.signature.now
-        (length (table_bytes pieces)) ++ heading.now.more.now)
-        (table_files (asked_of options.now) options.now.file heading.now.own.now pieces)) }
-    ensures decided { IfOk result (IsDecidedBy (asked_of options.now)) }
-    ensures made { IfOk result (IsMadeOf pieces) }
+    requires own { IsAscii table.own }
+    ensures { OnOk result (PutsTable (asked_of options.now) options.now.file table all.old all.new) }
 {
-    let brief = options.switches.brief;
-    if is_refused(options, &notes) {
-        return decide_refusal(alloc, brief, files, notes);
+    let Table {
+        signature,
+        own,
+        pieces,
+    } = table;
+    let names = names_of_table(alloc, options, &own)?;
+    push_line(
+        alloc,
+        &mut all.lines,
+        names.table.as_bytes(),
+        signature.as_bytes(),
+        pieces.as_slice(),
+    )?;
+    all.tables.push(TableOutputs { names, pieces })?;
+    Ok(())
+}
+
+// The lines that tell of some tables, and what is put of these.
+fn outputs_of(alloc: Global, options: &Options, tables: Tables) -> Result<Outputs, AllocError>
+    requires texts { AreTexts options.now }
+    requires own { HaveAsciiNames tables }
+    ensures { IfOk result (AreOutputsOf (asked_of options.now) options.now.file tables) }
+{
+    let mut all = Outputs {
+        lines: Vec::new(alloc),
+        tables: TableList::new(alloc),
+    };
+    let mut left = tables.into_vec();
+    left.reverse();
+    while let Some(table) = left.pop() {
+        push_table(alloc, options, &mut all, table)?;
     }
-    let names = names_of_table(alloc, options, heading.own)?;
-    if let Some(name) = name_in_use(files.as_slice(), &names) {
-        return decide_in_use(alloc, name);
-    }
-    let name = names.table.as_bytes();
-    let text = table_text(alloc, brief, files, notes, name, heading, pieces.as_slice())?;
+    Ok(all)
+}
+
+// The decision to put tables, of which there is one, with this text of the console.
+fn decide_made(text: Text, tables: TableList) -> Result<Decision, AllocError>
+    ensures due { IfOk result (λ decision. end_of decision ≡ record { status = 0; text = text; due = all_files tables }) }
+    ensures decided { (asked : Asked) → asked.only ≡ false → HaveKinds (kinds_in asked) tables → IfOk result (IsDecidedBy asked) }
+    ensures made { IfOk result (IsMadeOf (last_made tables)) }
+{
+    let mut earlier = tables.into_vec();
+    // (each source has a table)
+    let TableOutputs { names, pieces } = earlier.pop().ok_or(AllocError)?;
     Ok(Decision::Makes(Making {
         text,
+        earlier: TableList::from_vec(earlier),
         names: OutputNames::OfTable(names),
         pieces,
     }))
 }
 
-// How a table is to be written.
+// What is due of tables in pieces, with a further line of the console behind those of the tables.
+fn make_tables(
+    alloc: Global,
+    options: &Options,
+    files: &Texts,
+    notes: Messages,
+    tables: Tables,
+    more: &Text,
+) -> Result<Decision, AllocError>
+    requires texts { AreTexts options.now }
+    requires own { HaveAsciiNames tables }
+    requires compiles { options.now.only ≡ false }
+    requires notes { AreWithin (length files.now) notes }
+    ensures due { IfOk result (λ decision. end_of decision ≡ made_or_refused (asked_of options.now) files.now notes
+        (lines_of_tables (asked_of options.now) options.now.file tables ++ more.now)
+        (files_of_tables (asked_of options.now) options.now.file tables)) }
+    ensures decided { IfOk result (IsDecidedBy (asked_of options.now)) }
+    ensures made { IfOk result (IsMadeOf (last_pieces tables)) }
+{
+    let brief = options.switches.brief;
+    if is_refused(options, &notes) {
+        return decide_refusal(alloc, brief, files, notes);
+    }
+    let Outputs { mut lines, tables } = outputs_of(alloc, options, tables)?;
+    if let Some(name) = name_in_use(alloc, files.as_slice(), tables.as_slice())? {
+        return decide_in_use(alloc, name);
+    }
+    push_text(&mut lines, more)?;
+    let line = Text::from_vec(alloc, lines)?;
+    let text = console_text(alloc, brief, files, notes, &line)?;
+    decide_made(text, tables)
+}
+
+// How tables are to be written.
 fn style_of(options: &Options) -> Style
     ensures { result ≡ style_by (asked_of options.now) }
 {
@@ -364,7 +399,7 @@ fn style_of(options: &Options) -> Style
     }
 }
 
-// What is due of lines that are compiled, with a further line of the console behind that of the table.
+// What is due of lines that are compiled, with a further line of the console behind those of the tables.
 pub(crate) fn make_compiled(
     alloc: Global,
     options: &Options,
@@ -383,26 +418,17 @@ pub(crate) fn make_compiled(
     ensures made { IfOk result (IsMadeOf (pieces_of_lines (asked_of options.now) lines.now.list)) }
 {
     match compile_source(alloc, options.switches.generic, style_of(options), lines)? {
-        Compiled::Table {
-            signature,
-            own,
-            pieces,
+        Compiled::Made {
+            tables,
             notes: told,
-        } => {
-            let heading = Heading {
-                signature: &signature,
-                own: &own,
-                more,
-            };
-            make_table(
-                alloc,
-                options,
-                &lines.files,
-                both(notes, told)?,
-                &heading,
-                pieces,
-            )
-        }
+        } => make_tables(
+            alloc,
+            options,
+            &lines.files,
+            both(notes, told)?,
+            tables,
+            more,
+        ),
         Compiled::Refused(messages) => decide_refusal(
             alloc,
             options.switches.brief,

@@ -1,11 +1,12 @@
-//! A source of either kind to its table, or its errors.
-ghost use Rattle.std.specs.Prelude.{◌≡◌, ◌<◌, ◌^◌, length, All, IfOk};
+//! A source of either kind to its tables, or its errors.
+ghost use Rattle.std.specs.Prelude.{◌≡◌, ◌<◌, ◌^◌, ◌∷◌, [], length, All, IfOk};
 ghost use Rattle.data_tables.specs.Promise.{Answers, TellsWithin as DataTellsWithin};
-ghost use Rattle.asl_tables.specs.Compiled.{HasAsciiName, TellsWithin};
+ghost use Rattle.asl_tables.specs.Compiled.{HasAsciiNames, TellsWithin};
 ghost use Rattle.iasl_tool.specs.Sources.{is_data_source, data_answer, of_data, of_source};
 
-use asl_tables::compile::{Compiled, Style, compile};
-use asl_tables::messages::refusal;
+use asl_tables::compile::{Style, compile};
+use block_outcomes::messages::refusal;
+use block_outcomes::outcome::{Compiled, Table, Tables};
 use data_generic::compile::compile_generic;
 use data_tables::compile::compile_data;
 use data_tables::compiled::Compiled as DataTable;
@@ -14,6 +15,15 @@ use iasl_messages::message::Stage;
 use iasl_messages::place::{Line, Lines};
 use iasl_ports::list::Text;
 use std::alloc::{AllocError, Global};
+
+// One table.
+fn one_table(alloc: Global, table: Table) -> Result<Tables, AllocError>
+    ensures { IfOk result (λ tables. tables ≡ table ∷ []) }
+{
+    let mut tables = Tables::new(alloc);
+    tables.push(table)?;
+    Ok(tables)
+}
 
 // The table of the text of a data table, of a generic one where that is asked for.
 fn data_table_of(alloc: Global, generic: bool, lines: &Lines) -> Result<DataTable, Stage>
@@ -34,16 +44,21 @@ fn compile_table(alloc: Global, generic: bool, lines: &Lines) -> Result<Compiled
     requires main { 0 < length lines.now.files }
     requires files { All (λ line. line.file < length lines.now.files) lines.now.list }
     ensures value { IfOk result (λ it. it ≡ of_data (data_answer generic lines.now.list)) }
-    ensures own { IfOk result HasAsciiName }
+    ensures own { IfOk result HasAsciiNames }
     ensures within { IfOk result (TellsWithin (length lines.now.files)) }
 {
     match data_table_of(alloc, generic, lines) {
-        Ok(table) => Ok(Compiled::Table {
-            signature: table.signature,
-            own: Text::new(alloc),
-            pieces: table.pieces,
-            notes: table.notes,
-        }),
+        Ok(table) => {
+            let made = Table {
+                signature: table.signature,
+                own: Text::new(alloc),
+                pieces: table.pieces,
+            };
+            Ok(Compiled::Made {
+                tables: one_table(alloc, made)?,
+                notes: table.notes,
+            })
+        }
         Err(stage) => Ok(Compiled::Refused(refusal(stage)?)),
     }
 }
@@ -71,7 +86,7 @@ pub(crate) fn compile_source(
     requires main { 0 < length lines.now.files }
     requires files { All (λ line. line.file < length lines.now.files) lines.now.list }
     ensures value { IfOk result (λ it. it ≡ of_source generic style lines.now.list) }
-    ensures own { IfOk result HasAsciiName }
+    ensures own { IfOk result HasAsciiNames }
     ensures within { IfOk result (TellsWithin (length lines.now.files)) }
 {
     if is_data_source(alloc, generic, lines.list.as_slice())? {

@@ -12,7 +12,7 @@ use iasl_messages::console::template_line;
 use iasl_messages::message::Messages;
 use iasl_ports::list::{Text, Texts};
 use std::alloc::{AllocError, Global};
-use table_outputs::decision::{Decision, Making, OutputNames};
+use table_outputs::decision::{Decision, Making, OutputNames, TableList};
 
 // The name of the file of a template.
 fn template_name(table: Table) -> &'static str
@@ -53,6 +53,7 @@ pub(crate) fn answer_to_template(alloc: Global, table: Table) -> Result<Decision
     let pieces = default_lines(alloc, signature_of(table))?;
     Ok(Decision::Makes(Making {
         text: template_text(alloc, table)?,
+        earlier: TableList::new(alloc),
         names: OutputNames::OfTemplate(name),
         pieces,
     }))

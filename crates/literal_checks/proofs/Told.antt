@@ -166,14 +166,8 @@ pub of_first : (first : Raw) (rest : List Raw) → cut_literals_at W32 (first �
 unfolding cut_literals_at told_braces_at writtens
 of_first first rest = refl
 
-pub of_none : cut_literals_at W32 [] ≡ []
-unfolding cut_literals_at writtens
-of_none = refl
-
-pub ruleset block_rules = (of_first, of_none, nothing_more)
-
 pub of_wide_table : (raws : List Raw) → cut_literals_at W64 raws ≡ []
 unfolding cut_literals_at
 of_wide_table raws = refl
 
-pub ruleset wide_tables = (of_wide_table)
+pub ruleset block_rules = (of_first, of_wide_table, nothing_more)

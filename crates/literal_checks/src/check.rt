@@ -1,15 +1,14 @@
 //! The literals that 32 bits cannot hold.
 ghost use Rattle.std.specs.Prelude.{◌≡◌, ◌++◌, IfOk, OnOk, [], drop};
 ghost use Rattle.asl_shape.specs.AtRaw.{inside_at, is_some};
-ghost use Rattle.acpi_values.specs.declared.width.Width.TheVariants.{W32};
+ghost use Rattle.asl_shape.specs.Forms.{alone};
 ghost use Rattle.literal_checks.specs.Literals as spec;
 
 use acpi_values::width::Width;
-use asl_parser::{Raw, RawUnit, Raws};
+use asl_parser::{Raw, Raws};
 use asl_words::meaning::{Meaning, meaning_of};
 use asl_words::operator::{Body, Parameter, Slot};
 use asl_words::parameters::{body_of, parameters_of};
-use asl_words::paths::parts as split;
 use iasl_messages::message::{Message, Messages};
 use iasl_messages::number::CONSTANT_IS_CUT;
 use iasl_messages::place::Place;
@@ -199,28 +198,17 @@ fn braces(alloc: Global, out: &mut Vec<Message>, raw: &Raw) -> Result<(), AllocE
     }
 }
 
-// The terms of the block of a source.
-#[tactic(auto, using(crate::proofs::Told::block_rules))]
-fn block(alloc: Global, out: &mut Vec<Message>, raws: &[Raw]) -> Result<(), AllocError>
-    ensures { OnOk result (out.new.items ≡ out.old.items ++ spec.cut_literals_at W32 raws.now) }
-{
-    match split(raws) {
-        Some((first, _)) => Ok(braces(alloc, out, first)?),
-        None => Ok(()),
-    }
-}
-
-/// The warnings 3002 of a source whose one block has integers of this width: at each literal over 2^32 - 1, in the order of the source,
+/// The warnings 3002 of a block that has integers of this width: at each literal over 2^32 - 1, in the order of the source,
 /// where they have 32 bits. A literal inside of an argument that is a constant of a stated range, of a Buffer's list of
 /// bytes, or of a resource template, is none: such constants are evaluated with 64 bits in every table, and so are the
 /// block's own arguments.
-#[tactic(auto, using(crate::proofs::Told::wide_tables))]
-pub fn cut_literals(alloc: Global, width: Width, unit: &RawUnit) -> Result<Messages, AllocError>
-    ensures { IfOk result (λ messages. messages ≡ spec.cut_literals_at width unit.now.items) }
+#[tactic(auto, using(crate::proofs::Told::block_rules))]
+pub fn cut_literals(alloc: Global, width: Width, block: &Raw) -> Result<Messages, AllocError>
+    ensures { IfOk result (λ messages. messages ≡ spec.cut_literals_at width (alone block.now)) }
 {
     let mut out = Vec::new(alloc);
     match width {
-        Width::W32 => block(alloc, &mut out, unit.items.as_slice())?,
+        Width::W32 => braces(alloc, &mut out, block)?,
         Width::W64 => (),
     }
     Ok(Messages::from_vec(out))

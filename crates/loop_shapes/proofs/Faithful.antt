@@ -33,7 +33,7 @@ externals_clear w calls (entry ∷ entries) present = by (list_any (is_same_path
     by true h = (tt, h)
     by false h = h
 
-module _ (Listed : List (FieldItem UnitName) → Type 0) (Symbols Switches : Type 0) (program : Trees) (h : AreFormed Listed Symbols Switches program) (locals : HaveLocals program) where
+module _ (Listed : List (FieldItem UnitName) → Type 0) (Symbols Switches : Type 0) (program : Trees) (h : AreFormed ⊥ Listed Symbols Switches program) (locals : HaveLocals program) where
   pub same_sessions : (width : Width) (known : Known) (present : List AbsolutePath) (n : ℕ) (answers : List Value) (requests : List Request) → IsAsked width n answers requests
       → source_session width known (without_switches program) (present_ones (externals program) present) n answers requests ≡ source_session width known program (present_ones (externals program) present) n answers requests
   same_sessions width known present zero answers requests asked = absurd (omega (arith, asked.turns))

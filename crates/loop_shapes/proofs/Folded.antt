@@ -2,12 +2,12 @@
 use Rattle.std.proofs.Common.{Bool, true, false, [], ◌++◌, refl}
 use Rattle.acpi_values.specs.declared.operator.Plain.{Plain}
 use Rattle.acpi_values.specs.declared.width.Width.{Width}
-use Rattle.asl_tree.specs.Tree.{Tree, Call, Apply, Operated, Assigned, AssignedBy, Buffer, Package, VarPackage, CondRefOf, Return, Name, Method, Container', Scope, If, ElseIf, Else, While, Switch, Case, Default, OperationRegion, BankField, CreateField, Trees, no_trees, tree}
+use Rattle.asl_tree.specs.Tree.{Tree, Call, Apply, Operated, Assigned, AssignedBy, Buffer, Package, VarPackage, CondRefOf, Return, Name, Method, Container', Scope, If, ElseIf, Else, While, For, Print, Switch, Case, Default, OperationRegion, BankField, CreateField, Trees, no_trees, tree}
 use Rattle.asl_fold.specs.Folds.{reduced, sized, folded, folded_args, folded_all, folded_where}
 use Rattle.asl_fold.proofs.Values.{sized_as, reduced_as, Targets, NoTarget, OneTarget, LastTarget}
 use Rattle.hidden_locals.specs.Locals.{locals, locals_all}
 use Rattle.hidden_locals.specs.Switches.{HaveLocals}
-use Rattle.loop_shapes.proofs.Steady.{Fewer, fewer_none, fewer_join, fewer_left, fewer_right, fewer_both, Steady, SteadyAll, same_term, same_terms, steady_more, have_enough, steady_if, steady_else_if, steady_else, steady_while, steady_switch, steady_case, steady_default, steady_container, steady_scope, steady_method}
+use Rattle.hidden_locals.proofs.Steady.{Fewer, fewer_none, fewer_join, fewer_left, fewer_right, fewer_both, Steady, SteadyAll, same_term, same_terms, steady_more, have_enough, steady_if, steady_else_if, steady_else, steady_while, steady_for, steady_switch, steady_case, steady_default, steady_container, steady_scope, steady_method}
 
 target_fewer : (ts : Trees) (t : Tree) → Targets ts t → Fewer (locals t) (locals_all ts)
 target_fewer _ _ NoTarget = fewer_none []
@@ -56,6 +56,8 @@ module _ (width : Width) where
     steady statement (If test body) = steady_if (folded width false test) test (folded_all width body) body ((steady false test).fewer) (all_steady body)
     steady statement (ElseIf test body) = steady_else_if (folded width false test) test (folded_all width body) body ((steady false test).fewer) (all_steady body)
     steady statement (While test body) = steady_while (folded width false test) test (folded_all width body) body ((steady false test).fewer) (all_steady body)
+    steady statement (For start test step body) = steady_for (folded width false start) start (folded width false test) test (folded width false step) step (folded_all width body) body ((steady false start).fewer) ((steady false test).fewer) ((steady false step).fewer) (all_steady body)
+    steady statement (Print place format args) = record { same_depth = refl; same_crossed = refl; same_continue = refl; fewer = fewer_both (locals (folded width false place)) (locals place) (locals_all (folded_args width args)) (locals_all args) ((steady false place).fewer) (args_fewer args); has = λ k. tt }
     steady statement (Else body) = steady_else (folded_all width body) body (all_steady body)
     steady statement (Switch value cases) = steady_switch (folded width false value) value (folded_all width cases) cases ((steady false value).fewer) (all_steady cases)
     steady statement (Case value body) = steady_case (folded width false value) value (folded_all width body) body ((steady false value).fewer) (all_steady body)

@@ -8,7 +8,7 @@ use Rattle.acpi_values.specs.Operators as L
 use Rattle.acpi_state.specs.FieldActs.{region_letters, field_letters}
 use Rattle.asl_meaning.specs.Meaning.{SpotForm, OfResult, OfInside, NoSpot, spot_form}
 use Rattle.asl_tree.specs.FieldItems.{FieldItem}
-use Rattle.asl_tree.specs.Tree.{Tree, Integer, Constant, String, InSlot, Debug, Omitted, Raw, Use, Call, Apply, Buffer, Package, VarPackage, CondRefOf, Return, Name, Alias, External, Method, Mutex, Event, Container', Scope, Fill, Misshapen, Operated, Assigned, AssignedBy, Trees, no_trees, tree, count, OperationRegion, Field, IndexField, BankField, CreateField, UnitName, If, ElseIf, Else, While, Break, Continue, Item, Switch, Case, Default}
+use Rattle.asl_tree.specs.Tree.{Tree, Integer, Constant, String, InSlot, Debug, Omitted, Raw, Use, Call, Apply, Buffer, Package, VarPackage, CondRefOf, Return, Name, Alias, External, Method, Mutex, Event, Container', Scope, Fill, Misshapen, Operated, Assigned, AssignedBy, Trees, no_trees, tree, count, OperationRegion, Field, IndexField, BankField, CreateField, UnitName, If, ElseIf, Else, While, For, Print, Break, Continue, Item, Switch, Case, Default}
 use Rattle.aml_sessions.specs.Ready.{is_expression, SpotReady, AreItems}
 use Rattle.named_sessions.specs.Shaped.{LetterShaped, ElementShaped, IsCaseMember, AreCaseMembers, HaveCaseMembers, IsCaseValue, IsFollowed, IsFormed, IsFormedSpot, IsFormedAlone, AreFormedOperands, AreFormedSpots, AreFormedValues, AreFormedElements, AreFormed, AreFormedCases, AreShaped}
 use Rattle.hidden_locals.specs.Locals.{is_named, locals_all}
@@ -58,13 +58,13 @@ never e = absurd cc
 module _ (Listed : List (FieldItem UnitName) → Type 0) (Symbols Switches : Type 0) where
   -- without Switches
   abbrev Loop : Tree → Type 0
-  Loop = IsFormed Listed Symbols ⊥
+  Loop = IsFormed ⊥ Listed Symbols ⊥
 
   abbrev LoopSpot : Tree → Type 0
-  LoopSpot = IsFormedSpot Listed Symbols ⊥
+  LoopSpot = IsFormedSpot ⊥ Listed Symbols ⊥
 
-  letter_kept : (letter : Letter) (t : Tree) → (is_expression t ≡ true → IsFormed Listed Symbols Switches t → Loop t) → (IsFormedSpot Listed Symbols Switches t → LoopSpot t)
-      → LetterShaped letter t ((is_expression t ≡ true) × IsFormed Listed Symbols Switches t) (IsFormedSpot Listed Symbols Switches t) → LetterShaped letter t ((is_expression t ≡ true) × Loop t) (LoopSpot t)
+  letter_kept : (letter : Letter) (t : Tree) → (is_expression t ≡ true → IsFormed ⊥ Listed Symbols Switches t → Loop t) → (IsFormedSpot ⊥ Listed Symbols Switches t → LoopSpot t)
+      → LetterShaped letter t ((is_expression t ≡ true) × IsFormed ⊥ Listed Symbols Switches t) (IsFormedSpot ⊥ Listed Symbols Switches t) → LetterShaped letter t ((is_expression t ≡ true) × Loop t) (LoopSpot t)
   letter_kept Valued t value spot h = (h.0, value h.0 h.1)
   letter_kept Kept t value spot h = (h.0, value h.0 h.1)
   letter_kept Placed t value spot h = spot h
@@ -73,7 +73,7 @@ module _ (Listed : List (FieldItem UnitName) → Type 0) (Symbols Switches : Typ
 
   mutual
     -- an expression has no Switch in it
-    value_kept : (t : Tree) → is_expression t ≡ true → IsFormed Listed Symbols Switches t → Loop t
+    value_kept : (t : Tree) → is_expression t ≡ true → IsFormed ⊥ Listed Symbols Switches t → Loop t
     value_kept (Integer number) e h = h
     value_kept (Constant literal) e h = h
     value_kept (String text) e h = h
@@ -91,46 +91,46 @@ module _ (Listed : List (FieldItem UnitName) → Type 0) (Symbols Switches : Typ
     value_kept (AssignedBy op target value) e h = (h.0, spot_kept target h.1, h.2, value_kept target h.2 h.3, h.4, value_kept value h.4 h.5)
     value_kept _ e h = absurd cc
 
-    spot_kept : (t : Tree) → IsFormedSpot Listed Symbols Switches t → LoopSpot t
+    spot_kept : (t : Tree) → IsFormedSpot ⊥ Listed Symbols Switches t → LoopSpot t
     spot_kept Omitted h = tt
     spot_kept Debug h = tt
     spot_kept (InSlot slot) h = h
     spot_kept (Use at name) h = h
     spot_kept (Apply op args targets) h = (
       h.0,
-      spot_by (spot_form op) (AreFormedOperands Listed Symbols Switches (row_of op).operands args × (count targets ≡ (row_of op).targets) × AreFormedSpots Listed Symbols Switches targets) (IsFormedAlone Listed Symbols Switches args targets)
-          (AreFormedOperands Listed Symbols ⊥ (row_of op).operands args × (count targets ≡ (row_of op).targets) × AreFormedSpots Listed Symbols ⊥ targets) (IsFormedAlone Listed Symbols ⊥ args targets)
+      spot_by (spot_form op) (AreFormedOperands ⊥ Listed Symbols Switches (row_of op).operands args × (count targets ≡ (row_of op).targets) × AreFormedSpots ⊥ Listed Symbols Switches targets) (IsFormedAlone ⊥ Listed Symbols Switches args targets)
+          (AreFormedOperands ⊥ Listed Symbols ⊥ (row_of op).operands args × (count targets ≡ (row_of op).targets) × AreFormedSpots ⊥ Listed Symbols ⊥ targets) (IsFormedAlone ⊥ Listed Symbols ⊥ args targets)
           (λ r. (operands_kept (row_of op).operands args r.0, r.1, spots_kept targets r.2)) (λ i. alone_kept args targets i) h.1,
     )
     spot_kept (Operated op args) h = (
       h.0,
       h.1,
-      spot_by (spot_form op) (AreFormedOperands Listed Symbols Switches (row_of op).operands args) ⊥ (AreFormedOperands Listed Symbols ⊥ (row_of op).operands args) ⊥
+      spot_by (spot_form op) (AreFormedOperands ⊥ Listed Symbols Switches (row_of op).operands args) ⊥ (AreFormedOperands ⊥ Listed Symbols ⊥ (row_of op).operands args) ⊥
           (λ r. operands_kept (row_of op).operands args r) (λ i. i) h.2,
     )
     spot_kept _ h = absurd h
 
-    alone_kept : (args targets : Trees) → IsFormedAlone Listed Symbols Switches args targets → IsFormedAlone Listed Symbols ⊥ args targets
+    alone_kept : (args targets : Trees) → IsFormedAlone ⊥ Listed Symbols Switches args targets → IsFormedAlone ⊥ Listed Symbols ⊥ args targets
     alone_kept (tree t no_trees) no_trees h = (h.0, value_kept t h.0 h.1)
     alone_kept no_trees targets h = absurd h
     alone_kept (tree t no_trees) (tree u us) h = absurd h
     alone_kept (tree t (tree v vs)) targets h = absurd h
 
-    operands_kept : (letters : List Letter) (ts : Trees) → AreFormedOperands Listed Symbols Switches letters ts → AreFormedOperands Listed Symbols ⊥ letters ts
+    operands_kept : (letters : List Letter) (ts : Trees) → AreFormedOperands ⊥ Listed Symbols Switches letters ts → AreFormedOperands ⊥ Listed Symbols ⊥ letters ts
     operands_kept [] no_trees h = tt
     operands_kept [] (tree t ts) h = absurd h
     operands_kept (letter ∷ letters) no_trees h = absurd h
     operands_kept (letter ∷ letters) (tree t ts) h = (letter_kept letter t (λ e k. value_kept t e k) (λ k. spot_kept t k) h.0, operands_kept letters ts h.1)
 
-    spots_kept : (ts : Trees) → AreFormedSpots Listed Symbols Switches ts → AreFormedSpots Listed Symbols ⊥ ts
+    spots_kept : (ts : Trees) → AreFormedSpots ⊥ Listed Symbols Switches ts → AreFormedSpots ⊥ Listed Symbols ⊥ ts
     spots_kept no_trees h = tt
     spots_kept (tree t ts) h = (spot_kept t h.0, spots_kept ts h.1)
 
-    values_kept : (ts : Trees) → AreFormedValues Listed Symbols Switches ts → AreFormedValues Listed Symbols ⊥ ts
+    values_kept : (ts : Trees) → AreFormedValues ⊥ Listed Symbols Switches ts → AreFormedValues ⊥ Listed Symbols ⊥ ts
     values_kept no_trees h = tt
     values_kept (tree t ts) h = (h.0, value_kept t h.0 h.1, values_kept ts h.2)
 
-    element_kept : (t : Tree) → ElementShaped t (IsFormed Listed Symbols Switches t) → ElementShaped t (Loop t)
+    element_kept : (t : Tree) → ElementShaped t (IsFormed ⊥ Listed Symbols Switches t) → ElementShaped t (Loop t)
     element_kept (Use at name) h = h
     element_kept (Integer number) h = h
     element_kept (Constant literal) h = h
@@ -140,14 +140,14 @@ module _ (Listed : List (FieldItem UnitName) → Type 0) (Symbols Switches : Typ
     element_kept (VarPackage size elements) h = (h.0, (h.1.0, value_kept size h.1.0 h.1.1, elements_kept elements h.1.2))
     element_kept _ h = never h.0
 
-    elements_kept : (ts : Trees) → AreFormedElements Listed Symbols Switches ts → AreFormedElements Listed Symbols ⊥ ts
+    elements_kept : (ts : Trees) → AreFormedElements ⊥ Listed Symbols Switches ts → AreFormedElements ⊥ Listed Symbols ⊥ ts
     elements_kept no_trees h = tt
     elements_kept (tree t ts) h = (element_kept t h.0, elements_kept ts h.1)
 
   -- ---- loops
 
   abbrev Loops : Trees → Type 0
-  Loops = AreFormed Listed Symbols ⊥
+  Loops = AreFormed ⊥ Listed Symbols ⊥
 
   abbrev Value : Tree → Type 0
   Value t = (is_expression t ≡ true) × Loop t
@@ -216,7 +216,7 @@ module _ (Listed : List (FieldItem UnitName) → Type 0) (Symbols Switches : Typ
   IsNoSwitch _ = Unit {0}
 
   mutual
-    term_formed : (t : Tree) → IsNoSwitch t → IsFormed Listed Symbols Switches t → (plan : Plan) → TakesSmall plan → (level : ℕ) (inside : Bool) → Loop (unswitched plan level inside t)
+    term_formed : (t : Tree) → IsNoSwitch t → IsFormed ⊥ Listed Symbols Switches t → (plan : Plan) → TakesSmall plan → (level : ℕ) (inside : Bool) → Loop (unswitched plan level inside t)
     term_formed (Return value) other h plan small level inside = (h.0, value_kept value h.0 h.1)
     term_formed (Name at name value) other h plan small level inside = (h.0, h.1, value_kept value h.1 h.2)
     term_formed (Alias from source at name) other h plan small level inside = h
@@ -229,6 +229,8 @@ module _ (Listed : List (FieldItem UnitName) → Type 0) (Symbols Switches : Typ
     term_formed (If test body) other h plan small level inside = (h.0, value_kept test h.0 h.1, all_formed body h.2 plan small level inside)
     term_formed (Else body) other h plan small level inside = all_formed body h plan small level inside
     term_formed (While test body) other h plan small level inside = (h.0, value_kept test h.0 h.1, all_formed body h.2 plan small level false)
+    term_formed (For start test step body) other h plan small level inside = absurd h.0
+    term_formed (Print place format args) other h plan small level inside = absurd h.0
     term_formed Break other h plan small level inside = tt
     term_formed Continue other h plan small level inside = tt
     term_formed (OperationRegion at name space args) other h plan small level inside = (h.0, h.1, operands_kept region_letters args h.2)
@@ -261,7 +263,7 @@ module _ (Listed : List (FieldItem UnitName) → Type 0) (Symbols Switches : Typ
     term_formed (VarPackage size elements) other h plan small level inside = value_kept (VarPackage size elements) refl h
     term_formed (CondRefOf place target) other h plan small level inside = value_kept (CondRefOf place target) refl h
 
-    chain_formed : (cases : Trees) → AreFormedCases Listed Symbols Switches cases → (plan : Plan) → TakesSmall plan → (level : ℕ) → Loops (chain_of (links plan level cases (default_link plan level cases)))
+    chain_formed : (cases : Trees) → AreFormedCases ⊥ Listed Symbols Switches cases → (plan : Plan) → TakesSmall plan → (level : ℕ) → Loops (chain_of (links plan level cases (default_link plan level cases)))
     chain_formed no_trees h plan small level = tt
     chain_formed (tree (Case value body) cases) h plan small level =
         let test : Value (case_test (value_local plan level) value) = test_formed (nth plan.free level) value (small level) h.0 in
@@ -271,7 +273,7 @@ module _ (Listed : List (FieldItem UnitName) → Type 0) (Symbols Switches : Typ
     chain_formed (tree (Default body) (tree t ts)) h plan small level = absurd h
     chain_formed (tree _ cases) h plan small level = absurd h
 
-    pub all_formed : (ts : Trees) → AreFormed Listed Symbols Switches ts → (plan : Plan) → TakesSmall plan → (level : ℕ) (inside : Bool) → Loops (unswitched_all plan level inside ts)
+    pub all_formed : (ts : Trees) → AreFormed ⊥ Listed Symbols Switches ts → (plan : Plan) → TakesSmall plan → (level : ℕ) (inside : Bool) → Loops (unswitched_all plan level inside ts)
     all_formed no_trees h plan small level inside = tt
     all_formed (tree (Switch value cases) rest) h plan small level inside =
         loop_terms_formed plan small (have_continue cases) inside value (nth plan.free level) (chain_of (links plan level cases (default_link plan level cases))) (unswitched_all plan level inside rest) (small level)
@@ -279,8 +281,8 @@ module _ (Listed : List (FieldItem UnitName) → Type 0) (Symbols Switches : Typ
     all_formed (tree Continue rest) h plan small level inside = continue_formed plan small inside (unswitched_all plan level inside rest) (all_formed rest h.2 plan small level inside)
     all_formed (tree t rest) h plan small level inside = (term_formed t tt h.0 plan small level inside, tt, all_formed rest h.2 plan small level inside)
 
-pub loops_formed : (Listed : List (FieldItem UnitName) → Type 0) (Symbols Switches : Type 0) (program : Trees) → AreFormed Listed Symbols Switches program → AreFormed Listed Symbols ⊥ (without_switches program)
+pub loops_formed : (Listed : List (FieldItem UnitName) → Type 0) (Symbols Switches : Type 0) (program : Trees) → AreFormed ⊥ Listed Symbols Switches program → AreFormed ⊥ Listed Symbols ⊥ (without_switches program)
 loops_formed Listed Symbols Switches program h = all_formed Listed Symbols Switches program h (plan_of program) (plan_small program) 0 false
 
-pub loops_shaped : (program : Trees) → AreFormed (AreItems 0) ⊥ (Unit {0}) program → AreShaped (without_switches program)
+pub loops_shaped : (program : Trees) → AreFormed ⊥ (AreItems 0) ⊥ (Unit {0}) program → AreShaped (without_switches program)
 loops_shaped = loops_formed (AreItems 0) ⊥ (Unit {0})

@@ -2,7 +2,6 @@ pub mod Walks
 pub mod Names
 pub mod Formed
 pub mod Unswitchable
-pub mod Steady
 pub mod Named
 pub mod Folded
 pub mod Faithful

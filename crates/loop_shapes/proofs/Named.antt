@@ -6,12 +6,12 @@ use Rattle.acpi_values.specs.Operators.{row_of}
 use Rattle.asl_meaning.specs.Meaning.{target_operator}
 use Rattle.asl_tree.specs.declared.term.Compound.{Compound}
 use Rattle.asl_tree.specs.Symbols.{compound_operator}
-use Rattle.asl_tree.specs.Tree.{Tree, Omitted, Call, Apply, Operated, Assigned, AssignedBy, Buffer, Package, VarPackage, CondRefOf, Return, Name, Method, Container', Scope, If, ElseIf, Else, While, Switch, Case, Default, OperationRegion, BankField, CreateField, Trees, no_trees, tree}
+use Rattle.asl_tree.specs.Tree.{Tree, Omitted, Call, Apply, Operated, Assigned, AssignedBy, Buffer, Package, VarPackage, CondRefOf, Return, Name, Method, Container', Scope, If, ElseIf, Else, While, For, Print, Switch, Case, Default, OperationRegion, BankField, CreateField, Trees, no_trees, tree}
 use Rattle.asl_lower.specs.Nodes.{given, last_target, applied, assigned, assigned_by, before, named, inner_args, named_args, named_all}
 use Rattle.hidden_locals.specs.Crossing.{have_continue}
 use Rattle.hidden_locals.specs.Locals.{locals, locals_all}
 use Rattle.hidden_locals.specs.Switches.{are_crossed, HaveLocals}
-use Rattle.loop_shapes.proofs.Steady.{Fewer, fewer_none, fewer_join, fewer_left, fewer_right, fewer_both, Steady, SteadyAll, same_term, same_terms, steady_then, steady_more, have_enough, steady_if, steady_else_if, steady_else, steady_while, steady_switch, steady_case, steady_default, steady_container, steady_scope, steady_method}
+use Rattle.hidden_locals.proofs.Steady.{Fewer, fewer_none, fewer_join, fewer_left, fewer_right, fewer_both, Steady, SteadyAll, same_term, same_terms, steady_then, steady_more, have_enough, steady_if, steady_else_if, steady_else, steady_while, steady_for, steady_switch, steady_case, steady_default, steady_container, steady_scope, steady_method}
 
 -- ---- operators
 
@@ -108,6 +108,8 @@ mutual
   steady (If test body) = steady_if (named test) test (named_all body) body ((steady test).fewer) (all_steady body)
   steady (ElseIf test body) = steady_else_if (named test) test (named_all body) body ((steady test).fewer) (all_steady body)
   steady (While test body) = steady_while (named test) test (named_all body) body ((steady test).fewer) (all_steady body)
+  steady (For start test step body) = steady_for (named start) start (named test) test (named step) step (named_all body) body ((steady start).fewer) ((steady test).fewer) ((steady step).fewer) (all_steady body)
+  steady (Print place format args) = record { same_depth = refl; same_crossed = refl; same_continue = refl; fewer = fewer_both (locals (named place)) (locals place) (locals_all (named_args args)) (locals_all args) ((steady place).fewer) (args_fewer args); has = λ k. tt }
   steady (Else body) = steady_else (named_all body) body (all_steady body)
   steady (Switch value cases) = steady_switch (named value) value (named_all cases) cases ((steady value).fewer) (all_steady cases)
   steady (Case value body) = steady_case (named value) value (named_all body) body ((steady value).fewer) (all_steady body)

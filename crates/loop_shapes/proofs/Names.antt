@@ -161,7 +161,7 @@ module _ (whole : Whole) where
 
 -- ---- the whole program
 
-module _ (Listed : List (FieldItem UnitName) → Type 0) (Symbols Switches : Type 0) (program : Trees) (h : AreFormed Listed Symbols Switches program) where
+module _ (Listed : List (FieldItem UnitName) → Type 0) (Symbols Switches : Type 0) (program : Trees) (h : AreFormed ⊥ Listed Symbols Switches program) where
   pub same_declarations : declarations (without_switches program) ≡ declarations program
   same_declarations = Loops.same_declarations program (defaults_last Listed Symbols Switches program h)
 

@@ -9,7 +9,7 @@ use Rattle.asl_tree.specs.FieldItems.{FieldItem}
 use Rattle.asl_tree.specs.declared.path.Path.{Path}
 use Rattle.asl_tree.specs.declared.term.Literal.{Literal}
 use Rattle.asl_tree.specs.Names.{place_of}
-use Rattle.asl_tree.specs.Tree.{At, Tree, Integer, Constant, String, InSlot, Buffer, Package, VarPackage, Apply, Method, Container', Scope, If, ElseIf, Else, While, Switch, Case, Default, Break, Continue, Trees, no_trees, tree, UnitName}
+use Rattle.asl_tree.specs.Tree.{At, Tree, Integer, Constant, String, InSlot, Buffer, Package, VarPackage, Apply, Method, Container', Scope, If, ElseIf, Else, While, For, Print, Switch, Case, Default, Break, Continue, Trees, no_trees, tree, UnitName}
 use Rattle.asl_meaning.specs.Declarations.{As, Declarations, with_declared, declare, declare_all}
 use Rattle.acpi_names.proofs.Mentions.{right_nil}
 use Rattle.asl_fold.proofs.Declared.{both}
@@ -64,11 +64,12 @@ have_members (tree m ms) h = h
 -- whatever is asked of the lists of fields, with symbols and Switches or without
 module _ (Listed : List (FieldItem UnitName) → Type 0) (Symbols Switches : Type 0) where
   mutual
-    default_last : (t : Tree) → IsFormed Listed Symbols Switches t → HasDefaultsLast t
+    default_last : (t : Tree) → IsFormed ⊥ Listed Symbols Switches t → HasDefaultsLast t
     default_last (If test body) h = defaults_last body h.2
     default_last (ElseIf test body) h = defaults_last body h.3
     default_last (Else body) h = defaults_last body h
     default_last (While test body) h = defaults_last body h.2
+    default_last (For start test step body) h = absurd h.0
     default_last (Container' kind at name body) h = defaults_last body h.2
     default_last (Scope here at name body) h = defaults_last body h.1
     default_last (Method at name flags body) h = defaults_last body h.2
@@ -76,11 +77,11 @@ module _ (Listed : List (FieldItem UnitName) → Type 0) (Symbols Switches : Typ
     default_last _ h = tt
 
     -- in formed terms each Default stands last
-    pub defaults_last : (ts : Trees) → AreFormed Listed Symbols Switches ts → HaveDefaultsLast ts
+    pub defaults_last : (ts : Trees) → AreFormed ⊥ Listed Symbols Switches ts → HaveDefaultsLast ts
     defaults_last no_trees h = tt
     defaults_last (tree t ts) h = (default_last t h.0, defaults_last ts h.2)
 
-    ends_with : (ts : Trees) → AreFormedCases Listed Symbols Switches ts → EndWithDefault ts
+    ends_with : (ts : Trees) → AreFormedCases ⊥ Listed Symbols Switches ts → EndWithDefault ts
     ends_with no_trees h = tt
     ends_with (tree (Case value body) ts) h = (defaults_last body h.1, ends_with ts h.2)
     ends_with (tree (Default body) no_trees) h = defaults_last body h
@@ -195,11 +196,11 @@ module _ {A : Type 0} (walk : Walk A) where
   test_quiet i _ h = absurd h
 
   module _ (Listed : List (FieldItem UnitName) → Type 0) (Symbols Switches : Type 0) where
-    abbrev D : (ts : Trees) → AreFormed Listed Symbols Switches ts → (plan : Plan) (level : ℕ) (inside : Bool) (s : AbsolutePath) (d : Declarations) → declare_all (unswitched_all plan level inside ts) s d ≡ declare_all ts s d
+    abbrev D : (ts : Trees) → AreFormed ⊥ Listed Symbols Switches ts → (plan : Plan) (level : ℕ) (inside : Bool) (s : AbsolutePath) (d : Declarations) → declare_all (unswitched_all plan level inside ts) s d ≡ declare_all ts s d
     D ts h = all_declare ts (defaults_last Listed Symbols Switches ts h)
 
     mutual
-      term_same : (t : Tree) → IsFormed Listed Symbols Switches t → (plan : Plan) (level : ℕ) (inside : Bool) (s : AbsolutePath) (d : Declarations) → W (unswitched plan level inside t) s d ≡ W t s d
+      term_same : (t : Tree) → IsFormed ⊥ Listed Symbols Switches t → (plan : Plan) (level : ℕ) (inside : Bool) (s : AbsolutePath) (d : Declarations) → W (unswitched plan level inside t) s d ≡ W t s d
       term_same (If test body) h plan level inside s d =
           walk.of_if test (unswitched_all plan level inside body) s d ∙ ap (λ xs. W test s d ++ xs) (all_same body h.2 plan level inside s d) ∙ sym (walk.of_if test body s d)
       term_same (ElseIf test body) h plan level inside s d =
@@ -217,7 +218,7 @@ module _ {A : Type 0} (walk : Walk A) where
           ∙ ap (λ xs. walk.method at name flags s d ++ xs) (all_same body h.2 (plan_of body) 0 false (place_of name s) (with_declared (place_of name s) (As (MethodObject flags)) d)) ∙ sym (walk.of_method at name flags body s d)
       term_same t h plan level inside s d = refl
 
-      chain_same : (cases : Trees) → AreFormedCases Listed Symbols Switches cases → (plan : Plan) (level : ℕ) (s : AbsolutePath) (d : Declarations) → Ws (chain_of (links plan level cases (default_link plan level cases))) s d ≡ Ws cases s d
+      chain_same : (cases : Trees) → AreFormedCases ⊥ Listed Symbols Switches cases → (plan : Plan) (level : ℕ) (s : AbsolutePath) (d : Declarations) → Ws (chain_of (links plan level cases (default_link plan level cases))) s d ≡ Ws cases s d
       chain_same no_trees h plan level s d = refl
       chain_same (tree (Case value body) cases) h plan level s d =
           let o : Option Trees = links plan level cases (default_link plan level cases) in
@@ -235,7 +236,7 @@ module _ {A : Type 0} (walk : Walk A) where
       chain_same (tree (Default body) (tree t ts)) h plan level s d = absurd h
       chain_same (tree t cases) h plan level s d = absurd h
 
-      pub all_same : (ts : Trees) → AreFormed Listed Symbols Switches ts → (plan : Plan) (level : ℕ) (inside : Bool) (s : AbsolutePath) (d : Declarations) → Ws (unswitched_all plan level inside ts) s d ≡ Ws ts s d
+      pub all_same : (ts : Trees) → AreFormed ⊥ Listed Symbols Switches ts → (plan : Plan) (level : ℕ) (inside : Bool) (s : AbsolutePath) (d : Declarations) → Ws (unswitched_all plan level inside ts) s d ≡ Ws ts s d
       all_same no_trees h plan level inside s d = refl
       all_same (tree (Switch value cases) rest) h plan level inside s d =
           let chain : Trees = chain_of (links plan level cases (default_link plan level cases)) in

@@ -15,28 +15,30 @@ ghost use Rattle.loop_shapes.specs.Rows.{choice};
 
 /// It declares and calls the same, in the same order, and has the same errors of names and kinds.
 pub fn same_names()
-    ensures declared { (program : Trees) → AreFormed (AreItems 0) ⊥ (Unit {0}) program →
+    ensures declared { (program : Trees) → AreFormed ⊥ (AreItems 0) ⊥ (Unit {0}) program →
         declarations (without_switches program) ≡ declarations program }
-    ensures called { (program : Trees) → AreFormed (AreItems 0) ⊥ (Unit {0}) program → (has : AbsolutePath → Bool) →
+    ensures called { (program : Trees) → AreFormed ⊥ (AreItems 0) ⊥ (Unit {0}) program → (has : AbsolutePath → Bool) →
         calls_all has (without_switches program) [] nothing_declared ≡ calls_all has program [] nothing_declared }
-    ensures external { (program : Trees) → AreFormed (AreItems 0) ⊥ (Unit {0}) program →
+    ensures external { (program : Trees) → AreFormed ⊥ (AreItems 0) ⊥ (Unit {0}) program →
         externals (without_switches program) ≡ externals program }
-    ensures known { (program : Trees) → AreFormed (AreItems 0) ⊥ (Unit {0}) program → known_of (without_switches program) ≡ known_of program }
-    ensures whole { (program : Trees) → AreFormed (AreItems 0) ⊥ (Unit {0}) program → whole_of (without_switches program) ≡ whole_of program }
-    ensures names { (program : Trees) → AreFormed (AreItems 0) ⊥ (Unit {0}) program → name_errors (without_switches program) ≡ name_errors
+    ensures known { (program : Trees) → AreFormed ⊥ (AreItems 0) ⊥ (Unit {0}) program →
+        known_of (without_switches program) ≡ known_of program }
+    ensures whole { (program : Trees) → AreFormed ⊥ (AreItems 0) ⊥ (Unit {0}) program →
+        whole_of (without_switches program) ≡ whole_of program }
+    ensures names { (program : Trees) → AreFormed ⊥ (AreItems 0) ⊥ (Unit {0}) program → name_errors (without_switches program) ≡ name_errors
         program }
-    ensures types { (program : Trees) → AreFormed (AreItems 0) ⊥ (Unit {0}) program → type_errors (without_switches program) ≡ type_errors
+    ensures types { (program : Trees) → AreFormed ⊥ (AreItems 0) ⊥ (Unit {0}) program → type_errors (without_switches program) ≡ type_errors
         program }
 {}
 
 /// Its terms may be written.
 pub fn loops_are_shaped()
-    ensures { (program : Trees) → AreFormed (AreItems 0) ⊥ (Unit {0}) program → AreShaped (without_switches program) }
+    ensures { (program : Trees) → AreFormed ⊥ (AreItems 0) ⊥ (Unit {0}) program → AreShaped (without_switches program) }
 {}
 
 /// Where it and its methods have Locals enough, its Switches become loops.
 pub fn are_unswitchable()
-    ensures { (program : Trees) → AreFormed (AreItems 0) ⊥ (Unit {0}) program → HaveLocals program → IsUnswitchable program }
+    ensures { (program : Trees) → AreFormed ⊥ (AreItems 0) ⊥ (Unit {0}) program → HaveLocals program → IsUnswitchable program }
 {}
 
 /// Where it and its methods have Locals enough, they have so with its operators named and its ElseIfs nested, and with
@@ -48,13 +50,13 @@ pub fn locals_stay()
 
 /// Bytes that do what it does with loops for its Switches do what it does, where it and its methods have Locals enough.
 pub fn loops_are_faithful()
-    ensures { (width : Width) (program : Trees) (bytes : List ℕ) → AreFormed (AreItems 0) ⊥ (Unit {0}) program → HaveLocals program
+    ensures { (width : Width) (program : Trees) (bytes : List ℕ) → AreFormed ⊥ (AreItems 0) ⊥ (Unit {0}) program → HaveLocals program
         → IsFaithful width (known_of (without_switches program)) (externals (without_switches program)) (without_switches program) bytes
         → IsFaithful width (known_of program) (externals program) program bytes }
 {}
 
 /// There are formed programs with Switches and Locals enough.
 pub fn switches_are_formed()
-    ensures formed { AreFormed (AreItems 0) ⊥ (Unit {0}) choice }
+    ensures formed { AreFormed ⊥ (AreItems 0) ⊥ (Unit {0}) choice }
     ensures enough { HaveLocals choice }
 {}

@@ -6,6 +6,7 @@ mod SessionRows
 mod ControlRows
 pub mod SwitchRows
 mod SwitchTables
+mod FormatRows
 pub mod NameRows
 mod ShortestRows
 mod Whole

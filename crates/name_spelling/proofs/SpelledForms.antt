@@ -16,7 +16,7 @@ use Rattle.asl_tree.specs.declared.term.Special.TheVariants as Special
 use Rattle.asl_tree.specs.declared.term.Symbolic.TheVariants as Symbolic
 use Rattle.asl_tree.specs.Names.{place_of}
 use Rattle.acpi_names.specs.Shortest.{spelled_use}
-use Rattle.asl_tree.specs.Tree.{At, Tree, Apply, Integer, Constant, Raw, Omitted, Use, External, Package, VarPackage, Misshapen, Trees, no_trees, tree, count, Field, IndexField, BankField, UnitName, Item, Fill}
+use Rattle.asl_tree.specs.Tree.{At, Tree, Apply, Integer, Constant, String, Raw, Omitted, Use, External, Package, VarPackage, Misshapen, Trees, no_trees, tree, count, Field, IndexField, BankField, UnitName, Item, Fill}
 use Rattle.asl_tree.specs.View.{fits, operated, symbol_of, form, operands_as, targets_of, plain_of, apply_of, buffer, body_bytes, packaged, counted, item_in, items_in}
 use Rattle.asl_meaning.specs.Declarations.{ExternalType}
 use Rattle.acpi_names.specs.Parts.{part_of}
@@ -190,6 +190,9 @@ module _ (shorten : Bool) (has : AbsolutePath → Bool) (says : AbsolutePath →
   spelled_form told here (Op.Control Control.ElseIf) (tree test no_trees) body = refl
   spelled_form told here (Op.Control Control.Else) no_trees body = refl
   spelled_form told here (Op.Control Control.While) (tree test no_trees) body = refl
+  spelled_form told here (Op.Control Control.For) (tree start (tree test (tree step no_trees))) body = refl
+  spelled_form told here (Op.Control Control.Printf) (tree (String format) args) no_trees = refl
+  spelled_form told here (Op.Control Control.Fprintf) (tree place (tree (String format) args)) no_trees = refl
   spelled_form told here (Op.Control Control.Switch) (tree value no_trees) cases = refl
   spelled_form told here (Op.Control Control.Case) (tree value no_trees) body = refl
   spelled_form told here (Op.Control Control.Default) no_trees body = refl

@@ -293,6 +293,10 @@ fn spell_form(
             spell_all(alloc, index, calls, shorten, args, scope)?;
             Ok(())
         }
+        Part::Prints => {
+            spell_all(alloc, index, calls, shorten, args, scope)?;
+            Ok(())
+        }
         Part::Units(_) => {
             spell_all(alloc, index, calls, shorten, args, scope)?;
             spell_all(alloc, index, calls, shorten, body, scope)?;

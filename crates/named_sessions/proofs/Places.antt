@@ -14,7 +14,7 @@ use Rattle.acpi_values.specs.declared.operator.EventOp.TheVariants as EventOp
 use Rattle.acpi_values.specs.declared.operator.Plain.{Plain}
 use Rattle.asl_tree.specs.FieldItems.{FieldItem, UnitItem, SkipItem, OffsetItem, AccessItem, ConnectionItem, ToName, ToBytes}
 use Rattle.asl_tree.specs.Names.{place_of, denoted}
-use Rattle.asl_tree.specs.Tree.{At, Tree, Use, Call, Apply, Buffer, Package, VarPackage, CondRefOf, Return, Name, Alias, External, Method, Mutex, Event, Container', Scope, Trees, no_trees, tree, count, OperationRegion, Field, IndexField, BankField, CreateField, UnitName, If, ElseIf, Else, While, Operated, Assigned, AssignedBy, Switch, Case, Default}
+use Rattle.asl_tree.specs.Tree.{At, Tree, Use, Call, Apply, Buffer, Package, VarPackage, CondRefOf, Return, Name, Alias, External, Method, Mutex, Event, Container', Scope, Trees, no_trees, tree, count, OperationRegion, Field, IndexField, BankField, CreateField, UnitName, If, ElseIf, Else, While, Operated, Assigned, AssignedBy, Switch, Case, Default, For, Print}
 use Rattle.asl_meaning.specs.Declarations.{As, ExternalType, Declarations, nothing_declared, is_named, scope_path, with_declared, declare, declare_item}
 use Rattle.asl_meaning.specs.Meaning.{SpotForm, OfResult, OfInside, NoSpot, spot_form}
 use Rattle.acpi_names.specs.Errors.{NameError, Twice, DeclaredHere, Missing, NoContainer, LeavesRoot, Differs, TooLong, WrongCount, WrongKind, Asked, Anything, AValue, AMutex, AnEvent, AUnit, ARegion, asked_by, unless, Whole, whole_of, step_errors, length_errors, is_new, has_parent, agrees_with, final, is_container, takes_none, takes, is_mutex, is_event, is_unit, is_region, unit_path, declared_errors, external_errors, use_errors, call_errors, scope_errors, item_errors, items_errors, cond_errors, names, names_all, name_end, asked_types, used_types, letter_types, spot_form_types, element_types, types, spot_types, first_types, operand_types, spot_types_all, element_types_all, types_all, name_errors, type_errors}
@@ -127,6 +127,8 @@ module _ (files : ℕ) where
       names_told (ElseIf test body) scope d h = both _ _ (names_told test scope d h.0) (names_all_told body scope d h.1)
       names_told (Else body) scope d h = names_all_told body scope d h
       names_told (While test body) scope d h = both _ _ (names_told test scope d h.0) (names_all_told body scope d h.1)
+      names_told (For start test step body) scope d h = both _ _ (names_told start scope d h.0) (both _ _ (names_told test scope d h.1) (both _ _ (names_told step scope d h.2) (names_all_told body scope d h.3)))
+      names_told (Print place format args) scope d h = both _ _ (names_told place scope d h.0) (names_all_told args scope d h.1)
       names_told (Switch value cases) scope d h = both _ _ (names_told value scope d h.0) (names_all_told cases scope d h.1)
       names_told (Case value body) scope d h = both _ _ (names_told value scope d h.0) (names_all_told body scope d h.1)
       names_told (Default body) scope d h = names_all_told body scope d h
@@ -198,6 +200,8 @@ module _ (files : ℕ) where
       types_told (ElseIf test body) scope h = both _ _ (types_told test scope h.0) (types_all_told body scope h.1)
       types_told (Else body) scope h = types_all_told body scope h
       types_told (While test body) scope h = both _ _ (types_told test scope h.0) (types_all_told body scope h.1)
+      types_told (For start test step body) scope h = both _ _ (types_told start scope h.0) (both _ _ (types_told test scope h.1) (both _ _ (types_told step scope h.2) (types_all_told body scope h.3)))
+      types_told (Print place format args) scope h = both _ _ (spot_types_told place scope h.0) (types_all_told args scope h.1)
       types_told (Switch value cases) scope h = both _ _ (types_told value scope h.0) (types_all_told cases scope h.1)
       types_told (Case value body) scope h = both _ _ (types_told value scope h.0) (types_all_told body scope h.1)
       types_told (Default body) scope h = types_all_told body scope h

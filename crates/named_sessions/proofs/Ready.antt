@@ -17,7 +17,7 @@ use Rattle.asl_meaning.specs.Declarations.{Declared, As, AliasOf, ExternalType, 
 use Rattle.asl_meaning.specs.Meaning.{SpotForm, OfResult, OfInside, NoSpot, spot_form}
 use Rattle.acpi_state.specs.FieldActs.{region_letters, field_letters}
 use Rattle.asl_tree.specs.FieldItems.{FieldItem, UnitItem, SkipItem, OffsetItem, AccessItem, ConnectionItem, ToName, ToBytes}
-use Rattle.asl_tree.specs.Tree.{At, Tree, Integer, Constant, String, InSlot, Debug, Omitted, Raw, Use, Call, Apply, Buffer, Package, VarPackage, CondRefOf, Return, Name, Alias, External, Method, Mutex, Event, Container', Scope, Fill, Misshapen, Operated, Assigned, AssignedBy, Trees, no_trees, tree, count, OperationRegion, Field, IndexField, BankField, CreateField, UnitName, If, ElseIf, Else, While, Break, Continue, Item, Switch, Case, Default}
+use Rattle.asl_tree.specs.Tree.{At, Tree, Integer, Constant, String, InSlot, Debug, Omitted, Raw, Use, Call, Apply, Buffer, Package, VarPackage, CondRefOf, Return, Name, Alias, External, Method, Mutex, Event, Container', Scope, Fill, Misshapen, Operated, Assigned, AssignedBy, Trees, no_trees, tree, count, OperationRegion, Field, IndexField, BankField, CreateField, UnitName, If, ElseIf, Else, While, Break, Continue, Item, Switch, Case, Default, For, Print}
 use Rattle.asl_meaning.proofs.Searches.{first_is_known, absolute_candidates}
 use Rattle.aml_code.specs.Fronts.{is_segment, AreSegments, IsName, HasStart, IsUsedName}
 use Rattle.aml_sessions.specs.Ready.{is_expression, AtMostOne, Denotes, IsSought, Declares, IsElementName, CondReady, SpotReady, LetterReady, ElementReady, IsReady, IsSpot, IsAlone, AreOperands, AreSpots, AreValues, AreElements, AreReady, AreItems, AreUnits, IsFound}
@@ -179,6 +179,8 @@ module _ (whole : Whole) where
     within (ElseIf test body) scope d e = within_all body scope d (right_none (names whole test scope d) _ e)
     within (Else body) scope d e = within_all body scope d e
     within (While test body) scope d e = within_all body scope d (right_none (names whole test scope d) _ e)
+    within (For start test step body) scope d e =
+        within_all body scope d (right_none (names whole step scope d) _ (right_none (names whole test scope d) _ (right_none (names whole start scope d) _ e)))
     within (Switch value cases) scope d e = within_all cases scope d (right_none (names whole value scope d) _ e)
     within (Case value body) scope d e = within_all body scope d (right_none (names whole value scope d) _ e)
     within (Default body) scope d e = within_all body scope d e
@@ -605,6 +607,8 @@ module _ (shorten : Bool) (whole : Whole) (says : AbsolutePath → ExternalType 
     ready (Switch value cases) scope d shaped valid e y w = absurd shaped.0
     ready (Case value body) scope d shaped valid e y w = absurd shaped
     ready (Default body) scope d shaped valid e y w = absurd shaped
+    ready (For start test step body) scope d shaped valid e y w = absurd shaped.0
+    ready (Print place format args) scope d shaped valid e y w = absurd shaped.0
     ready Misshapen scope d shaped valid e y w = absurd shaped
 
     pub ready_all : (ts : Trees) (scope : AbsolutePath) (d : Declarations) → AreShaped ts → AreSegments scope → names_all whole ts scope d ≡ [] → types_all whole ts scope ≡ [] → Within (declare_all ts scope d) whole.all → AreReady known (spelled_all shorten has says ts scope) scope

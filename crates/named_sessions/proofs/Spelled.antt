@@ -32,7 +32,7 @@ use Rattle.asl_tree.specs.declared.path.Path.{Path}
 use Rattle.asl_tree.specs.Literals.{literal_number}
 use Rattle.asl_tree.specs.Names.{Known, is_known, place_of, denoted, element_path}
 use Rattle.asl_meaning.specs.Declarations.{ExternalType}
-use Rattle.asl_tree.specs.Tree.{Tree, Integer, Constant, String, InSlot, Debug, Omitted, Raw, Use, Call, Apply, Buffer, Package, VarPackage, CondRefOf, Return, Name, Alias, External, Method, Mutex, Event, Container', Scope, Fill, Misshapen, Operated, Assigned, AssignedBy, Trees, no_trees, tree, OperationRegion, Field, IndexField, BankField, CreateField, UnitName, If, ElseIf, Else, While, Break, Continue, Item, Switch, Case, Default}
+use Rattle.asl_tree.specs.Tree.{Tree, Integer, Constant, String, InSlot, Debug, Omitted, Raw, Use, Call, Apply, Buffer, Package, VarPackage, CondRefOf, Return, Name, Alias, External, Method, Mutex, Event, Container', Scope, Fill, Misshapen, Operated, Assigned, AssignedBy, Trees, no_trees, tree, OperationRegion, Field, IndexField, BankField, CreateField, UnitName, If, ElseIf, Else, While, Break, Continue, Item, Switch, Case, Default, For, Print}
 use Rattle.asl_meaning.specs.Meaning as S
 use Rattle.asl_meaning.specs.Meaning.{SourceRun, SpotForm, OfResult, OfInside, NoSpot, spot_form}
 use Rattle.asl_meaning.specs.SourceSession.{source_session}
@@ -288,6 +288,8 @@ module _ (shorten : Bool) (width : Width) (says : AbsolutePath → ExternalType 
     alike (Switch value cases) scope due h = absurd h.0
     alike (Case value body) scope due h = absurd h
     alike (Default body) scope due h = absurd h
+    alike (For start test step body) scope due h = absurd h.0
+    alike (Print place format args) scope due h = absurd h.0
     alike Misshapen scope due h = absurd h
 
     alike_spot : (t : Tree) (scope : AbsolutePath) → IsShapedSpot t → Alike shorten width says known Any (λ p. p) (P t scope) (P' t scope)

@@ -8,11 +8,11 @@ use Rattle.acpi_values.specs.Operators.{Letter, Valued, Kept, Placed, Used, Row,
 use Rattle.acpi_values.specs.Operators as L
 use Rattle.acpi_state.specs.FieldActs.{region_letters, field_letters}
 use Rattle.asl_meaning.specs.Meaning.{OfInside, spot_form}
-use Rattle.asl_tree.specs.Tree.{Tree, Integer, Constant, String, InSlot, Debug, Omitted, Raw, Use, Call, Apply, Buffer, Package, VarPackage, CondRefOf, Return, Name, Alias, External, Method, Mutex, Event, Container', Scope, Trees, no_trees, tree, count, OperationRegion, Field, IndexField, BankField, CreateField, If, ElseIf, Else, While, Break, Continue, Operated, Assigned, AssignedBy, UnitName, Switch, Case, Default}
+use Rattle.asl_tree.specs.Tree.{Tree, Integer, Constant, String, InSlot, Debug, Omitted, Raw, Use, Call, Apply, Buffer, Package, VarPackage, CondRefOf, Return, Name, Alias, External, Method, Mutex, Event, Container', Scope, Trees, no_trees, tree, count, OperationRegion, Field, IndexField, BankField, CreateField, If, ElseIf, Else, While, Break, Continue, Operated, Assigned, AssignedBy, UnitName, Switch, Case, Default, For, Print}
 use Rattle.asl_tree.specs.FieldItems.{FieldItem}
 use Rattle.aml_sessions.specs.Ready.{is_expression, is_constant, SpotReady}
 use Rattle.acpi_names.specs.Terms.{has_no_targets, is_value, are_values, is_term, are_terms}
-use Rattle.named_sessions.specs.Shaped.{UsedShaped, LetterShaped, ElementShaped, IsNumber, IsCaseMember, AreCaseMembers, HaveCaseMembers, IsCaseValue, IsFormed, IsFormedSpot, IsFormedAlone, AreFormedOperands, AreFormedSpots, AreFormedValues, AreFormedElements, AreFormed, AreFormedCases}
+use Rattle.named_sessions.specs.Shaped.{UsedShaped, LetterShaped, ElementShaped, EffectShaped, IsNumber, IsCaseMember, AreCaseMembers, HaveCaseMembers, IsCaseValue, IsFormed, IsFormedSpot, IsFormedAlone, AreFormedOperands, AreFormedSpots, AreFormedValues, AreFormedElements, AreFormed, AreFormedCases}
 
 -- an operator whose place is that of its operand has no targets by its row
 without_targets : (op : Plain) (targets : Trees) → count targets ≡ (row_of op).targets → has_no_targets (spot_form op) targets ≡ true
@@ -59,13 +59,13 @@ case_value (Buffer size bytes) h = number_value size h
 case_value _ h = absurd h
 
 -- whatever is asked of the lists of fields, with symbols and Switches or without
-module _ (Listed : List (FieldItem UnitName) → Type 0) (Symbols Switches : Type 0) where
+module _ (Forms : Type 0) (Listed : List (FieldItem UnitName) → Type 0) (Symbols Switches : Type 0) where
   used_value : (t : Tree) → UsedShaped t → is_value t ≡ true
   used_value (Use at name) h = refl
   used_value _ h = absurd h
 
-  letter_value : (letter : Letter) (t : Tree) → (is_expression t ≡ true → IsFormed Listed Symbols Switches t → is_value t ≡ true) → (IsFormedSpot Listed Symbols Switches t → is_value t ≡ true)
-      → LetterShaped letter t ((is_expression t ≡ true) × IsFormed Listed Symbols Switches t) (IsFormedSpot Listed Symbols Switches t) → is_value t ≡ true
+  letter_value : (letter : Letter) (t : Tree) → (is_expression t ≡ true → IsFormed Forms Listed Symbols Switches t → is_value t ≡ true) → (IsFormedSpot Forms Listed Symbols Switches t → is_value t ≡ true)
+      → LetterShaped letter t ((is_expression t ≡ true) × IsFormed Forms Listed Symbols Switches t) (IsFormedSpot Forms Listed Symbols Switches t) → is_value t ≡ true
   letter_value Valued t value spot h = value h.0 h.1
   letter_value Kept t value spot h = value h.0 h.1
   letter_value Placed t value spot h = spot h
@@ -73,31 +73,36 @@ module _ (Listed : List (FieldItem UnitName) → Type 0) (Symbols Switches : Typ
   letter_value (L.Raw size) (Raw other number) value spot h = refl
   letter_value (L.Raw size) _ value spot h = absurd h
 
-  element_value : (t : Tree) → (is_expression t ≡ true → IsFormed Listed Symbols Switches t → is_value t ≡ true) → ElementShaped t (IsFormed Listed Symbols Switches t) → is_value t ≡ true
+  element_value : (t : Tree) → (is_expression t ≡ true → IsFormed Forms Listed Symbols Switches t → is_value t ≡ true) → ElementShaped t (IsFormed Forms Listed Symbols Switches t) → is_value t ≡ true
   element_value (Use at name) value h = refl
   element_value t value h = value (constant_value t h.0) h.1
+
+  -- what may be left out
+  effect_value : (t : Tree) → (is_expression t ≡ true → IsFormed Forms Listed Symbols Switches t → is_value t ≡ true) → EffectShaped t (IsFormed Forms Listed Symbols Switches t) → is_value t ≡ true
+  effect_value Omitted value h = refl
+  effect_value t value h = value h.0 h.1
 
   applied : (op : Plain) (args targets : Trees) → are_values args ≡ true → count targets ≡ (row_of op).targets → are_values targets ≡ true → is_value (Apply op args targets) ≡ true
   applied op args targets h e k = and_from (has_no_targets (spot_form op) targets) (are_values args && are_values targets) (without_targets op targets e) (and_from (are_values args) (are_values targets) h k)
 
   -- the place of an operator, by its form
-  spot_applied : (op : Plain) (args targets : Trees) → (AreFormedOperands Listed Symbols Switches (row_of op).operands args → are_values args ≡ true) → (AreFormedSpots Listed Symbols Switches targets → are_values targets ≡ true)
-      → (IsFormedAlone Listed Symbols Switches args targets → (has_no_targets OfInside targets && (are_values args && are_values targets)) ≡ true)
-      → SpotReady (spot_form op) (AreFormedOperands Listed Symbols Switches (row_of op).operands args × (count targets ≡ (row_of op).targets) × AreFormedSpots Listed Symbols Switches targets) (IsFormedAlone Listed Symbols Switches args targets)
+  spot_applied : (op : Plain) (args targets : Trees) → (AreFormedOperands Forms Listed Symbols Switches (row_of op).operands args → are_values args ≡ true) → (AreFormedSpots Forms Listed Symbols Switches targets → are_values targets ≡ true)
+      → (IsFormedAlone Forms Listed Symbols Switches args targets → (has_no_targets OfInside targets && (are_values args && are_values targets)) ≡ true)
+      → SpotReady (spot_form op) (AreFormedOperands Forms Listed Symbols Switches (row_of op).operands args × (count targets ≡ (row_of op).targets) × AreFormedSpots Forms Listed Symbols Switches targets) (IsFormedAlone Forms Listed Symbols Switches args targets)
       → is_value (Apply op args targets) ≡ true
   spot_applied (Plain.Data DataOp.Index) args targets first rest alone h = applied (Plain.Data DataOp.Index) args targets (first h.0) h.1 (rest h.2)
   spot_applied (Plain.Data DataOp.DerefOf) args targets first rest alone h = alone h
   spot_applied _ args targets first rest alone h = absurd h
 
   -- the same where it is written with a symbol
-  spot_operated : (op : Plain) (args : Trees) → (AreFormedOperands Listed Symbols Switches (row_of op).operands args → are_values args ≡ true)
-      → SpotReady (spot_form op) (AreFormedOperands Listed Symbols Switches (row_of op).operands args) ⊥ → is_value (Operated op args) ≡ true
+  spot_operated : (op : Plain) (args : Trees) → (AreFormedOperands Forms Listed Symbols Switches (row_of op).operands args → are_values args ≡ true)
+      → SpotReady (spot_form op) (AreFormedOperands Forms Listed Symbols Switches (row_of op).operands args) ⊥ → is_value (Operated op args) ≡ true
   spot_operated (Plain.Data DataOp.Index) args all h = all h
   spot_operated (Plain.Data DataOp.DerefOf) args all h = absurd h
   spot_operated _ args all h = absurd h
 
   mutual
-    value : (t : Tree) → is_expression t ≡ true → IsFormed Listed Symbols Switches t → is_value t ≡ true
+    value : (t : Tree) → is_expression t ≡ true → IsFormed Forms Listed Symbols Switches t → is_value t ≡ true
     value (Integer number) e h = refl
     value (Constant literal) e h = refl
     value (String text) e h = refl
@@ -115,7 +120,7 @@ module _ (Listed : List (FieldItem UnitName) → Type 0) (Symbols Switches : Typ
     value (AssignedBy op target v) e h = and_from (is_value target) (is_value v) (spot_value target h.1) (value v h.4 h.5)
     value _ e h = absurd cc
 
-    spot_value : (t : Tree) → IsFormedSpot Listed Symbols Switches t → is_value t ≡ true
+    spot_value : (t : Tree) → IsFormedSpot Forms Listed Symbols Switches t → is_value t ≡ true
     spot_value Omitted h = refl
     spot_value Debug h = refl
     spot_value (InSlot slot) h = refl
@@ -124,30 +129,30 @@ module _ (Listed : List (FieldItem UnitName) → Type 0) (Symbols Switches : Typ
     spot_value (Operated op args) h = spot_operated op args (λ k. operands_values (row_of op).operands args k) h.2
     spot_value _ h = absurd h
 
-    alone_value : (args targets : Trees) → IsFormedAlone Listed Symbols Switches args targets → (has_no_targets OfInside targets && (are_values args && are_values targets)) ≡ true
+    alone_value : (args targets : Trees) → IsFormedAlone Forms Listed Symbols Switches args targets → (has_no_targets OfInside targets && (are_values args && are_values targets)) ≡ true
     alone_value (tree t no_trees) no_trees h = and_from (is_value t && true) true (and_from (is_value t) true (value t h.0 h.1) refl) refl
     alone_value _ _ h = absurd h
 
-    operands_values : (letters : List Letter) (ts : Trees) → AreFormedOperands Listed Symbols Switches letters ts → are_values ts ≡ true
+    operands_values : (letters : List Letter) (ts : Trees) → AreFormedOperands Forms Listed Symbols Switches letters ts → are_values ts ≡ true
     operands_values [] no_trees h = refl
     operands_values (letter ∷ letters) (tree t ts) h =
         and_from (is_value t) (are_values ts) (letter_value letter t (λ e s. value t e s) (λ s. spot_value t s) h.0) (operands_values letters ts h.1)
     operands_values _ _ h = absurd h
 
-    spots_values : (ts : Trees) → AreFormedSpots Listed Symbols Switches ts → are_values ts ≡ true
+    spots_values : (ts : Trees) → AreFormedSpots Forms Listed Symbols Switches ts → are_values ts ≡ true
     spots_values no_trees h = refl
     spots_values (tree t ts) h = and_from (is_value t) (are_values ts) (spot_value t h.0) (spots_values ts h.1)
 
-    values : (ts : Trees) → AreFormedValues Listed Symbols Switches ts → are_values ts ≡ true
+    values : (ts : Trees) → AreFormedValues Forms Listed Symbols Switches ts → are_values ts ≡ true
     values no_trees h = refl
     values (tree t ts) h = and_from (is_value t) (are_values ts) (value t h.0 h.1) (values ts h.2)
 
-    elements_values : (ts : Trees) → AreFormedElements Listed Symbols Switches ts → are_values ts ≡ true
+    elements_values : (ts : Trees) → AreFormedElements Forms Listed Symbols Switches ts → are_values ts ≡ true
     elements_values no_trees h = refl
     elements_values (tree t ts) h = and_from (is_value t) (are_values ts) (element_value t (λ e s. value t e s) h.0) (elements_values ts h.1)
 
   mutual
-    formed_term : (t : Tree) → IsFormed Listed Symbols Switches t → is_term t ≡ true
+    formed_term : (t : Tree) → IsFormed Forms Listed Symbols Switches t → is_term t ≡ true
     formed_term (Return v) h = value v h.0 h.1
     formed_term (Name at name v) h = value v h.1 h.2
     formed_term (Alias from source at name) h = refl
@@ -181,16 +186,20 @@ module _ (Listed : List (FieldItem UnitName) → Type 0) (Symbols Switches : Typ
     formed_term (Assigned target v) h = value (Assigned target v) refl h
     formed_term (AssignedBy op target v) h = value (AssignedBy op target v) refl h
     formed_term (ElseIf test body) h = and_from (is_value test) (are_terms body) (value test h.1 h.2) (terms body h.3)
+    formed_term (For start test step body) h =
+        and_from (is_value start) (is_value test && (is_value step && are_terms body)) (effect_value start (λ e s. value start e s) h.1)
+        (and_from (is_value test) (is_value step && are_terms body) (value test h.2 h.3) (and_from (is_value step) (are_terms body) (effect_value step (λ e s. value step e s) h.4) (terms body h.5)))
+    formed_term (Print place format args) h = and_from (is_value place) (are_values args) (spot_value place h.1) (values args h.3)
     formed_term (Switch v cases) h = and_from (is_value v) (are_terms cases) (value v h.1 h.2) (case_terms cases h.3)
     formed_term Break h = refl
     formed_term Continue h = refl
     formed_term _ h = absurd h
 
-    terms : (ts : Trees) → AreFormed Listed Symbols Switches ts → are_terms ts ≡ true
+    terms : (ts : Trees) → AreFormed Forms Listed Symbols Switches ts → are_terms ts ≡ true
     terms no_trees h = refl
     terms (tree t ts) h = and_from (is_term t) (are_terms ts) (formed_term t h.0) (terms ts h.2)
 
-    case_terms : (ts : Trees) → AreFormedCases Listed Symbols Switches ts → are_terms ts ≡ true
+    case_terms : (ts : Trees) → AreFormedCases Forms Listed Symbols Switches ts → are_terms ts ≡ true
     case_terms no_trees h = refl
     case_terms (tree (Case v body) ts) h =
         and_from (is_value v && are_terms body) (are_terms ts) (and_from (is_value v) (are_terms body) (case_value v h.0) (terms body h.1)) (case_terms ts h.2)
@@ -198,5 +207,5 @@ module _ (Listed : List (FieldItem UnitName) → Type 0) (Symbols Switches : Typ
     case_terms (tree _ _) h = absurd h
 
 -- formed terms are terms, and have values where values are due
-pub formed_terms : (Listed : List (FieldItem UnitName) → Type 0) (Symbols Switches : Type 0) (ts : Trees) → AreFormed Listed Symbols Switches ts → are_terms ts ≡ true
-formed_terms Listed Symbols Switches ts h = terms Listed Symbols Switches ts h
+pub formed_terms : (Forms : Type 0) (Listed : List (FieldItem UnitName) → Type 0) (Symbols Switches : Type 0) (ts : Trees) → AreFormed Forms Listed Symbols Switches ts → are_terms ts ≡ true
+formed_terms Forms Listed Symbols Switches ts h = terms Forms Listed Symbols Switches ts h

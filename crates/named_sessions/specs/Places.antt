@@ -4,7 +4,7 @@ use Rattle.asl_tree.specs.FieldItems.{FieldItem, UnitItem, SkipItem, OffsetItem,
 use Rattle.asl_tree.specs.Tree.{At, Tree, Use, Call, Apply, Buffer, Package, VarPackage, CondRefOf, Return, Name, Alias, External, Method}
 use Rattle.asl_tree.specs.Tree.{Mutex, Event, Container', Scope, Trees, no_trees, tree, OperationRegion, Field, IndexField, BankField}
 use Rattle.asl_tree.specs.Tree.{CreateField, UnitName, If, Else, While, Item, ElseIf, Operated, Assigned, AssignedBy, Switch, Case}
-use Rattle.asl_tree.specs.Tree.{Default}
+use Rattle.asl_tree.specs.Tree.{Default, For, Print}
 use Rattle.acpi_names.specs.Errors.{NameError, Twice, DeclaredHere, Missing, NoContainer, LeavesRoot, Differs, TooLong, WrongCount}
 use Rattle.acpi_names.specs.Errors.{WrongKind}
 
@@ -53,6 +53,8 @@ abbrev mutual
   IsWithin files (ElseIf test body) = IsWithin files test × AreWithin files body
   IsWithin files (Else body) = AreWithin files body
   IsWithin files (While test body) = IsWithin files test × AreWithin files body
+  IsWithin files (For start test step body) = IsWithin files start × IsWithin files test × IsWithin files step × AreWithin files body
+  IsWithin files (Print place format args) = IsWithin files place × AreWithin files args
   IsWithin files (Switch value cases) = IsWithin files value × AreWithin files cases
   IsWithin files (Case value body) = IsWithin files value × AreWithin files body
   IsWithin files (Default body) = AreWithin files body

@@ -1,5 +1,5 @@
 -- What needs no names to be seen of a program: the forms of its terms and what fits its bytes.
-use Rattle.std.specs.Prelude.{◌≡◌, ◌<◌, true, List, [], ◌∷◌}
+use Rattle.std.specs.Prelude.{◌≡◌, ◌<◌, true, List, [], ◌∷◌, length}
 use Rattle.acpi_values.specs.Operators.{Letter, Valued, Kept, Placed, Used, Row, row_of}
 use Rattle.acpi_values.specs.Operators as L
 use Rattle.acpi_state.specs.FieldActs.{region_letters, field_letters}
@@ -8,7 +8,8 @@ use Rattle.asl_tree.specs.Tree.{Tree, Integer, Constant, String, InSlot, Debug, 
 use Rattle.asl_tree.specs.Tree.{VarPackage, CondRefOf, Return, Name, Alias, External, Method, Mutex, Event, Container', Scope, Fill}
 use Rattle.asl_tree.specs.Tree.{Misshapen, Operated, Assigned, AssignedBy, Trees, no_trees, tree, count, OperationRegion, Field}
 use Rattle.asl_tree.specs.Tree.{IndexField, BankField, CreateField, UnitName, If, ElseIf, Else, While, Break, Continue, Item, Switch, Case}
-use Rattle.asl_tree.specs.Tree.{Default}
+use Rattle.asl_tree.specs.Tree.{Default, For, Print}
+use Rattle.asl_tree.specs.Formats.{cut}
 use Rattle.asl_tree.specs.FieldItems.{FieldItem, UnitItem, SkipItem, OffsetItem, AccessItem, ConnectionItem}
 use Rattle.aml_code.specs.Fronts.{IsName, IsUsedName, is_segment}
 use Rattle.aml_meaning.specs.Codes.{HasOwnCode, IsSlot}
@@ -28,6 +29,11 @@ LetterShaped (L.Raw size) t value spot = RawReady size t
 abbrev pub ElementShaped : Tree → Type 0 → Type 0
 ElementShaped (Use at name) shaped = IsUsedName name
 ElementShaped t shaped = (is_constant t ≡ true) × shaped
+
+-- a start or a step of a For, which may be left out
+abbrev pub EffectShaped : Tree → Type 0 → Type 0
+EffectShaped Omitted shaped = Unit {0}
+EffectShaped t shaped = (is_expression t ≡ true) × shaped
 
 -- each unit of a field's list has a segment as its name, each access has bytes, and each connection that is a name one that can be written
 abbrev pub AreNamed : List (FieldItem UnitName) → Type 0
@@ -74,9 +80,9 @@ abbrev pub IsFollowed : Tree → Trees → Type 0
 IsFollowed (Switch value cases) terms = StartsNoElse terms
 IsFollowed term terms = Unit {0}
 
--- a tree whose lists of fields are `Listed`, and in which what is written with a symbol, and an ElseIf, stands where that is `Symbols`,
--- and a Switch where that is `Switches`
-module _ (Listed : List (FieldItem UnitName) → Type 0) (Symbols Switches : Type 0) where
+-- a tree whose lists of fields are `Listed`, and in which a For and what prints stand where that is `Forms`, what is
+-- written with a symbol, and an ElseIf, where that is `Symbols`, and a Switch where that is `Switches`
+module _ (Forms : Type 0) (Listed : List (FieldItem UnitName) → Type 0) (Symbols Switches : Type 0) where
   abbrev mutual
     pub IsFormed : Tree → Type 0
     IsFormed (Integer number) = Unit {0}
@@ -121,6 +127,11 @@ module _ (Listed : List (FieldItem UnitName) → Type 0) (Symbols Switches : Typ
     IsFormed (AssignedBy op target value) = Symbols × IsFormedSpot target × (is_expression target ≡ true) × IsFormed target
         × (is_expression value ≡ true) × IsFormed value
     IsFormed (ElseIf test body) = Symbols × (is_expression test ≡ true) × IsFormed test × AreFormed body
+    IsFormed (For start test step body) = Forms × EffectShaped start (IsFormed start) × (is_expression test ≡ true) × IsFormed test
+        × EffectShaped step (IsFormed step) × AreFormed body
+    -- as many arguments as the format asks for
+    IsFormed (Print place format args) = Forms × IsFormedSpot place × IsText format × AreFormedValues args
+        × (count args ≡ length (cut format).1)
     IsFormed (Switch value cases) = Switches × (is_expression value ≡ true) × IsFormed value × AreFormedCases cases
     IsFormed (Case value body) = ⊥
     IsFormed (Default body) = ⊥
@@ -171,27 +182,28 @@ module _ (Listed : List (FieldItem UnitName) → Type 0) (Symbols Switches : Typ
     AreFormedCases (tree (Default body) no_trees) = AreFormed body
     AreFormedCases _ = ⊥
 
--- a tree without symbols, ElseIfs and Switches, in whose lists no Offset goes back and each count of bits can be written
+-- a tree without Fors and what prints, symbols, ElseIfs and Switches, in whose lists no Offset goes back and each count
+-- of bits can be written
 abbrev pub IsShaped : Tree → Type 0
-IsShaped = IsFormed (AreItems 0) ⊥ ⊥
+IsShaped = IsFormed ⊥ (AreItems 0) ⊥ ⊥
 
 abbrev pub IsShapedSpot : Tree → Type 0
-IsShapedSpot = IsFormedSpot (AreItems 0) ⊥ ⊥
+IsShapedSpot = IsFormedSpot ⊥ (AreItems 0) ⊥ ⊥
 
 abbrev pub IsShapedAlone : Trees → Trees → Type 0
-IsShapedAlone = IsFormedAlone (AreItems 0) ⊥ ⊥
+IsShapedAlone = IsFormedAlone ⊥ (AreItems 0) ⊥ ⊥
 
 abbrev pub AreShapedOperands : List Letter → Trees → Type 0
-AreShapedOperands = AreFormedOperands (AreItems 0) ⊥ ⊥
+AreShapedOperands = AreFormedOperands ⊥ (AreItems 0) ⊥ ⊥
 
 abbrev pub AreShapedSpots : Trees → Type 0
-AreShapedSpots = AreFormedSpots (AreItems 0) ⊥ ⊥
+AreShapedSpots = AreFormedSpots ⊥ (AreItems 0) ⊥ ⊥
 
 abbrev pub AreShapedValues : Trees → Type 0
-AreShapedValues = AreFormedValues (AreItems 0) ⊥ ⊥
+AreShapedValues = AreFormedValues ⊥ (AreItems 0) ⊥ ⊥
 
 abbrev pub AreShapedElements : Trees → Type 0
-AreShapedElements = AreFormedElements (AreItems 0) ⊥ ⊥
+AreShapedElements = AreFormedElements ⊥ (AreItems 0) ⊥ ⊥
 
 abbrev pub AreShaped : Trees → Type 0
-AreShaped = AreFormed (AreItems 0) ⊥ ⊥
+AreShaped = AreFormed ⊥ (AreItems 0) ⊥ ⊥

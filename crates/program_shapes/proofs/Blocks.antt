@@ -15,7 +15,7 @@ use Rattle.program_shapes.proofs.Plans.{PlansAs}
 use Rattle.program_shapes.proofs.Parts.{none_in}
 use Rattle.program_shapes.specs.Kept.{IsKeptSource}
 use Rattle.program_shapes.proofs.Shapes.{in_braces}
-use Rattle.program_shapes.proofs.Headers.{HaveForms, HaveRoom, room_of, arguments_form}
+use Rattle.program_shapes.proofs.Headers.{HaveForms, HaveRoom, room_of, block_asked, arguments_form}
 
 -- ---- the block
 
@@ -55,7 +55,7 @@ forms_in none e k = absurd cc
 forms_in (more (item place word args body) none) e k = by (is_block_word word) e
   where
     by : (b : Bool) → (if b then block_errors place args body else no_block place) ≡ [] → HaveForms block_parameters (block_args place args).made
-    by true e = let t = taken place args body e in arguments_form block_parameters place (outside W64) args k.0 t.0 t.1
+    by true e = let t = taken place args body e in arguments_form block_parameters place (outside W64) args k.0 block_asked t.0 t.1
     by false e = absurd cc
 forms_in (more (item place word args body) (more w ws)) e k = by (is_block_word word) e
   where

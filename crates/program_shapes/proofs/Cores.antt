@@ -1,11 +1,11 @@
--- A program with its symbols named, its constants folded, its Externals in Ifs, and then its names spelled by what is known of the program itself, is the core of the first.
+-- A program with what stands for its Fors and for what prints, loops for its Switches, its symbols named, its constants folded, its Externals in Ifs, and then its names spelled by what is known of the program itself, is the core of the first.
 use Rattle.std.proofs.Common.{◌≡◌, ℕ, Bool, true, List, [], Option, sym, ap, ◌∙◌, subst}
 use Rattle.acpi_values.specs.Paths.{AbsolutePath}
 use Rattle.acpi_state.specs.Objects.{lookup}
 use Rattle.acpi_values.specs.declared.width.Width.{Width}
 use Rattle.asl_tree.specs.Tree.{Trees}
 use Rattle.asl_meaning.specs.Declarations.{Declarations, declarations, is_named, nothing_declared, written_external, called, calls_all}
-use Rattle.acpi_names.specs.Errors.{whole_of}
+use Rattle.acpi_names.specs.Errors.{whole_of, name_errors, type_errors}
 use Rattle.acpi_names.specs.Parts.{Agrees}
 use Rattle.acpi_names.specs.Spelled.{spelled_all}
 use Rattle.acpi_names.specs.Tables.{Tabled}
@@ -15,6 +15,11 @@ use Rattle.asl_lower.proofs.Declared.{same_declarations, same_first_call}
 use Rattle.named_sessions.specs.Core.{core_of}
 use Rattle.named_sessions.specs.Shaped.{AreFormed, AreNamed}
 use Rattle.named_sessions.proofs.Terms.{formed_terms}
+use Rattle.asl_formats.specs.Forms.{formed_all}
+use Rattle.asl_formats.proofs.Declared as forms
+use Rattle.form_shapes.specs.Near.{AreNear}
+use Rattle.form_shapes.proofs.Formed.{forms_formed}
+use Rattle.form_shapes.proofs.Names.{same_calls as same_first}
 use Rattle.hidden_locals.specs.Switches.{without_switches}
 use Rattle.loop_shapes.proofs.Formed.{loops_formed}
 use Rattle.loop_shapes.proofs.Names as loops
@@ -38,11 +43,15 @@ core_lowered wrap fold width shorten paths named table program spelt terms spell
     core_spelled shorten paths named table core spelt spells (subst (Agrees paths named) (sym (wrapped.where_declarations wrap lowered ∙ where_declarations fold width (named_all program) ∙ same_declarations program)) agrees)
     (λ path. tabled path ∙ sym (ap (λ whole. lookup whole.calls path) (wrapped.where_whole wrap lowered ∙ where_whole fold width (named_all program)) ∙ same_calls program terms path))
 
--- the same with loops for Switches
-pub core_looped : (wrap fold : Bool) (width : Width) (shorten : Bool) (paths : List AbsolutePath) (named : List Bool) (table : List (Option ℕ)) (program spelt : Trees) → AreFormed AreNamed (Unit {0}) (Unit {0}) program
-    → ((d : Declarations) (counts : List (AbsolutePath × ℕ)) → Agrees paths named d → Tabled paths table (lookup counts) → spelt ≡ spelled_all shorten (is_named d) (written_external counts) (wrapped_where wrap (folded_where fold width (named_all (without_switches program)))) [])
-    → Agrees paths named (declarations program) → Tabled paths table (lookup (whole_of program).calls) → spelt ≡ core_of shorten (wrapped_where wrap (folded_where fold width (named_all (without_switches program))))
-core_looped wrap fold width shorten paths named table program spelt formed spells agrees tabled =
-    core_lowered wrap fold width shorten paths named table (without_switches program) spelt (formed_terms AreNamed (Unit {0}) ⊥ (without_switches program) (loops_formed AreNamed (Unit {0}) (Unit {0}) program formed)) spells
-    (subst (Agrees paths named) (sym (loops.same_declarations AreNamed (Unit {0}) (Unit {0}) program formed)) agrees)
-    (λ path. tabled path ∙ sym (ap (λ whole. lookup whole.calls path) (loops.same_whole AreNamed (Unit {0}) (Unit {0}) program formed)))
+-- the same with what stands for Fors and for what prints, and loops for Switches
+pub core_looped : (wrap fold : Bool) (width : Width) (shorten : Bool) (paths : List AbsolutePath) (named : List Bool) (table : List (Option ℕ)) (program spelt : Trees) → AreFormed (Unit {0}) AreNamed (Unit {0}) (Unit {0}) program
+    → AreNear program → name_errors program ≡ [] → type_errors program ≡ []
+    → ((d : Declarations) (counts : List (AbsolutePath × ℕ)) → Agrees paths named d → Tabled paths table (lookup counts)
+    → spelt ≡ spelled_all shorten (is_named d) (written_external counts) (wrapped_where wrap (folded_where fold width (named_all (without_switches (formed_all program))))) [])
+    → Agrees paths named (declarations program) → Tabled paths table (lookup (whole_of program).calls) → spelt ≡ core_of shorten (wrapped_where wrap (folded_where fold width (named_all (without_switches (formed_all program)))))
+core_looped wrap fold width shorten paths named table program spelt formed near names counts spells agrees tabled =
+    let plain : Trees = formed_all program in
+    let left : AreFormed ⊥ AreNamed (Unit {0}) (Unit {0}) plain = forms_formed AreNamed (Unit {0}) (Unit {0}) program formed near in
+    core_lowered wrap fold width shorten paths named table (without_switches plain) spelt (formed_terms ⊥ AreNamed (Unit {0}) ⊥ (without_switches plain) (loops_formed AreNamed (Unit {0}) (Unit {0}) plain left)) spells
+    (subst (Agrees paths named) (sym (loops.same_declarations AreNamed (Unit {0}) (Unit {0}) plain left ∙ forms.same_declarations program)) agrees)
+    (λ path. tabled path ∙ sym (ap (λ whole. lookup whole.calls path) (loops.same_whole AreNamed (Unit {0}) (Unit {0}) plain left) ∙ same_first AreNamed (Unit {0}) (Unit {0}) program formed near names counts path))

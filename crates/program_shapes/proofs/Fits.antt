@@ -15,33 +15,33 @@ use Rattle.asl_words.specs.declared.operator.Slot.{Slot}
 use Rattle.asl_words.specs.declared.operator.Slot.TheVariants as slot
 use Rattle.asl_words.specs.Operators.{target, by_letter}
 
--- what is formed in a source, where symbols, ElseIfs and Switches may stand
+-- what is formed in a source, where Fors and what prints, symbols, ElseIfs and Switches may stand
 abbrev pub Formed : Tree → Type 0
-Formed = IsFormed AreNamed (Unit {0}) (Unit {0})
+Formed = IsFormed (Unit {0}) AreNamed (Unit {0}) (Unit {0})
 
 abbrev pub FormedSpot : Tree → Type 0
-FormedSpot = IsFormedSpot AreNamed (Unit {0}) (Unit {0})
+FormedSpot = IsFormedSpot (Unit {0}) AreNamed (Unit {0}) (Unit {0})
 
 abbrev pub FormedAlone : Trees → Trees → Type 0
-FormedAlone = IsFormedAlone AreNamed (Unit {0}) (Unit {0})
+FormedAlone = IsFormedAlone (Unit {0}) AreNamed (Unit {0}) (Unit {0})
 
 abbrev pub FormedOperands : List Letter → Trees → Type 0
-FormedOperands = AreFormedOperands AreNamed (Unit {0}) (Unit {0})
+FormedOperands = AreFormedOperands (Unit {0}) AreNamed (Unit {0}) (Unit {0})
 
 abbrev pub FormedSpots : Trees → Type 0
-FormedSpots = AreFormedSpots AreNamed (Unit {0}) (Unit {0})
+FormedSpots = AreFormedSpots (Unit {0}) AreNamed (Unit {0}) (Unit {0})
 
 abbrev pub FormedValues : Trees → Type 0
-FormedValues = AreFormedValues AreNamed (Unit {0}) (Unit {0})
+FormedValues = AreFormedValues (Unit {0}) AreNamed (Unit {0}) (Unit {0})
 
 abbrev pub FormedElements : Trees → Type 0
-FormedElements = AreFormedElements AreNamed (Unit {0}) (Unit {0})
+FormedElements = AreFormedElements (Unit {0}) AreNamed (Unit {0}) (Unit {0})
 
 abbrev pub FormedTerms : Trees → Type 0
-FormedTerms = AreFormed AreNamed (Unit {0}) (Unit {0})
+FormedTerms = AreFormed (Unit {0}) AreNamed (Unit {0}) (Unit {0})
 
 abbrev pub FormedCases : Trees → Type 0
-FormedCases = AreFormedCases AreNamed (Unit {0}) (Unit {0})
+FormedCases = AreFormedCases (Unit {0}) AreNamed (Unit {0}) (Unit {0})
 
 -- a Case of a Switch
 abbrev pub IsCase : Tree → Type 0
@@ -107,6 +107,7 @@ IsFill _ = ⊥
 -- what stands in a slot
 abbrev pub Fits : Slot → Tree → Type 0
 Fits slot.Expression t = (is_expression t ≡ true) × Formed t
+Fits slot.Effect t = (is_expression t ≡ true) × Formed t
 Fits slot.Place t = IsThere t
 Fits slot.Named t = IsThere t
 Fits slot.Declared t = IsDeclared t

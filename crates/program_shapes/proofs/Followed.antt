@@ -14,7 +14,7 @@ use Rattle.asl_tree.specs.declared.term.Declaration.{Declaration}
 use Rattle.asl_tree.specs.declared.term.Special.{Special}
 use Rattle.asl_tree.specs.declared.term.Symbolic.{Symbolic}
 use Rattle.asl_tree.specs.FieldItems.{FieldItem}
-use Rattle.asl_tree.specs.Tree.{At, Tree, Integer, Omitted, Use, Package, VarPackage, Field, IndexField, BankField, Else, ElseIf, Switch, Misshapen, UnitName, Trees, no_trees, tree, count}
+use Rattle.asl_tree.specs.Tree.{At, Tree, Integer, String, Omitted, Use, Package, VarPackage, Field, IndexField, BankField, Else, ElseIf, Switch, Misshapen, UnitName, Trees, no_trees, tree, count}
 use Rattle.asl_tree.specs.View.{form, apply_of, fits, operands_as, operated, symbol_of as symbol_tree, buffer, body_bytes, counted, packaged, items_in}
 use Rattle.named_sessions.specs.Shaped.{StartsNoElse, IsFollowed}
 use Rattle.resource_layout.specs.declared.descriptor.Descriptor.{Descriptor}
@@ -125,6 +125,9 @@ form_so here inside (Op.Declaration Declaration.CreateQWordField) (tree source (
 form_so here inside (Op.Control Control.Return) (tree value no_trees) no_trees e = tt
 form_so here inside (Op.Control Control.If) (tree test no_trees) body e = tt
 form_so here inside (Op.Control Control.While) (tree test no_trees) body e = tt
+form_so here inside (Op.Control Control.For) (tree start (tree test (tree step no_trees))) body e = tt
+form_so here inside (Op.Control Control.Printf) (tree (String format) args) no_trees e = tt
+form_so here inside (Op.Control Control.Fprintf) (tree place (tree (String format) args)) no_trees e = tt
 form_so here inside (Op.Control Control.Switch) (tree value no_trees) cases e = tt
 form_so here inside (Op.Control Control.Case) (tree value no_trees) body e = tt
 form_so here inside (Op.Control Control.Default) no_trees body e = tt

@@ -12,14 +12,16 @@ use Rattle.asl_tree.specs.declared.term.Symbolic.{Symbolic}
 use Rattle.asl_tree.specs.declared.term.Compound.{Compound}
 use Rattle.acpi_state.specs.Outcomes.{choose}
 use Rattle.asl_tree.specs.FieldItems.{FieldItem}
-use Rattle.asl_tree.specs.Tree.{At, Tree, Integer, Omitted, Use, Package, VarPackage, CondRefOf, Field, IndexField, BankField, Misshapen, UnitName, Trees, no_trees, tree, count}
+use Rattle.asl_tree.specs.Formats.{cut}
+use Rattle.asl_tree.specs.Tree.{At, Tree, Integer, String, Omitted, Use, Package, VarPackage, CondRefOf, Field, IndexField, BankField, Misshapen, UnitName, Trees, no_trees, tree, count}
 use Rattle.asl_tree.specs.View.{form, buffer, body_bytes, packaged, counted, items_in}
-use Rattle.named_sessions.specs.Shaped.{AreNamed, IsNumber, IsCaseMember, AreCaseMembers}
+use Rattle.aml_sessions.specs.Ready.{IsText}
+use Rattle.named_sessions.specs.Shaped.{EffectShaped, AreNamed, IsNumber, IsCaseMember, AreCaseMembers}
 use Rattle.asl_words.specs.declared.operator.Parameter.{Parameter}
 use Rattle.asl_words.specs.declared.operator.Slot.TheVariants as slot
 use Rattle.asl_words.specs.Operators.{asked, optional, expression, place, target, used, declared, space, constant}
 use Rattle.program_shapes.proofs.Plains.{spot_value}
-use Rattle.program_shapes.proofs.Fits.{Fits, Takes, TreesFit, Formed, FormedElements, FormedTerms, FormedCases, IsCase}
+use Rattle.program_shapes.proofs.Fits.{Fits, Takes, TreesFit, IsThere, Formed, FormedValues, FormedElements, FormedTerms, FormedCases, IsCase}
 
 -- ---- arguments of a known number
 
@@ -141,6 +143,36 @@ else_if_made here _ body (one t h) b = (tt, h.0, h.1, b)
 
 pub while_made : (here : At) (ts body : Trees) → One expression ts → FormedTerms body → Formed (form here (Op.Control Control.While) ts body)
 while_made here _ body (one t h) b = (h.0, h.1, b)
+
+-- a start and a step may be left out
+effect_of : (t : Tree) → Takes true slot.Effect t → EffectShaped t (Formed t)
+effect_of Omitted h = tt
+effect_of _ (inl h) = h
+effect_of _ (inr e) = absurd cc
+
+pub for_made : (here : At) (ts body : Trees) → Three (optional slot.Effect) expression (optional slot.Effect) ts → FormedTerms body → Formed (form here (Op.Control Control.For) ts body)
+for_made here _ body (three t u v h i j) b = (tt, effect_of t h, i.0, i.1, effect_of v j, b)
+
+-- a format and as many arguments as it asks for
+abbrev pub PrintedFit : Trees → Type 0
+PrintedFit (tree (String text) args) = IsText text × FormedValues args × (count args ≡ length (cut text).1)
+PrintedFit _ = ⊥
+
+-- behind a place
+abbrev pub PrintedIntoFit : Trees → Type 0
+PrintedIntoFit (tree t ts) = IsThere t × PrintedFit ts
+PrintedIntoFit no_trees = ⊥
+
+pub printf_made : (here : At) (ts : Trees) → PrintedFit ts → Formed (form here (Op.Control Control.Printf) ts no_trees)
+printf_made here (tree (String text) args) h = (tt, tt, h.0, h.1, h.2)
+printf_made here (tree _ args) h = absurd h
+printf_made here no_trees h = absurd h
+
+pub fprintf_made : (here : At) (ts : Trees) → PrintedIntoFit ts → Formed (form here (Op.Control Control.Fprintf) ts no_trees)
+fprintf_made here (tree t (tree (String text) args)) h = (tt, h.0.0, h.1.0, h.1.1, h.1.2)
+fprintf_made here (tree t (tree _ args)) h = absurd h.1
+fprintf_made here (tree t no_trees) h = absurd h.1
+fprintf_made here no_trees h = absurd h
 
 pub switch_made : (here : At) (ts cases : Trees) → One expression ts → FormedCases cases → Formed (form here (Op.Control Control.Switch) ts cases)
 switch_made here _ cases (one t h) b = (tt, h.0, h.1, b)

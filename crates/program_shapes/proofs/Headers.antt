@@ -1,6 +1,6 @@
 -- The texts of a block's header have room in it.
 use Rattle.std.proofs.Common.{◌≡◌, ℕ, ◌≤◌, Bool, true, false, List, [], ◌∷◌, length, refl, ap, ◌∙◌}
-use Rattle.std.specs.Prelude.{codes, not, ◌&&◌, ◌||◌}
+use Rattle.std.specs.Prelude.{codes, not, ◌&&◌, ◌||◌, if◌then◌else◌}
 use Rattle.std.specs.Str.{bytes_eq}
 use Rattle.std.proofs.lemmas.Bool.{leb-true}
 use Rattle.std.proofs.lemmas.Slice.Eq.{bytes_eq-Decides}
@@ -23,10 +23,11 @@ use Rattle.acpi_values.specs.declared.width.Width.{Width}
 use Rattle.asl_shape.specs.declared.around.Around.{Around}
 use Rattle.asl_words.specs.Resources.{descriptor_parameters, descriptor_body}
 use Rattle.asl_words.specs.declared.operator.Body.TheVariants as braces
-use Rattle.asl_shape.specs.Plans.{Plan, a_text, omitted, Plans, no_plans, plan, text_of, plan_at}
-use Rattle.asl_shape.specs.Shapes.{Shaped, fine, nowhere, is_given, is_empty, is_separator, inside_of, has_arguments, takes, left_out, checked, place_of, bare, call_args, arguments, arguments_in, contents, within, form_shape, read_shape, after, element_shape, macro_shape, template_shape, descriptor_shape, meaning_in}
+use Rattle.asl_shape.specs.Plans.{Plan, a_text, omitted, Plans, no_plans, plan, join, text_of, plan_at}
+use Rattle.asl_shape.specs.Shapes.{Shaped, fine, unformed, nowhere, is_given, is_empty, is_separator, inside_of, has_arguments, takes, left_out, checked, place_of, bare, call_args, arguments, arguments_in, contents, within, form_shape, read_shape, after, element_shape, macro_shape, template_shape, descriptor_shape, meaning_in}
 use Rattle.asl_words.specs.Meanings.{meaning_of, may_end, reading_of, slot_as}
 use Rattle.asl_words.specs.Texts.{has_form, is_all_text, is_signature, is_oem_signature}
+use Rattle.program_shapes.proofs.Plans.{are_asked, behind_asked}
 use Rattle.program_shapes.proofs.Words.{both_true}
 use Rattle.program_shapes.proofs.Parts.{none_in, good_of, item_fit}
 use Rattle.program_shapes.specs.Kept.{AreArguments, EachArgument}
@@ -70,7 +71,7 @@ no_string f at word is.Unknown called calls element expanded template described 
 
 string_form : (f : StringForm) (inside : Around) (w : Written) → is_separator w ≡ false → is_empty w ≡ false → (bare (slot.String f) inside w).faults ≡ [] → IsTextOf f (text_of (bare (slot.String f) inside w).made)
 string_form f inside (piece.text at bytes) sep emp e =
-    good_of (λ p. IsTextOf f (text_of p)) (has_form f bytes && is_all_text bytes) 6024 at (fine (a_text bytes))
+    good_of (λ p. IsTextOf f (text_of p)) (has_form f bytes && is_all_text bytes) (unformed f) at (fine (a_text bytes))
     (λ t g. let both = both_true (has_form f bytes) (is_all_text bytes) t in record { form = both.0; bytes = both.1 }) e
 string_form f inside (item at w args body) sep emp e =
     let m : Meaning = meaning_of w (is_given body) in
@@ -125,25 +126,35 @@ left_form : (b : Bool) (s : Slot) → b ≡ true → HasForm b s omitted
 left_form true s e = tt
 left_form false s e = absurd cc
 
-left_forms : (qs : List Parameter) (at : Place) → may_end qs ≡ true → HaveForms qs (left_out at qs)
-left_forms [] at e = tt
-left_forms (q ∷ qs) at e = let p = both_true q.omittable (may_end qs) e in (left_form q.omittable q.slot p.0, left_forms qs at p.1)
+left_forms : (qs : List Parameter) (at : Place) → are_asked qs ≡ true → may_end qs ≡ true → HaveForms qs (left_out at qs)
+left_forms [] at a e = tt
+left_forms (q ∷ qs) at a e =
+    let p = both_true (q.omittable || q.further) (may_end qs) e in by q.further a p.0 (left_forms qs at (behind_asked q.further (are_asked qs) a) p.1)
+  where
+    asked : (b : Bool) → (b || false) ≡ true → b ≡ true
+    asked true e = refl
+    asked false e = absurd cc
 
-each_form : (qs : List Parameter) (at : Place) (inside : Around) (ws : Writtens) → EachArgument ws → takes qs ws ≡ true → (arguments_in qs at inside ws).faults ≡ [] → HaveForms qs (arguments_in qs at inside ws).made
-each_form [] at inside none k t e = tt
-each_form (q ∷ qs) at inside none k t e = left_forms (q ∷ qs) at t
-each_form [] at inside (more w ws) k t e = absurd cc
-each_form (q ∷ qs) at inside (more w ws) k t e =
+    by : (b : Bool) → (not b && are_asked qs) ≡ true → (q.omittable || b) ≡ true → HaveForms qs (left_out at qs)
+        → HaveForms (q ∷ qs) (join (if b then no_plans else plan at omitted no_plans) (left_out at qs))
+    by true a e k = absurd cc
+    by false a e k = (left_form q.omittable q.slot (asked q.omittable e), k)
+
+each_form : (qs : List Parameter) (at : Place) (inside : Around) (ws : Writtens) → EachArgument ws → are_asked qs ≡ true → takes qs ws ≡ true → (arguments_in qs at inside ws).faults ≡ [] → HaveForms qs (arguments_in qs at inside ws).made
+each_form [] at inside none k a t e = tt
+each_form (q ∷ qs) at inside none k a t e = left_forms (q ∷ qs) at a t
+each_form [] at inside (more w ws) k a t e = absurd cc
+each_form (q ∷ qs) at inside (more w ws) k a t e =
     let s : Slot = slot_as q.slot (meaning_in w) in
     let first : Shaped Plan = checked inside.width s (place_of nowhere w) (bare s inside w) in
     let f = none_in first.faults (arguments_in qs at inside ws).faults e in
     let g = both_true (q.omittable || not (is_empty w)) (takes qs ws) t in
-    (form_asked q.omittable q.slot (meaning_in w) first.made (argument_form q.omittable s inside w k.1 g.0 f.0), each_form qs at inside ws k.2 g.1 f.1)
+    (form_asked q.omittable q.slot (meaning_in w) first.made (argument_form q.omittable s inside w k.1 g.0 f.0), each_form qs at inside ws k.2 (both_true (not q.further) (are_asked qs) a).1 g.1 f.1)
 
-pub arguments_form : (qs : List Parameter) (at : Place) (inside : Around) (args : WrittenGroup) → AreArguments args → takes qs (inside_of args) ≡ true → (arguments qs at inside args).faults ≡ [] → HaveForms qs (arguments qs at inside args).made
-arguments_form [] at inside absent k t e = tt
-arguments_form (q ∷ qs) at inside absent k t e = left_forms (q ∷ qs) at t
-arguments_form qs at inside (given ws) k t e = each_form qs at inside ws k t e
+pub arguments_form : (qs : List Parameter) (at : Place) (inside : Around) (args : WrittenGroup) → AreArguments args → are_asked qs ≡ true → takes qs (inside_of args) ≡ true → (arguments qs at inside args).faults ≡ [] → HaveForms qs (arguments qs at inside args).made
+arguments_form [] at inside absent k a t e = tt
+arguments_form (q ∷ qs) at inside absent k a t e = left_forms (q ∷ qs) at a t
+arguments_form qs at inside (given ws) k a t e = each_form qs at inside ws k a t e
 
 -- ---- the forms of texts
 
@@ -168,6 +179,10 @@ pub record HaveRoom (ps : Plans) : Type 0 where
   pub signature : length (text_of (plan_at ps 1)) ≡ 4
   pub oem_id : length (text_of (plan_at ps 3)) ≤ 6
   pub table_id : length (text_of (plan_at ps 4)) ≤ 8
+
+pub block_asked : are_asked block_parameters ≡ true
+unfolding block_parameters
+block_asked = refl
 
 pub room_of : (ps : Plans) → HaveForms block_parameters ps → HaveRoom ps
 unfolding block_parameters

@@ -31,7 +31,7 @@ use Rattle.asl_shape.specs.Shapes.{is_empty, is_separator, takes}
 use Rattle.asl_shape.specs.Shapes as shapes
 use Rattle.asl_parser.proofs.Views.{written_number, written_text, written_item, written_apply, written_list, written_comma, written_semicolon, written_empty}
 use Rattle.program_shapes.proofs.Words.{both_true}
-use Rattle.program_shapes.specs.Kept.{IsKept, AreArguments, EachArgument, AreMembers, EachMember, IsKeptSource}
+use Rattle.program_shapes.specs.Kept.{IsKept, AreArguments, EachArgument, AreMembers, EachMember, IsKeptSource, AreKeptAlone}
 
 -- ---- how many trees a phrase is of, at most the tokens that it takes
 
@@ -399,9 +399,18 @@ marks_length : (n : ℕ) (tokens : List Token) → length (marks n tokens) ≡ l
 marks_length n [] = refl
 marks_length n (token ∷ tokens) = ap suc (marks_length (suc n) tokens)
 
--- a source that the grammar reads is kept
-pub is_kept : (items : List Raw) (tokens : List Token) → Spells items tokens → length tokens < 2 ^ 32 → HaveShortTexts tokens → IsKeptSource (writtens items)
-is_kept items tokens spelled few short =
+members_of : (items : List Raw) (tokens : List Token) → Spells items tokens → length tokens < 2 ^ 32 → HaveShortTexts tokens → EachMember (writtens items)
+members_of items tokens spelled few short =
     let room : length (marks 0 tokens) ≤ ones_of W64 = omega (arith, few, marks_length 0 tokens) in
     let row : EachMemberKept (all spelled.source.done spelled.source.last) = all_kept spelled.source.done spelled.source.last (reads_kept _ _ _ spelled.source.row (marks_kept 0 tokens short) room).0 in
-    source_kept (writtens items) (subst (λ xs. EachMember (writtens xs)) (sym spelled.are) (each_member spelled.trees (subst EachMemberKept (sym spelled.source.are) row)))
+    subst (λ xs. EachMember (writtens xs)) (sym spelled.are) (each_member spelled.trees (subst EachMemberKept (sym spelled.source.are) row))
+
+-- each item is kept where it is read alone
+alone_kept : (items : List Raw) → EachMember (writtens items) → AreKeptAlone items
+unfolding writtens
+alone_kept [] h = tt
+alone_kept (raw ∷ raws) h = (source_kept (piece.more (written raw) piece.none) (h.0, h.1, tt), alone_kept raws h.2)
+
+-- a source that the grammar reads is kept
+pub is_kept : (items : List Raw) (tokens : List Token) → Spells items tokens → length tokens < 2 ^ 32 → HaveShortTexts tokens → AreKeptAlone items
+is_kept items tokens spelled few short = alone_kept items (members_of items tokens spelled few short)

@@ -7,11 +7,11 @@ use Rattle.acpi_values.specs.Operators.{Letter, Valued, Kept, Placed, Used, Row,
 use Rattle.acpi_values.specs.Operators as L
 use Rattle.asl_meaning.specs.Meaning.{SpotForm, OfResult, OfInside, NoSpot, spot_form}
 use Rattle.asl_tree.specs.FieldItems.{FieldItem, UnitItem, SkipItem, OffsetItem, AccessItem, ConnectionItem, behind_item}
-use Rattle.asl_tree.specs.Tree.{Tree, Integer, Constant, String, InSlot, Debug, Omitted, Raw, Use, Call, Apply, Buffer, Package, VarPackage, CondRefOf, Return, Name, Alias, External, Method, Mutex, Event, Container', Scope, Fill, Misshapen, Operated, Assigned, AssignedBy, Trees, no_trees, tree, count, OperationRegion, Field, IndexField, BankField, CreateField, UnitName, If, ElseIf, Else, While, Break, Continue, Item, Switch, Case, Default}
+use Rattle.asl_tree.specs.Tree.{Tree, Integer, Constant, String, InSlot, Debug, Omitted, Raw, Use, Call, Apply, Buffer, Package, VarPackage, CondRefOf, Return, Name, Alias, External, Method, Mutex, Event, Container', Scope, Fill, Misshapen, Operated, Assigned, AssignedBy, Trees, no_trees, tree, count, OperationRegion, Field, IndexField, BankField, CreateField, UnitName, If, ElseIf, Else, While, Break, Continue, Item, Switch, Case, Default, For, Print}
 use Rattle.acpi_state.specs.FieldActs.{field_letters}
 use Rattle.field_layout.specs.Layout.{bits_fault, item_fault, first_fault}
 use Rattle.aml_sessions.specs.Ready.{is_expression, SpotReady, IsItem, AreItems}
-use Rattle.named_sessions.specs.Shaped.{LetterShaped, ElementShaped, AreNamed, IsFormed, IsFormedSpot, IsFormedAlone, AreFormedOperands, AreFormedSpots, AreFormedValues, AreFormedElements, AreFormed, AreFormedCases}
+use Rattle.named_sessions.specs.Shaped.{LetterShaped, ElementShaped, EffectShaped, AreNamed, IsFormed, IsFormedSpot, IsFormedAlone, AreFormedOperands, AreFormedSpots, AreFormedValues, AreFormedElements, AreFormed, AreFormedCases}
 use Rattle.program_shapes.proofs.Lists.{list_faults, term_faults, layout_faults, none_before}
 
 -- ---- lists of fields
@@ -74,17 +74,21 @@ spot_by NoSpot R I R' I' r i h = h
 never : {A : Type 0} → false ≡ true → A
 never e = absurd cc
 
--- with symbols and Switches, or without
-module _ (Symbols Switches : Type 0) where
+-- with Fors and what prints, symbols and Switches, or without
+module _ (Forms Symbols Switches : Type 0) where
   -- trees in whose lists no Offset goes back and each count of bits can be written
   abbrev Laid : Tree → Type 0
-  Laid = IsFormed (AreItems 0) Symbols Switches
+  Laid = IsFormed Forms (AreItems 0) Symbols Switches
 
   abbrev LaidSpot : Tree → Type 0
-  LaidSpot = IsFormedSpot (AreItems 0) Symbols Switches
+  LaidSpot = IsFormedSpot Forms (AreItems 0) Symbols Switches
 
-  letter_laid : (letter : Letter) (t : Tree) → (is_expression t ≡ true → IsFormed AreNamed Symbols Switches t → Laid t) → (IsFormedSpot AreNamed Symbols Switches t → LaidSpot t)
-      → LetterShaped letter t ((is_expression t ≡ true) × IsFormed AreNamed Symbols Switches t) (IsFormedSpot AreNamed Symbols Switches t) → LetterShaped letter t ((is_expression t ≡ true) × Laid t) (LaidSpot t)
+  effect_laid : (t : Tree) → (is_expression t ≡ true → IsFormed Forms AreNamed Symbols Switches t → Laid t) → EffectShaped t (IsFormed Forms AreNamed Symbols Switches t) → EffectShaped t (Laid t)
+  effect_laid Omitted value h = tt
+  effect_laid t value h = (h.0, value h.0 h.1)
+
+  letter_laid : (letter : Letter) (t : Tree) → (is_expression t ≡ true → IsFormed Forms AreNamed Symbols Switches t → Laid t) → (IsFormedSpot Forms AreNamed Symbols Switches t → LaidSpot t)
+      → LetterShaped letter t ((is_expression t ≡ true) × IsFormed Forms AreNamed Symbols Switches t) (IsFormedSpot Forms AreNamed Symbols Switches t) → LetterShaped letter t ((is_expression t ≡ true) × Laid t) (LaidSpot t)
   letter_laid Valued t value spot h = (h.0, value h.0 h.1)
   letter_laid Kept t value spot h = (h.0, value h.0 h.1)
   letter_laid Placed t value spot h = spot h
@@ -93,7 +97,7 @@ module _ (Symbols Switches : Type 0) where
 
   mutual
     -- an expression has no list of a field in it
-    value_laid : (t : Tree) → is_expression t ≡ true → IsFormed AreNamed Symbols Switches t → Laid t
+    value_laid : (t : Tree) → is_expression t ≡ true → IsFormed Forms AreNamed Symbols Switches t → Laid t
     value_laid (Integer number) e h = h
     value_laid (Constant literal) e h = h
     value_laid (String text) e h = h
@@ -111,46 +115,46 @@ module _ (Symbols Switches : Type 0) where
     value_laid (AssignedBy op target value) e h = (h.0, spot_laid target h.1, h.2, value_laid target h.2 h.3, h.4, value_laid value h.4 h.5)
     value_laid _ e h = absurd cc
 
-    spot_laid : (t : Tree) → IsFormedSpot AreNamed Symbols Switches t → LaidSpot t
+    spot_laid : (t : Tree) → IsFormedSpot Forms AreNamed Symbols Switches t → LaidSpot t
     spot_laid Omitted h = tt
     spot_laid Debug h = tt
     spot_laid (InSlot slot) h = h
     spot_laid (Use at name) h = h
     spot_laid (Apply op args targets) h = (
       h.0,
-      spot_by (spot_form op) (AreFormedOperands AreNamed Symbols Switches (row_of op).operands args × (count targets ≡ (row_of op).targets) × AreFormedSpots AreNamed Symbols Switches targets) (IsFormedAlone AreNamed Symbols Switches args targets)
-          (AreFormedOperands (AreItems 0) Symbols Switches (row_of op).operands args × (count targets ≡ (row_of op).targets) × AreFormedSpots (AreItems 0) Symbols Switches targets) (IsFormedAlone (AreItems 0) Symbols Switches args targets)
+      spot_by (spot_form op) (AreFormedOperands Forms AreNamed Symbols Switches (row_of op).operands args × (count targets ≡ (row_of op).targets) × AreFormedSpots Forms AreNamed Symbols Switches targets) (IsFormedAlone Forms AreNamed Symbols Switches args targets)
+          (AreFormedOperands Forms (AreItems 0) Symbols Switches (row_of op).operands args × (count targets ≡ (row_of op).targets) × AreFormedSpots Forms (AreItems 0) Symbols Switches targets) (IsFormedAlone Forms (AreItems 0) Symbols Switches args targets)
           (λ r. (operands_laid (row_of op).operands args r.0, r.1, spots_laid targets r.2)) (λ i. alone_laid args targets i) h.1,
     )
     spot_laid (Operated op args) h = (
       h.0,
       h.1,
-      spot_by (spot_form op) (AreFormedOperands AreNamed Symbols Switches (row_of op).operands args) ⊥ (AreFormedOperands (AreItems 0) Symbols Switches (row_of op).operands args) ⊥
+      spot_by (spot_form op) (AreFormedOperands Forms AreNamed Symbols Switches (row_of op).operands args) ⊥ (AreFormedOperands Forms (AreItems 0) Symbols Switches (row_of op).operands args) ⊥
           (λ r. operands_laid (row_of op).operands args r) (λ i. i) h.2,
     )
     spot_laid _ h = absurd h
 
-    alone_laid : (args targets : Trees) → IsFormedAlone AreNamed Symbols Switches args targets → IsFormedAlone (AreItems 0) Symbols Switches args targets
+    alone_laid : (args targets : Trees) → IsFormedAlone Forms AreNamed Symbols Switches args targets → IsFormedAlone Forms (AreItems 0) Symbols Switches args targets
     alone_laid (tree t no_trees) no_trees h = (h.0, value_laid t h.0 h.1)
     alone_laid no_trees targets h = absurd h
     alone_laid (tree t no_trees) (tree u us) h = absurd h
     alone_laid (tree t (tree v vs)) targets h = absurd h
 
-    operands_laid : (letters : List Letter) (ts : Trees) → AreFormedOperands AreNamed Symbols Switches letters ts → AreFormedOperands (AreItems 0) Symbols Switches letters ts
+    operands_laid : (letters : List Letter) (ts : Trees) → AreFormedOperands Forms AreNamed Symbols Switches letters ts → AreFormedOperands Forms (AreItems 0) Symbols Switches letters ts
     operands_laid [] no_trees h = tt
     operands_laid [] (tree t ts) h = absurd h
     operands_laid (letter ∷ letters) no_trees h = absurd h
     operands_laid (letter ∷ letters) (tree t ts) h = (letter_laid letter t (λ e k. value_laid t e k) (λ k. spot_laid t k) h.0, operands_laid letters ts h.1)
 
-    spots_laid : (ts : Trees) → AreFormedSpots AreNamed Symbols Switches ts → AreFormedSpots (AreItems 0) Symbols Switches ts
+    spots_laid : (ts : Trees) → AreFormedSpots Forms AreNamed Symbols Switches ts → AreFormedSpots Forms (AreItems 0) Symbols Switches ts
     spots_laid no_trees h = tt
     spots_laid (tree t ts) h = (spot_laid t h.0, spots_laid ts h.1)
 
-    values_laid : (ts : Trees) → AreFormedValues AreNamed Symbols Switches ts → AreFormedValues (AreItems 0) Symbols Switches ts
+    values_laid : (ts : Trees) → AreFormedValues Forms AreNamed Symbols Switches ts → AreFormedValues Forms (AreItems 0) Symbols Switches ts
     values_laid no_trees h = tt
     values_laid (tree t ts) h = (h.0, value_laid t h.0 h.1, values_laid ts h.2)
 
-    element_laid : (t : Tree) → ElementShaped t (IsFormed AreNamed Symbols Switches t) → ElementShaped t (Laid t)
+    element_laid : (t : Tree) → ElementShaped t (IsFormed Forms AreNamed Symbols Switches t) → ElementShaped t (Laid t)
     element_laid (Use at name) h = h
     element_laid (Integer number) h = h
     element_laid (Constant literal) h = h
@@ -160,12 +164,12 @@ module _ (Symbols Switches : Type 0) where
     element_laid (VarPackage size elements) h = (h.0, (h.1.0, value_laid size h.1.0 h.1.1, elements_laid elements h.1.2))
     element_laid _ h = never h.0
 
-    elements_laid : (ts : Trees) → AreFormedElements AreNamed Symbols Switches ts → AreFormedElements (AreItems 0) Symbols Switches ts
+    elements_laid : (ts : Trees) → AreFormedElements Forms AreNamed Symbols Switches ts → AreFormedElements Forms (AreItems 0) Symbols Switches ts
     elements_laid no_trees h = tt
     elements_laid (tree t ts) h = (element_laid t h.0, elements_laid ts h.1)
 
   mutual
-    term_laid : (t : Tree) → IsFormed AreNamed Symbols Switches t → term_faults t ≡ [] → Laid t
+    term_laid : (t : Tree) → IsFormed Forms AreNamed Symbols Switches t → term_faults t ≡ [] → Laid t
     term_laid (Return value) h e = (h.0, value_laid value h.0 h.1)
     term_laid (Name at name value) h e = (h.0, h.1, value_laid value h.1 h.2)
     term_laid (Alias from source at name) h e = h
@@ -194,6 +198,15 @@ module _ (Symbols Switches : Type 0) where
     term_laid (Assigned target value) h e = value_laid (Assigned target value) refl h
     term_laid (AssignedBy op target value) h e = value_laid (AssignedBy op target value) refl h
     term_laid (ElseIf test body) h e = (h.0, h.1, value_laid test h.1 h.2, terms_laid body h.3 e)
+    term_laid (For start test step body) h e = (
+      h.0,
+      effect_laid start (λ x f. value_laid start x f) h.1,
+      h.2,
+      value_laid test h.2 h.3,
+      effect_laid step (λ x f. value_laid step x f) h.4,
+      terms_laid body h.5 e,
+    )
+    term_laid (Print place format args) h e = (h.0, spot_laid place h.1, h.2, values_laid args h.3, h.4)
     term_laid (Switch value cases) h e = (h.0, h.1, value_laid value h.1 h.2, cases_laid cases h.3 e)
     term_laid (Case value body) h e = absurd h
     term_laid (Default body) h e = absurd h
@@ -210,11 +223,11 @@ module _ (Symbols Switches : Type 0) where
     term_laid (VarPackage size elements) h e = value_laid (VarPackage size elements) refl h
     term_laid (CondRefOf place target) h e = value_laid (CondRefOf place target) refl h
 
-    pub terms_laid : (ts : Trees) → AreFormed AreNamed Symbols Switches ts → layout_faults ts ≡ [] → AreFormed (AreItems 0) Symbols Switches ts
+    pub terms_laid : (ts : Trees) → AreFormed Forms AreNamed Symbols Switches ts → layout_faults ts ≡ [] → AreFormed Forms (AreItems 0) Symbols Switches ts
     terms_laid no_trees h e = tt
     terms_laid (tree t ts) h e = let none = none_before (term_faults t) (layout_faults ts) e in (term_laid t h.0 none.0, h.1, terms_laid ts h.2 none.1)
 
-    cases_laid : (ts : Trees) → AreFormedCases AreNamed Symbols Switches ts → layout_faults ts ≡ [] → AreFormedCases (AreItems 0) Symbols Switches ts
+    cases_laid : (ts : Trees) → AreFormedCases Forms AreNamed Symbols Switches ts → layout_faults ts ≡ [] → AreFormedCases Forms (AreItems 0) Symbols Switches ts
     cases_laid no_trees h e = tt
     cases_laid (tree (Case value body) ts) h e = let none = none_before (layout_faults body) (layout_faults ts) e in (h.0, terms_laid body h.1 none.0, cases_laid ts h.2 none.1)
     cases_laid (tree (Default body) no_trees) h e = let none = none_before (layout_faults body) [] e in terms_laid body h none.0

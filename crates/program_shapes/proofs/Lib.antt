@@ -34,3 +34,4 @@ pub mod TypePlaces
 pub mod SwitchPlaces
 pub mod NotePlaces
 pub mod NameLengths
+pub mod Near

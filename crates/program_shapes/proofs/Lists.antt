@@ -11,7 +11,7 @@ use Rattle.asl_tree.specs.declared.term.Declaration.TheVariants as Declaration
 use Rattle.asl_tree.specs.declared.term.Control.TheVariants as Control
 use Rattle.asl_tree.specs.declared.term.Special.TheVariants as Special
 use Rattle.asl_tree.specs.FieldItems.{FieldItem, UnitItem, SkipItem, OffsetItem, AccessItem, ConnectionItem, ToName, ToBytes, behind_item}
-use Rattle.asl_tree.specs.Tree.{At, Tree, Integer, Omitted, Use, Package, VarPackage, Method, Container', Scope, If, ElseIf, Else, While, Field, IndexField, BankField, Item, Fill, Misshapen, UnitName, Trees, no_trees, tree, count, Switch, Case, Default}
+use Rattle.asl_tree.specs.Tree.{At, Tree, Integer, String, Omitted, Use, Package, VarPackage, Method, Container', Scope, If, ElseIf, Else, While, For, Field, IndexField, BankField, Item, Fill, Misshapen, UnitName, Trees, no_trees, tree, count, Switch, Case, Default}
 use Rattle.asl_tree.specs.declared.term.Symbolic.TheVariants as Symbolic
 use Rattle.acpi_values.specs.Operators.{row_of}
 use Rattle.asl_tree.specs.View.{form, apply_of, fits, operands_as, operated, symbol_of, buffer, body_bytes, counted, packaged, items_in}
@@ -36,6 +36,7 @@ abbrev mutual
   term_faults (ElseIf test body) = layout_faults body
   term_faults (Else body) = layout_faults body
   term_faults (While test body) = layout_faults body
+  term_faults (For start test step body) = layout_faults body
   term_faults (Switch value cases) = layout_faults cases
   term_faults (Case value body) = layout_faults body
   term_faults (Default body) = layout_faults body
@@ -162,6 +163,9 @@ form_item here (Op.Control Control.If) (tree test no_trees) body = refl
 form_item here (Op.Control Control.ElseIf) (tree test no_trees) body = refl
 form_item here (Op.Control Control.Else) no_trees body = refl
 form_item here (Op.Control Control.While) (tree test no_trees) body = refl
+form_item here (Op.Control Control.For) (tree start (tree test (tree step no_trees))) body = refl
+form_item here (Op.Control Control.Printf) (tree (String format) args) no_trees = refl
+form_item here (Op.Control Control.Fprintf) (tree place (tree (String format) args)) no_trees = refl
 form_item here (Op.Control Control.Switch) (tree value no_trees) cases = refl
 form_item here (Op.Control Control.Case) (tree value no_trees) body = refl
 form_item here (Op.Control Control.Default) no_trees body = refl
@@ -205,6 +209,9 @@ form_faults here (Op.Control Control.If) (tree test no_trees) body h k = h
 form_faults here (Op.Control Control.ElseIf) (tree test no_trees) body h k = h
 form_faults here (Op.Control Control.Else) no_trees body h k = h
 form_faults here (Op.Control Control.While) (tree test no_trees) body h k = h
+form_faults here (Op.Control Control.For) (tree start (tree test (tree step no_trees))) body h k = h
+form_faults here (Op.Control Control.Printf) (tree (String format) args) no_trees h k = refl
+form_faults here (Op.Control Control.Fprintf) (tree place (tree (String format) args)) no_trees h k = refl
 form_faults here (Op.Control Control.Switch) (tree value no_trees) cases h k = h
 form_faults here (Op.Control Control.Case) (tree value no_trees) body h k = h
 form_faults here (Op.Control Control.Default) no_trees body h k = h

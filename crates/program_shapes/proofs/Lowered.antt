@@ -9,7 +9,7 @@ use Rattle.asl_meaning.specs.Meaning.{SpotForm, OfResult, OfInside, NoSpot, spot
 use Rattle.asl_tree.specs.declared.term.Compound.{Compound}
 use Rattle.asl_tree.specs.FieldItems.{FieldItem}
 use Rattle.asl_tree.specs.Symbols.{compound_operator, takes_target}
-use Rattle.asl_tree.specs.Tree.{Tree, Integer, Constant, String, InSlot, Debug, Omitted, Raw, Use, Call, Apply, Buffer, Package, VarPackage, CondRefOf, Return, Name, Alias, External, Method, Mutex, Event, Container', Scope, Fill, Misshapen, Operated, Assigned, AssignedBy, Trees, no_trees, tree, count, OperationRegion, Field, IndexField, BankField, CreateField, UnitName, If, ElseIf, Else, While, Break, Continue, Item, Switch, Case, Default}
+use Rattle.asl_tree.specs.Tree.{Tree, Integer, Constant, String, InSlot, Debug, Omitted, Raw, Use, Call, Apply, Buffer, Package, VarPackage, CondRefOf, Return, Name, Alias, External, Method, Mutex, Event, Container', Scope, Fill, Misshapen, Operated, Assigned, AssignedBy, Trees, no_trees, tree, count, OperationRegion, Field, IndexField, BankField, CreateField, UnitName, If, ElseIf, Else, While, Break, Continue, Item, Switch, Case, Default, For, Print}
 use Rattle.aml_meaning.specs.Codes.{HasOwnCode}
 use Rattle.aml_sessions.specs.Ready.{is_expression, SpotReady}
 use Rattle.asl_lower.specs.Nodes.{given, last_target, applied, assigned, assigned_by, before, named, inner_args, named_args, named_all}
@@ -47,31 +47,31 @@ spot_by OfResult R I R' I' r i h = r h
 spot_by OfInside R I R' I' r i h = i h
 spot_by NoSpot R I R' I' r i h = h
 
--- whatever is asked of the lists of fields, with Switches or without
+-- without Fors and what prints, whatever is asked of the lists of fields, with Switches or without
 module _ (Listed : List (FieldItem UnitName) → Type 0) (Switches : Type 0) where
   abbrev Source : Tree → Type 0
-  Source = IsFormed Listed (Unit {0}) Switches
+  Source = IsFormed ⊥ Listed (Unit {0}) Switches
 
   abbrev SourceSpot : Tree → Type 0
-  SourceSpot = IsFormedSpot Listed (Unit {0}) Switches
+  SourceSpot = IsFormedSpot ⊥ Listed (Unit {0}) Switches
 
   abbrev SourceOperands : List Letter → Trees → Type 0
-  SourceOperands = AreFormedOperands Listed (Unit {0}) Switches
+  SourceOperands = AreFormedOperands ⊥ Listed (Unit {0}) Switches
 
   abbrev Core : Tree → Type 0
-  Core = IsFormed Listed ⊥ Switches
+  Core = IsFormed ⊥ Listed ⊥ Switches
 
   abbrev CoreSpot : Tree → Type 0
-  CoreSpot = IsFormedSpot Listed ⊥ Switches
+  CoreSpot = IsFormedSpot ⊥ Listed ⊥ Switches
 
   abbrev CoreOperands : List Letter → Trees → Type 0
-  CoreOperands = AreFormedOperands Listed ⊥ Switches
+  CoreOperands = AreFormedOperands ⊥ Listed ⊥ Switches
 
   -- a term that has a value, and is formed
   abbrev CoreValue : Tree → Type 0
   CoreValue t = (is_expression t ≡ true) × Core t
 
-  last_spots : (n : ℕ) (target : Tree) → CoreSpot target → AreFormedSpots Listed ⊥ Switches (last_target n target)
+  last_spots : (n : ℕ) (target : Tree) → CoreSpot target → AreFormedSpots ⊥ Listed ⊥ Switches (last_target n target)
   last_spots zero target h = tt
   last_spots (suc zero) target h = (h, tt)
   last_spots (suc (suc n)) target h = (tt, last_spots (suc n) target h)
@@ -106,8 +106,8 @@ module _ (Listed : List (FieldItem UnitName) → Type 0) (Switches : Type 0) whe
   operated_spot op args all h = (
     h.1,
     spot_by (spot_form op) (SourceOperands (row_of op).operands args) ⊥
-        (CoreOperands (row_of op).operands (named_args args) × (count (last_target (row_of op).targets Omitted) ≡ (row_of op).targets) × AreFormedSpots Listed ⊥ Switches (last_target (row_of op).targets Omitted))
-        (IsFormedAlone Listed ⊥ Switches (named_args args) (last_target (row_of op).targets Omitted))
+        (CoreOperands (row_of op).operands (named_args args) × (count (last_target (row_of op).targets Omitted) ≡ (row_of op).targets) × AreFormedSpots ⊥ Listed ⊥ Switches (last_target (row_of op).targets Omitted))
+        (IsFormedAlone ⊥ Listed ⊥ Switches (named_args args) (last_target (row_of op).targets Omitted))
         (λ r. (all r, last_count (row_of op).targets Omitted, last_spots (row_of op).targets Omitted tt)) (λ i. absurd i) h.2,
   )
 
@@ -157,14 +157,14 @@ module _ (Listed : List (FieldItem UnitName) → Type 0) (Switches : Type 0) whe
     spot_named (Use at name) h = h
     spot_named (Apply op args targets) h = (
       h.0,
-      spot_by (spot_form op) (SourceOperands (row_of op).operands args × (count targets ≡ (row_of op).targets) × AreFormedSpots Listed (Unit {0}) Switches targets) (IsFormedAlone Listed (Unit {0}) Switches args targets)
-          (CoreOperands (row_of op).operands (named_args args) × (count (named_args targets) ≡ (row_of op).targets) × AreFormedSpots Listed ⊥ Switches (named_args targets)) (IsFormedAlone Listed ⊥ Switches (named_args args) (named_args targets))
+      spot_by (spot_form op) (SourceOperands (row_of op).operands args × (count targets ≡ (row_of op).targets) × AreFormedSpots ⊥ Listed (Unit {0}) Switches targets) (IsFormedAlone ⊥ Listed (Unit {0}) Switches args targets)
+          (CoreOperands (row_of op).operands (named_args args) × (count (named_args targets) ≡ (row_of op).targets) × AreFormedSpots ⊥ Listed ⊥ Switches (named_args targets)) (IsFormedAlone ⊥ Listed ⊥ Switches (named_args args) (named_args targets))
           (λ r. (operands_named (row_of op).operands args r.0, count_args targets ∙ r.1, spots_named targets r.2)) (λ i. alone_named args targets i) h.1,
     )
     spot_named (Operated op args) h = operated_spot op args (λ k. operands_named (row_of op).operands args k) h
     spot_named _ h = absurd h
 
-    alone_named : (args targets : Trees) → IsFormedAlone Listed (Unit {0}) Switches args targets → IsFormedAlone Listed ⊥ Switches (named_args args) (named_args targets)
+    alone_named : (args targets : Trees) → IsFormedAlone ⊥ Listed (Unit {0}) Switches args targets → IsFormedAlone ⊥ Listed ⊥ Switches (named_args args) (named_args targets)
     alone_named (tree t no_trees) no_trees h = value_named t h.0 h.1
     alone_named no_trees targets h = absurd h
     alone_named (tree t no_trees) (tree u us) h = absurd h
@@ -176,11 +176,11 @@ module _ (Listed : List (FieldItem UnitName) → Type 0) (Switches : Type 0) whe
     operands_named (letter ∷ letters) no_trees h = absurd h
     operands_named (letter ∷ letters) (tree t ts) h = (letter_named letter t (λ e k. value_named t e k) (λ k. spot_named t k) h.0, operands_named letters ts h.1)
 
-    spots_named : (ts : Trees) → AreFormedSpots Listed (Unit {0}) Switches ts → AreFormedSpots Listed ⊥ Switches (named_args ts)
+    spots_named : (ts : Trees) → AreFormedSpots ⊥ Listed (Unit {0}) Switches ts → AreFormedSpots ⊥ Listed ⊥ Switches (named_args ts)
     spots_named no_trees h = tt
     spots_named (tree t ts) h = (spot_named t h.0, spots_named ts h.1)
 
-    values_named : (ts : Trees) → AreFormedValues Listed (Unit {0}) Switches ts → AreFormedValues Listed ⊥ Switches (named_args ts)
+    values_named : (ts : Trees) → AreFormedValues ⊥ Listed (Unit {0}) Switches ts → AreFormedValues ⊥ Listed ⊥ Switches (named_args ts)
     values_named no_trees h = tt
     values_named (tree t ts) h = let v = value_named t h.0 h.1 in (v.0, v.1, values_named ts h.2)
 
@@ -194,12 +194,12 @@ module _ (Listed : List (FieldItem UnitName) → Type 0) (Switches : Type 0) whe
     element_named (VarPackage size elements) h = let s = value_named size h.1.0 h.1.1 in (refl, (s.0, s.1, elements_named elements h.1.2))
     element_named _ h = never h.0
 
-    elements_named : (ts : Trees) → AreFormedElements Listed (Unit {0}) Switches ts → AreFormedElements Listed ⊥ Switches (named_args ts)
+    elements_named : (ts : Trees) → AreFormedElements ⊥ Listed (Unit {0}) Switches ts → AreFormedElements ⊥ Listed ⊥ Switches (named_args ts)
     elements_named no_trees h = tt
     elements_named (tree t ts) h = (element_named t h.0, elements_named ts h.1)
 
   -- a term before others: an ElseIf is an If in an Else, which takes the Else behind it
-  before_formed : (test : Tree) (body rest : Trees) → CoreValue test → AreFormed Listed ⊥ Switches body → AreFormed Listed ⊥ Switches rest → AreFormed Listed ⊥ Switches (before (ElseIf test body) rest)
+  before_formed : (test : Tree) (body rest : Trees) → CoreValue test → AreFormed ⊥ Listed ⊥ Switches body → AreFormed ⊥ Listed ⊥ Switches rest → AreFormed ⊥ Listed ⊥ Switches (before (ElseIf test body) rest)
   before_formed test body (tree (Else other) rest) v b h = (((v.0, v.1, b), tt, (h.0, tt, tt)), tt, h.2)
   before_formed test body no_trees v b h = (((v.0, v.1, b), tt, tt), tt, h)
   before_formed test body (tree t rest) v b h = (((v.0, v.1, b), tt, tt), tt, h)
@@ -245,8 +245,10 @@ module _ (Listed : List (FieldItem UnitName) → Type 0) (Switches : Type 0) whe
   followed_named _ ts h = tt
 
   mutual
-    term_named : (t : Tree) → Source t → (rest : Trees) → IsFollowed (named t) rest → AreFormed Listed ⊥ Switches rest → AreFormed Listed ⊥ Switches (before (named t) rest)
+    term_named : (t : Tree) → Source t → (rest : Trees) → IsFollowed (named t) rest → AreFormed ⊥ Listed ⊥ Switches rest → AreFormed ⊥ Listed ⊥ Switches (before (named t) rest)
     term_named (ElseIf test body) h rest f r = before_formed (named test) (named_all body) rest (value_named test h.1 h.2) (all_named body h.3) r
+    term_named (For start test step body) h rest f r = absurd h.0
+    term_named (Print place format args) h rest f r = absurd h.0
     term_named (Switch value cases) h rest f r = let v = value_named value h.1 h.2 in ((h.0, v.0, v.1, cases_named cases h.3), f, r)
     term_named (Case value body) h rest f r = absurd h
     term_named (Default body) h rest f r = absurd h
@@ -290,12 +292,12 @@ module _ (Listed : List (FieldItem UnitName) → Type 0) (Switches : Type 0) whe
     term_named (VarPackage size elements) h rest f r = ((value_named (VarPackage size elements) refl h).1, tt, r)
     term_named (CondRefOf place target) h rest f r = ((value_named (CondRefOf place target) refl h).1, tt, r)
 
-    pub all_named : (ts : Trees) → AreFormed Listed (Unit {0}) Switches ts → AreFormed Listed ⊥ Switches (named_all ts)
+    pub all_named : (ts : Trees) → AreFormed ⊥ Listed (Unit {0}) Switches ts → AreFormed ⊥ Listed ⊥ Switches (named_all ts)
     all_named no_trees h = tt
     all_named (tree t ts) h = term_named t h.0 (named_all ts) (followed_named t ts h.1) (all_named ts h.2)
 
     -- a Case and a Default stand alone in a list, as nothing takes what is behind them
-    cases_named : (ts : Trees) → AreFormedCases Listed (Unit {0}) Switches ts → AreFormedCases Listed ⊥ Switches (named_all ts)
+    cases_named : (ts : Trees) → AreFormedCases ⊥ Listed (Unit {0}) Switches ts → AreFormedCases ⊥ Listed ⊥ Switches (named_all ts)
     cases_named no_trees h = tt
     cases_named (tree (Case value body) ts) h = (case_named value h.0, all_named body h.1, cases_named ts h.2)
     cases_named (tree (Default body) no_trees) h = all_named body h

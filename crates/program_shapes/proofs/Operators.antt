@@ -17,7 +17,7 @@ use Rattle.asl_words.specs.Operators.{asked, optional, expression, place, target
 use Rattle.program_shapes.proofs.Fits.{TreesFit, IsDeclared, Formed, FormedElements, FormedTerms, FormedCases, IsCase, IsDefault}
 use Rattle.program_shapes.proofs.Plains.{plain_made, symbol_made}
 use Rattle.program_shapes.proofs.Words.{IsSpelled}
-use Rattle.program_shapes.proofs.Forms.{one_of, two_of, three_of, four_of, none_of, condition_made, return_made, assign_made, assign_by_made, name_made, alias_made, event_made, mutex_made, bits_made, bit_made, byte_made, word_made, dword_made, qword_made, if_made, else_if_made, while_made, switch_made, case_made, device_made, zone_made, scope_made, method_made, power_made, processor_made, buffer_made, package_made, region_made, field_made, index_made, bank_made, ListFit}
+use Rattle.program_shapes.proofs.Forms.{one_of, two_of, three_of, four_of, none_of, condition_made, return_made, assign_made, assign_by_made, name_made, alias_made, event_made, mutex_made, bits_made, bit_made, byte_made, word_made, dword_made, qword_made, if_made, else_if_made, while_made, for_made, PrintedFit, PrintedIntoFit, printf_made, fprintf_made, switch_made, case_made, device_made, zone_made, scope_made, method_made, power_made, processor_made, buffer_made, package_made, region_made, field_made, index_made, bank_made, ListFit}
 
 -- the name and type of an External, and perhaps how many parameters it states
 abbrev pub ExternalFit : Trees → Type 0
@@ -25,7 +25,8 @@ ExternalFit (tree t (tree type no_trees)) = IsDeclared t × IsNumber type
 ExternalFit (tree t (tree type (tree n no_trees))) = IsDeclared t × IsNumber type × IsNumber n
 ExternalFit _ = ⊥
 
--- arguments as they stand in the tree: a method's flags are one byte, a mutex has its level, a Return its value
+-- arguments as they stand in the tree: a method's flags are one byte, a mutex has its level, a Return its value, a For its test, and a format
+-- as many arguments as it asks for
 abbrev pub SettledFit : Op → Trees → Type 0
 SettledFit (Op.Declaration Declaration.Method) ts = TreesFit (declared ∷ asked (constant 0 255) ∷ []) ts
 SettledFit (Op.Declaration Declaration.Mutex) ts = TreesFit (declared ∷ asked (constant 0 255) ∷ []) ts
@@ -34,6 +35,9 @@ SettledFit (Op.Declaration Declaration.Field) ts = TreesFit (used ∷ asked (con
 SettledFit (Op.Declaration Declaration.IndexField) ts = TreesFit (used ∷ used ∷ asked (constant 0 255) ∷ []) ts
 SettledFit (Op.Declaration Declaration.BankField) ts = TreesFit (used ∷ used ∷ expression ∷ asked (constant 0 255) ∷ []) ts
 SettledFit (Op.Control Control.Return) ts = TreesFit (expression ∷ []) ts
+SettledFit (Op.Control Control.For) ts = TreesFit (optional slot.Effect ∷ expression ∷ optional slot.Effect ∷ []) ts
+SettledFit (Op.Control Control.Printf) ts = PrintedFit ts
+SettledFit (Op.Control Control.Fprintf) ts = PrintedIntoFit ts
 SettledFit op ts = TreesFit (parameters_of op) ts
 
 -- what stands in braces; the lists of descriptors stand in no operator's
@@ -87,6 +91,9 @@ form_made here (Op.Special Special.Package) ts body i h b = package_made here ts
 form_made here (Op.Control Control.Return) ts body i h b = bare_body here (Op.Control Control.Return) ts body b (return_made here ts (one_of expression ts h))
 form_made here (Op.Control Control.If) ts body i h b = if_made here ts body (one_of expression ts h) b
 form_made here (Op.Control Control.While) ts body i h b = while_made here ts body (one_of expression ts h) b
+form_made here (Op.Control Control.For) ts body i h b = for_made here ts body (three_of (optional slot.Effect) expression (optional slot.Effect) ts h) b
+form_made here (Op.Control Control.Printf) ts body i h b = bare_body here (Op.Control Control.Printf) ts body b (printf_made here ts h)
+form_made here (Op.Control Control.Fprintf) ts body i h b = bare_body here (Op.Control Control.Fprintf) ts body b (fprintf_made here ts h)
 form_made here (Op.Control Control.Switch) ts body i h b = switch_made here ts body (one_of expression ts h) b
 form_made here (Op.Control Control.Case) ts body i h b = case_made here ts body (one_of (asked slot.CaseValue) ts h) b
 form_made here (Op.Control Control.Default) ts body i h b = subst (λ ts. IsDefault (form here (Op.Control Control.Default) ts body)) (sym (none_of ts h)) b

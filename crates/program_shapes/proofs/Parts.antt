@@ -42,7 +42,7 @@ use Rattle.asl_words.specs.Operators.{parameters_of, parameters_as, constant_siz
 use Rattle.asl_parser.specs.Written.{Writtens}
 use Rattle.acpi_values.specs.declared.width.Width.{Width}
 use Rattle.asl_shape.specs.Plans.{Plan, an_integer, a_text, a_form, Plans, no_plans, how_many}
-use Rattle.asl_shape.specs.Shapes.{Shaped, fine, refused, number_shape, text_shape, string_shape, listed_shape, types_shape, are_all_types, known_plan, path_shape, call_shape, form_shape, symbol_shape, settled, package_settled, arranged, item_shape, read_shape}
+use Rattle.asl_shape.specs.Shapes.{Shaped, fine, refused, unformed, format_faults, number_shape, text_shape, string_shape, listed_shape, types_shape, are_all_types, known_plan, path_shape, call_shape, form_shape, symbol_shape, settled, package_settled, arranged, item_shape, read_shape}
 use Rattle.asl_words.specs.Meanings.{takes_role, takes_known, takes_expression, takes_path, takes_segment, is_value, is_place, item_fault, reading_of, name_reading, unless_wrong, may_be, is_unknown, wants_braces, is_same, takes_field_word, takes_macro, takes_resource, unfit, default_before, takes_branch, is_branch_role, is_of_kind, may_stand}
 use Rattle.asl_words.specs.Texts.{has_form, is_all_text, is_text_byte}
 use Rattle.asl_shape.specs.Shapes as shapes
@@ -52,7 +52,7 @@ use Rattle.program_shapes.proofs.Forms.{one_of, Two, two, two_of, case_buffer_ma
 use Rattle.program_shapes.proofs.Operators.{SettledFit, BodyFit, Made, form_made}
 use Rattle.program_shapes.proofs.Words.{IsSpelled, IsRightKnown, IsRightMeaning, both_true}
 use Rattle.asl_numbers.specs.Numbers.{numbered, numbered_all}
-use Rattle.program_shapes.proofs.Plans.{PlanAs, PlansAs, PlansFit, integer_as, text_as, local_as, arg_as, debug_as, name_as, call_as, form_as, count_as, fits_as}
+use Rattle.program_shapes.proofs.Plans.{PlanAs, PlansAs, PlansFit, ArgumentsFit, none_missing, integer_as, text_as, local_as, arg_as, debug_as, name_as, call_as, form_as, count_as, fits_as}
 use Rattle.program_shapes.proofs.Branches.{IsBranchBehind, ContentsFit, cases_arranged}
 use Rattle.program_shapes.proofs.Settled.{settled_fit, package_fit}
 use Rattle.program_shapes.proofs.Evaluated.{IsLooseMember, IsLooseValue, Loosely}
@@ -89,7 +89,7 @@ all_text (b ∷ bytes) e = let p = both_true (is_text_byte b) (is_all_text bytes
 
 pub string_fit : (P : Tree → Type 0) (f : StringForm) (at : Place) (bytes : List ℕ) → (IsText bytes → P (String bytes)) → (string_shape f at bytes).faults ≡ [] → PlanAs P (string_shape f at bytes).made
 string_fit P f at bytes h e =
-    good_of (PlanAs P) (has_form f bytes && is_all_text bytes) 6024 at (fine (a_text bytes)) (λ t f. text_as P bytes (h (all_text bytes (both_true (has_form _ bytes) (is_all_text bytes) t).1))) e
+    good_of (PlanAs P) (has_form f bytes && is_all_text bytes) (unformed f) at (fine (a_text bytes)) (λ t f. text_as P bytes (h (all_text bytes (both_true (has_form _ bytes) (is_all_text bytes) t).1))) e
 
 compared_text : (P : Plan → Type 0) (at : Place) (bytes : List ℕ) → (IsText bytes → P (a_text bytes)) → (string_shape texts.Any at bytes).faults ≡ [] → P (string_shape texts.Any at bytes).made
 compared_text P at bytes h e = good_of P (has_form texts.Any bytes && is_all_text bytes) 6024 at (fine (a_text bytes)) (λ t f. h (all_text bytes (both_true (has_form texts.Any bytes) (is_all_text bytes) t).1)) e
@@ -119,6 +119,7 @@ path_fit slot.Measure at (Some path) h t e = name_as (Fits slot.Expression) path
 path_fit slot.Element at (Some path) h t e = name_as (Fits slot.Expression) path (λ at. (refl, h))
 path_fit slot.CaseValue at (Some path) h t e = tt
 path_fit slot.CaseMember at (Some path) h t e = tt
+path_fit slot.Effect at (Some path) h t e = name_as (Fits slot.Effect) path (λ at. (refl, h))
 path_fit slot.Place at (Some path) h t e = name_as (Fits slot.Place) path (λ at. (h, refl))
 path_fit slot.Named at (Some path) h t e = name_as (Fits slot.Named) path (λ at. (h, refl))
 path_fit slot.Declared at (Some path) h t e = name_as (Fits slot.Declared) path (λ at. h.is_name)
@@ -139,6 +140,7 @@ call_fit slot.Measure at (Some path) args h t k e = call_as (Fits slot.Expressio
 call_fit slot.Element at (Some path) args h t k e = call_as (Fits slot.Expression) path args.made (λ at m. (refl, (h, k e m)))
 call_fit slot.CaseValue at (Some path) args h t k e = tt
 call_fit slot.CaseMember at (Some path) args h t k e = tt
+call_fit slot.Effect at (Some path) args h t k e = call_as (Fits slot.Effect) path args.made (λ at m. (refl, (h, k e m)))
 call_fit (slot.Term run) at (Some path) args h t k e = call_as Formed path args.made (λ at m. (h, k e m))
 call_fit _ at (Some path) args h t k e = absurd cc
 
@@ -153,6 +155,7 @@ known_fit slot.Measure (known.Local i) h t = local_as (Fits slot.Expression) i (
 known_fit slot.Element (known.Local i) h t = local_as (Fits slot.Expression) i (refl, h)
 known_fit slot.CaseValue (known.Local i) h t = tt
 known_fit slot.CaseMember (known.Local i) h t = tt
+known_fit slot.Effect (known.Local i) h t = local_as (Fits slot.Effect) i (refl, h)
 known_fit slot.Place (known.Local i) h t = local_as (Fits slot.Place) i (h, refl)
 known_fit slot.Named (known.Local i) h t = local_as (Fits slot.Named) i (h, refl)
 known_fit (slot.Term run) (known.Local i) h t = local_as Formed i h
@@ -163,6 +166,7 @@ known_fit slot.Measure (known.Arg i) h t = arg_as (Fits slot.Expression) i (refl
 known_fit slot.Element (known.Arg i) h t = arg_as (Fits slot.Expression) i (refl, h)
 known_fit slot.CaseValue (known.Arg i) h t = tt
 known_fit slot.CaseMember (known.Arg i) h t = tt
+known_fit slot.Effect (known.Arg i) h t = arg_as (Fits slot.Effect) i (refl, h)
 known_fit slot.Place (known.Arg i) h t = arg_as (Fits slot.Place) i (h, refl)
 known_fit slot.Named (known.Arg i) h t = arg_as (Fits slot.Named) i (h, refl)
 known_fit (slot.Term run) (known.Arg i) h t = arg_as Formed i h
@@ -173,6 +177,7 @@ known_fit slot.Measure known.Debug h t = debug_as (Fits slot.Expression) (refl, 
 known_fit slot.Element known.Debug h t = debug_as (Fits slot.Expression) (refl, tt)
 known_fit slot.CaseValue known.Debug h t = tt
 known_fit slot.CaseMember known.Debug h t = tt
+known_fit slot.Effect known.Debug h t = debug_as (Fits slot.Effect) (refl, tt)
 known_fit slot.Place known.Debug h t = debug_as (Fits slot.Place) (tt, refl)
 known_fit (slot.Term run) known.Debug h t = debug_as Formed tt
 known_fit _ known.Debug h t = absurd cc
@@ -275,10 +280,13 @@ value_made at (Op.Symbolic (Symbolic.AssignBy op)) ts body i h b e =
 value_made at (Op.Declaration op) ts body i h b e = absurd (declaration_value op e)
 value_made at (Op.Control op) ts body i h b e = absurd (control_value op e)
 
-pub form_fit : (width : Width) (op : Op) (at : Place) (gs bs : Shaped Plans) → IsSpelled op → (gs.faults ≡ [] → PlansFit (parameters_of op) gs.made) → (bs.faults ≡ [] → PlansAs (BodyFit (body_of op)) (arranged op bs.made)) → (form_shape width op at gs bs).faults ≡ []
+pub form_fit : (width : Width) (op : Op) (at : Place) (gs bs : Shaped Plans) → IsSpelled op → (gs.faults ≡ [] → ArgumentsFit (parameters_of op) gs.made) → (bs.faults ≡ [] → PlansAs (BodyFit (body_of op)) (arranged op bs.made)) → (form_shape width op at gs bs).faults ≡ []
     → PlanAs (OpFits op) (form_shape width op at gs bs).made
-form_fit width op at gs bs i h k e = form_as (OpFits op) op (settled width op at gs.made) (arranged op bs.made)
-    (λ here m n. made here (numbered_all m (settled width op at gs.made)) (numbered_all n (arranged op bs.made)) (settled_fit width op at gs.made (h (none_in gs.faults bs.faults e).0) m) (k (none_in gs.faults bs.faults e).1 n))
+form_fit width op at gs bs i h k e =
+    let rest = none_in (gs.faults ++ format_faults op at gs.made) bs.faults e in
+    let first = none_in gs.faults (format_faults op at gs.made) rest.0 in
+    form_as (OpFits op) op (settled width op at gs.made) (arranged op bs.made)
+    (λ here m n. made here (numbered_all m (settled width op at gs.made)) (numbered_all n (arranged op bs.made)) (settled_fit width op at gs.made first.1 (h first.0) m) (k rest.1 n))
   where
     made : (here : At) (ts body : Trees) → SettledFit op ts → BodyFit (body_of op) body → OpFits op (form here op ts body)
     made here ts body a b = record { value = value_made here op ts body i a b; spot = spot_made here op ts body i a b; shaped = form_made here op ts body i a b }
@@ -309,6 +317,7 @@ role_fit slot.Expression op c b r e p h = λ at n. value_fit op (numbered at n p
 role_fit (slot.Constant least most) op c b r e p h = λ at n. value_fit op (numbered at n p) e (h at n)
 role_fit slot.Measure op c b r e p h = λ at n. value_fit op (numbered at n p) e (h at n)
 role_fit slot.Element op c b r e p h = λ at n. value_fit op (numbered at n p) e (h at n)
+role_fit slot.Effect op c b r e p h = λ at n. value_fit op (numbered at n p) e (h at n)
 role_fit slot.Place op c b r e p h = λ at n. (h at n).spot e
 role_fit (slot.Term run) op c b r e p h = λ at n. formed_of op (numbered at n p) r (h at n).shaped
 role_fit _ op c b r e p h = absurd cc
@@ -343,14 +352,14 @@ package_form width at ps bs h k =
     few n le = omega (arith, le)
 
 -- any other form has to be a constant
-value_form : (op : Op) (width : Width) (at : Place) (gs bs : Shaped Plans) → (gs.faults ≡ [] → PlansFit (parameters_as op slot.CaseValue) gs.made) → (bs.faults ≡ [] → ContentsFit (body_as op slot.CaseValue) bs.made)
+value_form : (op : Op) (width : Width) (at : Place) (gs bs : Shaped Plans) → (gs.faults ≡ [] → ArgumentsFit (parameters_as op slot.CaseValue) gs.made) → (bs.faults ≡ [] → ContentsFit (body_as op slot.CaseValue) bs.made)
     → (form_shape width op at gs bs).faults ≡ [] → IsLooseValue (form_shape width op at gs bs).made
-value_form (Op.Special Special.Buffer) width at gs bs h k e = buffer_form width at gs.made bs.made (h (none_in gs.faults bs.faults e).0)
-value_form (Op.Special Special.Package) width at gs bs h k e = package_form width at gs.made bs.made (h (none_in gs.faults bs.faults e).0) (k (none_in gs.faults bs.faults e).1)
+value_form (Op.Special Special.Buffer) width at gs bs h k e = buffer_form width at gs.made bs.made (none_missing constant_size gs.made refl (h (none_in gs.faults [] (none_in (gs.faults ++ []) bs.faults e).0).0))
+value_form (Op.Special Special.Package) width at gs bs h k e = package_form width at gs.made bs.made (none_missing constant_size gs.made refl (h (none_in gs.faults [] (none_in (gs.faults ++ []) bs.faults e).0).0)) (k (none_in (gs.faults ++ []) bs.faults e).1)
 value_form _ width at gs bs h k e = tt
 
-member_form : (op : Op) (width : Width) (at : Place) (gs bs : Shaped Plans) → (gs.faults ≡ [] → PlansFit (parameters_as op slot.CaseMember) gs.made) → (form_shape width op at gs bs).faults ≡ [] → IsLooseMember (form_shape width op at gs bs).made
-member_form (Op.Special Special.Buffer) width at gs bs h e = buffer_form width at gs.made bs.made (h (none_in gs.faults bs.faults e).0)
+member_form : (op : Op) (width : Width) (at : Place) (gs bs : Shaped Plans) → (gs.faults ≡ [] → ArgumentsFit (parameters_as op slot.CaseMember) gs.made) → (form_shape width op at gs bs).faults ≡ [] → IsLooseMember (form_shape width op at gs bs).made
+member_form (Op.Special Special.Buffer) width at gs bs h e = buffer_form width at gs.made bs.made (none_missing constant_size gs.made refl (h (none_in gs.faults [] (none_in (gs.faults ++ []) bs.faults e).0).0))
 member_form _ width at gs bs h e = tt
 
 -- ---- forms in the braces of a Switch
@@ -417,13 +426,13 @@ body_arranged (Op.Declaration Declaration.Method) ps h = h
 body_arranged (Op.Declaration _) ps h = h
 body_arranged _ ps h = h
 
-usual_form : (s : Slot) (width : Width) (op : Op) (at : Place) (gs bs : Shaped Plans) → is_compared s ≡ false → IsSpelled op → (gs.faults ≡ [] → PlansFit (parameters_as op s) gs.made) → (bs.faults ≡ [] → ContentsFit (body_as op s) bs.made)
+usual_form : (s : Slot) (width : Width) (op : Op) (at : Place) (gs bs : Shaped Plans) → is_compared s ≡ false → IsSpelled op → (gs.faults ≡ [] → ArgumentsFit (parameters_as op s) gs.made) → (bs.faults ≡ [] → ContentsFit (body_as op s) bs.made)
     → (form_shape width op at gs bs).faults ≡ [] → PlanAs (OpFits op) (form_shape width op at gs bs).made
 usual_form s width op at gs bs c i h k e =
-    form_fit width op at gs bs i (λ f. subst (λ qs. PlansFit qs gs.made) (parameters_same op s c) (h f)) (λ f. body_arranged op bs.made (subst (λ b. ContentsFit b bs.made) (body_same op s c) (k f))) e
+    form_fit width op at gs bs i (λ f. subst (λ qs. ArgumentsFit qs gs.made) (parameters_same op s c) (h f)) (λ f. body_arranged op bs.made (subst (λ b. ContentsFit b bs.made) (body_same op s c) (k f))) e
 
 pub form_in : (s : Slot) (inside : Bool) (width : Width) (op : Op) (at : Place) (gs bs : Shaped Plans) → IsSpelled op → may_be s inside (is.Operator op) ≡ true → takes_role s (role_of op) ≡ true
-    → (gs.faults ≡ [] → PlansFit (parameters_as op s) gs.made) → (bs.faults ≡ [] → ContentsFit (body_as op s) bs.made) → (form_shape width op at gs bs).faults ≡ [] → Loosely s (form_shape width op at gs bs).made
+    → (gs.faults ≡ [] → ArgumentsFit (parameters_as op s) gs.made) → (bs.faults ≡ [] → ContentsFit (body_as op s) bs.made) → (form_shape width op at gs bs).faults ≡ [] → Loosely s (form_shape width op at gs bs).made
 form_in slot.CaseValue inside width op at gs bs i m t h k e = value_form op width at gs bs h k e
 form_in slot.CaseMember inside width op at gs bs i m t h k e = member_form op width at gs bs h e
 form_in (slot.Branch defaulted) inside width op at gs bs i m t h k e =
@@ -445,7 +454,7 @@ symbol_in (slot.Branch defaulted) op i r e args body h = absurd (not_both (is_br
 symbol_in s op i r e args body h = role_fit s op refl refl r e (a_form op args body) h
 
 -- what is written with a symbol, where it stands
-pub symbol_fit : (width : Width) (s : Slot) (at : Place) (op : Op) (gs : Shaped Plans) → IsSpelled op → IsSymbolic op → is_branch_role (role_of op) ≡ false → PlansAs (BodyFit (body_of op)) (arranged op no_plans) → (gs.faults ≡ [] → PlansFit (parameters_of op) gs.made)
+pub symbol_fit : (width : Width) (s : Slot) (at : Place) (op : Op) (gs : Shaped Plans) → IsSpelled op → IsSymbolic op → is_branch_role (role_of op) ≡ false → PlansAs (BodyFit (body_of op)) (arranged op no_plans) → (gs.faults ≡ [] → ArgumentsFit (parameters_of op) gs.made)
     → (symbol_shape width s at op gs).faults ≡ [] → Loosely s (symbol_shape width s at op gs).made
 symbol_fit width s at op gs i c r b h e = by (takes_role s (role_of op)) refl e
   where

@@ -41,14 +41,14 @@ use Rattle.asl_shape.specs.declared.around.Around.{Around}
 use Rattle.asl_shape.specs.Around.{outside}
 use Rattle.asl_shape.specs.declared.fields.Due.{Due}
 use Rattle.asl_shape.specs.declared.fields.UnitName.{UnitName}
-use Rattle.asl_shape.specs.Plans.{Plan, an_integer, a_text, a_fill, a_name, an_access, Plans, no_plans, plan, plan_at, join, first_plans, first_alone, number_of, is_omitted, constant_of, plans_of}
+use Rattle.asl_shape.specs.Plans.{Plan, an_integer, a_text, a_fill, a_name, an_access, omitted, Plans, no_plans, plan, plan_at, join, first_plans, first_alone, number_of, is_omitted, constant_of, plans_of}
 use Rattle.asl_words.specs.Paths.{path_of}
 use Rattle.asl_words.specs.declared.operator.FieldWord.{FieldWord}
 use Rattle.asl_words.specs.declared.meaning.Meaning.{Meaning}
 use Rattle.asl_words.specs.Operators.{parameters_of, parameters_as, body_as, role_of, element_parameters, macro_parameters}
 use Rattle.asl_words.specs.Resources.{descriptor_parameters, descriptor_body}
 use Rattle.asl_shape.specs.Symbols.{symbol_of}
-use Rattle.asl_shape.specs.Shapes.{Shaped, fine, refused, nowhere, valued, evaluated, after, checked, is_member, is_given, count, has_arguments, are_all_types, number_shape, string_shape, text_shape, path_shape, call_shape, known_plan, listed_shape, read_shape, item_shape, form_shape, method_flags, one_plan, zero_plan, is_stated, stated_parameters, few_elements, settled, within, place_of, left_out, is_separator, is_listed, byte_slot, list_shape, skipped, run_after, bare, operands, call_args, arguments, arguments_in, contents, members, terms, inside_of, is_element, field_flags, field_settled, element_shape, macro_shape, template_shape, descriptor_shape, macro_text, eisa_shape, uuid_shape, buffer_plan, meaning_in, is_field_list, begin, field_slot, named_unit, unit_behind, whole_alone, of_bits, field_part, due_behind, elements, is_case_member, case_member, member_count, is_case_package, case_value, is_default_plan, default_last, arranged, cases, default_after, accessed_as, connected_to, element_plan, element_place, first_place, inner_place, begun}
+use Rattle.asl_shape.specs.Shapes.{Shaped, fine, refused, unformed, one_word, for_settled, nowhere, valued, evaluated, after, checked, is_member, is_given, count, has_arguments, are_all_types, number_shape, string_shape, text_shape, path_shape, call_shape, known_plan, listed_shape, read_shape, item_shape, form_shape, method_flags, one_plan, zero_plan, is_stated, stated_parameters, few_elements, settled, within, place_of, left_out, is_separator, is_listed, byte_slot, list_shape, skipped, run_after, bare, operands, call_args, arguments, arguments_in, contents, members, terms, inside_of, is_element, field_flags, field_settled, element_shape, macro_shape, template_shape, descriptor_shape, macro_text, eisa_shape, uuid_shape, buffer_plan, meaning_in, is_field_list, begin, field_slot, named_unit, unit_behind, whole_alone, of_bits, field_part, due_behind, elements, is_case_member, case_member, member_count, is_case_package, case_value, is_default_plan, default_last, arranged, cases, default_after, accessed_as, connected_to, element_plan, element_place, first_place, inner_place, begun}
 use Rattle.asl_words.specs.Meanings.{item_fault, meaning_of, reading_of, takes_expression, takes_role, slot_as, unfit, is_whole, is_connection}
 use Rattle.asl_words.specs.Texts.{is_all_text, has_form}
 use Rattle.resource_macros.specs.Identifiers.{eisaid_of, uuid_of, utf16_of}
@@ -63,10 +63,11 @@ module _ (files : ℕ) where
   either false x y h k = k
 
   string_in : (f : StringForm) (place : Place) (bytes : List ℕ) → PlanWithin files (string_shape f place bytes).made
-  string_in f place bytes = either (has_form f bytes && is_all_text bytes) (fine (a_text bytes)) (refused 6024 place) tt tt
+  string_in f place bytes = either (has_form f bytes && is_all_text bytes) (fine (a_text bytes)) (refused (unformed f) place) tt tt
 
   number_in : (s : Slot) (place : Place) (n : ℕ) → PlanWithin files (number_shape s place n).made
   number_in (slot.Term run) place n = tt
+  number_in slot.Effect place n = tt
   number_in s place n = either (takes_expression s) (fine (an_integer (wrapped W64 n))) (refused (unfit s) place) tt tt
 
   -- the Buffer of a macro stands at its string
@@ -213,6 +214,15 @@ module _ (files : ℕ) where
   package_in None place ps h k = k
   package_in (Some n) place ps h k = (h, tt, tt)
 
+  test_in : (c : Bool) (p : Plan) → PlanWithin files p → PlanWithin files (if c then p else one_word)
+  test_in true p h = h
+  test_in false p h = (tt, tt)
+
+  for_in : (ps : Plans) → PlansWithin files ps → PlansWithin files (for_settled ps)
+  for_in no_plans k = k
+  for_in (plan place p no_plans) k = k
+  for_in (plan place p (plan at q ps)) k = (k.0, k.1, (k.2.0, test_in (is_stated q) q k.2.1, k.2.2))
+
   settled_in : (width : Width) (o : Op) (place : Place) (ps : Plans) → IsIn files place → PlansWithin files ps → PlansWithin files (settled width o place ps)
   settled_in width (Op.Declaration Declaration.Method) place ps h k = behind_first place ps (method_flags ps) h k
   settled_in width (Op.Declaration Declaration.Mutex) place ps h k = behind_first place ps (number_of (plan_at ps 1) % 16) h k
@@ -222,6 +232,7 @@ module _ (files : ℕ) where
   settled_in width (Op.Declaration Declaration.IndexField) place ps h k = field_in 2 place ps h k
   settled_in width (Op.Declaration Declaration.BankField) place ps h k = field_in 3 place ps h k
   settled_in width (Op.Control Control.Return) place ps h k = return_in (is_stated (plan_at ps 0)) place ps h k
+  settled_in width (Op.Control Control.For) place ps h k = for_in ps k
   settled_in width (Op.Special Special.Package) place ps h k = package_in (few_elements (constant_of width (plan_at ps 0))) place ps h k
   settled_in width _ place ps h k = k
 
@@ -239,7 +250,11 @@ module _ (files : ℕ) where
 
   left_out_in : (place : Place) (qs : List Parameter) → IsIn files place → PlansWithin files (left_out place qs)
   left_out_in place [] h = tt
-  left_out_in place (q ∷ qs) h = (h, tt, left_out_in place qs h)
+  left_out_in place (q ∷ qs) h = by q.further (left_out_in place qs h)
+    where
+      by : (c : Bool) → PlansWithin files (left_out place qs) → PlansWithin files (join (if c then no_plans else plan place omitted no_plans) (left_out place qs))
+      by true k = k
+      by false k = (h, tt, k)
 
   place_in : (place : Place) (w : Written) → IsIn files place → IsWithin files w → IsIn files (place_of place w)
   place_in place (piece.number p n) h k = k

@@ -1,5 +1,6 @@
 -- What a plan says of its tree.
 use Rattle.std.proofs.Common.{◌≡◌, ◌⊎◌, inl, inr, ℕ, suc, ◌+◌, Bool, true, false, List, [], ◌∷◌, refl, sym, ap, subst}
+use Rattle.std.specs.Prelude.{not, ◌&&◌, if◌then◌else◌}
 use Rattle.iasl_messages.specs.declared.place.Place.{Place}
 use Rattle.acpi_state.specs.Forms.{LocalSlot, ArgSlot}
 use Rattle.asl_tree.specs.declared.path.Path.{Path}
@@ -87,6 +88,76 @@ abbrev pub PlansFit : List Parameter → Plans → Type 0
 PlansFit [] no_plans = Unit {0}
 PlansFit (q ∷ qs) (plan place p ps) = PlanTakes q.omittable q.slot p × PlansFit qs ps
 PlansFit _ _ = ⊥
+
+-- the same, where further arguments may be missing at the end
+abbrev pub ArgumentsFit : List Parameter → Plans → Type 0
+ArgumentsFit [] no_plans = Unit {0}
+ArgumentsFit [] (plan place p ps) = ⊥
+ArgumentsFit (q ∷ qs) no_plans = (q.further ≡ true) × ArgumentsFit qs no_plans
+ArgumentsFit (q ∷ qs) (plan place p ps) = PlanTakes q.omittable q.slot p × ArgumentsFit qs ps
+
+-- none may be missing
+abbrev pub are_asked : List Parameter → Bool
+are_asked [] = true
+are_asked (q ∷ qs) = not q.further && are_asked qs
+
+pub behind_asked : (a b : Bool) → (not a && b) ≡ true → b ≡ true
+behind_asked true b e = absurd cc
+behind_asked false b e = e
+
+pub none_missing : (qs : List Parameter) (ps : Plans) → are_asked qs ≡ true → ArgumentsFit qs ps → PlansFit qs ps
+none_missing [] no_plans e h = tt
+none_missing [] (plan place p ps) e h = absurd h
+none_missing (q ∷ qs) no_plans e h = absurd (never q.further (are_asked qs) e h.0)
+  where
+    never : (a b : Bool) → (not a && b) ≡ true → a ≡ true → ⊥
+    never true b e f = absurd cc
+    never false b e f = absurd cc
+none_missing (q ∷ qs) (plan place p ps) e h = (h.0, none_missing qs ps (behind_asked q.further (are_asked qs) e) h.1)
+
+-- those that may be missing stand behind all others
+abbrev pub are_further : List Parameter → Bool
+are_further [] = true
+are_further (q ∷ qs) = q.further && are_further qs
+
+abbrev pub is_ordered : List Parameter → Bool
+is_ordered [] = true
+is_ordered (q ∷ qs) = if q.further then are_further qs else is_ordered qs
+
+further_ordered : (qs : List Parameter) → are_further qs ≡ true → is_ordered qs ≡ true
+further_ordered [] e = refl
+further_ordered (q ∷ qs) e = by q.further e
+  where
+    by : (b : Bool) → (b && are_further qs) ≡ true → (if b then are_further qs else is_ordered qs) ≡ true
+    by true e = e
+    by false e = absurd cc
+
+pub behind_ordered : (q : Parameter) (qs : List Parameter) → is_ordered (q ∷ qs) ≡ true → is_ordered qs ≡ true
+behind_ordered q qs e = by q.further e
+  where
+    by : (b : Bool) → (if b then are_further qs else is_ordered qs) ≡ true → is_ordered qs ≡ true
+    by true e = further_ordered qs e
+    by false e = e
+
+pub asked_ordered : (qs : List Parameter) → are_asked qs ≡ true → is_ordered qs ≡ true
+asked_ordered [] e = refl
+asked_ordered (q ∷ qs) e = by q.further e (asked_ordered qs (behind_asked q.further (are_asked qs) e))
+  where
+    by : (b : Bool) → (not b && are_asked qs) ≡ true → is_ordered qs ≡ true → (if b then are_further qs else is_ordered qs) ≡ true
+    by true e o = absurd cc
+    by false e o = o
+
+pub further_fit : (qs : List Parameter) → are_further qs ≡ true → ArgumentsFit qs no_plans
+further_fit [] e = tt
+further_fit (q ∷ qs) e = (first q.further (are_further qs) e, further_fit qs (rest q.further (are_further qs) e))
+  where
+    first : (a b : Bool) → (a && b) ≡ true → a ≡ true
+    first true b e = refl
+    first false b e = absurd cc
+
+    rest : (a b : Bool) → (a && b) ≡ true → b ≡ true
+    rest true b e = e
+    rest false b e = absurd cc
 
 takes_as : (b : Bool) (s : Slot) (p : Plan) → PlanTakes b s p → PlanAs (Takes b s) p
 takes_as false s p h = h

@@ -3,7 +3,7 @@ use Rattle.std.specs.Prelude.{ℕ, ◌<◌}
 use Rattle.std.specs.List.{All}
 use Rattle.iasl_messages.specs.declared.message.Message.{Message}
 use Rattle.asl_shape.specs.Plans.{Plan, a_form, Plans, no_plans, plan}
-use Rattle.asl_tree.specs.Tree.{Tree, Method, Container', Scope, Trees, no_trees, tree, Field, BankField, If, ElseIf, Else, While, Switch, Case, Default}
+use Rattle.asl_tree.specs.Tree.{Tree, Method, Container', Scope, Trees, no_trees, tree, Field, BankField, If, ElseIf, Else, While, For, Switch, Case, Default}
 use Rattle.named_sessions.specs.Places.{IsWithin, AreWithin}
 use Rattle.descriptor_shapes.specs.Places.{PlanWithin, PlansWithin}
 use Rattle.region_checks.specs.Places.{IsFieldWithin, AreFieldsWithin, IsBodyWithin, ArePartsWithin}
@@ -24,6 +24,7 @@ module _ (files : ℕ) where
     field_within (ElseIf test body) h = fields_within body h.1
     field_within (Else body) h = fields_within body h
     field_within (While test body) h = fields_within body h.1
+    field_within (For start test step body) h = fields_within body h.3
     field_within (Switch value cases) h = fields_within cases h.1
     field_within (Case value body) h = fields_within body h.1
     field_within (Default body) h = fields_within body h

@@ -1,5 +1,5 @@
 -- A source without errors has a shape: each part of it fits where it stands.
-use Rattle.std.proofs.Common.{◌≡◌, inl, inr, ℕ, suc, ◌+◌, ◌<◌, ◌≤◌, Bool, true, false, List, [], ◌∷◌, ◌++◌, length, zero, Option, Some, None, ◌%◌, refl, ap, subst, arith}
+use Rattle.std.proofs.Common.{◌≡◌, inl, inr, ℕ, suc, ◌+◌, ◌<◌, ◌≤◌, Bool, true, false, List, [], ◌∷◌, ◌++◌, length, zero, Option, Some, None, ◌%◌, refl, sym, ap, ◌∙◌, subst, arith}
 use Rattle.std.specs.Prelude.{nat_le, not, ◌||◌, if◌then◌else◌}
 use Rattle.std.proofs.lemmas.List.{length-append}
 use Rattle.iasl_messages.specs.declared.place.Place.{Place}
@@ -50,10 +50,11 @@ use Rattle.program_shapes.proofs.Forms.{ListFit}
 use Rattle.program_shapes.proofs.Operators.{BodyFit}
 use Rattle.program_shapes.proofs.Words.{path_ok, meaning_ok, symbol_spelled, both_true, IsRightMeaning}
 use Rattle.asl_numbers.specs.Numbers.{numbered, numbered_all}
-use Rattle.program_shapes.proofs.Plans.{PlanAs, PlansAs, PlanTakes, PlansFit, none_as, more_as, count_as}
+use Rattle.program_shapes.proofs.Plans.{PlanAs, PlansAs, PlanTakes, PlansFit, ArgumentsFit, are_asked, none_missing, are_further, is_ordered, behind_ordered, asked_ordered, further_fit, none_as, more_as, count_as}
 use Rattle.program_shapes.proofs.Evaluated.{Loosely, checked_fit, checked_branch}
 use Rattle.program_shapes.proofs.Branches.{AreBranches, ContentsFit}
 use Rattle.program_shapes.proofs.Followed.{branches_fit, terms_more}
+use Rattle.program_shapes.proofs.Settled.{ordered_of, ordered_as}
 use Rattle.program_shapes.proofs.Macros.{macro_made}
 use Rattle.program_shapes.proofs.Macros.{template_fit, descriptor_fit}
 use Rattle.program_shapes.proofs.Parts.{none_in, number_fit, text_fit, string_fit, listed_fit, WordFits, IsSymbolic, form_in, symbol_fit, read_fit, item_fit, has_call}
@@ -72,9 +73,22 @@ take : (b : Bool) (s : Slot) (p : Plan) → PlanAs (Fits s) p → PlanTakes b s 
 take true s p h = inl h
 take false s p h = h
 
-left_fit : (qs : List Parameter) (at : Place) → may_end qs ≡ true → PlansFit qs (left_out at qs)
-left_fit [] at e = tt
-left_fit (q ∷ qs) at e = let p = both_true q.omittable (may_end qs) e in (omit q.omittable q.slot omitted refl p.0, left_fit qs at p.1)
+none_left : (qs : List Parameter) (at : Place) → are_further qs ≡ true → left_out at qs ≡ no_plans
+none_left [] at e = refl
+none_left (q ∷ qs) at e = let p = both_true q.further (are_further qs) e in ap (λ b. join (if b then no_plans else plan at omitted no_plans) (left_out at qs)) p.0 ∙ none_left qs at p.1
+
+left_fit : (qs : List Parameter) (at : Place) → is_ordered qs ≡ true → may_end qs ≡ true → ArgumentsFit qs (left_out at qs)
+left_fit [] at o e = tt
+left_fit (q ∷ qs) at o e = let p = both_true (q.omittable || q.further) (may_end qs) e in by q.further refl o p.0 (left_fit qs at (behind_ordered q qs o) p.1)
+  where
+    asked : (a : Bool) → (a || false) ≡ true → a ≡ true
+    asked true e = refl
+    asked false e = absurd cc
+
+    by : (b : Bool) → q.further ≡ b → (if b then are_further qs else is_ordered qs) ≡ true → (q.omittable || b) ≡ true → ArgumentsFit qs (left_out at qs)
+        → ArgumentsFit (q ∷ qs) (join (if b then no_plans else plan at omitted no_plans) (left_out at qs))
+    by true f o e k = subst (ArgumentsFit (q ∷ qs)) (sym (none_left qs at o)) (f, further_fit qs o)
+    by false f o e k = (omit q.omittable q.slot omitted refl (asked q.omittable e), k)
 
 ends : (qs : List Parameter) → takes qs none ≡ true → may_end qs ≡ true
 ends [] e = refl
@@ -308,6 +322,17 @@ unfolding numbered
 connection_as (a_fill bytes named) h = λ at next. tt
 connection_as p h = λ at next. connected_element (numbered at next p) (h at next)
 
+element_asked : (w : FieldWord) → are_asked (element_parameters w) ≡ true
+unfolding element_parameters
+element_asked FieldWord.Offset = refl
+element_asked FieldWord.AccessAs = refl
+element_asked FieldWord.Connection = refl
+element_asked FieldWord.AttribBytes = refl
+
+macro_asked : (m : TextMacro) → are_asked (macro_parameters m) ≡ true
+unfolding macro_parameters
+macro_asked m = refl
+
 element_fit : (w : FieldWord) (ps : Plans) → PlansFit (element_parameters w) ps → PlanAs (WordFits w) (element_plan w ps)
 unfolding numbered element_parameters
 element_fit FieldWord.Offset ps h = λ at next. tt
@@ -406,7 +431,7 @@ mutual
   bare_fit s inside (piece.text at bytes) k sep emp e = text_fit s at bytes e
   bare_fit s inside (listed at ws) k sep emp e = listed_fit s at ws e
   bare_fit s inside (apply at o ws) k sep emp e =
-      symbol_fit inside.width s at (symbol_of o) (arguments_in (parameters_of (symbol_of o)) at inside ws) (symbol_spelled o) (symbol_ever o) (symbol_role o) (no_body o) (λ f. each_fit (parameters_of (symbol_of o)) at inside ws k.0 k.1 f) e
+      symbol_fit inside.width s at (symbol_of o) (arguments_in (parameters_of (symbol_of o)) at inside ws) (symbol_spelled o) (symbol_ever o) (symbol_role o) (no_body o) (λ f. each_fit (parameters_of (symbol_of o)) at inside ws k.0 (ordered_of (symbol_of o)) k.1 f) e
   bare_fit s inside (item at w args body) k sep emp e =
       let m : Meaning = meaning_of w (is_given body) in
       let form : Op → Shaped Plan = λ o. form_shape inside.width o at (arguments (parameters_as o s) at inside args) (contents (body_as o s) (within o inside) at body) in
@@ -418,10 +443,12 @@ mutual
       (λ may has f. read_fit s at w m (is_given args) (call_args inside args) element expanded template described form (meaning_ok w (is_given body)) (path_ok w)
       (λ c g. calls_fit inside args k.0 (is_called m (inside_of args) has c) g)
       (λ op is t g. form_in s inside.method inside.width op at (arguments (parameters_as op s) at inside args) (contents (body_as op s) (within op inside) at body) (right_of m op is (meaning_ok w (is_given body))) (may_of s inside.method m op is may) t
-      (λ f. arguments_fit (parameters_as op s) at inside args k.0 (takes_as op s (inside_of args) (takes_of m op (inside_of args) is has)) f)
+      (λ f. arguments_fit (parameters_as op s) at inside args k.0 (ordered_as op s) (takes_as op s (inside_of args) (takes_of m op (inside_of args) is has)) f)
       (λ f. contents_fit (body_as op s) (within op inside) at body k.1 f) g)
-      (λ x is g. element_fit x (arguments (element_parameters x) at inside args).made (arguments_fit (element_parameters x) at inside args k.0 (takes_word_of m x (inside_of args) is has) g))
-      (λ x is g. macro_made x (arguments (macro_parameters x) at inside args).made (arguments_fit (macro_parameters x) at inside args k.0 (takes_text m x (inside_of args) is has) g))
+      (λ x is g. element_fit x (arguments (element_parameters x) at inside args).made (none_missing (element_parameters x) (arguments (element_parameters x) at inside args).made (element_asked x)
+      (arguments_fit (element_parameters x) at inside args k.0 (asked_ordered (element_parameters x) (element_asked x)) (takes_word_of m x (inside_of args) is has) g)))
+      (λ x is g. macro_made x (arguments (macro_parameters x) at inside args).made (none_missing (macro_parameters x) (arguments (macro_parameters x) at inside args).made (macro_asked x)
+      (arguments_fit (macro_parameters x) at inside args k.0 (asked_ordered (macro_parameters x) (macro_asked x)) (takes_text m x (inside_of args) is has) g)))
       (λ is g. template_fit at (contents (braces.Descriptors false) inside at body).made)
       (λ d is g. descriptor_fit d (arguments (descriptor_parameters d) at inside args).made (contents (descriptor_body d) inside at body).made)
       f)
@@ -444,19 +471,20 @@ mutual
       more_as FormedValues FormedValues (Fits slot.Expression) (place_of nowhere w) first.made rest.made (λ t ts h i. (h.0, h.1, i))
       (checked_fit inside.width slot.Expression (place_of nowhere w) (bare slot.Expression inside w) (λ h. bare_fit slot.Expression inside w k.0 k.1 (not_true (is_empty w) g.0) h) f.0) (values_fit inside ws k.2 g.1 f.1)
 
-  arguments_fit : (qs : List Parameter) (at : Place) (inside : Around) (args : WrittenGroup) → AreArguments args → takes qs (inside_of args) ≡ true → (arguments qs at inside args).faults ≡ [] → PlansFit qs (arguments qs at inside args).made
-  arguments_fit qs at inside absent k t e = left_fit qs at (ends qs t)
-  arguments_fit qs at inside (given ws) k t e = each_fit qs at inside ws k t e
+  arguments_fit : (qs : List Parameter) (at : Place) (inside : Around) (args : WrittenGroup) → AreArguments args → is_ordered qs ≡ true → takes qs (inside_of args) ≡ true → (arguments qs at inside args).faults ≡ []
+      → ArgumentsFit qs (arguments qs at inside args).made
+  arguments_fit qs at inside absent k o t e = left_fit qs at o (ends qs t)
+  arguments_fit qs at inside (given ws) k o t e = each_fit qs at inside ws k o t e
 
-  each_fit : (qs : List Parameter) (at : Place) (inside : Around) (ws : Writtens) → EachArgument ws → takes qs ws ≡ true → (arguments_in qs at inside ws).faults ≡ [] → PlansFit qs (arguments_in qs at inside ws).made
-  each_fit qs at inside none k t e = left_fit qs at (ends qs t)
-  each_fit [] at inside (more w ws) k t e = absurd cc
-  each_fit (q ∷ qs) at inside (more w ws) k t e =
+  each_fit : (qs : List Parameter) (at : Place) (inside : Around) (ws : Writtens) → EachArgument ws → is_ordered qs ≡ true → takes qs ws ≡ true → (arguments_in qs at inside ws).faults ≡ [] → ArgumentsFit qs (arguments_in qs at inside ws).made
+  each_fit qs at inside none k o t e = left_fit qs at o (ends qs t)
+  each_fit [] at inside (more w ws) k o t e = absurd cc
+  each_fit (q ∷ qs) at inside (more w ws) k o t e =
       let s : Slot = slot_as q.slot (meaning_in w) in
       let first : Shaped Plan = checked inside.width s (place_of nowhere w) (bare s inside w) in
       let f = none_in first.faults (arguments_in qs at inside ws).faults e in
       let g = both_true (q.omittable || not (is_empty w)) (takes qs ws) t in
-      (as_asked q.omittable q.slot (meaning_in w) first.made (argument_fit q.omittable s inside w (λ emp h. bare_fit s inside w k.0 k.1 emp h) g.0 f.0), each_fit qs at inside ws k.2 g.1 f.1)
+      (as_asked q.omittable q.slot (meaning_in w) first.made (argument_fit q.omittable s inside w (λ emp h. bare_fit s inside w k.0 k.1 emp h) g.0 f.0), each_fit qs at inside ws k.2 (behind_ordered q qs o) g.1 f.1)
 
   contents_fit : (b : Body) (inside : Around) (at : Place) (body : WrittenGroup) → AreMembers body → (contents b inside at body).faults ≡ [] → ContentsFit b (contents b inside at body).made
   contents_fit braces.No inside at absent k e = none_as (BodyFit braces.No) refl

@@ -7,7 +7,7 @@ use Rattle.iasl_messages.specs.declared.message.Message.{Message}
 use Rattle.acpi_values.specs.declared.width.Width.{Width}
 use Rattle.asl_parser.specs.Within.{IsIn}
 use Rattle.asl_tree.specs.declared.term.Op.{Op}
-use Rattle.asl_tree.specs.Tree.{Tree, Method, Container', Scope, If, ElseIf, Else, While, Switch, Case, Default, Trees, no_trees, tree}
+use Rattle.asl_tree.specs.Tree.{Tree, Method, Container', Scope, If, ElseIf, Else, While, For, Switch, Case, Default, Trees, no_trees, tree}
 use Rattle.asl_shape.specs.Places.{AreTold}
 use Rattle.asl_shape.specs.Plans.{Plan, a_form, Plans, no_plans, plan, plan_at}
 use Rattle.asl_shape.specs.Shapes.{nowhere}
@@ -144,6 +144,7 @@ module _ (files : ℕ) where
       method_within (ElseIf test body) p h = methods_within body (body_of p) (body_within p h)
       method_within (Else body) p h = methods_within body (body_of p) (body_within p h)
       method_within (While test body) p h = methods_within body (body_of p) (body_within p h)
+      method_within (For start test step body) p h = methods_within body (body_of p) (body_within p h)
       method_within (Switch value cases) p h = methods_within cases (body_of p) (body_within p h)
       method_within (Case value body) p h = methods_within body (body_of p) (body_within p h)
       method_within (Default body) p h = methods_within body (body_of p) (body_within p h)

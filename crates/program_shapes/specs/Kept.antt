@@ -1,13 +1,15 @@
 -- What the parser keeps of its tree.
-use Rattle.std.specs.Prelude.{◌≡◌, ◌<◌, ◌≤◌, true, false, length}
+use Rattle.std.specs.Prelude.{◌≡◌, ◌<◌, ◌≤◌, true, false, List, [], ◌∷◌, length}
 use Rattle.acpi_values.specs.Widths.{ones_of}
 use Rattle.acpi_values.specs.declared.width.Width.TheVariants.{W64}
+use Rattle.asl_parser.specs.declared.raw.Raw.{Raw}
 use Rattle.asl_parser.specs.Written as piece
-use Rattle.asl_parser.specs.Written.{Written, Writtens, WrittenGroup, item, apply, none, more, absent, given}
+use Rattle.asl_parser.specs.Written.{Written, Writtens, WrittenGroup, item, apply, none, more, absent, given, writtens}
 use Rattle.asl_words.specs.Operators.{parameters_of}
 use Rattle.asl_shape.specs.Symbols.{symbol_of}
 use Rattle.asl_shape.specs.Shapes.{is_empty, is_separator, takes}
 use Rattle.asl_shape.specs.Shapes as shapes
+use Rattle.asl_shape.specs.Forms.{alone}
 
 -- no argument is a comma or semicolon, a symbol has the operands that it asks for, nothing in braces is left out, and there is
 -- less of all than 2^64
@@ -38,3 +40,8 @@ abbrev mutual
 abbrev pub IsKeptSource : Writtens → Type 0
 IsKeptSource (more (item place word args body) none) = AreArguments args × AreMembers body
 IsKeptSource _ = Unit {0}
+
+-- a source of several, each of which is read alone
+abbrev pub AreKeptAlone : List Raw → Type 0
+AreKeptAlone [] = Unit {0}
+AreKeptAlone (raw ∷ raws) = IsKeptSource (writtens (alone raw)) × AreKeptAlone raws

@@ -1,5 +1,5 @@
--- What the one block of a source says, and its table.
-use Rattle.std.specs.Prelude.{◌≡◌, ℕ, ◌%◌, Bool, List, []}
+-- What a block of a source says, which is read alone, and its table; and when nothing is wrong with a source of several.
+use Rattle.std.specs.Prelude.{◌≡◌, ℕ, ◌%◌, Bool, List, [], ◌∷◌}
 use Rattle.acpi_values.specs.Revisions.{width_of}
 use Rattle.acpi_values.specs.declared.width.Width.{Width}
 use Rattle.asl_tree.specs.Tree.{Trees}
@@ -12,11 +12,12 @@ use Rattle.named_sessions.specs.Core.{core_of}
 use Rattle.asl_lower.specs.Nodes.{named_all}
 use Rattle.asl_fold.specs.Folds.{folded_where}
 use Rattle.wrapped_externals.specs.Wraps.{wrapped_where}
+use Rattle.asl_formats.specs.Forms.{formed_all}
 use Rattle.hidden_locals.specs.Switches.{without_switches}
 use Rattle.asl_parser.specs.declared.raw.Raw.{Raw}
 use Rattle.asl_parser.specs.Written.{writtens}
 use Rattle.asl_shape.specs.Plans.{Plans, plan_at, text_of, number_of}
-use Rattle.asl_shape.specs.Forms.{errors_at, args_of, terms_of}
+use Rattle.asl_shape.specs.Forms.{errors_at, alone, args_of, terms_of}
 use Rattle.asl_numbers.specs.Numbers.{numbered_all}
 use Rattle.descriptor_names.specs.Resolved.{resolved_terms}
 use Rattle.descriptor_names.specs.Told.{names_told, kinds_told}
@@ -99,9 +100,10 @@ locals_in items = few_locals (terms_in items) (plans_in items)
 abbrev pub notes_in : List Raw → List Message
 notes_in items = name_notes (terms_in items)
 
--- the program lowered: loops stand for its Switches, its symbols are named, and its constants are folded where that is asked for
+-- the program lowered: what stands for its Fors and for what prints, loops for its Switches, its symbols named, and its
+-- constants folded where that is asked for
 abbrev pub lowered_in : Bool → List Raw → Trees
-lowered_in fold items = folded_where fold (width_in items) (named_all (without_switches (terms_in items)))
+lowered_in fold items = folded_where fold (width_in items) (named_all (without_switches (formed_all (terms_in items))))
 
 -- its core, before its names are spelled: lowered, with its Externals in Ifs where that is asked for
 abbrev pub core_in : (wrap fold : Bool) → List Raw → Trees
@@ -130,6 +132,16 @@ pub record IsRight (items : List Raw) : Type 0 where
   pub sizes : sizes_in items ≡ []
   pub values : values_in items ≡ []
   pub locals : locals_in items ≡ []
+
+-- nothing is wrong with any of some blocks
+abbrev pub EachRight : List Raw → Type 0
+EachRight [] = Unit {0}
+EachRight (raw ∷ raws) = IsRight (alone raw) × EachRight raws
+
+-- nothing is wrong with a source: there are items, and each is a block with which nothing is wrong, in a namespace of its own
+pub record IsRightSource (items : List Raw) : Type 0 where
+  pub some : items ≡ [] → ⊥
+  pub blocks : EachRight items
 
 -- for every bound, answers and calls that may be asked, whatever other tables are there, every session over the bytes is the program's at
 -- this width

@@ -23,11 +23,15 @@ pub fn name_lengths()
 
 /// For each source in which nothing is wrong, whatever externals are present, for every bound of at least 1, all answers
 /// of the hardware and all calls that may be asked: the program and its core have the same sessions. The core is the
-/// program with loops for its Switches, its symbols named, and its names spelled, shortest where that is asked for; its
-/// constants are folded, and its Externals stand in Ifs, where that is asked for.
+/// program with what stands for its Fors and for what prints, loops for its Switches, its symbols named, and its names
+/// spelled, shortest where that is asked for; its constants are folded, and its Externals stand in Ifs, where that is
+/// asked for.
 pub fn cores_do_the_same()
     ensures { (wrap fold shorten : Bool) (items : List Raw) → IsRight items → IsKeptSource (writtens items)
-        → (present : List AbsolutePath) (n : ℕ) (answers : List Value) (requests : List Request) → IsAsked (width_in items) n answers requests
-        → source_session (width_in items) (known_of (terms_in items)) (core_of shorten (core_in wrap fold items)) (present_ones (externals (terms_in items)) present) n answers requests
-        ≡ source_session (width_in items) (known_of (terms_in items)) (terms_in items) (present_ones (externals (terms_in items)) present) n answers requests }
+        → (present : List AbsolutePath) (n : ℕ) (answers : List Value) (requests : List Request)
+        → IsAsked (width_in items) n answers requests
+        → source_session (width_in items) (known_of (terms_in items)) (core_of shorten (core_in wrap fold items))
+        (present_ones (externals (terms_in items)) present) n answers requests
+        ≡ source_session (width_in items) (known_of (terms_in items)) (terms_in items)
+        (present_ones (externals (terms_in items)) present) n answers requests }
 {}

@@ -10,7 +10,7 @@ use Rattle.acpi_values.specs.declared.width.Width.{Width}
 use Rattle.asl_tree.specs.declared.path.Path.{Path}
 use Rattle.asl_tree.specs.FieldItems.{FieldItem, UnitItem, SkipItem, OffsetItem, AccessItem, ConnectionItem, ToName, ToBytes}
 use Rattle.asl_tree.specs.Names.{place_of}
-use Rattle.asl_tree.specs.Tree.{At, Tree, Use, Call, Apply, Buffer, Package, VarPackage, CondRefOf, Return, Name, Alias, External, Method, Mutex, Event, Container', Scope, Trees, no_trees, tree, OperationRegion, Field, IndexField, BankField, CreateField, UnitName, If, ElseIf, Else, While, Operated, Assigned, AssignedBy, Switch, Case, Default}
+use Rattle.asl_tree.specs.Tree.{At, Tree, Use, Call, Apply, Buffer, Package, VarPackage, CondRefOf, Return, Name, Alias, External, Method, Mutex, Event, Container', Scope, Trees, no_trees, tree, OperationRegion, Field, IndexField, BankField, CreateField, UnitName, If, ElseIf, Else, While, For, Print, Operated, Assigned, AssignedBy, Switch, Case, Default}
 use Rattle.asl_meaning.specs.Declarations.{Declarations, scope_path, declare}
 use Rattle.acpi_names.specs.Errors.{Asked, Anything, AValue, AMutex, AnEvent, AUnit, ARegion, asked_by}
 use Rattle.acpi_names.specs.Mentions.{Mention, Used', is_spot, is_use, asks, asked_value, asked_use, letter_mention, cond_place, mentions, mentions_all, operand_mentions, target_mentions, element_mentions, item_mentions, term_mentions, block_mentions}
@@ -147,6 +147,12 @@ module _ (width : Width) where
     join_term (Else body) p scope d = join_block body (body_of p) scope d
     join_term (While test body) p scope d =
         join_both (mentions true test scope) (block_mentions body scope d) [] (measures_all width body (body_of p)) [] (sites_all width body (body_of p) scope d) (quiet true test scope) (join_block body (body_of p) scope d)
+    join_term (For start test step body) p scope d =
+        join_both (mentions true start scope) (mentions true test scope ++ (mentions true step scope ++ block_mentions body scope d)) [] (measures_all width body (body_of p)) [] (sites_all width body (body_of p) scope d) (quiet true start scope)
+        (join_both (mentions true test scope) (mentions true step scope ++ block_mentions body scope d) [] (measures_all width body (body_of p)) [] (sites_all width body (body_of p) scope d) (quiet true test scope)
+        (join_both (mentions true step scope) (block_mentions body scope d) [] (measures_all width body (body_of p)) [] (sites_all width body (body_of p) scope d) (quiet true step scope) (join_block body (body_of p) scope d)))
+    join_term (Print place format args) p scope d =
+        join_both (mentions (is_spot place) place scope) (mentions_all true args scope) [] [] [] [] (quiet (is_spot place) place scope) (quiet_all true args scope)
     join_term (Switch value cases) p scope d =
         join_both (mentions true value scope) (block_mentions cases scope d) [] (measures_all width cases (body_of p)) [] (sites_all width cases (body_of p) scope d) (quiet true value scope) (join_block cases (body_of p) scope d)
     join_term (Case value body) p scope d =
@@ -188,6 +194,7 @@ module _ (width : Width) where
     no_site (ElseIf test body) p scope d e = no_sites body (body_of p) scope d e
     no_site (Else body) p scope d e = no_sites body (body_of p) scope d e
     no_site (While test body) p scope d e = no_sites body (body_of p) scope d e
+    no_site (For start test step body) p scope d e = no_sites body (body_of p) scope d e
     no_site (Switch value cases) p scope d e = no_sites cases (body_of p) scope d e
     no_site (Case value body) p scope d e = no_sites body (body_of p) scope d e
     no_site (Default body) p scope d e = no_sites body (body_of p) scope d e

@@ -6,7 +6,7 @@ use Rattle.iasl_messages.specs.declared.place.Place.{Place}
 use Rattle.asl_parser.specs.Within.{IsIn}
 use Rattle.acpi_values.specs.declared.width.Width.{Width}
 use Rattle.asl_tree.specs.Names.{place_of}
-use Rattle.asl_tree.specs.Tree.{Tree, Method, Container', Scope, Trees, no_trees, tree, OperationRegion, Field, BankField, If, ElseIf, Else, While, Switch, Case, Default}
+use Rattle.asl_tree.specs.Tree.{Tree, Method, Container', Scope, Trees, no_trees, tree, OperationRegion, Field, BankField, If, ElseIf, Else, While, For, Switch, Case, Default}
 use Rattle.asl_meaning.specs.Declarations.{Declarations, scope_path, declare, nothing_declared}
 use Rattle.acpi_names.specs.Errors.{Whole, whole_of, name_end}
 use Rattle.asl_shape.specs.Places.{AreTold}
@@ -75,6 +75,7 @@ module _ (files : ℕ) where
     site_within width (ElseIf test body) p scope d h k = sites_within width body (body_of p) scope d h (body_within p k)
     site_within width (Else body) p scope d h k = sites_within width body (body_of p) scope d h (body_within p k)
     site_within width (While test body) p scope d h k = sites_within width body (body_of p) scope d h (body_within p k)
+    site_within width (For start test step body) p scope d h k = sites_within width body (body_of p) scope d h (body_within p k)
     site_within width (Switch value cases) p scope d h k = sites_within width cases (body_of p) scope d h (body_within p k)
     site_within width (Case value body) p scope d h k = sites_within width body (body_of p) scope d h (body_within p k)
     site_within width (Default body) p scope d h k = sites_within width body (body_of p) scope d h (body_within p k)

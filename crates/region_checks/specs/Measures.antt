@@ -8,7 +8,7 @@ use Rattle.std.specs.Result.{result_ok}
 use Rattle.acpi_state.specs.Outcomes.{choose}
 use Rattle.asl_tree.specs.Names.{place_of}
 use Rattle.asl_tree.specs.Tree.{Tree, Method, Container', Scope, Trees, no_trees, tree, OperationRegion, Field, BankField, If, ElseIf}
-use Rattle.asl_tree.specs.Tree.{Else, While, Switch, Case, Default}
+use Rattle.asl_tree.specs.Tree.{Else, While, For, Switch, Case, Default}
 use Rattle.asl_tree.specs.View.{items_in}
 use Rattle.asl_meaning.specs.Declarations.{As}
 use Rattle.acpi_names.specs.Errors.{ARegion}
@@ -72,6 +72,7 @@ module _ (width : Width) where
     measures (ElseIf test body) p = measures_all body (body_of p)
     measures (Else body) p = measures_all body (body_of p)
     measures (While test body) p = measures_all body (body_of p)
+    measures (For start test step body) p = measures_all body (body_of p)
     measures (Switch value cases) p = measures_all cases (body_of p)
     measures (Case value body) p = measures_all body (body_of p)
     measures (Default body) p = measures_all body (body_of p)

@@ -2,8 +2,8 @@
 use Rattle.std.specs.Prelude.{ℕ}
 use Rattle.asl_parser.specs.Within.{IsIn}
 use Rattle.asl_shape.specs.Plans.{Plan, a_form, Plans, no_plans, plan}
-use Rattle.asl_tree.specs.Tree.{Tree, Method, Container', Scope, Trees, no_trees, tree, Field, BankField, If, ElseIf, Else, While, Switch}
-use Rattle.asl_tree.specs.Tree.{Case, Default}
+use Rattle.asl_tree.specs.Tree.{Tree, Method, Container', Scope, Trees, no_trees, tree, Field, BankField, If, ElseIf, Else, While, For}
+use Rattle.asl_tree.specs.Tree.{Switch, Case, Default}
 
 -- the node of each field of a region, at any depth, stands in one of so many files
 abbrev mutual
@@ -17,6 +17,7 @@ abbrev mutual
   IsFieldWithin files (ElseIf test body) = AreFieldsWithin files body
   IsFieldWithin files (Else body) = AreFieldsWithin files body
   IsFieldWithin files (While test body) = AreFieldsWithin files body
+  IsFieldWithin files (For start test step body) = AreFieldsWithin files body
   IsFieldWithin files (Switch value cases) = AreFieldsWithin files cases
   IsFieldWithin files (Case value body) = AreFieldsWithin files body
   IsFieldWithin files (Default body) = AreFieldsWithin files body

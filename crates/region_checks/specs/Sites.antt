@@ -9,7 +9,7 @@ use Rattle.acpi_state.specs.Objects.{MethodObject, ContainerObject}
 use Rattle.asl_tree.specs.declared.path.Path.{Path}
 use Rattle.asl_tree.specs.Names.{place_of}
 use Rattle.asl_tree.specs.Tree.{At, Tree, Method, Container', Scope, Trees, no_trees, tree, OperationRegion, Field, BankField, If, ElseIf}
-use Rattle.asl_tree.specs.Tree.{Else, While, Switch, Case, Default}
+use Rattle.asl_tree.specs.Tree.{Else, While, For, Switch, Case, Default}
 use Rattle.asl_meaning.specs.Declarations.{As, Declarations, with_declared, scope_path, declare}
 use Rattle.acpi_values.specs.declared.width.Width.{Width}
 use Rattle.asl_shape.specs.Plans.{Plan, a_form, Plans, no_plans, plan, plan_at, constant_of}
@@ -68,6 +68,7 @@ module _ (width : Width) where
     sites (ElseIf test body) p scope d = sites_all body (body_of p) scope d
     sites (Else body) p scope d = sites_all body (body_of p) scope d
     sites (While test body) p scope d = sites_all body (body_of p) scope d
+    sites (For start test step body) p scope d = sites_all body (body_of p) scope d
     sites (Switch value cases) p scope d = sites_all cases (body_of p) scope d
     sites (Case value body) p scope d = sites_all body (body_of p) scope d
     sites (Default body) p scope d = sites_all body (body_of p) scope d

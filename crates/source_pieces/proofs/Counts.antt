@@ -1,5 +1,5 @@
 -- A source's core has as many pieces as places.
-use Rattle.std.proofs.Common.{◌≡◌, ℕ, suc, ◌+◌, Bool, true, false, List, [], ◌∷◌, length, Option, Some, None, refl, sym, ap, ◌∙◌, arith, length-append}
+use Rattle.std.proofs.Common.{◌≡◌, ℕ, suc, ◌+◌, Bool, true, false, List, [], ◌∷◌, length, Option, Some, None, refl, sym, ap, ◌∙◌, subst, arith, length-append}
 use Rattle.std.specs.Prelude.{nat_le, ◌||◌, if◌then◌else◌, not, ◌++◌}
 use Rattle.iasl_messages.specs.declared.place.Place.{Place}
 use Rattle.acpi_values.specs.Paths.{AbsolutePath}
@@ -20,18 +20,25 @@ use Rattle.asl_lower.specs.Nodes.{before, named, named_all}
 use Rattle.asl_lower.specs.Nests.{joined}
 use Rattle.wrapped_externals.specs.Wraps.{starts_branch, leading, in_if, wrapped, behind, wrapped_all, wrapped_where}
 use Rattle.wrapped_externals.specs.Starts.{is_free, inner_starts, starts, with_ifs, placed_where}
-use Rattle.asl_shape.specs.Plans.{Plan, a_form, Plans, no_plans, plan}
+use Rattle.asl_shape.specs.Plans.{Plan, a_name, a_unit, a_call, a_form, Plans, no_plans, plan}
 use Rattle.asl_numbers.specs.Numbers.{inside as within, nodes, numbered, numbered_all}
 use Rattle.hidden_locals.specs.Crossing.{has_continue, have_continue}
 use Rattle.hidden_locals.specs.Turns.{Plan as Turns, value_local, then_trees, else_of, loop_of, loop_terms, continue_terms}
 use Rattle.hidden_locals.specs.Switches.{plan_of, chain_of, unswitched_all, links, default_link, without_switches}
 use Rattle.switch_loops.specs.declared.kind.Kind.{Kind}
-use Rattle.switch_loops.specs.Places.{Following, chain_places, else_places, turn_places, loop_places, continue_places, body_inside}
+use Rattle.switch_loops.specs.Places.{Following, chain_places, else_places, turn_places, loop_places, continue_places}
 use Rattle.switch_loops.proofs.KindRows.{tree_kind}
-use Rattle.program_shapes.proofs.Fits.{Formed, FormedTerms, FormedCases}
+use Rattle.named_sessions.specs.Shaped.{AreNamed, AreFormed}
+use Rattle.asl_formats.specs.Forms.{formed_all}
+use Rattle.asl_formats.specs.Plans.{formed_plans}
+use Rattle.asl_formats.proofs.PlanTrees.{Stands, StandAll}
+use Rattle.asl_formats.proofs.PlanForms.{formed_stand}
+use Rattle.form_shapes.specs.Near.{AreNear}
+use Rattle.form_shapes.proofs.Formed.{forms_formed}
 use Rattle.aml_writer.specs.Cuts.{cut, cut_all}
-use Rattle.source_pieces.specs.Places.{is_left, are_left, form_at, case_at, core_places_at, core_places_in, cases_in, core_places}
-use Rattle.source_pieces.proofs.Forms.{plain_kind, form_left, not_among, case_left}
+use Rattle.source_pieces.specs.Places.{is_left, are_left, steps_inside, is_inside, form_at, case_at, core_places_at, core_places_in, cases_in, core_places}
+use Rattle.source_pieces.proofs.Stepped.{core_formed}
+use Rattle.source_pieces.proofs.Forms.{Formed, FormedTerms, FormedCases, plain_kind, form_left, not_among, case_left}
 
 -- a term, and those of the term lists in it
 abbrev mutual
@@ -225,12 +232,12 @@ alone_lows Continue turns level inside rest e = absurd cc
 alone_lows t turns level inside rest e = refl
 
 -- a form before others
-module _ (turns : Turns) (level : ℕ) (inside : Bool) (rest : Trees) (left : Bool) (place : Place) (inner : Bool → List Place) (following : Following) where
+module _ (turns : Turns) (level : ℕ) (inside : Bool) (rest : Trees) (args' : Plans) (left : Bool) (place : Place) (inner : Bool → List Place → List Place) (following : List Place → Following) where
   abbrev more : ℕ
   more = all_lows (unswitched_all turns level inside rest)
 
-  pub form_count : (here : At) (op : Op) (args body : Trees) → Formed (form here op args body) → (FormedTerms body → AreTurned body inner) → (FormedCases body → have_continue body ≡ left) → (FormedCases body → AreLinked body following)
-      → all_lows (unswitched_all turns level inside (tree (form here op args body) rest)) ≡ length (form_at op inside left place (inner (body_inside op inside)) (chain_places following)) + more
+  pub form_count : (here : At) (op : Op) (args body : Trees) → Formed (form here op args body) → (FormedTerms body → AreTurned body (λ inside. inner inside [])) → (FormedCases body → have_continue body ≡ left) → (FormedCases body → AreLinked body (following []))
+      → all_lows (unswitched_all turns level inside (tree (form here op args body) rest)) ≡ length (form_at op args' inside left [] place (inner (is_inside op inside) (steps_inside op args' [])) (chain_places (following (steps_inside op args' [])))) + more
   form_count here (Op.Declaration Declaration.Method) (tree (Use at name) (tree (Integer arity) no_trees)) body h i k l = ap (λ n. suc n + more) (i h.2 (plan_of body) 0 false)
   form_count here (Op.Declaration Declaration.Method) _ body h i k l = absurd h
   form_count here (Op.Declaration Declaration.Device) (tree (Use at name) no_trees) body h i k l = ap (λ n. suc n + more) (i h.2 turns level inside)
@@ -251,11 +258,13 @@ module _ (turns : Turns) (level : ℕ) (inside : Bool) (rest : Trees) (left : Bo
   form_count here (Op.Control Control.Else) _ body h i k l = absurd h
   form_count here (Op.Control Control.While) (tree test no_trees) body h i k l = ap (λ n. suc n + more) (i h.2 turns level false)
   form_count here (Op.Control Control.While) _ body h i k l = absurd h
+  form_count here (Op.Control Control.For) (tree start (tree test (tree step no_trees))) body h i k l = absurd h.0
+  form_count here (Op.Control Control.For) _ body h i k l = absurd h
   form_count here (Op.Control Control.Switch) (tree value no_trees) body h i k l =
       let chain = chain_of (links turns level body (default_link turns level body)) in
-      let turn = turn_places place (chain_places following) in
+      let turn = turn_places place (chain_places (following [])) in
       loop_lows turns (have_continue body) inside (loop_of value (value_local turns level) chain) (unswitched_all turns level inside rest) place turn
-      (turn_lows value (value_local turns level) chain place (chain_places following) (chain_lows (links turns level body (default_link turns level body)) following (l h.3 turns level)))
+      (turn_lows value (value_local turns level) chain place (chain_places (following [])) (chain_lows (links turns level body (default_link turns level body)) (following []) (l h.3 turns level)))
       ∙ ap (λ b. length (loop_places b inside place turn) + more) (k h.3)
   form_count here (Op.Control Control.Switch) _ body h i k l = absurd h
   form_count here (Op.Control Control.Case) (tree value no_trees) body h i k l = absurd h
@@ -275,55 +284,92 @@ case_count turns level place inner following here (Op.Control Control.Case) _ bo
 case_count turns level place inner following here (Op.Control Control.Default) no_trees body no_trees h i k = i h turns (suc level) true
 case_count turns level place inner following here (Op.Control Control.Default) no_trees body (tree t ts) h i k = absurd h
 case_count turns level place inner following here (Op.Control Control.Default) _ body cases h i k = absurd h
-case_count turns level place inner following here op args body cases h i k = absurd (not_among here op args body cases refl h)
+case_count turns level place inner following here op args body cases h i k = absurd (not_among ⊥ here op args body cases refl h)
 
--- ---- formed terms by their plans
-
-mutual
-  unfolding numbered is_left
-
-  plan_left : (at : At) (next : ℕ) (p : Plan) → Formed (numbered at next p) → has_continue (numbered at next p) ≡ is_left p
-  plan_left at next (a_form op args body) h =
-      form_left at op (numbered_all next args) (numbered_all (next + nodes args) body) (are_left body) h (λ k. plans_left (next + nodes args) body k) (λ k. cases_left (next + nodes args) body k)
-  plan_left at next p h = refl
-
-  plans_left : (next : ℕ) (ps : Plans) → FormedTerms (numbered_all next ps) → have_continue (numbered_all next ps) ≡ are_left ps
-  plans_left next no_plans h = refl
-  plans_left next (plan place p ps) h =
-      ap (λ b. b || have_continue (numbered_all (suc (next + within p)) ps)) (plan_left (record { id = next; place = place }) (suc next) p h.0) ∙ ap (λ b. is_left p || b) (plans_left (suc (next + within p)) ps h.2)
-
-  cases_left : (next : ℕ) (ps : Plans) → FormedCases (numbered_all next ps) → have_continue (numbered_all next ps) ≡ are_left ps
-  cases_left next no_plans h = refl
-  cases_left next (plan place (a_form op args body) ps) h =
-      let behind = suc (next + (nodes args + nodes body)) in
-      case_left (record { id = next; place = place }) op (numbered_all (suc next) args) (numbered_all (suc next + nodes args) body) (numbered_all behind ps) (are_left body) (are_left ps) h
-      (λ k. plans_left (suc next + nodes args) body k) (λ k. cases_left behind ps k)
-  cases_left next (plan place p ps) h = absurd h
+-- ---- formed terms by the plans that they stand for
 
 mutual
-  unfolding numbered core_places_at
+  unfolding is_left
 
-  plan_count : (turns : Turns) (level : ℕ) (inside : Bool) (rest : Trees) (place : Place) (at : At) (next : ℕ) (p : Plan) → Formed (numbered at next p)
-      → all_lows (unswitched_all turns level inside (tree (numbered at next p) rest)) ≡ length (core_places_at inside place p) + all_lows (unswitched_all turns level inside rest)
-  plan_count turns level inside rest place at next (a_form op args body) h =
-      form_count turns level inside rest (are_left body) place (λ inside. core_places_in inside body) (cases_in body) at op (numbered_all next args) (numbered_all (next + nodes args) body) h
-      (λ k. plans_count (next + nodes args) body k) (λ k. cases_left (next + nodes args) body k) (λ k. cases_count (next + nodes args) body k)
-  plan_count turns level inside rest place at next p h = refl
+  stands_left : (p : Plan) (t : Tree) → Stands p t → Formed t → has_continue t ≡ is_left p
+  stands_left (a_form op args body) t s h =
+      ap has_continue s.3 ∙ form_left s.0 op s.1 s.2 (are_left body) (subst Formed s.3 h) (λ k. stand_left body s.2 s.5 k) (λ k. cases_left body s.2 s.5 k)
+  stands_left (a_call name args) t s h = ap has_continue s.2
+  stands_left (a_name name) t s h = ap has_continue s.1
+  stands_left (a_unit segment bits) t s h = ap has_continue s.1
+  stands_left p t s h = ap has_continue s
 
-  plans_count : (next : ℕ) (ps : Plans) → FormedTerms (numbered_all next ps) → AreTurned (numbered_all next ps) (λ inside. core_places_in inside ps)
-  plans_count next no_plans h turns level inside = refl
-  plans_count next (plan place p ps) h turns level inside =
-      let behind = suc (next + within p) in
-      plan_count turns level inside (numbered_all behind ps) place (record { id = next; place = place }) (suc next) p h.0 ∙ ap (λ n. length (core_places_at inside place p) + n) (plans_count behind ps h.2 turns level inside)
-      ∙ sym (length-append (core_places_at inside place p) (core_places_in inside ps))
+  stand_left : (ps : Plans) (ts : Trees) → StandAll ps ts → FormedTerms ts → have_continue ts ≡ are_left ps
+  stand_left no_plans no_trees s h = refl
+  stand_left no_plans (tree t ts) s h = absurd s
+  stand_left (plan place p ps) no_trees s h = absurd s
+  stand_left (plan place p ps) (tree t ts) s h = ap (λ b. b || have_continue ts) (stands_left p t s.0 h.0) ∙ ap (λ b. is_left p || b) (stand_left ps ts s.1 h.2)
 
-  cases_count : (next : ℕ) (ps : Plans) → FormedCases (numbered_all next ps) → AreLinked (numbered_all next ps) (cases_in ps)
-  cases_count next no_plans h turns level = tt
-  cases_count next (plan place (a_form op args body) ps) h turns level =
-      let behind = suc (next + (nodes args + nodes body)) in
-      case_count turns level place (λ inside. core_places_in inside body) (cases_in ps) (record { id = next; place = place }) op (numbered_all (suc next) args) (numbered_all (suc next + nodes args) body) (numbered_all behind ps) h
-      (λ k. plans_count (suc next + nodes args) body k) (λ k. cases_count behind ps k)
-  cases_count next (plan place p ps) h turns level = absurd h
+  cases_left : (ps : Plans) (ts : Trees) → StandAll ps ts → FormedCases ts → have_continue ts ≡ are_left ps
+  cases_left no_plans no_trees s h = refl
+  cases_left no_plans (tree t ts) s h = absurd s
+  cases_left (plan place p ps) no_trees s h = absurd s
+  cases_left (plan place (a_form op args body) ps) (tree t ts) s h =
+      ap (λ u. has_continue u || have_continue ts) s.0.3
+      ∙ case_left s.0.0 op s.0.1 s.0.2 ts (are_left body) (are_left ps) (subst (λ u. FormedCases (tree u ts)) s.0.3 h) (λ k. stand_left body s.0.2 s.0.5 k) (λ k. cases_left ps ts s.1 k)
+  cases_left (plan place (a_call name args) ps) (tree t ts) s h = absurd (subst (λ u. FormedCases (tree u ts)) s.0.2 h)
+  cases_left (plan place (a_name name) ps) (tree t ts) s h = absurd (subst (λ u. FormedCases (tree u ts)) s.0.1 h)
+  cases_left (plan place (a_unit segment bits) ps) (tree t ts) s h = absurd (subst (λ u. FormedCases (tree u ts)) s.0.1 h)
+  cases_left (plan place p ps) (tree t ts) s h = absurd (subst (λ u. FormedCases (tree u ts)) s.0 h)
+
+-- as many terms as a tree and those behind it are
+abbrev are_before : Turns → ℕ → Bool → Trees → Tree → ℕ
+are_before turns level inside rest t = all_lows (unswitched_all turns level inside (tree t rest))
+
+mutual
+  unfolding core_places_at
+
+  stands_count : (turns : Turns) (level : ℕ) (inside : Bool) (rest : Trees) (place : Place) (p : Plan) (t : Tree) → Stands p t → Formed t
+      → all_lows (unswitched_all turns level inside (tree t rest)) ≡ length (core_places_at inside [] place p) + all_lows (unswitched_all turns level inside rest)
+  stands_count turns level inside rest place (a_form op args body) t s h =
+      ap (are_before turns level inside rest) s.3
+      ∙ form_count turns level inside rest args (are_left body) place (λ inside steps. core_places_in inside steps body) (λ steps. cases_in steps body) s.0 op s.1 s.2 (subst Formed s.3 h)
+      (λ k. stand_count body s.2 s.5 k) (λ k. cases_left body s.2 s.5 k) (λ k. cases_count body s.2 s.5 k)
+  stands_count turns level inside rest place (a_call name args) t s h = ap (are_before turns level inside rest) s.2
+  stands_count turns level inside rest place (a_name name) t s h = ap (are_before turns level inside rest) s.1
+  stands_count turns level inside rest place (a_unit segment bits) t s h = ap (are_before turns level inside rest) s.1
+  stands_count turns level inside rest place p t s h = ap (are_before turns level inside rest) s
+
+  stand_count : (ps : Plans) (ts : Trees) → StandAll ps ts → FormedTerms ts → AreTurned ts (λ inside. core_places_in inside [] ps)
+  stand_count no_plans no_trees s h turns level inside = refl
+  stand_count no_plans (tree t ts) s h turns level inside = absurd s
+  stand_count (plan place p ps) no_trees s h turns level inside = absurd s
+  stand_count (plan place p ps) (tree t ts) s h turns level inside =
+      stands_count turns level inside ts place p t s.0 h.0 ∙ ap (λ n. length (core_places_at inside [] place p) + n) (stand_count ps ts s.1 h.2 turns level inside)
+      ∙ sym (length-append (core_places_at inside [] place p) (core_places_in inside [] ps))
+
+  cases_count : (ps : Plans) (ts : Trees) → StandAll ps ts → FormedCases ts → AreLinked ts (cases_in [] ps)
+  cases_count no_plans no_trees s h turns level = tt
+  cases_count no_plans (tree t ts) s h turns level = absurd s
+  cases_count (plan place p ps) no_trees s h turns level = absurd s
+  cases_count (plan place (a_form op args body) ps) (tree t ts) s h turns level =
+      subst (λ u. AsMany (links turns level (tree u ts) (default_link turns level (tree u ts))) (case_at op place (core_places_in true [] body) (cases_in [] ps))) (sym s.0.3)
+      (case_count turns level place (λ inside. core_places_in inside [] body) (cases_in [] ps) s.0.0 op s.0.1 s.0.2 ts (subst (λ u. FormedCases (tree u ts)) s.0.3 h)
+      (λ k. stand_count body s.0.2 s.0.5 k) (λ k. cases_count ps ts s.1 k))
+  cases_count (plan place (a_call name args) ps) (tree t ts) s h turns level = absurd (subst (λ u. FormedCases (tree u ts)) s.0.2 h)
+  cases_count (plan place (a_name name) ps) (tree t ts) s h turns level = absurd (subst (λ u. FormedCases (tree u ts)) s.0.1 h)
+  cases_count (plan place (a_unit segment bits) ps) (tree t ts) s h turns level = absurd (subst (λ u. FormedCases (tree u ts)) s.0.1 h)
+  cases_count (plan place p ps) (tree t ts) s h turns level = absurd (subst (λ u. FormedCases (tree u ts)) s.0 h)
+
+mutual
+  unfolding numbered
+
+  numbered_stands : (at : At) (next : ℕ) (p : Plan) → Stands p (numbered at next p)
+  numbered_stands at next (a_form op args body) =
+      (at, numbered_all next args, numbered_all (next + nodes args) body, refl, numbered_stand next args, numbered_stand (next + nodes args) body)
+  numbered_stands at next (a_call name args) = (at, numbered_all next args, refl, numbered_stand next args)
+  numbered_stands at next (a_name name) = (at, refl)
+  numbered_stands at next (a_unit segment bits) = (at, refl)
+  numbered_stands at next p = refl
+
+  numbered_stand : (next : ℕ) (ps : Plans) → StandAll ps (numbered_all next ps)
+  numbered_stand next no_plans = tt
+  numbered_stand next (plan place p ps) = (numbered_stands (record { id = next; place = place }) (suc next) p, numbered_stand (suc (next + within p)) ps)
 
 -- ---- Externals are put into Ifs: an If is one term more
 
@@ -433,13 +479,18 @@ wrapped_counts true ts places e =
     list_counts ts (behind_count ts) ∙ ap (λ n. n + marked (starts false ts)) e ∙ sym (more_places (starts false ts) places (starts_length false ts ∙ e))
 
 -- as many terms in the term lists of a formed program's core as its plans have places
-pub core_count : (shorten wrap fold : Bool) (width : Width) (ps : Plans) → FormedTerms (numbered_all 0 ps)
-    → all_cuts (core_of shorten (wrapped_where wrap (folded_where fold width (named_all (without_switches (numbered_all 0 ps)))))) ≡ length (placed_where wrap (folded_where fold width (named_all (without_switches (numbered_all 0 ps)))) (core_places ps))
+pub core_count : (shorten wrap fold : Bool) (width : Width) (ps : Plans) → AreFormed (Unit {0}) AreNamed (Unit {0}) (Unit {0}) (numbered_all 0 ps) → AreNear (numbered_all 0 ps)
+    → all_cuts (core_of shorten (wrapped_where wrap (folded_where fold width (named_all (without_switches (formed_all (numbered_all 0 ps)))))))
+    ≡ length (placed_where wrap (folded_where fold width (named_all (without_switches (formed_all (numbered_all 0 ps))))) (core_places ps))
 unfolding core_places
-core_count shorten wrap fold width ps h =
-    let terms = numbered_all 0 ps in
+core_count shorten wrap fold width ps h near =
+    let terms = formed_all (numbered_all 0 ps) in
     let loops = without_switches terms in
     let lowered = folded_where fold width (named_all loops) in
     let program = wrapped_where wrap lowered in
+    let stands : StandAll (formed_plans ps) terms = formed_stand ps (numbered_all 0 ps) (numbered_stand 0 ps) in
+    let formed : FormedTerms terms = forms_formed AreNamed (Unit {0}) (Unit {0}) (numbered_all 0 ps) h near in
     spelled_counts shorten (is_known (known_of program)) (says_of program) program []
-    ∙ wrapped_counts wrap lowered (core_places_in false ps) (where_counts fold width (named_all loops) ∙ named_counts loops ∙ plans_count 0 ps h (plan_of terms) 0 false)
+    ∙ wrapped_counts wrap lowered (core_places_in false [] ps)
+    (where_counts fold width (named_all loops) ∙ named_counts loops ∙ stand_count (formed_plans ps) terms stands formed (plan_of terms) 0 false
+    ∙ ap length (core_formed ps (numbered_all 0 ps) (numbered_stand 0 ps) h near))

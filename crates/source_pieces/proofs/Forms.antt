@@ -1,5 +1,5 @@
 -- What a formed form has in its braces: whether a Continue leaves it, and what stands for it.
-use Rattle.std.proofs.Common.{◌≡◌, Bool, true, false, List, ◌∷◌, ◌++◌, Some, refl, sym, ap, ◌∙◌}
+use Rattle.std.proofs.Common.{◌≡◌, Bool, true, false, List, [], ◌∷◌, ◌++◌, Some, refl, sym, ap, ◌∙◌}
 use Rattle.std.specs.Prelude.{◌&&◌, ◌||◌}
 use Rattle.iasl_messages.specs.declared.place.Place.{Place}
 use Rattle.acpi_values.specs.declared.operator.Plain.{Plain}
@@ -9,7 +9,7 @@ use Rattle.asl_tree.specs.declared.term.Declaration.TheVariants as Declaration
 use Rattle.asl_tree.specs.declared.term.Control.TheVariants as Control
 use Rattle.asl_tree.specs.declared.term.Symbolic.TheVariants as Symbolic
 use Rattle.asl_tree.specs.Symbols.{takes_target}
-use Rattle.asl_tree.specs.Tree.{At, Tree, Integer, Use, Method, Container', Scope, If, ElseIf, Else, While, Switch, Case, Default, Continue, Trees, no_trees, tree}
+use Rattle.asl_tree.specs.Tree.{At, Tree, Integer, Use, Method, Container', Scope, If, ElseIf, Else, While, For, Switch, Case, Default, Continue, Trees, no_trees, tree}
 use Rattle.asl_tree.specs.View.{fits, form}
 use Rattle.term_places.specs.Places.{holds_terms}
 use Rattle.acpi_names.specs.declared.part.Part.{Part}
@@ -25,15 +25,27 @@ use Rattle.aml_writer.proofs.Cuts.{holds, form_holds}
 use Rattle.hidden_locals.specs.Crossing.{has_continue, have_continue}
 use Rattle.switch_loops.specs.declared.kind.Kind.{Kind}
 use Rattle.switch_loops.specs.Kinds.{flagged as flagged_kind, part_kind, form_kind}
-use Rattle.switch_loops.specs.Places.{Following, else_places, turn_places, loop_places, form_places, case_places, default_places}
+use Rattle.switch_loops.specs.Places.{Following, body_inside, else_places, turn_places, loop_places, form_places, case_places, default_places}
 use Rattle.switch_loops.proofs.KindRows.{tree_kind, kind_form}
-use Rattle.program_shapes.proofs.Fits.{Formed, FormedTerms, FormedCases}
-use Rattle.source_pieces.specs.Places.{form_is_left, form_at, case_at}
+use Rattle.named_sessions.specs.Shaped.{AreNamed, IsFormed, AreFormed, AreFormedCases}
+use Rattle.asl_shape.specs.Plans.{Plans}
+use Rattle.source_pieces.specs.Places.{form_is_left, steps_inside, is_inside, form_at, case_at}
+
+-- what is formed where symbols, ElseIfs and Switches may stand, but no Fors and nothing that prints
+abbrev pub Formed : Tree → Type 0
+Formed = IsFormed ⊥ AreNamed (Unit {0}) (Unit {0})
+
+abbrev pub FormedTerms : Trees → Type 0
+FormedTerms = AreFormed ⊥ AreNamed (Unit {0}) (Unit {0})
+
+abbrev pub FormedCases : Trees → Type 0
+FormedCases = AreFormedCases ⊥ AreNamed (Unit {0}) (Unit {0})
 
 -- ---- a form of another kind of term
 
--- what has to do with Switches
+-- loops, and what has to do with Switches
 abbrev of_switches : Kind → Bool
+of_switches Kind.Loop = true
 of_switches Kind.Switch = true
 of_switches Kind.Case = true
 of_switches Kind.Default = true
@@ -47,6 +59,8 @@ is_case kind = false
 
 abbrev pub is_plain : Op → Bool
 is_plain (Op.Control Control.ElseIf) = false
+is_plain (Op.Control Control.While) = false
+is_plain (Op.Control Control.For) = false
 is_plain (Op.Control Control.Switch) = false
 is_plain (Op.Control Control.Case) = false
 is_plain (Op.Control Control.Default) = false
@@ -70,21 +84,18 @@ no_case Kind.Case e = absurd cc
 no_case Kind.Default e = absurd cc
 no_case k e = refl
 
-flag_plain : (b : Bool) (k : Kind) → of_switches k ≡ false → of_switches (flagged_kind b k) ≡ false
-flag_plain true k e = e
-flag_plain false k e = refl
-
 flag_case : (b : Bool) (k : Kind) → is_case k ≡ false → is_case (flagged_kind b k) ≡ false
 flag_case true k e = e
 flag_case false k e = refl
 
 op_plain : (op : Op) (args body : Trees) → is_plain op ≡ true → of_switches (form_kind op args body) ≡ false
 op_plain (Op.Control Control.ElseIf) args body e = absurd cc
+op_plain (Op.Control Control.While) args body e = absurd cc
+op_plain (Op.Control Control.For) args body e = absurd cc
 op_plain (Op.Control Control.Switch) args body e = absurd cc
 op_plain (Op.Control Control.Case) args body e = absurd cc
 op_plain (Op.Control Control.Default) args body e = absurd cc
 op_plain (Op.Control Control.Continue) args body e = absurd cc
-op_plain (Op.Control Control.While) args body e = flag_plain (are 1 args) Kind.Loop refl
 op_plain op args body e = part_plain (part_of op args body)
 
 op_no_case : (op : Op) (args body : Trees) → has_cases op ≡ false → is_case (form_kind op args body) ≡ false
@@ -93,6 +104,7 @@ op_no_case (Op.Control Control.Default) args body e = absurd cc
 op_no_case (Op.Control Control.Switch) args body e = flag_case (are 1 args) Kind.Switch refl
 op_no_case (Op.Control Control.Continue) args body e = flag_case (are 0 args && are 0 body) Kind.Continue refl
 op_no_case (Op.Control Control.While) args body e = flag_case (are 1 args) Kind.Loop refl
+op_no_case (Op.Control Control.For) args body e = flag_case (are 3 args) Kind.Loop refl
 op_no_case op args body e = no_case (part_kind (part_of op args body)) (part_plain (part_of op args body))
 
 no_flag : (a b : Bool) (op : Plain) → flagged a (flagged b (LoweredKind.Operated op)) ≡ LoweredKind.ElseIf → ⊥
@@ -102,6 +114,7 @@ no_flag false b op e = absurd cc
 
 no_else_if : (op : Op) (args body : Trees) → is_plain op ≡ true → lowered_shape (OfForm op args body) ≡ LoweredKind.ElseIf → ⊥
 no_else_if (Op.Control Control.ElseIf) args body e k = absurd cc
+no_else_if (Op.Control Control.For) args body e k = absurd cc
 no_else_if (Op.Control Control.Else) no_trees body e k = absurd cc
 no_else_if (Op.Control Control.Else) (tree t ts) body e k = absurd cc
 no_else_if (Op.Symbolic (Symbolic.Operator op)) args body e k = no_flag (are 0 body && fits (row_of op).operands args) (takes_target op) op k
@@ -115,6 +128,7 @@ other_kind (If test body) h never e = absurd cc
 other_kind (ElseIf test body) h never e = absurd (never refl)
 other_kind (Else body) h never e = absurd cc
 other_kind (While test body) h never e = absurd cc
+other_kind (For start test step body) h never e = absurd cc
 other_kind (Switch value cases) h never e = absurd cc
 other_kind (Case value body) h never e = absurd cc
 other_kind (Default body) h never e = absurd cc
@@ -161,6 +175,8 @@ form_left here (Op.Control Control.Else) no_trees body left h i k = i h
 form_left here (Op.Control Control.Else) _ body left h i k = absurd h
 form_left here (Op.Control Control.While) (tree test no_trees) body left h i k = refl
 form_left here (Op.Control Control.While) _ body left h i k = absurd h
+form_left here (Op.Control Control.For) (tree start (tree test (tree step no_trees))) body left h i k = absurd h.0
+form_left here (Op.Control Control.For) _ body left h i k = absurd h
 form_left here (Op.Control Control.Switch) (tree value no_trees) body left h i k = k h.3
 form_left here (Op.Control Control.Switch) _ body left h i k = absurd h
 form_left here (Op.Control Control.Case) (tree value no_trees) body left h i k = absurd h
@@ -173,15 +189,15 @@ form_left here op args body left h i k = other_left (form here op args body) (pl
 
 -- ---- the Cases of a Switch
 
-case_kind : (t : Tree) (cases : Trees) → FormedCases (tree t cases) → is_case (tree_kind t) ≡ true
-case_kind (Case value body) cases h = refl
-case_kind (Default body) cases h = refl
-case_kind t cases h = absurd h
+case_kind : (Forms : Type 0) (t : Tree) (cases : Trees) → AreFormedCases Forms AreNamed (Unit {0}) (Unit {0}) (tree t cases) → is_case (tree_kind t) ≡ true
+case_kind Forms (Case value body) cases h = refl
+case_kind Forms (Default body) cases h = refl
+case_kind Forms t cases h = absurd h
 
 -- nothing else stands there
-pub not_among : (here : At) (op : Op) (args body cases : Trees) → has_cases op ≡ false → FormedCases (tree (form here op args body) cases) → ⊥
-not_among here op args body cases e h =
-    let both : true ≡ false = sym (case_kind (form here op args body) cases h) ∙ ap is_case (kind_form here op args body) ∙ op_no_case op args body e in absurd cc
+pub not_among : (Forms : Type 0) (here : At) (op : Op) (args body cases : Trees) → has_cases op ≡ false → AreFormedCases Forms AreNamed (Unit {0}) (Unit {0}) (tree (form here op args body) cases) → ⊥
+not_among Forms here op args body cases e h =
+    let both : true ≡ false = sym (case_kind Forms (form here op args body) cases h) ∙ ap is_case (kind_form here op args body) ∙ op_no_case op args body e in absurd cc
 
 pub case_left : (here : At) (op : Op) (args body cases : Trees) (left more : Bool) → FormedCases (tree (form here op args body) cases) → (FormedTerms body → have_continue body ≡ left) → (FormedCases cases → have_continue cases ≡ more)
     → has_continue (form here op args body) || have_continue cases ≡ form_is_left op left || more
@@ -190,7 +206,7 @@ case_left here (Op.Control Control.Case) _ body cases left more h i k = absurd h
 case_left here (Op.Control Control.Default) no_trees body no_trees left more h i k = ap (λ b. b || false) (i h) ∙ ap (λ b. left || b) (k tt)
 case_left here (Op.Control Control.Default) no_trees body (tree t ts) left more h i k = absurd h
 case_left here (Op.Control Control.Default) _ body cases left more h i k = absurd h
-case_left here op args body cases left more h i k = absurd (not_among here op args body cases refl h)
+case_left here op args body cases left more h i k = absurd (not_among ⊥ here op args body cases refl h)
 
 -- ---- what stands for it
 
@@ -201,38 +217,41 @@ stays (P.Declares n what true) op args inside left place inner chain = refl
 stays (P.Declares n what false) op args inside left place inner chain = refl
 stays p op args inside left place inner chain = refl
 
-pub form_planned : (here : At) (op : Op) (args body : Trees) (inside left : Bool) (place : Place) (inner inner' chain chain' : List Place) → Formed (form here op args body) → (FormedTerms body → inner ≡ inner') → (FormedCases body → have_continue body ≡ left)
-    → (FormedCases body → chain ≡ chain') → form_places (form_kind op args body) op args inside (have_continue body) place inner chain ≡ form_at op inside left place inner' chain'
-form_planned here (Op.Declaration Declaration.Method) (tree (Use at name) (tree (Integer arity) no_trees)) body inside left place inner inner' chain chain' h i k l = ap (λ ps. place ∷ ps) (i h.2)
-form_planned here (Op.Declaration Declaration.Method) _ body inside left place inner inner' chain chain' h i k l = absurd h
-form_planned here (Op.Declaration Declaration.Device) (tree (Use at name) no_trees) body inside left place inner inner' chain chain' h i k l = ap (λ ps. place ∷ ps) (i h.2)
-form_planned here (Op.Declaration Declaration.Device) _ body inside left place inner inner' chain chain' h i k l = absurd h
-form_planned here (Op.Declaration Declaration.ThermalZone) (tree (Use at name) no_trees) body inside left place inner inner' chain chain' h i k l = ap (λ ps. place ∷ ps) (i h.2)
-form_planned here (Op.Declaration Declaration.ThermalZone) _ body inside left place inner inner' chain chain' h i k l = absurd h
-form_planned here (Op.Declaration Declaration.PowerResource) (tree (Use at name) (tree (Integer level) (tree (Integer order) no_trees))) body inside left place inner inner' chain chain' h i k l = ap (λ ps. place ∷ ps) (i h.2)
-form_planned here (Op.Declaration Declaration.PowerResource) _ body inside left place inner inner' chain chain' h i k l = absurd h
-form_planned here (Op.Declaration Declaration.Processor) (tree (Use at name) (tree (Integer number) (tree (Integer address) (tree (Integer size) no_trees)))) body inside left place inner inner' chain chain' h i k l = ap (λ ps. place ∷ ps) (i h.2)
-form_planned here (Op.Declaration Declaration.Processor) _ body inside left place inner inner' chain chain' h i k l = absurd h
-form_planned here (Op.Declaration Declaration.Scope) (tree (Use at name) no_trees) body inside left place inner inner' chain chain' h i k l = ap (λ ps. place ∷ ps) (i h.1)
-form_planned here (Op.Declaration Declaration.Scope) _ body inside left place inner inner' chain chain' h i k l = absurd h
-form_planned here (Op.Control Control.If) (tree test no_trees) body inside left place inner inner' chain chain' h i k l = ap (λ ps. place ∷ ps) (i h.2)
-form_planned here (Op.Control Control.If) _ body inside left place inner inner' chain chain' h i k l = absurd h
-form_planned here (Op.Control Control.ElseIf) (tree test no_trees) body inside left place inner inner' chain chain' h i k l = ap (λ ps. place ∷ place ∷ ps) (i h.3)
-form_planned here (Op.Control Control.ElseIf) _ body inside left place inner inner' chain chain' h i k l = absurd h
-form_planned here (Op.Control Control.Else) no_trees body inside left place inner inner' chain chain' h i k l = ap (λ ps. place ∷ ps) (i h)
-form_planned here (Op.Control Control.Else) _ body inside left place inner inner' chain chain' h i k l = absurd h
-form_planned here (Op.Control Control.While) (tree test no_trees) body inside left place inner inner' chain chain' h i k l = ap (λ ps. place ∷ ps) (i h.2)
-form_planned here (Op.Control Control.While) _ body inside left place inner inner' chain chain' h i k l = absurd h
-form_planned here (Op.Control Control.Switch) (tree value no_trees) body inside left place inner inner' chain chain' h i k l =
-    ap (λ b. loop_places b inside place (turn_places place chain)) (k h.3) ∙ ap (λ ps. loop_places left inside place (turn_places place ps)) (l h.3)
-form_planned here (Op.Control Control.Switch) _ body inside left place inner inner' chain chain' h i k l = absurd h
-form_planned here (Op.Control Control.Case) (tree value no_trees) body inside left place inner inner' chain chain' h i k l = absurd h
-form_planned here (Op.Control Control.Case) _ body inside left place inner inner' chain chain' h i k l = absurd h
-form_planned here (Op.Control Control.Default) no_trees body inside left place inner inner' chain chain' h i k l = absurd h
-form_planned here (Op.Control Control.Default) _ body inside left place inner inner' chain chain' h i k l = absurd h
-form_planned here (Op.Control Control.Continue) no_trees no_trees inside left place inner inner' chain chain' h i k l = refl
-form_planned here (Op.Control Control.Continue) _ _ inside left place inner inner' chain chain' h i k l = absurd h
-form_planned here op args body inside left place inner inner' chain chain' h i k l = stays (part_of op args body) op args inside (have_continue body) place inner chain
+module _ (args' : Plans) (inside left : Bool) (place : Place) (inner chain : List Place) (inner' : Bool → List Place → List Place) (chain' : List Place → List Place) where
+  pub form_planned : (here : At) (op : Op) (args body : Trees) → Formed (form here op args body) → (FormedTerms body → inner ≡ inner' (body_inside op inside) []) → (FormedCases body → have_continue body ≡ left) → (FormedCases body → chain ≡ chain' [])
+      → form_places (form_kind op args body) op args inside (have_continue body) place inner chain ≡ form_at op args' inside left [] place (inner' (is_inside op inside) (steps_inside op args' [])) (chain' (steps_inside op args' []))
+  form_planned here (Op.Declaration Declaration.Method) (tree (Use at name) (tree (Integer arity) no_trees)) body h i k l = ap (λ ps. place ∷ ps) (i h.2)
+  form_planned here (Op.Declaration Declaration.Method) _ body h i k l = absurd h
+  form_planned here (Op.Declaration Declaration.Device) (tree (Use at name) no_trees) body h i k l = ap (λ ps. place ∷ ps) (i h.2)
+  form_planned here (Op.Declaration Declaration.Device) _ body h i k l = absurd h
+  form_planned here (Op.Declaration Declaration.ThermalZone) (tree (Use at name) no_trees) body h i k l = ap (λ ps. place ∷ ps) (i h.2)
+  form_planned here (Op.Declaration Declaration.ThermalZone) _ body h i k l = absurd h
+  form_planned here (Op.Declaration Declaration.PowerResource) (tree (Use at name) (tree (Integer level) (tree (Integer order) no_trees))) body h i k l = ap (λ ps. place ∷ ps) (i h.2)
+  form_planned here (Op.Declaration Declaration.PowerResource) _ body h i k l = absurd h
+  form_planned here (Op.Declaration Declaration.Processor) (tree (Use at name) (tree (Integer number) (tree (Integer address) (tree (Integer size) no_trees)))) body h i k l = ap (λ ps. place ∷ ps) (i h.2)
+  form_planned here (Op.Declaration Declaration.Processor) _ body h i k l = absurd h
+  form_planned here (Op.Declaration Declaration.Scope) (tree (Use at name) no_trees) body h i k l = ap (λ ps. place ∷ ps) (i h.1)
+  form_planned here (Op.Declaration Declaration.Scope) _ body h i k l = absurd h
+  form_planned here (Op.Control Control.If) (tree test no_trees) body h i k l = ap (λ ps. place ∷ ps) (i h.2)
+  form_planned here (Op.Control Control.If) _ body h i k l = absurd h
+  form_planned here (Op.Control Control.ElseIf) (tree test no_trees) body h i k l = ap (λ ps. place ∷ place ∷ ps) (i h.3)
+  form_planned here (Op.Control Control.ElseIf) _ body h i k l = absurd h
+  form_planned here (Op.Control Control.Else) no_trees body h i k l = ap (λ ps. place ∷ ps) (i h)
+  form_planned here (Op.Control Control.Else) _ body h i k l = absurd h
+  form_planned here (Op.Control Control.While) (tree test no_trees) body h i k l = ap (λ ps. place ∷ ps) (i h.2)
+  form_planned here (Op.Control Control.While) _ body h i k l = absurd h
+  form_planned here (Op.Control Control.For) (tree start (tree test (tree step no_trees))) body h i k l = absurd h.0
+  form_planned here (Op.Control Control.For) _ body h i k l = absurd h
+  form_planned here (Op.Control Control.Switch) (tree value no_trees) body h i k l =
+      ap (λ b. loop_places b inside place (turn_places place chain)) (k h.3) ∙ ap (λ ps. loop_places left inside place (turn_places place ps)) (l h.3)
+  form_planned here (Op.Control Control.Switch) _ body h i k l = absurd h
+  form_planned here (Op.Control Control.Case) (tree value no_trees) body h i k l = absurd h
+  form_planned here (Op.Control Control.Case) _ body h i k l = absurd h
+  form_planned here (Op.Control Control.Default) no_trees body h i k l = absurd h
+  form_planned here (Op.Control Control.Default) _ body h i k l = absurd h
+  form_planned here (Op.Control Control.Continue) no_trees no_trees h i k l = refl
+  form_planned here (Op.Control Control.Continue) _ _ h i k l = absurd h
+  form_planned here op args body h i k l = stays (part_of op args body) op args inside (have_continue body) place inner chain
 
 -- `rest` are the Cases behind it, before what follows the last of them
 pub case_planned : (here : At) (op : Op) (args body cases : Trees) (place : Place) (inner inner' : List Place) (rest : Following → Following) (default following : Following) → FormedCases (tree (form here op args body) cases) → (FormedTerms body → inner ≡ inner')
@@ -243,4 +262,4 @@ case_planned here (Op.Control Control.Case) _ body cases place inner inner' rest
 case_planned here (Op.Control Control.Default) no_trees body no_trees place inner inner' rest default following h i k l = l refl (Some (place, inner)) ∙ ap (λ ps. Some (place, ps)) (i h)
 case_planned here (Op.Control Control.Default) no_trees body (tree t ts) place inner inner' rest default following h i k l = absurd h
 case_planned here (Op.Control Control.Default) _ body cases place inner inner' rest default following h i k l = absurd h
-case_planned here op args body cases place inner inner' rest default following h i k l = absurd (not_among here op args body cases refl h)
+case_planned here op args body cases place inner inner' rest default following h i k l = absurd (not_among ⊥ here op args body cases refl h)

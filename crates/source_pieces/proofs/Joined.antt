@@ -8,8 +8,8 @@ use Rattle.asl_parser.specs.declared.raw.Raw.{Raw}
 use Rattle.asl_parser.specs.Written.{writtens}
 use Rattle.asl_shape.specs.Forms.{errors_at}
 use Rattle.program_shapes.specs.Kept.{IsKeptSource}
-use Rattle.program_shapes.specs.Sources.{plans_in, fields_in, width_in, core_in, table_in}
-use Rattle.program_shapes.proofs.Tables.{terms_are_formed}
+use Rattle.program_shapes.specs.Sources.{plans_in, statements_in, fields_in, width_in, core_in, table_in}
+use Rattle.program_shapes.proofs.Tables.{terms_are_formed, terms_are_near}
 use Rattle.aml_writer.specs.Pieces.{Part, joined_pieces}
 use Rattle.aml_writer.specs.Cuts.{pieces_with, ArePieces}
 use Rattle.aml_writer.proofs.Cuts.{joined_parts, parts_are}
@@ -36,12 +36,12 @@ are_pieces_of lines wrap fold short shorten items pieces h = record {
   joined = ap joined_pieces h.are ∙ joined_with lines wrap fold short shorten items h.as_many;
 }
 
--- as many places as parts where nothing is wrong with a source's form
-as_many : (wrap fold short shorten : Bool) (items : List Raw) → errors_at items ≡ [] → IsKeptSource (writtens items) → length (places_in wrap fold items) ≡ length (parts_in wrap fold short shorten items)
-as_many wrap fold short shorten items e kept =
+-- as many places as parts where nothing is wrong with a source's form and its statements
+as_many : (wrap fold short shorten : Bool) (items : List Raw) → errors_at items ≡ [] → statements_in items ≡ [] → IsKeptSource (writtens items) → length (places_in wrap fold items) ≡ length (parts_in wrap fold short shorten items)
+as_many wrap fold short shorten items e s kept =
     let width = width_in items in
-    ap suc (sym (cut_counts width short (core_of shorten (core_in wrap fold items)) ∙ core_count shorten wrap fold width (plans_in items) (terms_are_formed items e kept)))
+    ap suc (sym (cut_counts width short (core_of shorten (core_in wrap fold items)) ∙ core_count shorten wrap fold width (plans_in items) (terms_are_formed items e kept) (terms_are_near items s)))
 
--- the pieces of a source with whose form nothing is wrong, one after another, are its table
-pub joined_is_table : (lines : List Line) (wrap fold short shorten : Bool) (items : List Raw) → errors_at items ≡ [] → IsKeptSource (writtens items) → joined_pieces (pieces_in lines wrap fold short shorten items) ≡ table_in wrap fold short shorten items
-joined_is_table lines wrap fold short shorten items e kept = joined_with lines wrap fold short shorten items (as_many wrap fold short shorten items e kept)
+-- the pieces of a source with whose form and statements nothing is wrong, one after another, are its table
+pub joined_is_table : (lines : List Line) (wrap fold short shorten : Bool) (items : List Raw) → errors_at items ≡ [] → statements_in items ≡ [] → IsKeptSource (writtens items) → joined_pieces (pieces_in lines wrap fold short shorten items) ≡ table_in wrap fold short shorten items
+joined_is_table lines wrap fold short shorten items e s kept = joined_with lines wrap fold short shorten items (as_many wrap fold short shorten items e s kept)

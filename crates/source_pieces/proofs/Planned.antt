@@ -1,5 +1,5 @@
 -- The places of a formed program with loops for its Switches, as it is lowered, are those of its plans.
-use Rattle.std.proofs.Common.{◌≡◌, Bool, true, false, List, [], ◌∷◌, ◌++◌, refl, ap, ◌∙◌}
+use Rattle.std.proofs.Common.{◌≡◌, Bool, true, false, List, [], ◌∷◌, ◌++◌, refl, sym, ap, ◌∙◌, subst}
 use Rattle.std.specs.Prelude.{◌||◌}
 use Rattle.iasl_messages.specs.declared.place.Place.{Place}
 use Rattle.asl_tree.specs.declared.term.Node.{Node}
@@ -10,9 +10,15 @@ use Rattle.asl_tree.specs.View.{tree_of, row_trees, trees_of}
 use Rattle.asl_shape.specs.Plans.{plan_of, row_plans, plans_of}
 use Rattle.hidden_locals.specs.Crossing.{has_continue, have_continue}
 use Rattle.switch_loops.specs.Places.{Following, chain_places, body_inside, looped_at, looped_row, cases_row, default_row, looped_places}
-use Rattle.program_shapes.proofs.Fits.{Formed, FormedTerms, FormedCases}
+use Rattle.named_sessions.specs.Shaped.{AreNamed, AreFormed}
+use Rattle.asl_formats.specs.Forms.{formed_all}
+use Rattle.asl_formats.specs.Plans.{formed_plans}
+use Rattle.form_shapes.specs.Near.{AreNear}
+use Rattle.form_shapes.proofs.Formed.{forms_formed}
 use Rattle.source_pieces.specs.Places.{is_left, are_left, core_places_at, core_places_in, cases_in, core_places}
-use Rattle.source_pieces.proofs.Forms.{form_left, case_left, form_planned, case_planned}
+use Rattle.asl_formats.proofs.PlanTrees.{nodes_stand}
+use Rattle.source_pieces.proofs.Stepped.{core_formed}
+use Rattle.source_pieces.proofs.Forms.{Formed, FormedTerms, FormedCases, form_left, case_left, form_planned, case_planned}
 
 mutual
   unfolding tree_of plan_of is_left
@@ -40,30 +46,35 @@ none_behind (D.more_of-Node id place term rest) e d = absurd cc
 mutual
   unfolding tree_of plan_of looped_at core_places_at
 
-  term_planned : (at : At) (inside : Bool) (place : Place) (t : Term) → Formed (tree_of at t) → looped_at inside place t ≡ core_places_at inside place (plan_of t)
+  term_planned : (at : At) (inside : Bool) (place : Place) (t : Term) → Formed (tree_of at t) → looped_at inside place t ≡ core_places_at inside [] place (plan_of t)
   term_planned at inside place (D.Form' op shape args shape' body) h =
-      form_planned at op (row_trees args) (row_trees body) inside (are_left (row_plans body)) place (looped_row (body_inside op inside) body) (core_places_in (body_inside op inside) (row_plans body))
-      (chain_places (cases_row body (default_row body))) (chain_places (cases_in (row_plans body))) h (λ k. row_planned (body_inside op inside) body k) (λ k. cases_left body k) (λ k. ap chain_places (cases_planned body k))
+      form_planned (row_plans args) inside (are_left (row_plans body)) place (looped_row (body_inside op inside) body) (chain_places (cases_row body (default_row body)))
+      (λ inside steps. core_places_in inside steps (row_plans body)) (λ steps. chain_places (cases_in steps (row_plans body))) at op (row_trees args) (row_trees body) h
+      (λ k. row_planned (body_inside op inside) body k) (λ k. cases_left body k) (λ k. ap chain_places (cases_planned body k))
   term_planned at inside place t h = refl
 
-  row_planned : {m : _} (inside : Bool) (row : D.Row_of-Node m) → FormedTerms (row_trees row) → looped_row inside row ≡ core_places_in inside (row_plans row)
+  row_planned : {m : _} (inside : Bool) (row : D.Row_of-Node m) → FormedTerms (row_trees row) → looped_row inside row ≡ core_places_in inside [] (row_plans row)
   row_planned inside D.end_of-Node h = refl
   row_planned inside (D.more_of-Node id place term rest) h =
-      ap (λ ps. ps ++ looped_row inside rest) (term_planned (record { id = id; place = place }) inside place term h.0) ∙ ap (λ ps. core_places_at inside place (plan_of term) ++ ps) (row_planned inside rest h.2)
+      ap (λ ps. ps ++ looped_row inside rest) (term_planned (record { id = id; place = place }) inside place term h.0) ∙ ap (λ ps. core_places_at inside [] place (plan_of term) ++ ps) (row_planned inside rest h.2)
 
-  cases_planned : {m : _} (row : D.Row_of-Node m) → FormedCases (row_trees row) → cases_row row (default_row row) ≡ cases_in (row_plans row)
+  cases_planned : {m : _} (row : D.Row_of-Node m) → FormedCases (row_trees row) → cases_row row (default_row row) ≡ cases_in [] (row_plans row)
   cases_planned D.end_of-Node h = refl
   cases_planned (D.more_of-Node id place (D.Form' op shape args shape' body) rest) h =
-      case_planned (record { id = id; place = place }) op (row_trees args) (row_trees body) (row_trees rest) place (looped_row true body) (core_places_in true (row_plans body)) (cases_row rest) (default_row rest) (cases_in (row_plans rest)) h
+      case_planned (record { id = id; place = place }) op (row_trees args) (row_trees body) (row_trees rest) place (looped_row true body) (core_places_in true [] (row_plans body)) (cases_row rest) (default_row rest) (cases_in [] (row_plans rest)) h
       (λ k. row_planned true body k) (λ k. cases_planned rest k) (none_behind rest)
   cases_planned (D.more_of-Node id place term rest) h = absurd h
 
-all_planned : (inside : Bool) (nodes : List Node) → FormedTerms (trees_of nodes) → looped_places inside nodes ≡ core_places_in inside (plans_of nodes)
+all_planned : (inside : Bool) (nodes : List Node) → FormedTerms (trees_of nodes) → looped_places inside nodes ≡ core_places_in inside [] (plans_of nodes)
 unfolding looped_places trees_of plans_of core_places_in
 all_planned inside [] h = refl
 all_planned inside (n ∷ nodes) h =
-    ap (λ ps. ps ++ looped_places inside nodes) (term_planned (record { id = n.id; place = n.place }) inside n.place n.term h.0) ∙ ap (λ ps. core_places_at inside n.place (plan_of n.term) ++ ps) (all_planned inside nodes h.2)
+    ap (λ ps. ps ++ looped_places inside nodes) (term_planned (record { id = n.id; place = n.place }) inside n.place n.term h.0) ∙ ap (λ ps. core_places_at inside [] n.place (plan_of n.term) ++ ps) (all_planned inside nodes h.2)
 
-pub places_planned : (nodes : List Node) → FormedTerms (trees_of nodes) → looped_places false nodes ≡ core_places (plans_of nodes)
+-- a program with what stands for its Fors and for what prints
+pub places_planned : (terms plain : List Node) → AreFormed (Unit {0}) AreNamed (Unit {0}) (Unit {0}) (trees_of terms) → AreNear (trees_of terms) → trees_of plain ≡ formed_all (trees_of terms) → plans_of plain ≡ formed_plans (plans_of terms)
+    → looped_places false plain ≡ core_places (plans_of terms)
 unfolding core_places
-places_planned nodes h = all_planned false nodes h
+places_planned terms plain h near trees plans =
+    all_planned false plain (subst FormedTerms (sym trees) (forms_formed AreNamed (Unit {0}) (Unit {0}) (trees_of terms) h near))
+    ∙ ap (core_places_in false []) plans ∙ core_formed (plans_of terms) (trees_of terms) (nodes_stand terms) h near

@@ -11,30 +11,57 @@ use Rattle.statement_checks.specs.declared.check.Around.{Around}
 
 -- the terms of a block stand in no method, no loop and no Switch
 abbrev pub outside : Around
-outside = record { arguments = 0; in_loop = false; in_switch = false }
+outside = record { arguments = 0; in_loop = false; in_switch = false; in_for = false; far = false }
 
 -- a method begins anew, with as many arguments as the low three bits of its flags say, which stand behind its name
 abbrev pub in_method : Plans → Around
-in_method args = record { arguments = number_of (plan_at args 1) % 8; in_loop = false; in_switch = false }
+in_method args = record { arguments = number_of (plan_at args 1) % 8; in_loop = false; in_switch = false; in_for = false; far = false }
 
 abbrev pub in_while : Around → Around
-in_while around = record { arguments = around.arguments; in_loop = true; in_switch = around.in_switch }
+in_while around = record { arguments = around.arguments; in_loop = true; in_switch = around.in_switch; in_for = false; far = false }
+
+abbrev pub in_for : Around → Around
+in_for around = record { arguments = around.arguments; in_loop = true; in_switch = around.in_switch; in_for = true; far = false }
+
+-- a Device, a Scope and the like hide the step of a For, whose names lead elsewhere in them
+abbrev pub in_scope : Around → Around
+in_scope around = record {
+  arguments = around.arguments;
+  in_loop = around.in_loop;
+  in_switch = around.in_switch;
+  in_for =
+      around.in_for;
+  far = around.in_for;
+}
 
 -- a Switch hides no loop: a Continue in it goes to the loop around it
 abbrev pub in_switch : Around → Around
-in_switch around = record { arguments = around.arguments; in_loop = around.in_loop; in_switch = true }
+in_switch around = record {
+  arguments = around.arguments;
+  in_loop = around.in_loop;
+  in_switch = true;
+  in_for = around.in_for;
+  far =
+      around.far;
+}
 
--- what the body of a form stands in, where the form itself stands in `around`: an If, an Else and a Device change nothing
+-- what the body of a form stands in, where the form itself stands in `around`: an If and an Else change nothing
 abbrev pub around_body : Op → Plans → Around → Around
 around_body (Op.Declaration Declaration.Method) args around = in_method args
+around_body (Op.Declaration Declaration.Scope) args around = in_scope around
+around_body (Op.Declaration Declaration.Device) args around = in_scope around
+around_body (Op.Declaration Declaration.ThermalZone) args around = in_scope around
+around_body (Op.Declaration Declaration.PowerResource) args around = in_scope around
+around_body (Op.Declaration Declaration.Processor) args around = in_scope around
 around_body (Op.Control Control.While) args around = in_while around
+around_body (Op.Control Control.For) args around = in_for around
 around_body (Op.Control Control.Switch) args around = in_switch around
 around_body _ args around = around
 
--- a loop or a Switch is left where none is around, or the next turn of a loop begun where no loop is
+-- a loop or a Switch is left where none is around, or the next turn of a loop begun where no loop is, or a For's step is hidden
 abbrev pub misses_loop : Op → Around → Bool
 misses_loop (Op.Control Control.Break) around = not (around.in_loop || around.in_switch)
-misses_loop (Op.Control Control.Continue) around = not around.in_loop
+misses_loop (Op.Control Control.Continue) around = not around.in_loop || around.far
 misses_loop _ around = false
 
 -- a message where something is wrong

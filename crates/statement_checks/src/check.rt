@@ -10,13 +10,16 @@ use iasl_messages::place::Place;
 use iasl_ports::list::Text;
 use std::alloc::{AllocError, Global};
 
-/// What a term stands in: how many arguments its method has, none outside of methods, and whether a While and whether a
-/// Switch of the same method or block is around it.
+/// What a term stands in: how many arguments its method has, none outside of methods, whether a loop and whether a
+/// Switch of the same method or block is around it, whether the innermost of these loops is a For, and whether a Device, a Scope or
+/// another container stands between.
 #[derive(Clone, Copy)]
 pub struct Around {
     pub arguments: u64,
     pub in_loop: bool,
     pub in_switch: bool,
+    pub in_for: bool,
+    pub far: bool,
 }
 
 #[tactic(auto, using(asl_shape::proofs::Terms::integer_term, crate::proofs::Terms::no_number))]
@@ -49,9 +52,29 @@ fn around_body(op: Op, args: &[Node], around: Around) -> Around
             arguments: argument_count(args),
             in_loop: false,
             in_switch: false,
+            in_for: false,
+            far: false,
+        },
+        Op::Declaration(
+            Declaration::Scope
+            | Declaration::Device
+            | Declaration::ThermalZone
+            | Declaration::PowerResource
+            | Declaration::Processor,
+        ) => Around {
+            far: around.in_for,
+            ..around
         },
         Op::Control(Control::While) => Around {
             in_loop: true,
+            in_for: false,
+            far: false,
+            ..around
+        },
+        Op::Control(Control::For) => Around {
+            in_loop: true,
+            in_for: true,
+            far: false,
             ..around
         },
         Op::Control(Control::Switch) => Around {
@@ -68,7 +91,7 @@ fn misses_loop(op: Op, around: Around) -> bool
 {
     match op {
         Op::Control(Control::Break) => !(around.in_loop || around.in_switch),
-        Op::Control(Control::Continue) => !around.in_loop,
+        Op::Control(Control::Continue) => !around.in_loop || around.far,
         _ => false,
     }
 }
@@ -142,9 +165,9 @@ fn all_errors(
 }
 
 /// The errors of the statements of a block, in the order of the source: 6052 at each Break that stands in no While and no
-/// Switch of its own method or block, and at each Continue that stands in no While of it (ACPI Specification 6.4, 19.6.8
-/// and 19.6.16), and 6055 at each ArgN whose number is that of the method's arguments or more, or that stands in
-/// no method (19.2.5).
+/// Switch of its own method or block, and at each Continue that stands in no loop of it, or in a For where a Device, a Scope or another
+/// container stands between (ACPI Specification 6.4, 19.6.8 and 19.6.16), and 6055 at each ArgN whose number is that of
+/// the method's arguments or more, or that stands in no method (19.2.5).
 pub fn statement_errors(alloc: Global, terms: &[Node]) -> Result<Messages, AllocError>
     ensures { IfOk result (λ ms. ms ≡ spec.errors_of_statements (plans_of terms.now)) }
 {
@@ -153,6 +176,8 @@ pub fn statement_errors(alloc: Global, terms: &[Node]) -> Result<Messages, Alloc
         arguments: 0,
         in_loop: false,
         in_switch: false,
+        in_for: false,
+        far: false,
     };
     all_errors(alloc, &mut out, terms, outside)?;
     Ok(out)

@@ -12,7 +12,7 @@ use Rattle.asl_tree.specs.declared.term.Control.TheVariants as Control
 use Rattle.asl_tree.specs.declared.term.Special.TheVariants as Special
 use Rattle.asl_tree.specs.declared.term.Symbolic.TheVariants as Symbolic
 use Rattle.acpi_state.specs.Outcomes.{choose}
-use Rattle.asl_tree.specs.Tree.{At, Tree, Integer, Omitted, Use, Package, VarPackage, Misshapen, Trees, no_trees, tree, count, Field, IndexField, BankField, UnitName}
+use Rattle.asl_tree.specs.Tree.{At, Tree, Integer, String, Omitted, Use, Package, VarPackage, Misshapen, Trees, no_trees, tree, count, Field, IndexField, BankField, UnitName}
 use Rattle.acpi_names.specs.Parts.{part_of}
 use Rattle.asl_shape.specs.Plans.{Plan, a_form, Plans}
 use Rattle.switch_checks.specs.Locals.{method_errors, part_errors}
@@ -84,6 +84,9 @@ told_form here (Op.Control Control.If) (tree test no_trees) body given plans = r
 told_form here (Op.Control Control.ElseIf) (tree test no_trees) body given plans = refl
 told_form here (Op.Control Control.Else) no_trees body given plans = refl
 told_form here (Op.Control Control.While) (tree test no_trees) body given plans = refl
+told_form here (Op.Control Control.For) (tree start (tree test (tree step no_trees))) body given plans = refl
+told_form here (Op.Control Control.Printf) (tree (String format) args) no_trees given plans = refl
+told_form here (Op.Control Control.Fprintf) (tree place (tree (String format) args)) no_trees given plans = refl
 told_form here (Op.Control Control.Switch) (tree value no_trees) cases given plans = refl
 told_form here (Op.Control Control.Case) (tree value no_trees) body given plans = refl
 told_form here (Op.Control Control.Default) no_trees body given plans = refl

@@ -1,7 +1,7 @@
 -- Where nothing is told, there are Locals enough.
 use Rattle.std.proofs.Common.{◌≡◌, Bool, true, false, not, List, [], ◌∷◌, ◌++◌, refl}
 use Rattle.iasl_messages.specs.declared.place.Place.{Place}
-use Rattle.asl_tree.specs.Tree.{Tree, Method, Container', Scope, If, ElseIf, Else, While, Switch, Case, Default, Trees, no_trees, tree}
+use Rattle.asl_tree.specs.Tree.{Tree, Method, Container', Scope, If, ElseIf, Else, While, For, Switch, Case, Default, Trees, no_trees, tree}
 use Rattle.asl_shape.specs.Plans.{Plan, Plans, plan_at}
 use Rattle.hidden_locals.specs.Switches.{IsEnough, is_enough, HasLocals, HaveLocalsInside, HaveLocals}
 use Rattle.hidden_locals.proofs.Enough.{enough_holds}
@@ -33,6 +33,7 @@ mutual
   methods_enough (ElseIf test body) p e = all_enough body (body_of p) e
   methods_enough (Else body) p e = all_enough body (body_of p) e
   methods_enough (While test body) p e = all_enough body (body_of p) e
+  methods_enough (For start test step body) p e = all_enough body (body_of p) e
   methods_enough (Switch value cases) p e = all_enough cases (body_of p) e
   methods_enough (Case value body) p e = all_enough body (body_of p) e
   methods_enough (Default body) p e = all_enough body (body_of p) e

@@ -4,7 +4,7 @@ use Rattle.iasl_messages.specs.declared.place.Place.{Place}
 use Rattle.iasl_messages.specs.declared.message.Message.{Message}
 use Rattle.asl_tree.specs.declared.term.Op.{Op}
 use Rattle.asl_tree.specs.declared.term.Declaration.TheVariants as Declaration
-use Rattle.asl_tree.specs.Tree.{Tree, Method, Container', Scope, Trees, no_trees, tree, If, ElseIf, Else, While, Switch, Case, Default}
+use Rattle.asl_tree.specs.Tree.{Tree, Method, Container', Scope, Trees, no_trees, tree, If, ElseIf, Else, While, For, Switch, Case, Default}
 use Rattle.asl_shape.specs.Plans.{Plan, a_form, Plans, no_plans, plan, plan_at}
 use Rattle.asl_shape.specs.Shapes.{nowhere}
 use Rattle.acpi_names.specs.declared.part.Part.{Part}
@@ -57,6 +57,7 @@ abbrev mutual
   method_errors (ElseIf test body) p = all_method_errors body (body_of p)
   method_errors (Else body) p = all_method_errors body (body_of p)
   method_errors (While test body) p = all_method_errors body (body_of p)
+  method_errors (For start test step body) p = all_method_errors body (body_of p)
   method_errors (Switch value cases) p = all_method_errors cases (body_of p)
   method_errors (Case value body) p = all_method_errors body (body_of p)
   method_errors (Default body) p = all_method_errors body (body_of p)

@@ -16,7 +16,7 @@ use Rattle.acpi_state.specs.Outcomes.{choose}
 use Rattle.asl_tree.specs.declared.term.Node.{Node}
 use Rattle.asl_tree.specs.declared.term.Term.{Term}
 use Rattle.asl_tree.specs.declared.term.Term as D
-use Rattle.asl_tree.specs.Tree.{At, Tree, Integer, Omitted, Use, Package, VarPackage, Method, Container', Scope, If, ElseIf, Else, While, Switch, Case, Default, Continue, Misshapen, Trees, no_trees, tree, count, Field, IndexField, BankField, UnitName}
+use Rattle.asl_tree.specs.Tree.{At, Tree, Integer, String, Omitted, Use, Package, VarPackage, Method, Container', Scope, If, ElseIf, Else, While, For, Switch, Case, Default, Continue, Misshapen, Trees, no_trees, tree, count, Field, IndexField, BankField, UnitName}
 use Rattle.asl_tree.specs.View.{tree_of, row_trees, trees_of}
 use Rattle.acpi_names.specs.declared.part.Part.{Part}
 use Rattle.acpi_names.specs.Parts.{are, part_of}
@@ -37,6 +37,7 @@ tree_kind (Else body) = Kind.Block
 tree_kind (Container' kind at name body) = Kind.Block
 tree_kind (Scope here at name body) = Kind.Block
 tree_kind (While test body) = Kind.Loop
+tree_kind (For start test step body) = Kind.Loop
 tree_kind (Switch value cases) = Kind.Switch
 tree_kind (Case value body) = Kind.Case
 tree_kind (Default body) = Kind.Default
@@ -111,6 +112,9 @@ kind_form here (Op.Control Control.If) (tree test no_trees) body = refl
 kind_form here (Op.Control Control.ElseIf) (tree test no_trees) body = refl
 kind_form here (Op.Control Control.Else) no_trees body = refl
 kind_form here (Op.Control Control.While) (tree test no_trees) body = refl
+kind_form here (Op.Control Control.For) (tree start (tree test (tree step no_trees))) body = refl
+kind_form here (Op.Control Control.Printf) (tree (String format) args) no_trees = refl
+kind_form here (Op.Control Control.Fprintf) (tree place (tree (String format) args)) no_trees = refl
 kind_form here (Op.Control Control.Switch) (tree value no_trees) cases = refl
 kind_form here (Op.Control Control.Case) (tree value no_trees) body = refl
 kind_form here (Op.Control Control.Default) no_trees body = refl
@@ -203,6 +207,9 @@ measured_form here (Op.Control Control.If) (tree test no_trees) body = refl
 measured_form here (Op.Control Control.ElseIf) (tree test no_trees) body = refl
 measured_form here (Op.Control Control.Else) no_trees body = refl
 measured_form here (Op.Control Control.While) (tree test no_trees) body = refl
+measured_form here (Op.Control Control.For) (tree start (tree test (tree step no_trees))) body = refl
+measured_form here (Op.Control Control.Printf) (tree (String format) args) no_trees = refl
+measured_form here (Op.Control Control.Fprintf) (tree place (tree (String format) args)) no_trees = refl
 measured_form here (Op.Control Control.Switch) (tree value no_trees) cases = ap (λ n. record { levels = n; crossed = have_continue cases || are_crossed cases; continues = have_continue cases }) (deeper (depth_all cases))
 measured_form here (Op.Control Control.Case) (tree value no_trees) body = refl
 measured_form here (Op.Control Control.Default) no_trees body = refl

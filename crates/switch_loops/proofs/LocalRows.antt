@@ -15,7 +15,7 @@ use Rattle.asl_tree.specs.declared.term.Symbolic.TheVariants as Symbolic
 use Rattle.acpi_state.specs.Outcomes.{choose}
 use Rattle.acpi_values.specs.Operators.{Letter, Valued}
 use Rattle.acpi_values.specs.Operators as L
-use Rattle.asl_tree.specs.Tree.{At, Tree, Integer, Omitted, Use, Package, VarPackage, Misshapen, Trees, no_trees, tree, count, Field, IndexField, BankField, UnitName}
+use Rattle.asl_tree.specs.Tree.{At, Tree, Integer, String, Omitted, Use, Package, VarPackage, Misshapen, Trees, no_trees, tree, count, Field, IndexField, BankField, UnitName}
 use Rattle.acpi_names.specs.Parts.{are}
 use Rattle.acpi_names.specs.Walked.{fitting_value}
 use Rattle.acpi_names.specs.declared.part.ValueForm.TheVariants as V
@@ -90,6 +90,11 @@ named_items (Some items) made args body h = h items
 tested : (test : Tree) (body : Trees) → locals test ++ locals_all body ≡ (locals test ++ []) ++ locals_all body
 tested test body = ap (λ ls. ls ++ locals_all body) (sym (append-nil (locals test)))
 
+-- a start, a test and a step before a body
+before_body : (a b c e : List ℕ) → a ++ (b ++ (c ++ e)) ≡ (a ++ (b ++ (c ++ []))) ++ e
+before_body a b c e =
+    sym (append_assoc a (b ++ (c ++ [])) e ∙ ap (λ ls. a ++ ls) (append_assoc b (c ++ []) e ∙ ap (λ ls. b ++ ls) (append_assoc c [] e)))
+
 two_locals : (a b : Tree) → locals a ++ locals b ≡ locals a ++ (locals b ++ [])
 two_locals a b = ap (λ ls. locals a ++ ls) (sym (append-nil (locals b)))
 
@@ -121,6 +126,9 @@ named_form here (Op.Control Control.If) (tree test no_trees) body = tested test 
 named_form here (Op.Control Control.ElseIf) (tree test no_trees) body = tested test body
 named_form here (Op.Control Control.Else) no_trees body = refl
 named_form here (Op.Control Control.While) (tree test no_trees) body = tested test body
+named_form here (Op.Control Control.For) (tree start (tree test (tree step no_trees))) body = before_body (locals start) (locals test) (locals step) (locals_all body)
+named_form here (Op.Control Control.Printf) (tree (String format) args) no_trees = refl
+named_form here (Op.Control Control.Fprintf) (tree place (tree (String format) args)) no_trees = refl
 named_form here (Op.Control Control.Switch) (tree value no_trees) cases = tested value cases
 named_form here (Op.Control Control.Case) (tree value no_trees) body = tested value body
 named_form here (Op.Control Control.Default) no_trees body = refl

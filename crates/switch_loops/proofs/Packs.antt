@@ -15,7 +15,7 @@ use Rattle.asl_tree.specs.declared.term.Symbolic.TheVariants as Symbolic
 use Rattle.asl_tree.specs.declared.term.Node.{Node}
 use Rattle.asl_tree.specs.declared.term.Term.{Term}
 use Rattle.asl_tree.specs.declared.term.Term as D
-use Rattle.asl_tree.specs.Tree.{At, Tree, Integer, Omitted, Use, Apply, Package, VarPackage, Misshapen, Trees, no_trees, tree, count, Field, IndexField, BankField, UnitName}
+use Rattle.asl_tree.specs.Tree.{At, Tree, Integer, String, Omitted, Use, Apply, Package, VarPackage, Misshapen, Trees, no_trees, tree, count, Field, IndexField, BankField, UnitName}
 use Rattle.asl_tree.specs.View.{fits, operands_as, operated, symbol_of, form, apply_of, buffer, body_bytes, packaged, counted, items_in, tree_of, row_trees, trees_of}
 use Rattle.acpi_names.specs.declared.part.ValueForm.{ValueForm}
 use Rattle.acpi_names.specs.declared.part.ValueForm.TheVariants as V
@@ -105,6 +105,9 @@ pack_form here (Op.Control Control.If) (tree test no_trees) body = refl
 pack_form here (Op.Control Control.ElseIf) (tree test no_trees) body = refl
 pack_form here (Op.Control Control.Else) no_trees body = refl
 pack_form here (Op.Control Control.While) (tree test no_trees) body = refl
+pack_form here (Op.Control Control.For) (tree start (tree test (tree step no_trees))) body = refl
+pack_form here (Op.Control Control.Printf) (tree (String format) args) no_trees = refl
+pack_form here (Op.Control Control.Fprintf) (tree place (tree (String format) args)) no_trees = refl
 pack_form here (Op.Control Control.Switch) (tree value no_trees) cases = refl
 pack_form here (Op.Control Control.Case) (tree value no_trees) body = refl
 pack_form here (Op.Control Control.Default) no_trees body = refl

@@ -12,7 +12,7 @@ use Rattle.asl_tree.specs.declared.term.Control.TheVariants as Control
 use Rattle.asl_tree.specs.declared.term.Special.TheVariants as Special
 use Rattle.asl_tree.specs.declared.term.Symbolic.TheVariants as Symbolic
 use Rattle.acpi_state.specs.Outcomes.{choose}
-use Rattle.asl_tree.specs.Tree.{At, Tree, Integer, Omitted, Use, Package, VarPackage, Misshapen, Trees, no_trees, tree, count, Field, IndexField, BankField, UnitName}
+use Rattle.asl_tree.specs.Tree.{At, Tree, Integer, String, Omitted, Use, Package, VarPackage, Misshapen, Trees, no_trees, tree, count, Field, IndexField, BankField, UnitName}
 use Rattle.switch_loops.specs.Kinds.{form_kind}
 use Rattle.switch_loops.specs.Links.{put, in_braces}
 use Rattle.switch_loops.specs.declared.kind.Kind.{Kind}
@@ -85,6 +85,9 @@ module _ (flag : ℕ) (values : List ℕ) (inside : Bool) where
   put_form here (Op.Control Control.ElseIf) (tree test no_trees) body no_switch no_continue rest = refl
   put_form here (Op.Control Control.Else) no_trees body no_switch no_continue rest = refl
   put_form here (Op.Control Control.While) (tree test no_trees) body no_switch no_continue rest = refl
+  put_form here (Op.Control Control.For) (tree start (tree test (tree step no_trees))) body no_switch no_continue rest = refl
+  put_form here (Op.Control Control.Printf) (tree (String format) args) no_trees no_switch no_continue rest = refl
+  put_form here (Op.Control Control.Fprintf) (tree place (tree (String format) args)) no_trees no_switch no_continue rest = refl
   put_form here (Op.Control Control.Switch) (tree value no_trees) cases no_switch no_continue rest = absurd (no_switch refl)
   put_form here (Op.Control Control.Case) (tree value no_trees) body no_switch no_continue rest = refl
   put_form here (Op.Control Control.Default) no_trees body no_switch no_continue rest = refl

@@ -107,6 +107,7 @@ flag_only false k l e never = absurd (never (sym e))
 pub switch_is : (op : Op) (args body : List Node) → form_kind op (trees_of args) (trees_of body) ≡ Kind.Switch → (op ≡ Op.Control Control.Switch) × (length args ≡ 1)
 switch_is (Op.Control Control.Switch) args body e = (refl, one_of 1 args (flag_only (are 1 (trees_of args)) Kind.Switch Kind.Switch e (λ x. absurd cc)).0)
 switch_is (Op.Control Control.While) args body e = let k : Kind.Loop ≡ Kind.Switch = (flag_only (are 1 (trees_of args)) Kind.Loop Kind.Switch e (λ x. absurd cc)).1 in absurd cc
+switch_is (Op.Control Control.For) args body e = let k : Kind.Loop ≡ Kind.Switch = (flag_only (are 3 (trees_of args)) Kind.Loop Kind.Switch e (λ x. absurd cc)).1 in absurd cc
 switch_is (Op.Control Control.Case) args body e = let k : Kind.Case ≡ Kind.Switch = (flag_only (are 1 (trees_of args)) Kind.Case Kind.Switch e (λ x. absurd cc)).1 in absurd cc
 switch_is (Op.Control Control.Default) args body e = let k : Kind.Default ≡ Kind.Switch = (flag_only (are 0 (trees_of args)) Kind.Default Kind.Switch e (λ x. absurd cc)).1 in absurd cc
 switch_is (Op.Control Control.Continue) args body e = let k : Kind.Continue ≡ Kind.Switch = (flag_only (are 0 (trees_of args) && are 0 (trees_of body)) Kind.Continue Kind.Switch e (λ x. absurd cc)).1 in absurd cc
@@ -115,6 +116,7 @@ switch_is op args body e = absurd (part_no_switch (part_of op (trees_of args) (t
 pub case_is : (op : Op) (args body : List Node) → form_kind op (trees_of args) (trees_of body) ≡ Kind.Case → (op ≡ Op.Control Control.Case) × (length args ≡ 1)
 case_is (Op.Control Control.Case) args body e = (refl, one_of 1 args (flag_only (are 1 (trees_of args)) Kind.Case Kind.Case e (λ x. absurd cc)).0)
 case_is (Op.Control Control.While) args body e = let k : Kind.Loop ≡ Kind.Case = (flag_only (are 1 (trees_of args)) Kind.Loop Kind.Case e (λ x. absurd cc)).1 in absurd cc
+case_is (Op.Control Control.For) args body e = let k : Kind.Loop ≡ Kind.Case = (flag_only (are 3 (trees_of args)) Kind.Loop Kind.Case e (λ x. absurd cc)).1 in absurd cc
 case_is (Op.Control Control.Switch) args body e = let k : Kind.Switch ≡ Kind.Case = (flag_only (are 1 (trees_of args)) Kind.Switch Kind.Case e (λ x. absurd cc)).1 in absurd cc
 case_is (Op.Control Control.Default) args body e = let k : Kind.Default ≡ Kind.Case = (flag_only (are 0 (trees_of args)) Kind.Default Kind.Case e (λ x. absurd cc)).1 in absurd cc
 case_is (Op.Control Control.Continue) args body e = let k : Kind.Continue ≡ Kind.Case = (flag_only (are 0 (trees_of args) && are 0 (trees_of body)) Kind.Continue Kind.Case e (λ x. absurd cc)).1 in absurd cc
@@ -223,6 +225,7 @@ default_form : (at : At) (op : Op) (args body : Trees) → is_default (form_kind
 default_form at (Op.Control Control.Default) no_trees body e = refl
 default_form at (Op.Control Control.Default) (tree t ts) body e = absurd cc
 default_form at (Op.Control Control.While) args body e = absurd (flag_unlike (are 1 args) Kind.Loop refl e)
+default_form at (Op.Control Control.For) args body e = absurd (flag_unlike (are 3 args) Kind.Loop refl e)
 default_form at (Op.Control Control.Switch) args body e = absurd (flag_unlike (are 1 args) Kind.Switch refl e)
 default_form at (Op.Control Control.Case) args body e = absurd (flag_unlike (are 1 args) Kind.Case refl e)
 default_form at (Op.Control Control.Continue) args body e = absurd (flag_unlike (are 0 args && are 0 body) Kind.Continue refl e)

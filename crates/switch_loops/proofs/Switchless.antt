@@ -45,6 +45,7 @@ flag_differs false k l never other e = other e
 -- what is no Switch by its operator is none by its kind
 no_switch : (op : Op) (args body : Trees) → is_switch op ≡ false → form_kind op args body ≡ Kind.Switch → ⊥
 no_switch (Op.Control Control.While) args body s = flag_differs (are 1 args) Kind.Loop Kind.Switch (λ x. absurd cc) (λ x. absurd cc)
+no_switch (Op.Control Control.For) args body s = flag_differs (are 3 args) Kind.Loop Kind.Switch (λ x. absurd cc) (λ x. absurd cc)
 no_switch (Op.Control Control.Switch) args body s = absurd cc
 no_switch (Op.Control Control.Case) args body s = flag_differs (are 1 args) Kind.Case Kind.Switch (λ x. absurd cc) (λ x. absurd cc)
 no_switch (Op.Control Control.Default) args body s = flag_differs (are 0 args) Kind.Default Kind.Switch (λ x. absurd cc) (λ x. absurd cc)
@@ -59,6 +60,7 @@ part_no_continue p e = absurd cc
 
 continue_is : (op : Op) (args body : Trees) → form_kind op args body ≡ Kind.Continue → op ≡ Op.Control Control.Continue
 continue_is (Op.Control Control.While) args body e = absurd (flag_differs (are 1 args) Kind.Loop Kind.Continue (λ x. absurd cc) (λ x. absurd cc) e)
+continue_is (Op.Control Control.For) args body e = absurd (flag_differs (are 3 args) Kind.Loop Kind.Continue (λ x. absurd cc) (λ x. absurd cc) e)
 continue_is (Op.Control Control.Switch) args body e = absurd (flag_differs (are 1 args) Kind.Switch Kind.Continue (λ x. absurd cc) (λ x. absurd cc) e)
 continue_is (Op.Control Control.Case) args body e = absurd (flag_differs (are 1 args) Kind.Case Kind.Continue (λ x. absurd cc) (λ x. absurd cc) e)
 continue_is (Op.Control Control.Default) args body e = absurd (flag_differs (are 0 args) Kind.Default Kind.Continue (λ x. absurd cc) (λ x. absurd cc) e)

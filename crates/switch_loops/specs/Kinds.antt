@@ -24,6 +24,7 @@ part_kind _ = Kind.Other
 
 abbrev pub form_kind : Op → Trees → Trees → Kind
 form_kind (Op.Control Control.While) args body = flagged (are 1 args) Kind.Loop
+form_kind (Op.Control Control.For) args body = flagged (are 3 args) Kind.Loop
 form_kind (Op.Control Control.Switch) args body = flagged (are 1 args) Kind.Switch
 form_kind (Op.Control Control.Case) args body = flagged (are 1 args) Kind.Case
 form_kind (Op.Control Control.Default) args body = flagged (are 0 args) Kind.Default

@@ -50,6 +50,7 @@ part_reads (P.External type parameters) op args body = Reads.Nothing
 part_reads P.Scope op args body = Reads.All
 part_reads P.Within op args body = Reads.All
 part_reads P.Returns op args body = Reads.Arguments
+part_reads P.Prints op args body = Reads.Arguments
 part_reads (P.Units over) op args body = if is_item_list body then Reads.Arguments else Reads.Nothing
 
 abbrev pub reads_of : Op → Trees → Trees → Reads

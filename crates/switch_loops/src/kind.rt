@@ -60,6 +60,7 @@ pub(crate) fn form_kind(op: Op, args: &[Node], body: &[Node]) -> Kind
 {
     match op {
         Op::Control(Control::While) => flag(are(args, 1), Kind::Loop),
+        Op::Control(Control::For) => flag(are(args, 3), Kind::Loop),
         Op::Control(Control::Switch) => flag(are(args, 1), Kind::Switch),
         Op::Control(Control::Case) => flag(are(args, 1), Kind::Case),
         Op::Control(Control::Default) => flag(are(args, 0), Kind::Default),

@@ -145,7 +145,7 @@ fn reads_of(op: Op, args: &[Node], body: &[Node]) -> Reads
     match part_for(op, args, body) {
         Part::Nothing => value_reads(value_form_for(op, args, body)),
         Part::Declares { opens: true, .. } | Part::Scope | Part::Within => Reads::All,
-        Part::Declares { .. } | Part::Returns => Reads::Arguments,
+        Part::Declares { .. } | Part::Returns | Part::Prints => Reads::Arguments,
         Part::Units(_) => if are_items(body) {
             Reads::Arguments
         } else {

@@ -1,3 +1,4 @@
 mod NameLaws
 mod OutputLaws
+mod KindLaws
 pub mod BoxLaws

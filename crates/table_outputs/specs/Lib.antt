@@ -1,3 +1,4 @@
 pub mod Files
 pub mod Decision
 pub mod Boxes
+pub mod Noted

@@ -2,7 +2,7 @@
 
 use iasl_messages::place::Pieces;
 use iasl_ports::delivery::Due;
-use iasl_ports::list::Text;
+use iasl_ports::list::{List, Text};
 
 /// The names of what is put of a table: of the table's file, and, where these are asked for, of its bytes as an array of C and
 /// of its listing.
@@ -22,10 +22,22 @@ pub enum OutputNames {
     OfTemplate(String),
 }
 
-/// A table or a template in pieces whose outputs are to be made and put, and the text of the console then.
+/// A table in pieces, and the names of what is put of it.
+#[derive(Drop)]
+pub struct TableOutputs {
+    pub names: TableNames,
+    pub pieces: Pieces,
+}
+
+/// Tables in their order.
+pub type TableList = List<TableOutputs>;
+
+/// Tables in pieces whose outputs are to be made and put, in their order: those before the last, and the last; or a template in pieces.
+/// With them stands the text of the console then.
 #[derive(Drop)]
 pub struct Making {
     pub text: Text,
+    pub earlier: TableList,
     pub names: OutputNames,
     pub pieces: Pieces,
 }
@@ -35,6 +47,6 @@ pub struct Making {
 pub enum Decision {
     /// An end of which no output has to be made. Its file, if there is one, has bytes of its own.
     Ends(Due<'static>),
-    /// The outputs of a table or of a template, and status 0.
+    /// The outputs of tables or of a template, and status 0.
     Makes(Making),
 }

@@ -1,6 +1,5 @@
-//! The names of what is put of a table, and whether one is in use.
-ghost use Rattle.std.specs.Prelude.{◌≡◌, ◌||◌, ◌∷◌, [], MatchOption, ℕ, List, IfOk, cond, is_some, map, string_bytes};
-ghost use Rattle.std.specs.List.{list_any};
+//! The names of what is put of tables, and whether one is in use.
+ghost use Rattle.std.specs.Prelude.{◌≡◌, ◌||◌, ◌∷◌, ◌++◌, [], ℕ, List, IfOk, OnOk, cond, is_some, map, string_bytes};
 ghost use Rattle.std.specs.Option.{option_map};
 ghost use Rattle.std.specs.Str.{IsAscii};
 ghost use Rattle.iasl_ports.specs.Fetched.{same_name};
@@ -8,13 +7,15 @@ ghost use Rattle.iasl_messages.specs.declared.place.Piece.{Piece};
 ghost use Rattle.iasl_options.specs.Names.{further_name as name_beside};
 ghost use Rattle.iasl_options.specs.Shown.{AreTexts, asked_of};
 ghost use Rattle.table_outputs.specs.Files.{is_fetched, first_in_use, name_in_use, table_files};
-ghost use Rattle.table_outputs.specs.Decision.{file_under, table_files_under, table_kinds, kinds_in};
+ghost use Rattle.table_outputs.specs.Noted.{is_noted, NotesName};
+ghost use Rattle.table_outputs.specs.Decision.{file_under, table_files_under, all_files, table_kinds, kinds_in};
 
-use crate::decision::TableNames;
+use crate::decision::{TableNames, TableOutputs};
 use iasl_options::names::{further_name, table_name};
 use iasl_options::request::Options;
 use iasl_options::switches::Switches;
 use iasl_ports::list::Text;
+use indexmap::IndexSet;
 use std::alloc::{AllocError, Global};
 
 // The name of a further output, where that is asked for.
@@ -64,61 +65,91 @@ pub fn names_of_table(
     })
 }
 
-// Whether two names are the same.
-fn are_same(one: &String, other: &String) -> bool
-    ensures { result ≡ same_name (string_bytes one.now) (string_bytes other.now) }
+fn copy_of(alloc: Global, name: &[u8]) -> Result<Vec<u8>, AllocError>
+    ensures { IfOk result (λ copy. copy.items ≡ name.now) }
 {
-    one.as_bytes() == other.as_bytes()
+    name.to_vec(alloc)
 }
 
-// Whether one of some names is the same as this one.
-fn is_among(name: &String, others: &[&String]) -> bool
-    ensures { result ≡ list_any (λ other. same_name (string_bytes other.now) (string_bytes name.now)) others.now }
+// Notes a name, and says whether it was noted before.
+fn note(alloc: Global, noted: &mut IndexSet<Vec<u8>>, name: &[u8]) -> Result<bool, AllocError>
+    ensures before { IfOk result (λ before. before ≡ is_noted noted.old (λ key. key.items) name.now) }
+    ensures noted { OnOk result (NotesName noted.old noted.new (λ key. key.items) name.now) }
 {
-    others.iter().any(|other| are_same(other, name))
+    let copy = copy_of(alloc, name)?;
+    let (_, is_new) = noted.insert_full(copy)?;
+    Ok(!is_new)
 }
 
-// Whether a fetched file has this name, or one of the names behind it.
-fn is_in_use(files: &[Text], name: &String, later: &[&String]) -> bool
-    ensures { result ≡
-        (is_fetched files.now (string_bytes name.now) || list_any (λ other. same_name (string_bytes other.now) (string_bytes name.now))
-        later.now) }
+// The names of files, noted.
+fn noted_files(alloc: Global, files: &[Text]) -> Result<IndexSet<Vec<u8>>, AllocError>
+    ensures { IfOk result (λ noted. (name : List ℕ) → is_noted noted (λ key. key.items) name ≡ is_fetched files.now name) }
 {
-    is_fetched(files, name.as_bytes()) || is_among(name, later)
+    let mut noted = IndexSet::new(alloc);
+    for file in files {
+        note(alloc, &mut noted, file.as_bytes())?;
+    }
+    Ok(noted)
 }
 
-// The first of some names, and the others.
-fn parts<'n, 'a>(names: &'n [&'a String]) -> Option<(&'n &'a String, &'n [&'a String])>
-    ensures { MatchOption result (names.now ≡ []) (λ p. names.now ≡ p.0.now ∷ p.1.now) }
+// The first of some names that is in use. They are noted from the last on, so that each meets those behind it.
+fn first_in_use<'a>(
+    alloc: Global,
+    files: &[Text],
+    names: &[&'a String],
+) -> Result<Option<&'a String>, AllocError>
+    ensures { IfOk result
+        (λ found. option_map (λ name. string_bytes name.now) found ≡ first_in_use files.now (map (λ name. string_bytes name.now) names.now)) }
 {
-    names.split_first()
+    let mut noted = noted_files(alloc, files)?;
+    let mut found = None;
+    for i in (0..names.len()).rev() {
+        let name = names[i];
+        if note(alloc, &mut noted, name.as_bytes())? {
+            found = Some(name);
+        }
+    }
+    Ok(found)
 }
 
-// The first of some names that is in use.
-#[tactic(auto, using(crate::proofs::NameLaws::none_in_use))]
-fn first_in_use<'a>(files: &[Text], names: &[&'a String]) -> Option<&'a String>
-    ensures { option_map (λ name. string_bytes name.now) result ≡ first_in_use files.now (map (λ name. string_bytes name.now) names.now) }
+// Adds a name, where there is one.
+fn push_name<'a>(names: &mut Vec<&'a String>, name: &'a Option<String>) -> Result<(), AllocError>
+    ensures { (text : List ℕ) →
+        OnOk result (map (λ name. string_bytes name.now) names.new.items ≡ map (λ name. string_bytes name.now) names.old.items
+        ++ map (λ file. file.0) (file_under (λ name. string_bytes name) name.now text)) }
 {
-    let (name, later) = parts(names)?;
-    if is_in_use(files, name, later) {
-        Some(name)
-    } else {
-        first_in_use(files, later)
+    match name {
+        Some(name) => Ok(names.push(name)?),
+        None => Ok(()),
     }
 }
 
-/// The first name in the order of the files that a fetched file has, or another of them.
-pub fn name_in_use<'a>(files: &[Text], names: &'a TableNames) -> Option<&'a String>
-    ensures { (pieces : List Piece) → option_map (λ name. string_bytes name.now) result ≡ name_in_use files.now
-        (table_files_under names.now pieces) }
+// Adds the names of what is put of a table.
+fn push_names<'a>(names: &mut Vec<&'a String>, table: &'a TableNames) -> Result<(), AllocError>
+    ensures { (pieces : List Piece) →
+        OnOk result (map (λ name. string_bytes name.now) names.new.items ≡ map (λ name. string_bytes name.now) names.old.items
+        ++ map (λ file. file.0) (table_files_under table.now pieces)) }
 {
-    let table = &names.table;
-    match (&names.c_text, &names.listing) {
-        (None, None) => first_in_use(files, &[table]),
-        (Some(c_text), None) => first_in_use(files, &[table, c_text]),
-        (None, Some(listing)) => first_in_use(files, &[table, listing]),
-        (Some(c_text), Some(listing)) => first_in_use(files, &[table, c_text, listing]),
+    names.push(&table.table)?;
+    push_name(names, &table.c_text)?;
+    push_name(names, &table.listing)?;
+    Ok(())
+}
+
+/// The first name in the order of the files of tables that a fetched file has, or another of them. It takes time that grows
+/// with the number of the names, and not faster.
+pub fn name_in_use<'a>(
+    alloc: Global,
+    files: &[Text],
+    tables: &'a [TableOutputs],
+) -> Result<Option<&'a String>, AllocError>
+    ensures { IfOk result (λ name. option_map (λ name. string_bytes name.now) name ≡ name_in_use files.now (all_files tables.now)) }
+{
+    let mut names = Vec::new(alloc);
+    for table in tables {
+        push_names(&mut names, &table.names)?;
     }
+    first_in_use(alloc, files, &names)
 }
 
 /// Whether a file of this name was fetched.

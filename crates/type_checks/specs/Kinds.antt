@@ -1,5 +1,6 @@
 -- The kinds that arguments take and that expressions have (ACPI Specification 6.4, 19.2 and 19.6).
-use Rattle.std.specs.Prelude.{ℕ, suc, ◌+◌, Bool, true, false, List, [], ◌∷◌, get_or, slice_get, unwrap_or, Option, Some, None}
+use Rattle.std.specs.Prelude.{ℕ, suc, ◌+◌, nat_lt, if◌then◌else◌, Bool, true, false, List, [], ◌∷◌, get_or, slice_get, unwrap_or, Option}
+use Rattle.std.specs.Prelude.{Some, None}
 use Rattle.acpi_values.specs.declared.operator.DataOp.TheVariants as DataOp
 use Rattle.acpi_values.specs.declared.operator.EventOp.TheVariants as EventOp
 use Rattle.acpi_values.specs.declared.operator.Plain.{Plain}
@@ -77,6 +78,7 @@ abbrev pub form_arguments : Op → List Wanted
 form_arguments (Op.Control Control.If) = W.Data ∷ []
 form_arguments (Op.Control Control.ElseIf) = W.Data ∷ []
 form_arguments (Op.Control Control.While) = W.Data ∷ []
+form_arguments (Op.Control Control.For) = W.Anything ∷ W.Data ∷ []
 form_arguments (Op.Special Special.Buffer) = W.Data ∷ []
 form_arguments (Op.Special Special.Package) = W.Data ∷ []
 form_arguments (Op.Declaration Declaration.OperationRegion) = W.Anything ∷ W.Anything ∷ W.Data ∷ W.Data ∷ []
@@ -89,8 +91,17 @@ form_arguments (Op.Declaration Declaration.CreateDWordField) = W.Anything ∷ W.
 form_arguments (Op.Declaration Declaration.CreateQWordField) = W.Anything ∷ W.Data ∷ []
 form_arguments op = []
 
+-- the arguments of what prints are data, behind the place and the format
+abbrev pub data_behind : ℕ → ℕ → Wanted
+data_behind count place = if nat_lt place count then W.Anything else W.Data
+
+abbrev pub listed_argument : Op → ℕ → Wanted
+listed_argument op place = unwrap_or (slice_get (form_arguments op) place) W.Anything
+
 abbrev pub form_argument : Op → ℕ → Wanted
-form_argument op place = unwrap_or (slice_get (form_arguments op) place) W.Anything
+form_argument (Op.Control Control.Printf) place = data_behind 1 place
+form_argument (Op.Control Control.Fprintf) place = data_behind 2 place
+form_argument op place = listed_argument op place
 
 -- what the argument of a form takes that stands at a place among its arguments; `None` is for what is no argument of a form
 abbrev pub wanted_of : Option Op → ℕ → Wanted

@@ -140,6 +140,7 @@ fn form_arguments(op: Op) -> &'static [Wanted]
 {
     match op {
         Op::Control(Control::If | Control::ElseIf | Control::While) => &[Wanted::Data],
+        Op::Control(Control::For) => &[Wanted::Anything, Wanted::Data],
         Op::Special(Special::Buffer | Special::Package) => &[Wanted::Data],
         Op::Declaration(Declaration::OperationRegion) => &[
             Wanted::Anything,
@@ -164,12 +165,33 @@ fn form_arguments(op: Op) -> &'static [Wanted]
     }
 }
 
-fn form_argument(op: Op, place: usize) -> Wanted
-    ensures { result ≡ spec.form_argument op place }
+// The arguments of what prints are data, behind its place and its format.
+fn data_behind(count: usize, place: usize) -> Wanted
+    ensures { result ≡ spec.data_behind count place }
+{
+    if place < count {
+        Wanted::Anything
+    } else {
+        Wanted::Data
+    }
+}
+
+fn listed_argument(op: Op, place: usize) -> Wanted
+    ensures { result ≡ spec.listed_argument op place }
 {
     match form_arguments(op).get(place) {
         Some(wanted) => *wanted,
         None => Wanted::Anything,
+    }
+}
+
+fn form_argument(op: Op, place: usize) -> Wanted
+    ensures { result ≡ spec.form_argument op place }
+{
+    match op {
+        Op::Control(Control::Printf) => data_behind(1, place),
+        Op::Control(Control::Fprintf) => data_behind(2, place),
+        _ => listed_argument(op, place),
     }
 }
 

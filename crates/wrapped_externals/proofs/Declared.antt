@@ -4,7 +4,7 @@ use Rattle.acpi_values.specs.Paths.{AbsolutePath}
 use Rattle.acpi_state.specs.Objects.{MethodObject, ContainerObject, root_objects}
 use Rattle.asl_meaning.specs.Declarations.{As, Declarations, nothing_declared, is_named, scope_path, with_declared, declare, declare_all, declarations, calls, calls_all, called, declared_kinds, external_names, as_known, externals, known_of}
 use Rattle.asl_tree.specs.Names.{place_of, denoted}
-use Rattle.asl_tree.specs.Tree.{Tree, Call, Apply, Buffer, Package, VarPackage, CondRefOf, Return, Name, External, Method, Container', Scope, If, ElseIf, Else, While, OperationRegion, BankField, CreateField, Operated, Assigned, AssignedBy, Trees, no_trees, tree, count, Switch, Case, Default}
+use Rattle.asl_tree.specs.Tree.{Tree, Call, Apply, Buffer, Package, VarPackage, CondRefOf, Return, Name, External, Method, Container', Scope, If, ElseIf, Else, While, For, Print, OperationRegion, BankField, CreateField, Operated, Assigned, AssignedBy, Trees, no_trees, tree, count, Switch, Case, Default}
 use Rattle.acpi_names.specs.Errors.{whole_of}
 use Rattle.acpi_names.proofs.Mentions.{right_nil}
 use Rattle.wrapped_externals.specs.Wraps.{starts_branch, leading, in_if, guarded, wrapped, wrapped_args, behind, wrapped_all}
@@ -62,6 +62,7 @@ mutual
   wrapped_declares (ElseIf test body) scope d = all_declared body scope d (behind_declares body scope d)
   wrapped_declares (Else body) scope d = all_declared body scope d (behind_declares body scope d)
   wrapped_declares (While test body) scope d = all_declared body scope d (behind_declares body scope d)
+  wrapped_declares (For start test step body) scope d = all_declared body scope d (behind_declares body scope d)
   wrapped_declares (Switch value cases) scope d = all_declared cases scope d (behind_declares cases scope d)
   wrapped_declares (Case value body) scope d = all_declared body scope d (behind_declares body scope d)
   wrapped_declares (Default body) scope d = all_declared body scope d (behind_declares body scope d)
@@ -106,6 +107,12 @@ module _ (has : AbsolutePath → Bool) where
     wrapped_calls (Else body) scope d = all_called body scope d (behind_call body scope d)
     wrapped_calls (While test body) scope d =
         both (calls has (wrapped test) scope d) (calls_all has (wrapped_all body) scope d) (calls has test scope d) (calls_all has body scope d) (wrapped_calls test scope d) (all_called body scope d (behind_call body scope d))
+    wrapped_calls (For start test step body) scope d =
+        both (calls has (wrapped start) scope d) (calls has (wrapped test) scope d ++ (calls has (wrapped step) scope d ++ calls_all has (wrapped_all body) scope d)) (calls has start scope d) (calls has test scope d ++ (calls has step scope d ++ calls_all has body scope d)) (wrapped_calls start scope d)
+        (both (calls has (wrapped test) scope d) (calls has (wrapped step) scope d ++ calls_all has (wrapped_all body) scope d) (calls has test scope d) (calls has step scope d ++ calls_all has body scope d) (wrapped_calls test scope d)
+        (both (calls has (wrapped step) scope d) (calls_all has (wrapped_all body) scope d) (calls has step scope d) (calls_all has body scope d) (wrapped_calls step scope d) (all_called body scope d (behind_call body scope d))))
+    wrapped_calls (Print place format args) scope d =
+        both (calls has (wrapped place) scope d) (calls_all has (wrapped_args args) scope d) (calls has place scope d) (calls_all has args scope d) (wrapped_calls place scope d) (args_call args scope d)
     wrapped_calls (Switch value cases) scope d =
         both (calls has (wrapped value) scope d) (calls_all has (wrapped_all cases) scope d) (calls has value scope d) (calls_all has cases scope d) (wrapped_calls value scope d) (all_called cases scope d (behind_call cases scope d))
     wrapped_calls (Case value body) scope d =

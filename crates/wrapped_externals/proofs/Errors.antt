@@ -9,7 +9,7 @@ use Rattle.acpi_state.specs.Outcomes.{choose}
 use Rattle.asl_meaning.specs.Declarations.{As, Declarations, nothing_declared, is_named, scope_path, with_declared, declare, declare_all}
 use Rattle.asl_meaning.specs.Meaning.{spot_form}
 use Rattle.asl_tree.specs.Names.{place_of, denoted}
-use Rattle.asl_tree.specs.Tree.{Tree, Use, Call, Apply, Buffer, Package, VarPackage, CondRefOf, Return, Name, External, Method, Container', Scope, If, ElseIf, Else, While, OperationRegion, BankField, CreateField, Operated, Assigned, AssignedBy, Trees, no_trees, tree, count, Switch, Case, Default}
+use Rattle.asl_tree.specs.Tree.{Tree, Use, Call, Apply, Buffer, Package, VarPackage, CondRefOf, Return, Name, External, Method, Container', Scope, If, ElseIf, Else, While, For, Print, OperationRegion, BankField, CreateField, Operated, Assigned, AssignedBy, Trees, no_trees, tree, count, Switch, Case, Default}
 use Rattle.acpi_names.specs.Errors.{NameError, Asked, Anything, AUnit, ARegion, Whole, whole_of, asked_by, use_errors, call_errors, declared_errors, scope_errors, items_errors, cond_errors, names, names_all, asked_types, used_types, letter_types, spot_form_types, element_types, types, spot_types, first_types, operand_types, spot_types_all, element_types_all, types_all, unless, takes, name_end, WrongCount, name_errors, type_errors}
 use Rattle.acpi_names.proofs.Mentions.{right_nil}
 use Rattle.wrapped_externals.specs.Wraps.{starts_branch, leading, in_if, guarded, wrapped, wrapped_args, behind, wrapped_all}
@@ -95,6 +95,11 @@ module _ (whole : Whole) where
     wrapped_names (ElseIf test body) scope d = both (N (F test) scope d) (Ns (wrapped_all body) scope d) (N test scope d) (Ns body scope d) (wrapped_names test scope d) (all_names body scope d (behind_named body scope d))
     wrapped_names (Else body) scope d = all_names body scope d (behind_named body scope d)
     wrapped_names (While test body) scope d = both (N (F test) scope d) (Ns (wrapped_all body) scope d) (N test scope d) (Ns body scope d) (wrapped_names test scope d) (all_names body scope d (behind_named body scope d))
+    wrapped_names (For start test step body) scope d =
+        both (N (F start) scope d) (N (F test) scope d ++ (N (F step) scope d ++ Ns (wrapped_all body) scope d)) (N start scope d) (N test scope d ++ (N step scope d ++ Ns body scope d)) (wrapped_names start scope d)
+        (both (N (F test) scope d) (N (F step) scope d ++ Ns (wrapped_all body) scope d) (N test scope d) (N step scope d ++ Ns body scope d) (wrapped_names test scope d)
+        (both (N (F step) scope d) (Ns (wrapped_all body) scope d) (N step scope d) (Ns body scope d) (wrapped_names step scope d) (all_names body scope d (behind_named body scope d))))
+    wrapped_names (Print place format args) scope d = both (N (F place) scope d) (Ns (Fs args) scope d) (N place scope d) (Ns args scope d) (wrapped_names place scope d) (args_named args scope d)
     wrapped_names (Switch value cases) scope d = both (N (F value) scope d) (Ns (wrapped_all cases) scope d) (N value scope d) (Ns cases scope d) (wrapped_names value scope d) (all_names cases scope d (behind_named cases scope d))
     wrapped_names (Case value body) scope d = both (N (F value) scope d) (Ns (wrapped_all body) scope d) (N value scope d) (Ns body scope d) (wrapped_names value scope d) (all_names body scope d (behind_named body scope d))
     wrapped_names (Default body) scope d = all_names body scope d (behind_named body scope d)
@@ -166,6 +171,11 @@ module _ (whole : Whole) where
     wrapped_types (ElseIf test body) scope = both (T (F test) scope) (types_all whole (wrapped_all body) scope) (T test scope) (types_all whole body scope) (wrapped_types test scope) (all_types body scope (behind_typed body scope))
     wrapped_types (Else body) scope = all_types body scope (behind_typed body scope)
     wrapped_types (While test body) scope = both (T (F test) scope) (types_all whole (wrapped_all body) scope) (T test scope) (types_all whole body scope) (wrapped_types test scope) (all_types body scope (behind_typed body scope))
+    wrapped_types (For start test step body) scope =
+        both (T (F start) scope) (T (F test) scope ++ (T (F step) scope ++ types_all whole (wrapped_all body) scope)) (T start scope) (T test scope ++ (T step scope ++ types_all whole body scope)) (wrapped_types start scope)
+        (both (T (F test) scope) (T (F step) scope ++ types_all whole (wrapped_all body) scope) (T test scope) (T step scope ++ types_all whole body scope) (wrapped_types test scope)
+        (both (T (F step) scope) (types_all whole (wrapped_all body) scope) (T step scope) (types_all whole body scope) (wrapped_types step scope) (all_types body scope (behind_typed body scope))))
+    wrapped_types (Print place format args) scope = both (spot_types whole (F place) scope) (types_all whole (Fs args) scope) (spot_types whole place scope) (types_all whole args scope) (spot_typed place scope) (args_typed args scope)
     wrapped_types (Switch value cases) scope = both (T (F value) scope) (types_all whole (wrapped_all cases) scope) (T value scope) (types_all whole cases scope) (wrapped_types value scope) (all_types cases scope (behind_typed cases scope))
     wrapped_types (Case value body) scope = both (T (F value) scope) (types_all whole (wrapped_all body) scope) (T value scope) (types_all whole body scope) (wrapped_types value scope) (all_types body scope (behind_typed body scope))
     wrapped_types (Default body) scope = all_types body scope (behind_typed body scope)

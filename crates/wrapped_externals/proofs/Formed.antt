@@ -6,7 +6,7 @@ use Rattle.acpi_values.specs.Operators as L
 use Rattle.acpi_state.specs.FieldActs.{region_letters, field_letters}
 use Rattle.asl_meaning.specs.Meaning.{SpotForm, OfResult, OfInside, NoSpot, spot_form}
 use Rattle.asl_tree.specs.FieldItems.{FieldItem}
-use Rattle.asl_tree.specs.Tree.{Tree, Integer, Constant, String, Raw, Use, Call, Apply, Buffer, Package, VarPackage, CondRefOf, Return, Name, External, Method, Container', Scope, If, ElseIf, Else, While, OperationRegion, BankField, CreateField, UnitName, Operated, Assigned, AssignedBy, Trees, no_trees, tree, count, Switch, Case, Default}
+use Rattle.asl_tree.specs.Tree.{Tree, Integer, Constant, String, Raw, Use, Call, Apply, Buffer, Package, VarPackage, CondRefOf, Return, Name, External, Method, Container', Scope, If, ElseIf, Else, While, For, Print, OperationRegion, BankField, CreateField, UnitName, Operated, Assigned, AssignedBy, Trees, no_trees, tree, count, Switch, Case, Default}
 use Rattle.aml_sessions.specs.Ready.{is_expression, RawReady, SpotReady, AreItems}
 use Rattle.named_sessions.specs.Shaped.{UsedShaped, LetterShaped, ElementShaped, IsFormed, IsFormedSpot, IsFormedAlone, AreFormedOperands, AreFormedSpots, AreFormedValues, AreFormedElements, AreFormed, AreFormedCases, AreShaped, IsNumber, IsCaseMember, AreCaseMembers, HaveCaseMembers, IsCaseValue, StartsNoElse, IsFollowed}
 use Rattle.wrapped_externals.specs.Wraps.{starts_branch, leading, in_if, guarded, wrapped, wrapped_args, behind, wrapped_all}
@@ -30,16 +30,16 @@ module _ (Listed : List (FieldItem UnitName) → Type 0) (Symbols Switches : Typ
   Fs = wrapped_args
 
   abbrev Formed : Tree → Type 0
-  Formed = IsFormed Listed Symbols Switches
+  Formed = IsFormed ⊥ Listed Symbols Switches
 
   abbrev Spot : Tree → Type 0
-  Spot = IsFormedSpot Listed Symbols Switches
+  Spot = IsFormedSpot ⊥ Listed Symbols Switches
 
   abbrev Spots : Trees → Type 0
-  Spots = AreFormedSpots Listed Symbols Switches
+  Spots = AreFormedSpots ⊥ Listed Symbols Switches
 
   abbrev Operands : List Letter → Trees → Type 0
-  Operands = AreFormedOperands Listed Symbols Switches
+  Operands = AreFormedOperands ⊥ Listed Symbols Switches
 
   abbrev Value : Tree → Type 0
   Value t = (is_expression t ≡ true) × Formed t
@@ -67,21 +67,21 @@ module _ (Listed : List (FieldItem UnitName) → Type 0) (Symbols Switches : Typ
   letter_shaped (L.Raw size) t value spot h = raw_shaped size t h
 
   -- the Externals that stand first, before other terms
-  leading_formed : (ts : Trees) → AreFormed Listed Symbols Switches ts → AreFormed Listed Symbols Switches (leading ts)
+  leading_formed : (ts : Trees) → AreFormed ⊥ Listed Symbols Switches ts → AreFormed ⊥ Listed Symbols Switches (leading ts)
   leading_formed no_trees h = tt
   leading_formed (tree (External here at name type parameters) ts) h = (h.0, tt, leading_formed ts h.2)
   leading_formed (tree _ ts) h = tt
 
-  joined_formed : (ts us : Trees) → AreFormed Listed Symbols Switches ts → AreFormed Listed Symbols Switches us → AreFormed Listed Symbols Switches (joined (leading ts) us)
+  joined_formed : (ts us : Trees) → AreFormed ⊥ Listed Symbols Switches ts → AreFormed ⊥ Listed Symbols Switches us → AreFormed ⊥ Listed Symbols Switches (joined (leading ts) us)
   joined_formed no_trees us h k = k
   joined_formed (tree (External here at name type parameters) ts) us h k = (h.0, tt, joined_formed ts us h.2 k)
   joined_formed (tree _ ts) us h k = k
 
-  guarded_formed : (ts us : Trees) → AreFormed Listed Symbols Switches ts → AreFormed Listed Symbols Switches us → AreFormed Listed Symbols Switches (guarded (leading ts) us)
+  guarded_formed : (ts us : Trees) → AreFormed ⊥ Listed Symbols Switches ts → AreFormed ⊥ Listed Symbols Switches us → AreFormed ⊥ Listed Symbols Switches (guarded (leading ts) us)
   guarded_formed no_trees us h k = k
   guarded_formed (tree (External here at name type parameters) ts) us h k = by_kept (starts_branch us)
     where
-      by_kept : (kept : Bool) → AreFormed Listed Symbols Switches (joined (in_if (tree (External here at name type parameters) (leading ts)) kept) us)
+      by_kept : (kept : Bool) → AreFormed ⊥ Listed Symbols Switches (joined (in_if (tree (External here at name type parameters) (leading ts)) kept) us)
       by_kept true = (h.0, tt, joined_formed ts us h.2 k)
       by_kept false = ((refl, tt, (h.0, tt, leading_formed ts h.2)), tt, k)
   guarded_formed (tree _ ts) us h k = k
@@ -132,15 +132,15 @@ module _ (Listed : List (FieldItem UnitName) → Type 0) (Symbols Switches : Typ
   case_formed _ h = absurd h
 
   ready_spot : (op : Plain) (args targets : Trees) → (Operands (row_of op).operands args → Operands (row_of op).operands (Fs args)) → (Spots targets → Spots (Fs targets))
-      → (IsFormedAlone Listed Symbols Switches args targets → IsFormedAlone Listed Symbols Switches (Fs args) (Fs targets))
-      → SpotReady (spot_form op) (Operands (row_of op).operands args × (count targets ≡ (row_of op).targets) × Spots targets) (IsFormedAlone Listed Symbols Switches args targets)
-      → SpotReady (spot_form op) (Operands (row_of op).operands (Fs args) × (count (Fs targets) ≡ (row_of op).targets) × Spots (Fs targets)) (IsFormedAlone Listed Symbols Switches (Fs args) (Fs targets))
+      → (IsFormedAlone ⊥ Listed Symbols Switches args targets → IsFormedAlone ⊥ Listed Symbols Switches (Fs args) (Fs targets))
+      → SpotReady (spot_form op) (Operands (row_of op).operands args × (count targets ≡ (row_of op).targets) × Spots targets) (IsFormedAlone ⊥ Listed Symbols Switches args targets)
+      → SpotReady (spot_form op) (Operands (row_of op).operands (Fs args) × (count (Fs targets) ≡ (row_of op).targets) × Spots (Fs targets)) (IsFormedAlone ⊥ Listed Symbols Switches (Fs args) (Fs targets))
   ready_spot op args targets operands spots alone h =
-      spot_by (spot_form op) (Operands (row_of op).operands args × (count targets ≡ (row_of op).targets) × Spots targets) (IsFormedAlone Listed Symbols Switches args targets)
-      (Operands (row_of op).operands (Fs args) × (count (Fs targets) ≡ (row_of op).targets) × Spots (Fs targets)) (IsFormedAlone Listed Symbols Switches (Fs args) (Fs targets))
+      spot_by (spot_form op) (Operands (row_of op).operands args × (count targets ≡ (row_of op).targets) × Spots targets) (IsFormedAlone ⊥ Listed Symbols Switches args targets)
+      (Operands (row_of op).operands (Fs args) × (count (Fs targets) ≡ (row_of op).targets) × Spots (Fs targets)) (IsFormedAlone ⊥ Listed Symbols Switches (Fs args) (Fs targets))
       (λ r. (operands r.0, count_args targets ∙ r.1, spots r.2)) alone h
 
-  all_by : (ts : Trees) → AreFormed Listed Symbols Switches ts → AreFormed Listed Symbols Switches (behind ts) → AreFormed Listed Symbols Switches (wrapped_all ts)
+  all_by : (ts : Trees) → AreFormed ⊥ Listed Symbols Switches ts → AreFormed ⊥ Listed Symbols Switches (behind ts) → AreFormed ⊥ Listed Symbols Switches (wrapped_all ts)
   all_by ts h k = guarded_formed ts (behind ts) h k
 
   mutual
@@ -166,6 +166,8 @@ module _ (Listed : List (FieldItem UnitName) → Type 0) (Symbols Switches : Typ
     formed (Default body) h = absurd h
     formed (Else body) h = all_by body h (behind_formed body h)
     formed (While test body) h = (expression_same test ∙ h.0, formed test h.1, all_by body h.2 (behind_formed body h.2))
+    formed (For start test step body) h = absurd h.0
+    formed (Print place format args) h = absurd h.0
     formed (OperationRegion at name space args) h = (h.0, h.1, operands_formed region_letters args h.2)
     formed (BankField here from region to bank value flags items) h = (h.0, h.1, expression_same value ∙ h.2, formed value h.3, h.4, h.5)
     formed (CreateField form args at name) h = (operands_formed (field_letters form) args h.0, h.1)
@@ -180,7 +182,7 @@ module _ (Listed : List (FieldItem UnitName) → Type 0) (Symbols Switches : Typ
     spot_formed (VarPackage size elements) h = absurd h
     spot_formed _ h = h
 
-    alone_formed : (args targets : Trees) → IsFormedAlone Listed Symbols Switches args targets → IsFormedAlone Listed Symbols Switches (Fs args) (Fs targets)
+    alone_formed : (args targets : Trees) → IsFormedAlone ⊥ Listed Symbols Switches args targets → IsFormedAlone ⊥ Listed Symbols Switches (Fs args) (Fs targets)
     alone_formed (tree t no_trees) no_trees h = value_of t (λ k. formed t k) h
     alone_formed no_trees targets h = absurd h
     alone_formed (tree t no_trees) (tree u us) h = absurd h
@@ -196,7 +198,7 @@ module _ (Listed : List (FieldItem UnitName) → Type 0) (Symbols Switches : Typ
     spots_formed no_trees h = tt
     spots_formed (tree t ts) h = (spot_formed t h.0, spots_formed ts h.1)
 
-    values_formed : (ts : Trees) → AreFormedValues Listed Symbols Switches ts → AreFormedValues Listed Symbols Switches (Fs ts)
+    values_formed : (ts : Trees) → AreFormedValues ⊥ Listed Symbols Switches ts → AreFormedValues ⊥ Listed Symbols Switches (Fs ts)
     values_formed no_trees h = tt
     values_formed (tree t ts) h = (expression_same t ∙ h.0, formed t h.1, values_formed ts h.2)
 
@@ -210,26 +212,26 @@ module _ (Listed : List (FieldItem UnitName) → Type 0) (Symbols Switches : Typ
     element_formed (VarPackage size elements) h = (refl, (expression_same size ∙ h.1.0, formed size h.1.1, elements_formed elements h.1.2))
     element_formed _ h = never h.0
 
-    elements_formed : (ts : Trees) → AreFormedElements Listed Symbols Switches ts → AreFormedElements Listed Symbols Switches (Fs ts)
+    elements_formed : (ts : Trees) → AreFormedElements ⊥ Listed Symbols Switches ts → AreFormedElements ⊥ Listed Symbols Switches (Fs ts)
     elements_formed no_trees h = tt
     elements_formed (tree t ts) h = (element_formed t h.0, elements_formed ts h.1)
 
-    behind_formed : (ts : Trees) → AreFormed Listed Symbols Switches ts → AreFormed Listed Symbols Switches (behind ts)
+    behind_formed : (ts : Trees) → AreFormed ⊥ Listed Symbols Switches ts → AreFormed ⊥ Listed Symbols Switches (behind ts)
     behind_formed no_trees h = tt
     behind_formed (tree (External here at name type parameters) ts) h = behind_formed ts h.2
     behind_formed (tree t ts) h = (formed t h.0, wrapped_followed t ts h.1, all_by ts h.2 (behind_formed ts h.2))
 
-    cases_formed : (ts : Trees) → AreFormedCases Listed Symbols Switches ts → AreFormedCases Listed Symbols Switches (wrapped_all ts)
+    cases_formed : (ts : Trees) → AreFormedCases ⊥ Listed Symbols Switches ts → AreFormedCases ⊥ Listed Symbols Switches (wrapped_all ts)
     cases_formed no_trees h = tt
     cases_formed (tree (Case value body) ts) h = (case_formed value h.0, all_by body h.1 (behind_formed body h.1), cases_formed ts h.2)
     cases_formed (tree (Default body) no_trees) h = all_by body h (behind_formed body h)
     cases_formed (tree _ _) h = absurd h
 
-  pub all_formed : (ts : Trees) → AreFormed Listed Symbols Switches ts → AreFormed Listed Symbols Switches (wrapped_all ts)
+  pub all_formed : (ts : Trees) → AreFormed ⊥ Listed Symbols Switches ts → AreFormed ⊥ Listed Symbols Switches (wrapped_all ts)
   all_formed ts h = all_by ts h (behind_formed ts h)
 
 -- what is formed is so with its Externals in Ifs
-pub kept_formed : (Listed : List (FieldItem UnitName) → Type 0) (Symbols Switches : Type 0) (terms : Trees) → AreFormed Listed Symbols Switches terms → AreFormed Listed Symbols Switches (wrapped_all terms)
+pub kept_formed : (Listed : List (FieldItem UnitName) → Type 0) (Symbols Switches : Type 0) (terms : Trees) → AreFormed ⊥ Listed Symbols Switches terms → AreFormed ⊥ Listed Symbols Switches (wrapped_all terms)
 kept_formed Listed Symbols Switches terms h = all_formed Listed Symbols Switches terms h
 
 -- and what may be written

@@ -13,7 +13,7 @@ use Rattle.asl_tree.specs.declared.term.Control.TheVariants as Control
 use Rattle.asl_tree.specs.declared.term.Literal.TheVariants as Literal
 use Rattle.asl_tree.specs.declared.term.Special.TheVariants as Special
 use Rattle.asl_tree.specs.declared.term.Symbolic.TheVariants as Symbolic
-use Rattle.asl_tree.specs.Tree.{At, Tree, Apply, Integer, Constant, Raw, Omitted, Use, Package, VarPackage, Misshapen, Trees, no_trees, tree, count, Field, IndexField, BankField, UnitName}
+use Rattle.asl_tree.specs.Tree.{At, Tree, Apply, Integer, String, Constant, Raw, Omitted, Use, Package, VarPackage, Misshapen, Trees, no_trees, tree, count, Field, IndexField, BankField, UnitName}
 use Rattle.asl_tree.specs.View.{fits, form, operands_as, targets_of, plain_of, not_of, apply_of, operated, symbol_of, buffer, body_bytes, packaged, counted, items_in}
 use Rattle.wrapped_externals.specs.Wraps.{wrapped, wrapped_args}
 use Rattle.wrapped_externals.specs.Nodes.{wrapped_body}
@@ -135,6 +135,9 @@ wrapped_form here (Op.Control Control.If) (tree test no_trees) body = refl
 wrapped_form here (Op.Control Control.ElseIf) (tree test no_trees) body = refl
 wrapped_form here (Op.Control Control.Else) no_trees body = refl
 wrapped_form here (Op.Control Control.While) (tree test no_trees) body = refl
+wrapped_form here (Op.Control Control.For) (tree start (tree test (tree step no_trees))) body = refl
+wrapped_form here (Op.Control Control.Printf) (tree (String format) args) no_trees = refl
+wrapped_form here (Op.Control Control.Fprintf) (tree place (tree (String format) args)) no_trees = refl
 wrapped_form here (Op.Control Control.Switch) (tree value no_trees) cases = refl
 wrapped_form here (Op.Control Control.Case) (tree value no_trees) body = refl
 wrapped_form here (Op.Control Control.Default) no_trees body = refl

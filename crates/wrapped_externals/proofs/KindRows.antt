@@ -13,7 +13,7 @@ use Rattle.asl_tree.specs.declared.term.Special.TheVariants as Special
 use Rattle.asl_tree.specs.declared.term.Symbolic.TheVariants as Symbolic
 use Rattle.asl_tree.specs.declared.term.Term.{Term}
 use Rattle.asl_tree.specs.declared.term.Term as D
-use Rattle.asl_tree.specs.Tree.{At, Tree, Integer, Omitted, Use, Package, VarPackage, Misshapen, Trees, no_trees, tree, count, Field, IndexField, BankField, UnitName}
+use Rattle.asl_tree.specs.Tree.{At, Tree, Integer, String, Omitted, Use, Package, VarPackage, Misshapen, Trees, no_trees, tree, count, Field, IndexField, BankField, UnitName}
 use Rattle.asl_tree.specs.View.{fits, form, operands_as, apply_of, operated, symbol_of, buffer, body_bytes, packaged, counted, items_in, tree_of, row_trees}
 use Rattle.acpi_names.specs.Walked.{OfForm, term_shape}
 use Rattle.wrapped_externals.specs.Kinds.{tree_kind, shape_kind}
@@ -97,6 +97,9 @@ form_kind here (Op.Control Control.If) (tree test no_trees) body = refl
 form_kind here (Op.Control Control.ElseIf) (tree test no_trees) body = refl
 form_kind here (Op.Control Control.Else) no_trees body = refl
 form_kind here (Op.Control Control.While) (tree test no_trees) body = refl
+form_kind here (Op.Control Control.For) (tree start (tree test (tree step no_trees))) body = refl
+form_kind here (Op.Control Control.Printf) (tree (String format) args) no_trees = refl
+form_kind here (Op.Control Control.Fprintf) (tree place (tree (String format) args)) no_trees = refl
 form_kind here (Op.Control Control.Switch) (tree value no_trees) cases = refl
 form_kind here (Op.Control Control.Case) (tree value no_trees) body = refl
 form_kind here (Op.Control Control.Default) no_trees body = refl

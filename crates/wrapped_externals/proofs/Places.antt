@@ -17,7 +17,7 @@ use Rattle.asl_tree.specs.declared.term.Symbolic.TheVariants as Symbolic
 use Rattle.asl_tree.specs.declared.term.Node.{Node}
 use Rattle.asl_tree.specs.declared.term.Term.{Term}
 use Rattle.asl_tree.specs.declared.term.Term as D
-use Rattle.asl_tree.specs.Tree.{At, Tree, Integer, Omitted, Use, External, ElseIf, Else, Package, VarPackage, Misshapen, Trees, no_trees, tree, count, Field, IndexField, BankField, UnitName}
+use Rattle.asl_tree.specs.Tree.{At, Tree, Integer, String, Omitted, Use, External, ElseIf, Else, Package, VarPackage, Misshapen, Trees, no_trees, tree, count, Field, IndexField, BankField, UnitName}
 use Rattle.asl_tree.specs.View.{fits, form, operands_as, apply_of, operated, symbol_of, buffer, body_bytes, packaged, counted, items_in, tree_of, row_trees, trees_of}
 use Rattle.acpi_names.specs.Parts.{are}
 use Rattle.acpi_names.specs.Walked.{OfForm, term_shape, node_tree}
@@ -102,6 +102,9 @@ inner_none here (Op.Control Control.If) args body e = absurd cc
 inner_none here (Op.Control Control.ElseIf) (tree test no_trees) body e = refl
 inner_none here (Op.Control Control.Else) args body e = absurd cc
 inner_none here (Op.Control Control.While) args body e = absurd cc
+inner_none here (Op.Control Control.For) (tree start (tree test (tree step no_trees))) body e = refl
+inner_none here (Op.Control Control.Printf) (tree (String format) args) no_trees e = refl
+inner_none here (Op.Control Control.Fprintf) (tree place (tree (String format) args)) no_trees e = refl
 inner_none here (Op.Control Control.Switch) (tree value no_trees) cases e = refl
 inner_none here (Op.Control Control.Case) (tree value no_trees) body e = refl
 inner_none here (Op.Control Control.Default) no_trees body e = refl

@@ -35,6 +35,7 @@ wrapped_body (Op.Control Control.If) body = wrapped_all body
 wrapped_body (Op.Control Control.ElseIf) body = wrapped_all body
 wrapped_body (Op.Control Control.Else) body = wrapped_all body
 wrapped_body (Op.Control Control.While) body = wrapped_all body
+wrapped_body (Op.Control Control.For) body = wrapped_all body
 wrapped_body (Op.Control Control.Switch) body = wrapped_all body
 wrapped_body (Op.Control Control.Case) body = wrapped_all body
 wrapped_body (Op.Control Control.Default) body = wrapped_all body

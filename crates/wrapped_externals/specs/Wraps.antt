@@ -4,8 +4,8 @@
 use Rattle.std.specs.Prelude.{Bool, true, false}
 use Rattle.asl_tree.specs.declared.term.Literal.TheVariants as Literal
 use Rattle.asl_tree.specs.Tree.{Tree, Constant, Call, Apply, Buffer, Package, VarPackage, CondRefOf, Return, Name, External, Method}
-use Rattle.asl_tree.specs.Tree.{Container', Scope, If, ElseIf, Else, While, OperationRegion, BankField, CreateField, Operated, Assigned}
-use Rattle.asl_tree.specs.Tree.{AssignedBy, Trees, no_trees, tree, Switch, Case, Default}
+use Rattle.asl_tree.specs.Tree.{Container', Scope, If, ElseIf, Else, While, For, Print, OperationRegion, BankField, CreateField, Operated}
+use Rattle.asl_tree.specs.Tree.{Assigned, AssignedBy, Trees, no_trees, tree, Switch, Case, Default}
 use Rattle.asl_lower.specs.Nests.{joined}
 
 -- whether an Else or an ElseIf stands first
@@ -50,6 +50,8 @@ abbrev mutual
   wrapped (ElseIf test body) = ElseIf (wrapped test) (guarded (leading body) (behind body))
   wrapped (Else body) = Else (guarded (leading body) (behind body))
   wrapped (While test body) = While (wrapped test) (guarded (leading body) (behind body))
+  wrapped (For start test step body) = For (wrapped start) (wrapped test) (wrapped step) (guarded (leading body) (behind body))
+  wrapped (Print place format args) = Print (wrapped place) format (wrapped_args args)
   wrapped (Switch value cases) = Switch (wrapped value) (guarded (leading cases) (behind cases))
   wrapped (Case value body) = Case (wrapped value) (guarded (leading body) (behind body))
   wrapped (Default body) = Default (guarded (leading body) (behind body))

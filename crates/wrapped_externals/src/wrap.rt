@@ -177,6 +177,7 @@ fn wrap_body(alloc: Global, op: Op, body: Vec<Node>) -> Result<Vec<Node>, AllocE
             | Control::ElseIf
             | Control::Else
             | Control::While
+            | Control::For
             | Control::Switch
             | Control::Case
             | Control::Default,

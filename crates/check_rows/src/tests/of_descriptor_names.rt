@@ -87,7 +87,7 @@ fn outcome(alloc: Global, text: &str) -> Result<String, AllocError> {
 }
 
 // The terms of a block, and what they come to.
-static FIELDS: [(&str, &str); 11] = [
+static FIELDS: [(&str, &str); 12] = [
     // Without names nothing changes.
     (
         "NAME ( B , RESOURCETEMPLATE ( ) { IO ( DECODE16 , 1 , 2 , 3 , 4 ) } )",
@@ -141,6 +141,11 @@ static FIELDS: [(&str, &str); 11] = [
         "NAME ( B , RESOURCETEMPLATE ( ) { FIXEDIO ( 1 , 2 , D ) } ) NAME ( N , PACKAGE ( ) { D._LEN } )",
         "3 2: 3 ",
     ),
+    // What is printed, and the test of a loop.
+    (
+        "NAME ( B , RESOURCETEMPLATE ( ) { FIXEDIO ( 1 , 2 , D ) } ) METHOD ( M ) { PRINTF ( \"%o , \\D._LEN ) FOR ( , \\D._BAS ) { } }",
+        "3 2: 3 1 ",
+    ),
 ];
 
 #[test]
@@ -161,18 +166,22 @@ fn outcome_behind(alloc: Global, text: &str) -> Result<String, AllocError> {
 }
 
 // Terms behind those that declare D, and what is told of them.
-static USES: [(&str, &str); 18] = [
+static USES: [(&str, &str); 22] = [
     // A descriptor has no value.
     ("NAME ( N , D )", "6050@22 "),
     ("METHOD ( M ) { D }", "6050@23 "),
     ("METHOD ( M ) { RETURN ( D ) }", "6050@25 "),
     ("NAME ( N , PACKAGE ( ) { D } )", "6050@26 "),
+    ("METHOD ( M ) { PRINTF ( \"%o , D ) }", "6050@27 "),
+    ("METHOD ( M ) { FOR ( D , 1 , D ) { } }", "6050@25 6050@29 "),
     // Neither it nor its field is a place.
     ("METHOD ( M ) { STORE ( 1 , D ) }", "6050@27 "),
     ("METHOD ( M ) { STORE ( 1 , \\D._LEN ) }", "6050@27 "),
     ("METHOD ( M ) { SIZEOF ( \\D._LEN ) }", "6050@25 "),
     ("METHOD ( M ) { CONDREFOF ( D ) }", "6050@25 "),
     ("METHOD ( M ) { COPYOBJECT ( 1 , \\D._LEN ) }", "6050@27 "),
+    ("METHOD ( M ) { FPRINTF ( D , \"x ) }", "6050@25 "),
+    ("METHOD ( M ) { FPRINTF ( \\D._LEN , \"x ) }", "6050@25 "),
     // Nor a path that has another name; what asks for a path of some kind tells of it itself.
     ("ALIAS ( D , A )", "6054@20 "),
     ("ALIAS ( D._LEN , A )", "6054@20 "),

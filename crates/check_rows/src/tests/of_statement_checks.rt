@@ -100,6 +100,45 @@ fn tells_switches_and_loops_that_are_not_there(rt: HostRuntime) -> Result<(), Fa
     Ok(())
 }
 
+// The terms of a block with loops that have a step, and their errors.
+static FORS: [(&str, &str); 8] = [
+    (
+        "METHOD ( M ) { FOR ( ) { BREAK CONTINUE } CONTINUE }",
+        "6052 2.13; ",
+    ),
+    (
+        "METHOD ( M ) { FOR ( , 1 , LOCAL0 ++ ) { SWITCH ( 1 ) { DEFAULT { CONTINUE } } } }",
+        "",
+    ),
+    // A container hides the step, and the loop itself not.
+    ("FOR ( ) { DEVICE ( D ) { CONTINUE } }", "6052 2.10; "),
+    (
+        "FOR ( ) { SCOPE ( D ) { IF ( 1 ) { CONTINUE } BREAK } }",
+        "6052 2.15; ",
+    ),
+    ("WHILE ( 1 ) { SCOPE ( D ) { CONTINUE } }", ""),
+    ("FOR ( ) { WHILE ( 1 ) { DEVICE ( D ) { CONTINUE } } }", ""),
+    // A loop in the container begins anew.
+    (
+        "FOR ( ) { SCOPE ( D ) { FOR ( ) { CONTINUE } WHILE ( 1 ) { CONTINUE } CONTINUE } }",
+        "6052 2.23; ",
+    ),
+    // Its arguments are looked at as others are.
+    (
+        "METHOD ( M , 1 ) { FOR ( ARG1 , ARG2 , ARG3 ) { } }",
+        "6055 2.10; 6055 2.12; 6055 2.14; ",
+    ),
+];
+
+#[test]
+fn tells_steps_that_are_hidden(rt: HostRuntime) -> Result<(), Fail> {
+    let alloc = rt.alloc();
+    for (text, want) in &FORS {
+        assert_eq!(rt; errors(alloc, text)?.as_str(), *want, "at {text}");
+    }
+    Ok(())
+}
+
 // The terms of a block with arguments of methods, and their errors.
 static ARGUMENTS: [(&str, &str); 12] = [
     ("METHOD ( M , 1 ) { RETURN ( ARG0 ) }", ""),

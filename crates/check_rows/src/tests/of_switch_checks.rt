@@ -37,7 +37,7 @@ fn told(alloc: Global, check: Check, text: &str) -> Result<String, AllocError> {
 }
 
 // The terms of a block, and what is told of values that occur twice.
-static VALUES: [(&str, &str); 13] = [
+static VALUES: [(&str, &str); 14] = [
     ("SWITCH ( 1 ) { }", ""),
     (
         "SWITCH ( 1 ) { CASE ( 1 ) { } CASE ( 2 ) { } DEFAULT { } }",
@@ -92,6 +92,10 @@ static VALUES: [(&str, &str); 13] = [
         "METHOD ( M ) { IF ( 1 ) { SWITCH ( 1 ) { CASE ( 1 ) { } CASE ( 1 ) { } } } SWITCH ( 1 ) { CASE ( 1 ) { } } }",
         "6053 24; ",
     ),
+    (
+        "FOR ( ) { SWITCH ( 1 ) { CASE ( 1 ) { } CASE ( 1 ) { } } }",
+        "6053 18; ",
+    ),
 ];
 
 #[test]
@@ -108,7 +112,7 @@ fn tells_values_that_occur_twice(rt: HostRuntime) -> Result<(), Fail> {
 }
 
 // The terms of a block, and what is told of Locals that are too few.
-static LOCALS: [(&str, &str); 9] = [
+static LOCALS: [(&str, &str); 12] = [
     (
         "METHOD ( M ) { STORE ( LOCAL0 , LOCAL1 ) STORE ( LOCAL2 , LOCAL3 ) STORE ( LOCAL4 , LOCAL5 ) STORE ( LOCAL6 , LOCAL7 ) }",
         "",
@@ -133,6 +137,19 @@ static LOCALS: [(&str, &str); 9] = [
     ),
     (
         "METHOD ( M ) { STORE ( LOCAL0 , LOCAL1 ) STORE ( LOCAL2 , LOCAL3 ) STORE ( LOCAL4 , LOCAL5 ) SWITCH ( 1 ) { CASE ( 1 ) { WHILE ( LOCAL6 ) { CONTINUE } } } }",
+        "",
+    ),
+    // A For is a loop as others are; its start and its step name Locals too.
+    (
+        "METHOD ( M ) { STORE ( LOCAL0 , LOCAL1 ) STORE ( LOCAL2 , LOCAL3 ) STORE ( LOCAL4 , LOCAL5 ) FOR ( LOCAL6 , 1 , LOCAL7 ) { SWITCH ( 1 ) { } } }",
+        "6061 33; ",
+    ),
+    (
+        "METHOD ( M ) { STORE ( LOCAL0 , LOCAL1 ) STORE ( LOCAL2 , LOCAL3 ) STORE ( LOCAL4 , LOCAL5 ) FOR ( LOCAL6 ) { SWITCH ( 1 ) { DEFAULT { CONTINUE } } } }",
+        "6061 29; ",
+    ),
+    (
+        "METHOD ( M ) { STORE ( LOCAL0 , LOCAL1 ) STORE ( LOCAL2 , LOCAL3 ) STORE ( LOCAL4 , LOCAL5 ) SWITCH ( 1 ) { DEFAULT { FOR ( LOCAL6 ) { CONTINUE } } } }",
         "",
     ),
     // Outside methods the Locals of all methods count.

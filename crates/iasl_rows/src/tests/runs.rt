@@ -1,4 +1,5 @@
 // Runs of the compiler: words and sources, files, and ports that fail.
+mod blocks;
 mod devices;
 mod failing;
 mod lending;

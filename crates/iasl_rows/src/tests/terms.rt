@@ -66,6 +66,7 @@ macro_rules! right {
 mod descriptors;
 mod externals;
 mod folding;
+mod formats;
 mod kinds;
 mod rows;
 mod serial;

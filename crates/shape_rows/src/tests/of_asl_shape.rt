@@ -89,13 +89,26 @@ fn errors_within(alloc: Global, text: &str) -> Result<String, AllocError> {
 }
 
 // A source, and its errors, each with its column.
-static ERRORS_OF_BLOCKS: [(&str, &str); 7] = [
-    // No definition block, or something beside it.
+static ERRORS_OF_BLOCKS: [(&str, &str); 10] = [
+    // No definition block, or something beside it, of which the first is told, behind the errors of blocks.
     ("", "6028@1 "),
     ("NAME ( A , 1 ) B", "6028@0 "),
     (
         "DEFINITIONBLOCK ( \"a , \"DSDT , 2 , \"O , \"T , 1 ) { } NAME ( A , 1 )",
         "6028@16 ",
+    ),
+    (
+        "A B DEFINITIONBLOCK ( \"a , \"DSDT , 2 , \"O , \"T , 1 ) { FOO12 } C",
+        "6020@17 6028@0 ",
+    ),
+    // Two blocks, and the errors of both.
+    (
+        "DEFINITIONBLOCK ( \"a , \"DSDT , 2 , \"O , \"T , 1 ) { } DEFINITIONBLOCK ( \"b , \"SSDT , 2 , \"O , \"T , 1 ) { }",
+        "none",
+    ),
+    (
+        "DEFINITIONBLOCK ( \"a , \"DSDT , 2 , \"O , \"T , 1 ) { FOO12 } DEFINITIONBLOCK ( \"b , \"SSDT , 2 , \"O , \"T )",
+        "6020@15 6021@17 ",
     ),
     // Its own arguments, all of them.
     (
@@ -117,10 +130,9 @@ static ERRORS_OF_BLOCKS: [(&str, &str); 7] = [
 ];
 
 // The terms of a block, and their errors.
-static ERRORS_OF_TERMS: [(&str, &str); 26] = [
+static ERRORS_OF_TERMS: [(&str, &str); 25] = [
     // Unknown operators, also those of later, and nothing inside of them.
     ("FOO12 ( BARBAR )", "6020@15 "),
-    ("FOR ( 1 ) { NAME ( ) }", "6020@15 "),
     ("LOAD ( A )", "6020@15 "),
     ("FOO { }", "6020@15 "),
     // Paths: a long segment, and one in a method.
@@ -323,6 +335,71 @@ fn tells_errors_of_symbols(rt: HostRuntime) -> Result<(), Fail> {
     for (text, want) in &ERRORS_OF_SYMBOLS {
         assert_eq!(rt; errors_within(alloc, text)?.as_str(), *want);
     }
+    Ok(())
+}
+
+// The terms of a block, and the errors of their loops with a start and a step and of what they print.
+static ERRORS_OF_FORMS: [(&str, &str); 21] = [
+    ("FOR ( A = 0 , A < 2 , A ++ ) { NAME ( ) }", "6021@29 "),
+    ("FOR ( ) { } FOR { } FOR ( , , ) { }", "none"),
+    ("FOR ( A , B , C ( 1 ) ) { }", "none"),
+    // A start and a step may be statements.
+    ("FOR ( 1 , 2 , \"a ) { }", "6022@17 6022@21 "),
+    (
+        "FOR ( WHILE ( 1 ) { } , 1 , NAME ( B , 1 ) ) { }",
+        "6022@17 6022@26 ",
+    ),
+    (
+        "FOR ( EISAID ( \"PNP0A03 ) , 1 , SERIALIZED ) { }",
+        "6022@17 6022@24 ",
+    ),
+    ("FOR ( , , , ) { }", "6021@15 "),
+    ("FOR ( )", "6023@15 "),
+    // A format and its arguments.
+    ("PRINTF ( \"a ) PRINTF ( \"X=%o , 1 )", "none"),
+    ("FPRINTF ( A , \"%o%%%o , B , C )", "none"),
+    ("PRINTF ( \"%o )", "6030@15 "),
+    ("PRINTF ( \"%%o , 1 )", "6030@15 "),
+    ("FPRINTF ( A , \"%o , B , C )", "6030@15 "),
+    ("PRINTF ( \"%d , 1 )", "6029@17 "),
+    ("FPRINTF ( A , \"%o%o% )", "6029@19 "),
+    ("PRINTF ( A , 1 )", "6022@17 "),
+    ("PRINTF ( )", "6021@15 "),
+    ("PRINTF ( \"%o%o , , 1 )", "6021@15 "),
+    // Its place and its arguments have errors of their own.
+    ("FPRINTF ( 1 , \"%o , 2 )", "6022@17 "),
+    ("PRINTF ( \"%o , FOO12 ( ) )", "6020@19 "),
+    // What prints is a statement.
+    ("NAME ( A , PRINTF ( \"a ) )", "6022@19 "),
+];
+
+#[test]
+fn tells_errors_of_forms(rt: HostRuntime) -> Result<(), Fail> {
+    let alloc = rt.alloc();
+    for (text, want) in &ERRORS_OF_FORMS {
+        assert_eq!(rt; errors_within(alloc, text)?.as_str(), *want);
+    }
+    Ok(())
+}
+
+/// The errors of what prints this many arguments.
+fn printed_errors(alloc: Global, count: usize) -> Result<String, AllocError> {
+    let mut text = String::from_str(alloc, "PRINTF ( \"")?;
+    for _ in 0..count {
+        text.push_str("%o")?;
+    }
+    for _ in 0..count {
+        text.push_str(" , 1")?;
+    }
+    text.push_str(" )")?;
+    errors_within(alloc, text.as_str())
+}
+
+#[test]
+fn a_format_has_at_most_60_arguments(rt: HostRuntime) -> Result<(), Fail> {
+    let alloc = rt.alloc();
+    assert_eq!(rt; printed_errors(alloc, 60)?.as_str(), "none");
+    assert_eq!(rt; printed_errors(alloc, 61)?.as_str(), "6021@15 ");
     Ok(())
 }
 

@@ -2,7 +2,6 @@ use Rattle.std.proofs.Common.{[], ◌∷◌, get_or, sym, ap, ◌∙◌}
 use Rattle.acpi_names.specs.Errors.{Anything}
 use Rattle.acpi_names.specs.Mentions as M
 use Rattle.acpi_names.specs.Shown.{spot_as}
-use Rattle.acpi_names.specs.Units.{connection_mentions}
 use Rattle.acpi_names.proofs.Folds.{at_of}
 use Rattle.acpi_names.proofs.Telling.{tells_as, tells_none, tells_one}
 use Rattle.acpi_names.proofs.Units.{connection_there, connection_none}

@@ -1,10 +1,9 @@
 use Rattle.std.proofs.Common.{◌≡◌, ◌++◌, append-nil, slice_get, Some, ◌+◌, arith, drop, get_or, ap, sym, ◌∙◌}
-use Rattle.asl_shape.specs.Shapes.{nowhere, one_plan}
+use Rattle.asl_shape.specs.Shapes.{nowhere}
 use Rattle.asl_shape.specs.AtRaw.{shape_at, bare_at, member_at, one_at, run_after_at, terms_at, default_after_at, cases_at, part_at, unit_at, due_behind_at}
 use Rattle.asl_shape.specs.Plans.{plans_of, join}
 use Rattle.asl_words.specs.declared.operator.Slot.TheVariants as slot
 use Rattle.asl_words.specs.Meanings.{slot_as}
-use Rattle.asl_shape.proofs.Terms.{omitted_term}
 use Rattle.asl_shape.proofs.Shapes.{bare_item, operand_faults, operand_made, list_faults, list_made, run_faults, run_made, case_faults, case_made, item_smaller, argument_some_faults, argument_some_made, left_faults, left_made, argument_faults, argument_made, got_some, got_none}
 use Rattle.asl_shape.proofs.FieldSteps.{element_faults, element_made}
 use Rattle.asl_shape.proofs.tree.+shape.Goals as goal
@@ -72,13 +71,13 @@ add_argument-returns-in_ok-add-in-Some-clause-made t c =
     c.in_ok-add-in-Some.ensures.made ∙ ap (λ q. join (plans_of c.args.nodes.now.items) (one_at c.args.place c.in-Some.raw.now (shape_at q c.args.inside c.in-Some.raw.now).made)) c.slot_of.ensures
     ∙ ap (λ ps. join (plans_of c.args.nodes.now.items) ps) (sym (argument_some_made c.args.parameter c.args.place c.args.inside (slice_get c.args.args.now c.args.i) c.in-Some.raw.now (got_some c.args.args.now c.args.i c.in-Some.raw.now c.in-Some.ensures.lookup.3.0 ∙ ap Some (sym c.in-Some.ensures.lookup.1))))
 
-pub add_argument-returns-in_ok-push-in-None-clause-faults : goal.add_argument-returns-in_ok-push-in-None-clause-faults
-add_argument-returns-in_ok-push-in-None-clause-faults t c =
+pub add_argument-returns-in_ok-add_missing-in-None-clause-faults : goal.add_argument-returns-in_ok-add_missing-in-None-clause-faults
+add_argument-returns-in_ok-add_missing-in-None-clause-faults t c =
     sym (append-nil c.args.work.now.faults.items) ∙ ap (λ ms. c.args.work.now.faults.items ++ ms) (sym (left_faults c.args.parameter c.args.place c.args.inside (slice_get c.args.args.now c.args.i) (got_none c.args.args.now c.args.i c.in-None.ensures.lookup.3)))
 
-pub add_argument-returns-in_ok-push-in-None-clause-made : goal.add_argument-returns-in_ok-push-in-None-clause-made
-add_argument-returns-in_ok-push-in-None-clause-made t c =
-    c.in_ok-push-in-None.ensures ∙ ap (λ p. join (plans_of c.args.nodes.now.items) (one_plan c.args.place p)) omitted_term ∙ ap (λ ps. join (plans_of c.args.nodes.now.items) ps) (sym (left_made c.args.parameter c.args.place c.args.inside (slice_get c.args.args.now c.args.i) (got_none c.args.args.now c.args.i c.in-None.ensures.lookup.3)))
+pub add_argument-returns-in_ok-add_missing-in-None-clause-made : goal.add_argument-returns-in_ok-add_missing-in-None-clause-made
+add_argument-returns-in_ok-add_missing-in-None-clause-made t c =
+    c.in_ok-add_missing-in-None.ensures ∙ ap (λ ps. join (plans_of c.args.nodes.now.items) ps) (sym (left_made c.args.parameter c.args.place c.args.inside (slice_get c.args.args.now c.args.i) (got_none c.args.args.now c.args.i c.in-None.ensures.lookup.3)))
 
 pub arguments-loop-i-preserved : goal.arguments-loop-i-preserved
 arguments-loop-i-preserved t c = record {

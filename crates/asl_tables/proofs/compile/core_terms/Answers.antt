@@ -3,6 +3,7 @@ use Rattle.asl_tree.specs.Tree.{Trees}
 use Rattle.asl_tree.specs.View.{trees_of}
 use Rattle.asl_fold.specs.Folds.{folded_where}
 use Rattle.asl_lower.specs.Nodes.{named_all}
+use Rattle.asl_formats.specs.Forms.{formed_all}
 use Rattle.hidden_locals.specs.Switches.{without_switches}
 use Rattle.named_sessions.specs.Shaped.{AreShaped}
 use Rattle.term_places.specs.Places.{places_of}
@@ -15,6 +16,6 @@ returns-clause-terms c = c.in_ok-core.ensures.trees ∙ ap (wrapped_where c.args
 
 pub returns-clause-places : goal.returns-clause-places
 returns-clause-places c shaped =
-    let lowered : Trees = folded_where c.args.style.fold c.args.width (named_all (without_switches (trees_of c.args.terms.items))) in
+    let lowered : Trees = folded_where c.args.style.fold c.args.width (named_all (without_switches (formed_all (trees_of c.args.terms.items)))) in
     c.in_ok-core.ensures.places (subst AreShaped (sym c.in_ok-lowered.ensures.terms) shaped) ∙ ap (λ ts. placed_where c.args.style.wrap ts (places_of c.in_ok-lowered.lowered.items)) c.in_ok-lowered.ensures.terms
     ∙ ap (placed_where c.args.style.wrap lowered) c.in_ok-lowered.ensures.places

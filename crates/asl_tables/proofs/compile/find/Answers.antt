@@ -6,7 +6,7 @@ use Rattle.asl_tree.specs.View.{trees_of}
 use Rattle.asl_shape.specs.Plans.{plans_of}
 use Rattle.name_checks.specs.Messages.{told_errors}
 use Rattle.switch_checks.specs.Locals.{few_locals}
-use Rattle.asl_tables.specs.Compiled.{first_told}
+use Rattle.block_outcomes.specs.Joined.{first_told}
 use Rattle.asl_tables.specs.Findings.{AreNamesOf}
 use Rattle.asl_tables.proofs.Findings.{none_told, finds_told, finds_others, finds_stage, finds_right}
 use Rattle.asl_tables.proofs.compile.find.Goals as goal

@@ -6,6 +6,7 @@ use Rattle.asl_tree.specs.View.{trees_of}
 use Rattle.asl_tree.specs.declared.term.Node.{Node}
 use Rattle.asl_fold.specs.Folds.{folded_where}
 use Rattle.asl_lower.specs.Nodes.{named_all}
+use Rattle.asl_formats.specs.Forms.{formed_all}
 use Rattle.hidden_locals.specs.Switches.{without_switches}
 use Rattle.asl_shape.specs.Plans.{plans_of}
 use Rattle.named_sessions.specs.Shaped.{AreShaped}
@@ -16,14 +17,14 @@ use Rattle.asl_tables.proofs.compile.lowered.Goals as goal
 
 pub returns-clause-terms : goal.returns-clause-terms
 returns-clause-terms c =
-    let lowered : Width → Vec Node Global → Trees = λ width terms. folded_where c.args.style.fold width (named_all (without_switches (trees_of terms.items))) in
+    let lowered : Width → Vec Node Global → Trees = λ width terms. folded_where c.args.style.fold width (named_all (without_switches (formed_all (trees_of terms.items)))) in
     c.in_ok-core.ensures.terms
     ∙ ap (λ w. wrapped_where c.args.style.wrap (lowered w c.replace-terms.result)) c.of_revision.ensures
     ∙ ap (λ ts. wrapped_where c.args.style.wrap (lowered (width_of c.args.block.revision) ts)) c.replace-terms.ensures.value
 
 pub returns-clause-places : goal.returns-clause-places
 returns-clause-places c shaped =
-    let lowered : Width → Vec Node Global → Trees = λ width terms. folded_where c.args.style.fold width (named_all (without_switches (trees_of terms.items))) in
+    let lowered : Width → Vec Node Global → Trees = λ width terms. folded_where c.args.style.fold width (named_all (without_switches (formed_all (trees_of terms.items)))) in
     let width : Width = width_of c.args.block.revision in
     let same : lowered c.of_revision.result c.replace-terms.result ≡ lowered width c.args.block.terms = ap (λ w. lowered w c.replace-terms.result) c.of_revision.ensures ∙ ap (lowered width) c.replace-terms.ensures.value in
     c.in_ok-core.ensures.places (subst AreShaped (sym same) shaped)

@@ -1,6 +1,6 @@
 use Rattle.std.proofs.Common.{ap, ◌∙◌}
 use Rattle.name_checks.specs.Messages.{told_errors}
-use Rattle.asl_tables.specs.Compiled.{first_told}
+use Rattle.block_outcomes.specs.Joined.{first_told}
 use Rattle.asl_tables.proofs.resolved.describe.Goals as goal
 
 pub returns-clause-told : goal.returns-clause-told

@@ -8,7 +8,8 @@ use Rattle.descriptor_names.specs.Declaring.{names_descriptors, stripped}
 use Rattle.descriptor_names.specs.Resolved.{resolved_terms}
 use Rattle.descriptor_shapes.proofs.Unnamed.{unnamed_resolved}
 use Rattle.descriptor_shapes.proofs.Terms.{checked_are_terms}
-use Rattle.asl_tables.specs.Compiled.{first_told, told_of_names}
+use Rattle.asl_tables.specs.Compiled.{told_of_names}
+use Rattle.block_outcomes.specs.Joined.{first_told}
 use Rattle.asl_tables.proofs.Resolving.{unnamed_told, checked_told}
 use Rattle.asl_tables.proofs.resolved.resolve_terms.Goals as goal
 

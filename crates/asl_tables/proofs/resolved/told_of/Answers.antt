@@ -5,7 +5,7 @@ use Rattle.asl_tree.specs.View.{trees_of}
 use Rattle.acpi_names.specs.Errors.{name_errors, type_errors}
 use Rattle.name_checks.specs.Messages.{message_of}
 use Rattle.descriptor_names.specs.Told.{with_uses, is_of_names}
-use Rattle.asl_tables.specs.Compiled.{first_told}
+use Rattle.block_outcomes.specs.Joined.{first_told}
 use Rattle.asl_tables.proofs.Resolving.{kinds_asked}
 use Rattle.asl_tables.proofs.resolved.told_of.Goals as goal
 

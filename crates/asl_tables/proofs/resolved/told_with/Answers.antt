@@ -1,7 +1,7 @@
 use Rattle.std.proofs.Common.{◌≡◌, ◌∙◌, IfOk, sym, ap, subst}
 use Rattle.std.specs.List.{list_any}
 use Rattle.descriptor_names.specs.Told.{with_uses, is_of_names}
-use Rattle.asl_tables.specs.Compiled.{first_told}
+use Rattle.block_outcomes.specs.Joined.{first_told}
 use Rattle.asl_tables.proofs.Resolving.{steps_first, without_steps}
 use Rattle.asl_tables.proofs.resolved.told_with.Goals as goal
 

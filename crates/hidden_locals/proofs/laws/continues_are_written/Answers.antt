@@ -1,4 +1,4 @@
-use Rattle.hidden_locals.proofs.Lasting.{lasting_call, lasting_all}
+use Rattle.asl_meaning.proofs.Lasting.{lasting_call, lasting_all}
 use Rattle.hidden_locals.proofs.laws.continues_are_written.Goals as goal
 
 pub returns-clause-calls : goal.returns-clause-calls

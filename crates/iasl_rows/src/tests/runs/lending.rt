@@ -144,9 +144,13 @@ struct Lending {
     left: &'static [Kind],
 }
 
+const TWO_BLOCKS: &[u8] = b"DefinitionBlock (\"a.aml\", \"SSDT\", 2, \"OEMX00\", \"TABLE001\", 1) {}
+DefinitionBlock (\"b.aml\", \"SSDT\", 2, \"OEMX00\", \"TABLE001\", 1) { Name (X, 5) }
+";
+
 const ALL: &[Kind] = &[Kind::RawAml, Kind::CHex, Kind::Listing, Kind::Template];
 
-static LENDINGS: [Lending; 9] = [
+static LENDINGS: [Lending; 10] = [
     Lending {
         words: &["t.asl"],
         file: ("t.asl", ONE_NAME),
@@ -170,6 +174,13 @@ static LENDINGS: [Lending; 9] = [
         file: ("t.asl", ONE_NAME),
         status: 0,
         left: &[Kind::RawAml, Kind::CHex, Kind::Listing],
+    },
+    // The boxes that the first table was in are those that the second is in.
+    Lending {
+        words: &["-tc", "t.asl"],
+        file: ("t.asl", TWO_BLOCKS),
+        status: 0,
+        left: &[Kind::RawAml, Kind::CHex],
     },
     Lending {
         words: &["-T", "HPET"],

@@ -106,7 +106,7 @@ static ROWS_2: [Row; 11] = [
     ),
 ];
 
-static ROWS_3: [Row; 9] = [
+static ROWS_3: [Row; 11] = [
     told!(
         OBJECTS,
         "METHOD ( M ) { ADD ( ALI0 , XPKG ) ADD ( DEBUG , 1 ) }",
@@ -138,6 +138,16 @@ static ROWS_3: [Row; 9] = [
         OBJECTS,
         "METHOD ( M ) { MATCH ( MID ( \"a\" , 0 , 1 ) , MEQ , 1 , MTR , 0 , 0 ) }",
         b"t.asl:4:24: error 6050: wrong type\n1 errors, 0 warnings, 0 remarks\n"
+    ),
+    // The test of a For, and what is printed; a start, a step and the place of a Fprintf may be of any kind.
+    told!(
+        OBJECTS,
+        "METHOD ( M ) { FOR ( , DEV0 , ) { } PRINTF ( \"%o\" , MUT0 ) FPRINTF ( ANY0 , \"%o\" , PACKAGE ( ) { } ) }",
+        b"t.asl:4:24: error 6050: wrong type\nt.asl:4:53: error 6050: wrong type\nt.asl:4:84: error 6050: wrong type\n3 errors, 0 warnings, 0 remarks\n"
+    ),
+    right!(
+        OBJECTS,
+        "METHOD ( M ) { FOR ( MUT0 , FLD0 , DEV0 ) { } PRINTF ( \"%o%o\" , MTH0 , XANY ) FPRINTF ( MUT0 , \"a\" ) }"
     ),
     // References may lead to anything.
     right!(

@@ -1,20 +1,23 @@
 use Rattle.std.proofs.Common.{ℕ, length, sym, subst}
 use Rattle.iasl_tool.specs.Due.{pieces_of_lines}
 use Rattle.iasl_options.specs.Shown.{asked_of}
-use Rattle.asl_tables.specs.Compiled.{AreWithin, TellsWithin}
+use Rattle.asl_tables.specs.Compiled.{AreWithin, TellsWithin, HasAsciiNames}
 use Rattle.iasl_tool.proofs.Sorting.{both_within}
 use Rattle.iasl_tool.proofs.due.make_compiled.Goals as goal
 
-pub make_table-requires-clause-notes : goal.make_table-requires-clause-notes
-make_table-requires-clause-notes c =
+pub make_tables-requires-clause-notes : goal.make_tables-requires-clause-notes
+make_tables-requires-clause-notes c =
     let files : ℕ = length c.args.lines.now.files in
-    let told : AreWithin files c.in-Table.told = subst (TellsWithin files) c.in-Table.is c.in_ok-signature.ensures.within in
-    subst (AreWithin files) (sym c.in_ok-both-in-Table.ensures) (both_within files c.args.notes c.in-Table.told c.requires.notes told)
+    let told : AreWithin files c.in-Made.told = subst (TellsWithin files) c.in-Made.is c.in_ok-tables.ensures.within in
+    subst (AreWithin files) (sym c.in_ok-both-in-Made.ensures) (both_within files c.args.notes c.in-Made.told c.requires.notes told)
+
+pub make_tables-requires-clause-own : goal.make_tables-requires-clause-own
+make_tables-requires-clause-own c = subst HasAsciiNames c.in-Made.is c.in_ok-tables.ensures.own
 
 pub decide_refusal-requires : goal.decide_refusal-requires
 decide_refusal-requires c =
     let files : ℕ = length c.args.lines.now.files in
-    let told : AreWithin files c.in-Refused.messages = subst (TellsWithin files) c.in-Refused.is c.in_ok-signature.ensures.within in
+    let told : AreWithin files c.in-Refused.messages = subst (TellsWithin files) c.in-Refused.is c.in_ok-tables.ensures.within in
     subst (AreWithin files) (sym c.in_ok-both-in-Refused.ensures) (both_within files c.args.notes c.in-Refused.messages c.requires.notes told)
 
 pub returns-in_ok-both-in-Refused-clause-decided : goal.returns-in_ok-both-in-Refused-clause-decided

@@ -2,8 +2,8 @@ use Rattle.std.proofs.Common.{map, string_bytes, ◌∙◌, arith}
 use Rattle.iasl_options.specs.Task.{task_by}
 use Rattle.iasl_runs.specs.EndLaws.{ends}
 use Rattle.iasl_tool.specs.Due.{answer_for, pieces_for, fault_text, memory_text}
-use Rattle.table_outputs.proofs.BoxLaws.{decides, due_then, boxes_kept, boxes_of_text, boxes_as_before, boxes_rendered}
-use Rattle.iasl_tool.proofs.Headline.{writes_its_table, source_is_put, data_is_put, are_its_files}
+use Rattle.table_outputs.proofs.BoxLaws.{decides, due_then, same_kinds, boxes_kept, boxes_of_text, boxes_as_before, boxes_rendered}
+use Rattle.iasl_tool.proofs.Headline.{writes_its_tables, source_is_put, data_is_put, are_its_files}
 use Rattle.iasl_tool.proofs.Pieces.{no_text_alone, over_its_table, over_its_data}
 use Rattle.iasl_tool.proofs.Refusals.{refuses, complete_refusal}
 use Rattle.iasl_tool.proofs.run.iasl.Goals as goal
@@ -15,13 +15,16 @@ returns-clause-ends g c =
     (due_then c.decide-decided.result c.render-rendered.result c.lend-made.result c.render-rendered.ensures.rendered c.lend-made.ensures))
     c.finish.ensures
 
+pub render-rendered-requires-clause-kinds : goal.render-rendered-requires-clause-kinds
+render-rendered-requires-clause-kinds g c = same_kinds (task_by (map string_bytes c.args.words.now)) c.decide-decided.result c.decide-decided.ensures.settled
+
 pub returns-clause-due : goal.returns-clause-due
 returns-clause-due g c = λ compiles table told is. are_its_files (map string_bytes c.args.words.now) told compiles table
 
 pub returns-clause-headline : goal.returns-clause-headline
 returns-clause-headline g c = λ zero_is compiles table told is.
     let end = returns-clause-ends g c in
-    writes_its_table (map string_bytes c.args.words.now) told _ _ compiles table (end.settled (omega (arith, zero_is)) told is ∙ zero_is) ((end.outs told is).ended (omega (arith, zero_is)))
+    writes_its_tables (map string_bytes c.args.words.now) told _ _ compiles table (end.settled (omega (arith, zero_is)) told is ∙ zero_is) ((end.outs told is).ended (omega (arith, zero_is)))
 
 pub returns-clause-complete : goal.returns-clause-complete
 returns-clause-complete g c = λ told is request source names quiet.

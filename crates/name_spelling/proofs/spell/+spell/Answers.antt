@@ -129,6 +129,10 @@ pub spell_form-returns-in_ok-spell_all-in-Returns-clause-args : goal.spell_form-
 spell_form-returns-in_ok-spell_all-in-Returns-clause-args t c d counts agrees tabled =
     c.in_ok-spell_all-in-Returns.ensures.spells d counts agrees tabled ∙ ap (λ part. part_args c.args.shorten (is_named d) (written_external counts) part (value_form_of c.args.op (trees_of c.args.args.now.items) (trees_of c.args.body.now.items)) (trees_of c.args.args.now.items) (get_or c.args.index.now.paths c.args.scope [])) (c.in-Returns.ensures ∙ ap (λ ns. part_of c.args.op (trees_of ns) (trees_of c.deref-2.result.now)) c.deref.ensures.value ∙ ap (λ ns. part_of c.args.op (trees_of c.args.args.now.items) (trees_of ns)) c.deref-2.ensures.value)
 
+pub spell_form-returns-in_ok-spell_all-in-Prints-clause-args : goal.spell_form-returns-in_ok-spell_all-in-Prints-clause-args
+spell_form-returns-in_ok-spell_all-in-Prints-clause-args t c d counts agrees tabled =
+    c.in_ok-spell_all-in-Prints.ensures.spells d counts agrees tabled ∙ ap (λ part. part_args c.args.shorten (is_named d) (written_external counts) part (value_form_of c.args.op (trees_of c.args.args.now.items) (trees_of c.args.body.now.items)) (trees_of c.args.args.now.items) (get_or c.args.index.now.paths c.args.scope [])) (c.in-Prints.ensures ∙ ap (λ ns. part_of c.args.op (trees_of ns) (trees_of c.deref-2.result.now)) c.deref.ensures.value ∙ ap (λ ns. part_of c.args.op (trees_of c.args.args.now.items) (trees_of ns)) c.deref-2.ensures.value)
+
 pub spell_form-returns-in_ok-spell_all-in-Scope-2-clause-args : goal.spell_form-returns-in_ok-spell_all-in-Scope-2-clause-args
 spell_form-returns-in_ok-spell_all-in-Scope-2-clause-args t c d counts agrees tabled =
     c.in_ok-spell_all-in-Scope.ensures.spells d counts agrees tabled ∙ ap (λ part. part_args c.args.shorten (is_named d) (written_external counts) part (value_form_of c.args.op (trees_of c.args.args.now.items) (trees_of c.args.body.now.items)) (trees_of c.args.args.now.items) (get_or c.args.index.now.paths c.args.scope [])) (c.in-Scope.ensures ∙ ap (λ ns. part_of c.args.op (trees_of ns) (trees_of c.deref-2.result.now)) c.deref.ensures.value ∙ ap (λ ns. part_of c.args.op (trees_of c.args.args.now.items) (trees_of ns)) c.deref-2.ensures.value)

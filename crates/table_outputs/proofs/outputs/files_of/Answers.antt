@@ -1,4 +1,5 @@
-use Rattle.std.proofs.Common.{refl, sym, ap, ◌∙◌}
+use Rattle.std.proofs.Common.{◌++◌, map, refl, sym, ap, ◌∙◌}
+use Rattle.iasl_ports.specs.Delivery.{name_and_bytes}
 use Rattle.std.proofs.lemmas.Result.{IfOk-weaker}
 use Rattle.iasl_backends.specs.declared.backend.Kind.TheVariants as kinds
 use Rattle.table_outputs.specs.declared.decision.OutputNames.{OutputNames}
@@ -20,4 +21,4 @@ pub template_file_of-requires-clause-there : goal.template_file_of-requires-clau
 template_file_of-requires-clause-there g c = c.requires.there kinds.Template (asked_same c.args.names (OfTemplate c.in-OfTemplate.name) kinds.Template c.in-OfTemplate.is refl)
 
 pub returns-in-OfTable : goal.returns-in-OfTable
-returns-in-OfTable g c = λ all fed. IfOk-weaker c.table_files_of.result _ _ (λ files e. e ∙ ap (λ (names : OutputNames). files_under names all) (sym c.in-OfTable.is)) (c.table_files_of.ensures all fed)
+returns-in-OfTable g c = λ all fed. IfOk-weaker c.table_files_of.result _ _ (λ files e. e ∙ ap (λ (names : OutputNames). map name_and_bytes c.args.earlier.items ++ files_under names all) (sym c.in-OfTable.is)) (c.table_files_of.ensures all fed)

@@ -1,0 +1,13 @@
+use Rattle.asl_formats.specs.Nodes.{node_tree}
+use Rattle.asl_formats.specs.PlanPass.{placed}
+use Rattle.asl_formats.proofs.Writes.{store_pushed}
+use Rattle.asl_formats.proofs.PlanWrites as L
+use Rattle.asl_formats.proofs.print.store.Goals as goal
+
+pub returns-clause-tree : goal.returns-clause-tree
+returns-clause-tree c =
+    store_pushed (node_tree c.operator.result) c.args.value c.args.target c.in_ok-operands.operands.items c.push.new.self.items c.push-2.new.self.items c.operator.ensures.tree c.in_ok-operands.ensures.items c.in_ok-push.ensures.items c.in_ok-push-2.ensures.items
+
+pub returns-clause-plan : goal.returns-clause-plan
+returns-clause-plan c =
+    L.store_pushed c.args.place (placed c.operator.result) c.args.value c.args.target c.in_ok-operands.operands.items c.push.new.self.items c.push-2.new.self.items c.operator.ensures.plan c.in_ok-operands.ensures.items c.in_ok-push.ensures.items c.in_ok-push-2.ensures.items

@@ -1,0 +1,21 @@
+use Rattle.asl_formats.specs.Nodes.{node_tree}
+use Rattle.asl_formats.specs.PlanPass.{placed}
+use Rattle.asl_formats.proofs.Writes.{place_made, into_none}
+use Rattle.asl_formats.proofs.PlanWrites as L
+use Rattle.asl_formats.proofs.print.to_place.Goals as goal
+
+pub returns-in_default-clause-tree : goal.returns-in_default-clause-tree
+returns-in_default-clause-tree c = into_none (node_tree c.debug.result) c.args.args.now c.in_default.len_below
+
+pub returns-in_default-clause-plan : goal.returns-in_default-clause-plan
+returns-in_default-clause-plan c = L.into_none c.args.place (placed c.debug.result) c.args.args.now c.in_default.len_below
+
+pub returns-in_ok-made-in-len1-up-clause-tree : goal.returns-in_ok-made-in-len1-up-clause-tree
+returns-in_ok-made-in-len1-up-clause-tree c =
+    place_made (node_tree c.in_ok-made-in-len1-up.made) (node_tree c.in_ok-value-in-len1-up.value.node) c.target-item.result c.in_ok-target-in-len1-up.target c.args.args.now c.others.result.now c.in-len1-up.len_at_least c.target-item.is c.in_ok-target-in-len1-up.ensures.tree c.others.ensures
+    c.in_ok-value-in-len1-up.ensures.tree c.in_ok-made-in-len1-up.ensures.tree
+
+pub returns-in_ok-made-in-len1-up-clause-plan : goal.returns-in_ok-made-in-len1-up-clause-plan
+returns-in_ok-made-in-len1-up-clause-plan c =
+    L.place_made c.args.place (placed c.in_ok-made-in-len1-up.made) c.in_ok-value-in-len1-up.value.node c.target-item.result c.in_ok-target-in-len1-up.target c.args.args.now c.others.result.now c.in-len1-up.len_at_least c.target-item.is c.in_ok-target-in-len1-up.ensures.plan c.others.ensures
+    c.in_ok-value-in-len1-up.ensures.plan c.in_ok-made-in-len1-up.ensures.plan

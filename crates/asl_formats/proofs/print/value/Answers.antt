@@ -1,0 +1,21 @@
+use Rattle.std.proofs.Common.{sym, ap, ◌∙◌, drop}
+use Rattle.asl_tree.specs.View.{trees_of}
+use Rattle.asl_shape.specs.Plans.{plans_of}
+use Rattle.asl_formats.specs.Nodes.{node_tree}
+use Rattle.asl_formats.specs.PlanPass.{placed}
+use Rattle.asl_formats.specs.Texts.{all_texts}
+use Rattle.asl_formats.proofs.Writes.{value_made}
+use Rattle.asl_formats.proofs.PlanWrites as L
+use Rattle.asl_formats.proofs.print.value.Goals as goal
+
+pub returns-in-len1-up-clause-tree : goal.returns-in-len1-up-clause-tree
+returns-in-len1-up-clause-tree c =
+    value_made (node_tree c.in_ok-node-in-len1-up.node) (node_tree c.text_node-front.result) c.args.format.now c.first-item.result c.in_ok-first-in-len1-up.first c.as_slice.result.now c.other_texts-behind.result.now (trees_of c.args.args.now)
+    (c.as_slice.ensures.value ∙ c.in_ok-texts.ensures ∙ ap all_texts c.as_bytes.ensures) c.in-len1-up.len_at_least c.first-item.is (c.in_ok-first-in-len1-up.ensures ∙ c.as_bytes-in-len1-up.ensures)
+    (c.other_texts-behind.ensures ∙ ap (drop 1) (c.as_slice-in-len1-up.ensures.value ∙ sym c.as_slice.ensures.value)) c.text_node-front.ensures.tree c.in_ok-node-in-len1-up.ensures.tree
+
+pub returns-in-len1-up-clause-plan : goal.returns-in-len1-up-clause-plan
+returns-in-len1-up-clause-plan c =
+    L.value_made c.args.place (placed c.in_ok-node-in-len1-up.node) c.text_node-front.result c.args.format.now c.first-item.result c.in_ok-first-in-len1-up.first c.as_slice.result.now c.other_texts-behind.result.now (plans_of c.args.args.now)
+    (c.as_slice.ensures.value ∙ c.in_ok-texts.ensures ∙ ap all_texts c.as_bytes.ensures) c.in-len1-up.len_at_least c.first-item.is (c.in_ok-first-in-len1-up.ensures ∙ c.as_bytes-in-len1-up.ensures)
+    (c.other_texts-behind.ensures ∙ ap (drop 1) (c.as_slice-in-len1-up.ensures.value ∙ sym c.as_slice.ensures.value)) c.text_node-front.ensures.plan c.in_ok-node-in-len1-up.ensures.plan
