@@ -137,10 +137,10 @@ pub alias_leads : (paths more : List AbsolutePath) (f g : List Bool) (args body 
 alias_leads paths more f g args body scope s m es em marks =
     leads_as paths more f g _ _ (λ d. alias_declared args body scope s m d es em) (leads_declared paths more f g (place_of m.1 scope) (AliasOf s.1 scope) marks)
 
-pub alias_told : (args body : Trees) (scope : AbsolutePath) (here : At) (op : Op) (s m : At × Name) (d : Declarations) → named_at 0 args ≡ Some s → named_at 1 args ≡ Some m → M.Used' E.Anything s.0 s.1 scope ∷ M.Declares m.0 m.1 (AliasOf s.1 scope) scope ∷ [] ≡ part_mentions P.Alias here op args body scope d
+pub alias_told : (args body : Trees) (scope : AbsolutePath) (here : At) (op : Op) (s m : At × Name) (d : Declarations) → named_at 0 args ≡ Some s → named_at 1 args ≡ Some m → M.Used' E.AnObject s.0 s.1 scope ∷ M.Declares m.0 m.1 (AliasOf s.1 scope) scope ∷ [] ≡ part_mentions P.Alias here op args body scope d
 alias_told args body scope here op s m d es em =
-    sym (ap (λ o. choose o [] (λ s. choose (named_at 1 args) [] (λ m. M.Used' E.Anything s.0 s.1 scope ∷ M.Declares m.0 m.1 (AliasOf s.1 scope) scope ∷ []))) es
-    ∙ ap (λ o. choose o [] (λ m. M.Used' E.Anything s.0 s.1 scope ∷ M.Declares m.0 m.1 (AliasOf s.1 scope) scope ∷ [])) em)
+    sym (ap (λ o. choose o [] (λ s. choose (named_at 1 args) [] (λ m. M.Used' E.AnObject s.0 s.1 scope ∷ M.Declares m.0 m.1 (AliasOf s.1 scope) scope ∷ []))) es
+    ∙ ap (λ o. choose o [] (λ m. M.Used' E.AnObject s.0 s.1 scope ∷ M.Declares m.0 m.1 (AliasOf s.1 scope) scope ∷ [])) em)
 
 pub alias_sourceless : (args body : Trees) (scope : AbsolutePath) (d : Declarations) → named_at 0 args ≡ None → d ≡ declare_part P.Alias args body scope d
 alias_sourceless args body scope d e =
@@ -148,7 +148,7 @@ alias_sourceless args body scope d e =
 
 pub alias_no_source : (args body : Trees) (scope : AbsolutePath) (here : At) (op : Op) (d : Declarations) → named_at 0 args ≡ None → [] ≡ part_mentions P.Alias here op args body scope d
 alias_no_source args body scope here op d e =
-    sym (ap (λ o. choose o [] (λ s. choose (named_at 1 args) [] (λ m. M.Used' E.Anything s.0 s.1 scope ∷ M.Declares m.0 m.1 (AliasOf s.1 scope) scope ∷ []))) e)
+    sym (ap (λ o. choose o [] (λ s. choose (named_at 1 args) [] (λ m. M.Used' E.AnObject s.0 s.1 scope ∷ M.Declares m.0 m.1 (AliasOf s.1 scope) scope ∷ []))) e)
 
 pub alias_nameless : (args body : Trees) (scope : AbsolutePath) (s : At × Name) (d : Declarations) → named_at 0 args ≡ Some s → named_at 1 args ≡ None → d ≡ declare_part P.Alias args body scope d
 alias_nameless args body scope s d es e =
@@ -157,8 +157,8 @@ alias_nameless args body scope s d es e =
 
 pub alias_no_name : (args body : Trees) (scope : AbsolutePath) (here : At) (op : Op) (s : At × Name) (d : Declarations) → named_at 0 args ≡ Some s → named_at 1 args ≡ None → [] ≡ part_mentions P.Alias here op args body scope d
 alias_no_name args body scope here op s d es e =
-    sym (ap (λ o. choose o [] (λ s. choose (named_at 1 args) [] (λ m. M.Used' E.Anything s.0 s.1 scope ∷ M.Declares m.0 m.1 (AliasOf s.1 scope) scope ∷ []))) es
-    ∙ ap (λ o. choose o [] (λ m. M.Used' E.Anything s.0 s.1 scope ∷ M.Declares m.0 m.1 (AliasOf s.1 scope) scope ∷ [])) e)
+    sym (ap (λ o. choose o [] (λ s. choose (named_at 1 args) [] (λ m. M.Used' E.AnObject s.0 s.1 scope ∷ M.Declares m.0 m.1 (AliasOf s.1 scope) scope ∷ []))) es
+    ∙ ap (λ o. choose o [] (λ m. M.Used' E.AnObject s.0 s.1 scope ∷ M.Declares m.0 m.1 (AliasOf s.1 scope) scope ∷ [])) e)
 
 pub external_leads : (paths more : List AbsolutePath) (f g : List Bool) (args body : Trees) (scope : AbsolutePath) (type : ℕ) (parameters : Option ℕ) (m : At × Name) → named_at 0 args ≡ Some m → Marks paths f more g (place_of m.1 scope) → LeadsBy paths f more g (P.External type parameters) args body scope
 external_leads paths more f g args body scope type parameters m em marks =

@@ -14,7 +14,7 @@ use Rattle.asl_tree.specs.declared.term.Term as D
 use Rattle.asl_tree.specs.Tree.{At, Tree, Use, Item, Fill, UnitName, Trees, no_trees, tree}
 use Rattle.asl_tree.specs.View.{tree_of, row_trees, trees_of, items_in}
 use Rattle.asl_meaning.specs.Declarations.{Declarations, declare_items, is_named}
-use Rattle.acpi_names.specs.Errors.{Anything}
+use Rattle.acpi_names.specs.Errors.{AnObject}
 use Rattle.acpi_names.specs.Mentions.{Used', item_mentions}
 use Rattle.acpi_names.specs.Parts.{Leads, is_item_list, is_item_term, unit_of, listed_items, declare_part}
 use Rattle.acpi_names.specs.Walked.{node_tree, part_mentions, field_mentions}
@@ -111,7 +111,7 @@ connection_none at (D.Name path) scope e = absurd (e path refl)
 connection_none at (D.Form' op shape args shape' body) scope e = plain_connection _ scope (plain_form at op (row_trees args) (row_trees body))
 connection_none at t scope e = refl
 
-pub connection_there : (at : At) (t : Term) (path : Path) (scope : AbsolutePath) → t ≡ D.Name path → Used' Anything at path scope ∷ [] ≡ connection_mentions (tree_of at t) scope
+pub connection_there : (at : At) (t : Term) (path : Path) (scope : AbsolutePath) → t ≡ D.Name path → Used' AnObject at path scope ∷ [] ≡ connection_mentions (tree_of at t) scope
 unfolding tree_of
 connection_there at t path scope e = ap (λ t. connection_mentions (tree_of at t) scope) (sym e)
 

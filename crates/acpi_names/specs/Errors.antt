@@ -26,10 +26,10 @@ pub data NameError : Type 0 where
   Twice DeclaredHere : (at : At) (path : AbsolutePath) → NameError
   Missing NoContainer LeavesRoot Differs TooLong WrongCount WrongKind : (at : At) (name : Path) → NameError
 
--- what is asked of a used name: nothing; that it is a value, and so no method with arguments; or that it is an object
--- of a kind. A field asks at its own node for a region that it can lie in.
+-- what is asked of a used name: nothing; that it is an object of any kind; that it is a value, and so no method with arguments;
+-- or that it is an object of some kind. A field asks at its own node for a region that it can lie in.
 pub data Asked : Type 0 where
-  Anything AValue AMutex AnEvent AUnit : Asked
+  Anything AnObject AValue AMutex AnEvent AUnit : Asked
   ARegion : (field : At) → Asked
 
 -- what an operator asks of the path that it uses
@@ -242,6 +242,7 @@ module _ (whole : Whole) where
   -- a used name, of which something is asked
   abbrev pub asked_types : Asked → At → Path → AbsolutePath → List NameError
   asked_types Anything at name scope = []
+  asked_types AnObject at name scope = []
   asked_types AValue at name scope = unless (takes_none (name_end name scope)) (WrongCount at name)
   asked_types AMutex at name scope = unless (is_mutex (name_end name scope)) (WrongKind at name)
   asked_types AnEvent at name scope = unless (is_event (name_end name scope)) (WrongKind at name)

@@ -18,7 +18,7 @@ use Rattle.asl_meaning.specs.Declarations.{Declared, As, AliasOf, ExternalType, 
 use Rattle.asl_meaning.specs.Declarations.{with_external, scope_path, declare, as_unit, as_buffer_field}
 use Rattle.asl_meaning.specs.Meaning.{SpotForm, OfResult, OfInside, NoSpot, spot_form}
 use Rattle.acpi_state.specs.FieldActs.{region_letters, field_letters}
-use Rattle.acpi_names.specs.Errors.{NameError, Missing, NoContainer, WrongCount, Asked, Anything, AValue, AUnit, ARegion, asked_by, unless}
+use Rattle.acpi_names.specs.Errors.{NameError, Missing, NoContainer, WrongCount, Asked, Anything, AnObject, AValue, AUnit, ARegion, asked_by, unless}
 use Rattle.acpi_names.specs.Errors.{Whole, final, is_container, takes, unit_path, step_errors, use_errors, call_errors, declared_errors}
 use Rattle.acpi_names.specs.Errors.{external_errors, name_end, asked_types}
 
@@ -116,7 +116,7 @@ abbrev mutual
 
 -- what the units of a field are connected to
 abbrev pub connected_mentions : Connected → AbsolutePath → List Mention
-connected_mentions (ToName at name) scope = Used' Anything at name scope ∷ []
+connected_mentions (ToName at name) scope = Used' AnObject at name scope ∷ []
 connected_mentions (ToBytes bytes) scope = []
 
 -- the items of a field
@@ -133,7 +133,7 @@ abbrev mutual
   pub term_mentions : Tree → AbsolutePath → Declarations → List Mention
   term_mentions (Return value) scope d = mentions true value scope
   term_mentions (Name at name value) scope d = Declares at name (As DataObject) scope ∷ mentions true value scope
-  term_mentions (Alias from source at name) scope d = Used' Anything from source scope ∷ Declares at name (AliasOf source scope) scope ∷ []
+  term_mentions (Alias from source at name) scope d = Used' AnObject from source scope ∷ Declares at name (AliasOf source scope) scope ∷ []
   term_mentions (External here at name type parameters) scope d = Outside here at name (record { type = type; parameters = parameters })
       scope ∷ []
   term_mentions (Method at name flags body) scope d =

@@ -25,6 +25,7 @@ written_as (WrittenName.Segment segment) = unit_path segment
 
 abbrev pub asked_as : Asked → E.Asked
 asked_as Asked.Anything = E.Anything
+asked_as Asked.Object = E.AnObject
 asked_as Asked.Value = E.AValue
 asked_as Asked.Mutex = E.AMutex
 asked_as Asked.Event = E.AnEvent

@@ -4,7 +4,7 @@ use Rattle.acpi_values.specs.Paths.{AbsolutePath}
 use Rattle.asl_tree.specs.FieldItems.{UnitItem, ConnectionItem}
 use Rattle.asl_tree.specs.Tree.{Tree, Use, Item, UnitName}
 use Rattle.asl_meaning.specs.Declarations.{Declarations, with_declared, as_unit}
-use Rattle.acpi_names.specs.Errors.{Anything, unit_path}
+use Rattle.acpi_names.specs.Errors.{AnObject, unit_path}
 use Rattle.acpi_names.specs.Mentions.{Mention, Used', Declares, connected_mentions}
 
 -- the unit that a tree is
@@ -22,7 +22,7 @@ unit_mentions (Some name) scope = Declares name.at (unit_path name.segment) as_u
 
 -- what a connection uses
 abbrev pub connection_mentions : Tree → AbsolutePath → List Mention
-connection_mentions (Use at name) scope = Used' Anything at name scope ∷ []
+connection_mentions (Use at name) scope = Used' AnObject at name scope ∷ []
 connection_mentions (Item (ConnectionItem to)) scope = connected_mentions to scope
 connection_mentions _ scope = []
 

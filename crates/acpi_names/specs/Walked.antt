@@ -26,7 +26,7 @@ use Rattle.acpi_names.specs.declared.part.Over.{Over}
 use Rattle.acpi_names.specs.declared.part.Over.TheVariants as O
 use Rattle.acpi_names.specs.declared.part.ValueForm.{ValueForm}
 use Rattle.acpi_names.specs.declared.part.ValueForm.TheVariants as V
-use Rattle.acpi_names.specs.Errors.{Asked, Anything, AUnit, ARegion}
+use Rattle.acpi_names.specs.Errors.{Asked, AnObject, AUnit, ARegion}
 use Rattle.acpi_names.specs.Mentions.{Mention, Used', Called, is_place_form, Declares, Outside, Opens, is_spot, asks, asked_value}
 use Rattle.acpi_names.specs.Mentions.{asked_use, letter_mention, cond_place, mentions, mentions_all, element_mentions, item_mentions}
 use Rattle.acpi_names.specs.Mentions.{block_mentions}
@@ -128,7 +128,7 @@ part_mentions (P.Declares n what opens) here op args body scope d =
     ++ opened_mentions opens body (place_of m.1 scope) (with_declared (place_of m.1 scope) (As (object_of what)) d))))
 part_mentions P.Alias here op args body scope d =
     choose (named_at 0 args) []
-    (λ s. choose (named_at 1 args) [] (λ m. Used' Anything s.0 s.1 scope ∷ Declares m.0 m.1 (AliasOf s.1 scope) scope ∷ []))
+    (λ s. choose (named_at 1 args) [] (λ m. Used' AnObject s.0 s.1 scope ∷ Declares m.0 m.1 (AliasOf s.1 scope) scope ∷ []))
 part_mentions (P.External type parameters) here op args body scope d =
     choose (named_at 0 args) [] (λ m. Outside here m.0 m.1 (record { type = type; parameters = parameters }) scope ∷ [])
 part_mentions P.Scope here op args body scope d =

@@ -84,7 +84,7 @@ fn connection<'a>(
     match &node.term {
         Term::Name(name) => {
             out.push(Mention::Used {
-                asked: Asked::Anything,
+                asked: Asked::Object,
                 at: spot_of(node),
                 name,
                 scope,

@@ -322,7 +322,7 @@ fn fold_alias<'a>(
         Some(source) => match name_at(args, 1) {
             Some(alias) => {
                 out.push(Mention::Used {
-                    asked: Asked::Anything,
+                    asked: Asked::Object,
                     at: source.at,
                     name: source.name,
                     scope,

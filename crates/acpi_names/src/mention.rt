@@ -38,11 +38,12 @@ pub enum WrittenName<'a> {
     Segment(NameSeg),
 }
 
-/// What is asked of a used name: nothing; that it is a value, and so no method with arguments; or that it is an object
-/// of a kind. A field asks at its own node for a region that it can lie in.
+/// What is asked of a used name: nothing; that it is an object of any kind; that it is a value, and so no method with
+/// arguments; or that it is an object of some kind. A field asks at its own node for a region that it can lie in.
 #[derive(Clone, Copy, PartialEq, Eq, Debug)]
 pub enum Asked {
     Anything,
+    Object,
     Value,
     Mutex,
     Event,

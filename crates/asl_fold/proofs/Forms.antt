@@ -61,7 +61,7 @@ module _ (width : Width) where
   statements_are no_trees = refl
   statements_are (tree t ts) = ap (tree (folded width true t)) (statements_are ts)
 
-  kept_are : (ts : Trees) → folded_by width (λ i. Part.Kept) ts ≡ ts
+  pub kept_are : (ts : Trees) → folded_by width (λ i. Part.Kept) ts ≡ ts
   kept_are no_trees = refl
   kept_are (tree t ts) = ap (tree t) (kept_are ts)
 

@@ -1,5 +1,5 @@
--- Lists of nodes that are folded from the last on, and terms.
-use Rattle.std.proofs.Common.{◌≡◌, ℕ, suc, Bool, true, false, List, [], ◌∷◌, ◌++◌, length, Vec, Global, refl, sym, ap, ◌∙◌, arith}
+-- Lists of nodes that are folded where they stand, and terms.
+use Rattle.std.proofs.Common.{◌≡◌, ℕ, suc, ◌<◌, ◌≤◌, Bool, true, false, List, [], ◌∷◌, ◌++◌, length, get_or, Vec, Global, refl, sym, ap, ◌∙◌, arith}
 use Rattle.acpi_values.specs.declared.width.Width.{Width}
 use Rattle.acpi_values.specs.declared.operator.Plain.{Plain}
 use Rattle.asl_tree.specs.declared.path.Path.{Path}
@@ -8,45 +8,57 @@ use Rattle.asl_tree.specs.declared.term.Node.{Node}
 use Rattle.asl_tree.specs.declared.term.Term.{Term}
 use Rattle.asl_tree.specs.declared.term.Term as D
 use Rattle.asl_tree.specs.declared.term.Term.TheVariants as V
-use Rattle.asl_tree.specs.Tree.{At, Tree, Call, Trees, no_trees, tree}
+use Rattle.asl_tree.specs.Tree.{At, Call, Trees, no_trees, tree}
 use Rattle.asl_tree.specs.View.{form, tree_of, trees_of}
 use Rattle.acpi_names.specs.Walked.{node_tree}
+use Rattle.term_places.specs.Places.{term_places, places_of}
 use Rattle.acpi_names.proofs.Trees.{form_tree, call_tree}
-use Rattle.asl_lower.specs.Nests.{joined, backwards}
-use Rattle.asl_lower.proofs.Backwards.{pushed, joined_none}
+use Rattle.asl_lower.proofs.Turns.{Turns}
+use Rattle.asl_fold.specs.declared.fate.Fate.{Fate}
 use Rattle.asl_fold.specs.declared.part.Listing.{Listing}
 use Rattle.asl_fold.specs.declared.part.Part.{Part}
 use Rattle.asl_fold.specs.Folds.{folded}
-use Rattle.asl_fold.specs.Nodes.{part_in, listing_of, folded_as, folded_by, reduced_form}
-use Rattle.asl_fold.proofs.Forms.{is_operator, operands_are, other_form}
-use Rattle.asl_fold.proofs.Stored.{operator_folded}
+use Rattle.asl_fold.specs.Nodes.{part_in, listing_of, folded_as, folded_by, fate_form, replaced_form, reduced_form}
+use Rattle.asl_fold.proofs.Forms.{is_operator, operands_are, kept_are, other_form}
+use Rattle.asl_fold.proofs.Stored.{operator_folded, replaced_is, plain_stays}
 
-none : trees_of [] ≡ no_trees
+-- ---- the members of a list
+
+-- a member and what it is folded to
+pub record IsFolded (width : Width) (part : Part) (old now : Node) : Type 0 where
+  pub is : node_tree now ≡ folded_as width part (node_tree old)
+  pub places : term_places now ≡ term_places old
+
+-- a member that is folded as what it is
+pub member_folded : (width : Width) (part : ℕ → Part) (k : ℕ) (what : Part) (old now : Node) → what ≡ part k → node_tree now ≡ folded_as width what (node_tree old) → term_places now ≡ term_places old → IsFolded width (part k) old now
+member_folded width part k what old now e is places = record { is = is ∙ ap (λ p. folded_as width p (node_tree old)) e; places = places }
+
+trees_folded : (width : Width) (part : ℕ → Part) (old now : List Node) → length now ≡ length old → ((k : ℕ) → k < length old → (e : Node) → IsFolded width (part k) (get_or old k e) (get_or now k e)) → trees_of now ≡ folded_by width part (trees_of old)
 unfolding trees_of
-none = refl
+trees_folded width part [] [] size h = refl
+trees_folded width part [] (n ∷ now) size h = absurd (omega (arith, size))
+trees_folded width part (o ∷ old) [] size h = absurd (omega (arith, size))
+trees_folded width part (o ∷ old) (n ∷ now) size h =
+    ap (λ t. tree t (trees_of now)) (h 0 (omega arith) o).is
+    ∙ ap (tree (folded_as width (part 0) (node_tree o))) (trees_folded width (λ i. part (suc i)) old now (omega (arith, size)) (λ k lt e. h (suc k) (omega (arith, lt)) e))
 
--- ---- the members of a list, from the last on
+places_folded : (width : Width) (part : ℕ → Part) (old now : List Node) → length now ≡ length old → ((k : ℕ) → k < length old → (e : Node) → IsFolded width (part k) (get_or old k e) (get_or now k e)) → places_of now ≡ places_of old
+unfolding places_of
+places_folded width part [] [] size h = refl
+places_folded width part [] (n ∷ now) size h = absurd (omega (arith, size))
+places_folded width part (o ∷ old) [] size h = absurd (omega (arith, size))
+places_folded width part (o ∷ old) (n ∷ now) size h =
+    ap (λ ps. ps ++ places_of now) (h 0 (omega arith) o).places
+    ∙ ap (λ ps. term_places o ++ ps) (places_folded width (λ i. part (suc i)) old now (omega (arith, size)) (λ k lt e. h (suc k) (omega (arith, lt)) e))
 
-by_last : (width : Width) (part : ℕ → Part) (nodes : List Node) (node : Node) (ts : Trees)
-    → joined (folded_by width part (trees_of (nodes ++ node ∷ []))) ts ≡ joined (folded_by width part (trees_of nodes)) (tree (folded_as width (part (length nodes)) (node_tree node)) ts)
-unfolding trees_of
-by_last width part [] node ts = refl
-by_last width part (n ∷ nodes) node ts = ap (tree (folded_as width (part 0) (node_tree n))) (by_last width (λ i. part (suc i)) nodes node ts)
+pub all_folded : (width : Width) (part : ℕ → Part) (old now : List Node) (i : ℕ) → length old ≤ i → Turns (λ k. IsFolded width (part k)) old now i → (trees_of now ≡ folded_by width part (trees_of old)) × (places_of now ≡ places_of old)
+all_folded width part old now i le turns =
+    let each : (k : ℕ) → k < length old → (e : Node) → IsFolded width (part k) (get_or old k e) (get_or now k e) = λ k lt e. turns.done k (omega (arith, lt, le)) e in
+    (trees_folded width part old now turns.size each, places_folded width part old now turns.size each)
 
-pub folded_none : (width : Width) (part : ℕ → Part) (nodes made : List Node) → made ≡ [] → joined (folded_by width part (trees_of nodes)) (backwards made) ≡ folded_by width part (trees_of nodes)
-folded_none width part nodes made e =
-    ap (λ ns. joined (folded_by width part (trees_of nodes)) (backwards ns)) e ∙ ap (joined (folded_by width part (trees_of nodes))) none ∙ joined_none (folded_by width part (trees_of nodes))
-
-pub folded_next : (width : Width) (part : ℕ → Part) (all left more made new : List Node) (node low : Node) (what : Part) → left ≡ more ++ node ∷ [] → new ≡ made ++ low ∷ [] → what ≡ part (length more) → node_tree low ≡ folded_as width what (node_tree node)
-    → joined (folded_by width part (trees_of left)) (backwards made) ≡ folded_by width part (trees_of all) → joined (folded_by width part (trees_of more)) (backwards new) ≡ folded_by width part (trees_of all)
-folded_next width part all left more made new node low what e f is same h =
-    ap (joined (folded_by width part (trees_of more))) (pushed made new low f ∙ ap (λ t. tree t (backwards made)) (same ∙ ap (λ p. folded_as width p (node_tree node)) is)) ∙ sym (by_last width part more node (backwards made))
-    ∙ ap (λ ns. joined (folded_by width part (trees_of ns)) (backwards made)) (sym e) ∙ h
-
-pub folded_whole : (width : Width) (part : ℕ → Part) (left made : List Node) → length left ≡ 0 → backwards made ≡ joined (folded_by width part (trees_of left)) (backwards made)
-unfolding trees_of
-folded_whole width part [] made e = refl
-folded_whole width part (node ∷ left) made e = absurd (omega (arith, e))
+-- a list of what is no term
+pub others_folded : (width : Width) (listing : Listing) (ts : Trees) → listing ≡ Listing.Others → ts ≡ folded_by width (part_in listing) ts
+others_folded width listing ts e = sym (ap (λ l. folded_by width (part_in l) ts) e ∙ kept_are width ts)
 
 -- ---- a term
 
@@ -86,7 +98,7 @@ pub call_folded : (width : Width) (statement : Bool) (at : At) (t : Term) (path 
 call_folded width statement at t path args made e h =
     call_tree at path made ∙ ap (Call at path) (h ∙ operands_are width (trees_of args.items)) ∙ ap (folded width statement) (sym (call_tree at path args)) ∙ ap (λ t. folded width statement (tree_of at t)) (sym e)
 
-pub form_folded : (width : Width) (statement : Bool) (at : At) (t made : Term) (op : Op) (args body : Vec Node Global) → t ≡ D.Form op args body → tree_of at made ≡ folded width statement (form at op (trees_of args.items) (trees_of body.items))
+form_folded : (width : Width) (statement : Bool) (at : At) (t made : Term) (op : Op) (args body : Vec Node Global) → t ≡ D.Form op args body → tree_of at made ≡ folded width statement (form at op (trees_of args.items) (trees_of body.items))
     → tree_of at made ≡ folded width statement (tree_of at t)
 form_folded width statement at t made op args body e h = h ∙ ap (folded width statement) (sym (form_tree at op args body)) ∙ ap (λ t. folded width statement (tree_of at t)) (sym e)
 
@@ -95,12 +107,14 @@ no_operator (Op.Plain plain) never = absurd (never plain refl)
 no_operator op never = refl
 
 -- a form that is no plain operator
-pub kept_folded : (width : Width) (statement : Bool) (at : At) (op : Op) (args body made more : Vec Node Global) → ((plain : Plain) → op ≡ Op.Plain plain → ⊥)
-    → trees_of made.items ≡ folded_by width (part_in (Listing.Arguments op)) (trees_of args.items) → trees_of more.items ≡ folded_by width (part_in (listing_of op)) (trees_of body.items)
-    → tree_of at (D.Form op made more) ≡ folded width statement (form at op (trees_of args.items) (trees_of body.items))
-kept_folded width statement at op args body made more never ha hb =
-    form_tree at op made more ∙ ap (λ ts. form at op ts (trees_of more.items)) ha ∙ ap (form at op (folded_by width (part_in (Listing.Arguments op)) (trees_of args.items))) hb
-    ∙ sym (other_form width statement at op (trees_of args.items) (trees_of body.items) (no_operator op never))
+pub kept_folded : (width : Width) (statement : Bool) (at : At) (t : Term) (op : Op) (args body made more : Vec Node Global) (listing : Listing) → t ≡ D.Form op args body → ((plain : Plain) → op ≡ Op.Plain plain → ⊥)
+    → trees_of made.items ≡ folded_by width (part_in (Listing.Arguments op)) (trees_of args.items) → listing ≡ listing_of op → trees_of more.items ≡ folded_by width (part_in listing) (trees_of body.items)
+    → tree_of at (D.Form op made more) ≡ folded width statement (tree_of at t)
+kept_folded width statement at t op args body made more listing e never ha l hb =
+    form_folded width statement at t (D.Form op made more) op args body e
+    (form_tree at op made more ∙ ap (λ ts. form at op ts (trees_of more.items)) ha
+    ∙ ap (form at op (folded_by width (part_in (Listing.Arguments op)) (trees_of args.items))) (hb ∙ ap (λ l. folded_by width (part_in l) (trees_of body.items)) l)
+    ∙ sym (other_form width statement at op (trees_of args.items) (trees_of body.items) (no_operator op never)))
 
 -- a plain operator
 plain_by : (width : Width) (statement : Bool) (at : At) (op : Plain) (args body : Trees)
@@ -110,10 +124,20 @@ plain_by width statement at (Plain.Number op) args (tree t ts) = refl
 plain_by width statement at (Plain.Data op) args (tree t ts) = refl
 plain_by width statement at (Plain.Event op) args (tree t ts) = refl
 
-pub plain_folded : (width : Width) (statement : Bool) (at : At) (op : Op) (plain : Plain) (args body made more : List Node) (t : Tree) → op ≡ Op.Plain plain
-    → trees_of made ≡ folded_by width (part_in (Listing.Arguments op)) (trees_of args) → trees_of more ≡ folded_by width (part_in (listing_of op)) (trees_of body)
-    → t ≡ reduced_form width statement plain (trees_of made) (trees_of more) → t ≡ folded width statement (form at op (trees_of args) (trees_of body))
-plain_folded width statement at op plain args body made more t is ha hb h =
-    h ∙ ap (λ ts. reduced_form width statement plain ts (trees_of more)) (ha ∙ ap (λ op. folded_by width (part_in (Listing.Arguments op)) (trees_of args)) is)
-    ∙ ap (reduced_form width statement plain (folded_by width (part_in (Listing.Arguments (Op.Plain plain))) (trees_of args))) (hb ∙ ap (λ op. folded_by width (part_in (listing_of op)) (trees_of body)) is)
-    ∙ plain_by width statement at plain (trees_of args) (trees_of body) ∙ ap (λ op. folded width statement (form at op (trees_of args) (trees_of body))) (sym is)
+pub plain_folded : (width : Width) (statement : Bool) (at : At) (t made : Term) (op : Op) (plain : Plain) (args body now more : Vec Node Global) (listing : Listing) (left right : List Node) (fate : Fate) → t ≡ D.Form op args body → op ≡ Op.Plain plain
+    → trees_of now.items ≡ folded_by width (part_in (Listing.Arguments op)) (trees_of args.items) → listing ≡ listing_of op → trees_of more.items ≡ folded_by width (part_in listing) (trees_of body.items)
+    → left ≡ now.items → right ≡ more.items → fate ≡ fate_form width statement plain (trees_of left) (trees_of right) → tree_of at made ≡ replaced_form fate plain (trees_of now.items) (trees_of more.items)
+    → tree_of at made ≡ folded width statement (tree_of at t)
+plain_folded width statement at t made op plain args body now more listing left right fate e is ha l hb el er f h =
+    let operator : Op = Op.Plain plain in
+    form_folded width statement at t made op args body e
+    (replaced_is width statement plain (trees_of now.items) (trees_of more.items) fate (tree_of at made)
+    (f ∙ ap (λ ns. fate_form width statement plain (trees_of ns) (trees_of right)) el ∙ ap (λ ns. fate_form width statement plain (trees_of now.items) (trees_of ns)) er) h
+    ∙ ap (λ ts. reduced_form width statement plain ts (trees_of more.items)) (ha ∙ ap (λ op. folded_by width (part_in (Listing.Arguments op)) (trees_of args.items)) is)
+    ∙ ap (reduced_form width statement plain (folded_by width (part_in (Listing.Arguments operator)) (trees_of args.items)))
+    (hb ∙ ap (λ l. folded_by width (part_in l) (trees_of body.items)) (l ∙ ap listing_of is))
+    ∙ plain_by width statement at plain (trees_of args.items) (trees_of body.items) ∙ ap (λ op. folded width statement (form at op (trees_of args.items) (trees_of body.items))) (sym is))
+
+-- one that stays
+pub stays_folded : (at : At) (op : Op) (plain : Plain) (now more : Vec Node Global) → op ≡ Op.Plain plain → tree_of at (D.Form op now more) ≡ replaced_form Fate.Stays plain (trees_of now.items) (trees_of more.items)
+stays_folded at op plain now more is = ap (λ o. tree_of at (D.Form o now more)) is ∙ plain_stays at plain now more

@@ -1,5 +1,5 @@
 -- How a format is cut, from left to right.
-use Rattle.std.proofs.Common.{◌≡◌, ℕ, zero, suc, ◌+◌, ◌<◌, ◌≤◌, nat_eq, ◌&&◌, Bool, true, false, List, [], ◌∷◌, ◌++◌, length, get_or, drop, append_assoc, append-nil, refl, sym, ap, ◌∙◌, arith}
+use Rattle.std.proofs.Common.{◌≡◌, ℕ, zero, suc, ◌<◌, ◌≤◌, Bool, true, false, List, [], ◌∷◌, ◌++◌, length, get_or, drop, append_assoc, append-nil, refl, sym, ap, ◌∙◌, arith}
 use Rattle.std.specs.Prelude.{if◌then◌else◌}
 use Rattle.asl_tree.specs.Formats.{Cut, cut, is_hole, is_percent, with_byte, with_hole}
 use Rattle.asl_formats.specs.Texts.{all_texts, mark_of, texts_with}
@@ -38,7 +38,7 @@ abbrev step : Bool → Bool → ℕ → Cut → Cut → Cut
 step a b c far near = if a then with_hole far else if b then with_byte 0x25 far else with_byte c near
 
 -- what the mark says of the rest
-cut_none : (rest : List ℕ) → mark_of rest ≡ M.End → rest ≡ []
+pub cut_none : (rest : List ℕ) → mark_of rest ≡ M.End → rest ≡ []
 cut_none [] e = refl
 cut_none (c ∷ []) e = let h : 3 ≡ 0 = ap tag e in absurd (omega (arith, h))
 cut_none (c ∷ d ∷ rest) e = no (is_hole c d) (is_percent c d) e
@@ -48,7 +48,7 @@ cut_none (c ∷ d ∷ rest) e = no (is_hole c d) (is_percent c d) e
     no false true e = let h : 2 ≡ 0 = ap tag e in absurd (omega (arith, h))
     no false false e = let h : 3 ≡ 0 = ap tag e in absurd (omega (arith, h))
 
-cut_hole : (rest : List ℕ) → mark_of rest ≡ M.Hole → cut rest ≡ with_hole (cut (drop 2 rest))
+pub cut_hole : (rest : List ℕ) → mark_of rest ≡ M.Hole → cut rest ≡ with_hole (cut (drop 2 rest))
 cut_hole [] e = let h : 0 ≡ 1 = ap tag e in absurd (omega (arith, h))
 cut_hole (c ∷ []) e = let h : 3 ≡ 1 = ap tag e in absurd (omega (arith, h))
 cut_hole (c ∷ d ∷ rest) e = yes (is_hole c d) (is_percent c d) e
@@ -58,7 +58,7 @@ cut_hole (c ∷ d ∷ rest) e = yes (is_hole c d) (is_percent c d) e
     yes false true e = let h : 2 ≡ 1 = ap tag e in absurd (omega (arith, h))
     yes false false e = let h : 3 ≡ 1 = ap tag e in absurd (omega (arith, h))
 
-cut_percent : (rest : List ℕ) → mark_of rest ≡ M.Percent → cut rest ≡ with_byte 0x25 (cut (drop 2 rest))
+pub cut_percent : (rest : List ℕ) → mark_of rest ≡ M.Percent → cut rest ≡ with_byte 0x25 (cut (drop 2 rest))
 cut_percent [] e = let h : 0 ≡ 2 = ap tag e in absurd (omega (arith, h))
 cut_percent (c ∷ []) e = let h : 3 ≡ 2 = ap tag e in absurd (omega (arith, h))
 cut_percent (c ∷ d ∷ rest) e = yes (is_hole c d) (is_percent c d) e
@@ -68,7 +68,7 @@ cut_percent (c ∷ d ∷ rest) e = yes (is_hole c d) (is_percent c d) e
     yes false true e = refl
     yes false false e = let h : 3 ≡ 2 = ap tag e in absurd (omega (arith, h))
 
-cut_byte : (rest : List ℕ) (x : ℕ) → mark_of rest ≡ M.Byte x → cut rest ≡ with_byte x (cut (drop 1 rest))
+pub cut_byte : (rest : List ℕ) (x : ℕ) → mark_of rest ≡ M.Byte x → cut rest ≡ with_byte x (cut (drop 1 rest))
 cut_byte [] x e = let h : 0 ≡ 3 = ap tag e in absurd (omega (arith, h))
 cut_byte (c ∷ []) x e = ap (λ c. with_byte c ([], [])) (ap byte e)
 cut_byte (c ∷ d ∷ rest) x e = yes (is_hole c d) (is_percent c d) e

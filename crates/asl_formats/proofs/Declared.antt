@@ -1,10 +1,10 @@
 -- A program declares the same with what stands for its Printf, Fprintf and For.
-use Rattle.std.proofs.Common.{◌≡◌, Bool, true, false, List, [], refl, sym, ap, ◌∙◌, arith}
-use Rattle.std.specs.Prelude.{ℕ, if◌then◌else◌, ◌&&◌, not}
+use Rattle.std.proofs.Common.{◌≡◌, Bool, true, false, [], refl, ap, ◌∙◌, arith}
+use Rattle.std.specs.Prelude.{if◌then◌else◌, ◌&&◌, not}
 use Rattle.acpi_values.specs.Paths.{AbsolutePath}
 use Rattle.acpi_state.specs.Objects.{MethodObject, ContainerObject}
 use Rattle.asl_tree.specs.Names.{place_of}
-use Rattle.asl_tree.specs.Tree.{Tree, Omitted, Return, Name, Alias, External, Method, Mutex, Event, Container', Scope, If, ElseIf, Else, While, Break, Continue, For, Print, Switch, Case, Default, OperationRegion, Field, IndexField, BankField, CreateField, Raw, Item, Fill, Misshapen, Trees, no_trees, tree}
+use Rattle.asl_tree.specs.Tree.{Tree, Omitted, Name, Alias, External, Method, Mutex, Event, Container', Scope, If, ElseIf, Else, While, Continue, For, Print, Switch, Case, Default, OperationRegion, Field, IndexField, BankField, CreateField, Trees, no_trees, tree}
 use Rattle.asl_meaning.specs.Declarations.{As, Declarations, nothing_declared, scope_path, with_declared, declare, declare_all, declarations}
 use Rattle.asl_formats.specs.Forms.{followed, optional, stepped, stepped_all, while_tree, for_trees, print_tree, is_expression, is_steppable, is_filled, have_far_continue, spread, formed, formed_all}
 use Rattle.asl_formats.proofs.Loops.{first_true}

@@ -1,7 +1,7 @@
 -- Forms that are expressions.
 use Rattle.std.proofs.Common.{◌≡◌, ℕ, Bool, true, false, List, Option, Some, None, refl}
 use Rattle.std.specs.Prelude.{nat_le, if◌then◌else◌}
-use Rattle.acpi_values.specs.Operators.{Row, row_of}
+use Rattle.acpi_values.specs.Operators.{row_of}
 use Rattle.acpi_values.specs.declared.operator.IntOp.{IntOp}
 use Rattle.acpi_values.specs.declared.operator.Plain.{Plain}
 use Rattle.acpi_state.specs.Outcomes.{choose}
@@ -12,7 +12,7 @@ use Rattle.asl_tree.specs.declared.term.Control.TheVariants as Control
 use Rattle.asl_tree.specs.declared.term.Special.TheVariants as Special
 use Rattle.asl_tree.specs.declared.term.Symbolic.TheVariants as Symbolic
 use Rattle.asl_tree.specs.Tree.{At, Tree, Integer, String, Use, Omitted, Package, VarPackage, Misshapen, Trees, no_trees, tree, count, UnitName}
-use Rattle.asl_tree.specs.View.{fits, form, operands_as, apply_of, operated, buffer, body_bytes, packaged, counted, items_in}
+use Rattle.asl_tree.specs.View.{fits, form, operands_as, apply_of, operated, buffer, body_bytes, packaged, items_in}
 use Rattle.asl_formats.specs.Forms.{is_expression}
 use Rattle.asl_formats.specs.Stands.{expresses}
 

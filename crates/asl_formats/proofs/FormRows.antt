@@ -1,5 +1,5 @@
 -- Worked methods with Printf and For, computed from the definitions alone: what they do, and what stands for them.
-use Rattle.std.proofs.Common.{◌≡◌, ℕ, true, false, List, [], ◌∷◌, ◌++◌, refl}
+use Rattle.std.proofs.Common.{◌≡◌, ℕ, false, List, [], ◌∷◌, refl}
 use Rattle.acpi_values.specs.declared.width.Width.TheVariants.{W64}
 use Rattle.acpi_values.specs.declared.operator.IntOp.TheVariants as IntOp
 use Rattle.acpi_values.specs.declared.operator.DataOp.TheVariants as DataOp
@@ -17,7 +17,7 @@ use Rattle.asl_tree.specs.Formats.{cut, is_format}
 use Rattle.asl_tree.specs.Tree.{At, Tree, Integer, Constant, String, InSlot, Debug, Omitted, Apply, Return, Method, If, While, For, Print, Switch, Case, Continue, Break, Operated, Assigned, Trees, no_trees, tree}
 use Rattle.asl_meaning.specs.Declarations.{known_of}
 use Rattle.asl_meaning.specs.SourceSession.{source_session}
-use Rattle.asl_formats.specs.Forms.{formed_all, have_far_continue}
+use Rattle.asl_formats.specs.Forms.{formed_all}
 
 abbrev list_of : List Tree → Trees
 list_of [] = no_trees

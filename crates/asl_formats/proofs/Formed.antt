@@ -1,6 +1,5 @@
 -- A program does the same with what stands for its Printf, Fprintf and For.
-use Rattle.std.proofs.Common.{◌≡◌, ℕ, zero, suc, Bool, true, false, List, [], ◌∷◌, ◌++◌, length, Option, Some, None, refl, ap, ◌∙◌}
-use Rattle.std.proofs.Math.Path.{fun_ext}
+use Rattle.std.proofs.Common.{◌≡◌, ℕ, zero, suc, Bool, true, false, List, [], ◌∷◌, ◌++◌, length, Option, Some, None, refl, ap}
 use Rattle.std.specs.Prelude.{if◌then◌else◌, ◌||◌, ◌&&◌, not}
 use Rattle.acpi_values.specs.declared.width.Width.{Width}
 use Rattle.acpi_values.specs.declared.operator.Plain.{Plain}
@@ -17,7 +16,6 @@ use Rattle.acpi_values.specs.Conversions.{to_string}
 use Rattle.acpi_state.specs.Objects.{Object, DataObject, MethodObject, ContainerObject, MutexObject, EventObject, AliasObject, Names, UnitObject}
 use Rattle.acpi_state.specs.Finds.{first_there, reached}
 use Rattle.acpi_state.specs.Sessions.{Request, initial}
-use Rattle.acpi_state.specs.State.{State}
 use Rattle.acpi_state.specs.Outcomes.{Flow, Normal, Gives, Unfinished, Broken, Result, Done, Stopped, done, stop, fault, then_run, act, choose, value_of, on_flow}
 use Rattle.acpi_state.specs.Outcomes as O
 use Rattle.acpi_state.specs.Loops.{is_true}
@@ -31,8 +29,7 @@ use Rattle.acpi_state.specs.FieldActs.{region_letters, field_letters}
 use Rattle.acpi_state.specs.Forms.{buffer_of, package_of, slot_here, if_data, spot_in, cond_ref_of}
 use Rattle.asl_tree.specs.FieldItems.{FieldItem, UnitItem, SkipItem, OffsetItem, AccessItem, ConnectionItem, Connected, ToName, ToBytes}
 use Rattle.asl_tree.specs.declared.path.Path.{Path}
-use Rattle.asl_tree.specs.declared.term.Compound.{Compound}
-use Rattle.asl_tree.specs.Symbols.{compound_operator, takes_target}
+use Rattle.asl_tree.specs.Symbols.{compound_operator}
 use Rattle.asl_tree.specs.Literals.{literal_number}
 use Rattle.asl_tree.specs.Names.{Known, is_known, place_of, denoted, element_path}
 use Rattle.asl_tree.specs.Tree.{Tree, Integer, Constant, String, InSlot, Debug, Omitted, Raw, Use, Call, Apply, Buffer, Package, VarPackage, CondRefOf, Return, Name, Alias, External, Method, Mutex, Event, Container', Scope, Fill, Misshapen, Trees, no_trees, tree, OperationRegion, Field, IndexField, BankField, CreateField, UnitName, If, ElseIf, Else, While, Break, Continue, Item, Operated, Assigned, AssignedBy, Switch, Case, Default, For, Print}

@@ -19,13 +19,13 @@ use Rattle.asl_formats.specs.Forms.{formed, formed_args}
 use Rattle.asl_formats.specs.Pass.{formed_body}
 
 -- an argument as an operand
-abbrev first_operand : Letter → Tree → Tree
+abbrev pub first_operand : Letter → Tree → Tree
 first_operand (L.Raw size) (Integer number) = Raw size number
 first_operand (L.Raw size) t = Misshapen
 first_operand Valued Omitted = Constant Literal.Ones
 first_operand letter t = t
 
-operands_first : (letter : Letter) (letters : List Letter) (t : Tree) (ts : Trees) → operands_as (letter ∷ letters) (tree t ts) ≡ tree (first_operand letter t) (operands_as letters ts)
+pub operands_first : (letter : Letter) (letters : List Letter) (t : Tree) (ts : Trees) → operands_as (letter ∷ letters) (tree t ts) ≡ tree (first_operand letter t) (operands_as letters ts)
 operands_first (L.Raw size) letters (Integer number) ts = refl
 operands_first (L.Raw size) letters t ts = refl
 operands_first Valued letters Omitted ts = refl

@@ -1,5 +1,5 @@
 -- The nodes of what stands for a For.
-use Rattle.std.proofs.Common.{◌≡◌, ℕ, ◌<◌, ◌≤◌, length, get_or, Bool, true, false, arith, List, [], ◌∷◌, ◌++◌, Vec, Global, refl, sym, ap, ◌∙◌, subst}
+use Rattle.std.proofs.Common.{◌≡◌, ◌<◌, ◌≤◌, length, get_or, false, arith, List, [], ◌∷◌, ◌++◌, Vec, Global, refl, sym, ap, ◌∙◌, subst}
 use Rattle.std.specs.Prelude.{if◌then◌else◌}
 use Rattle.asl_tree.specs.declared.term.Control.TheVariants as Control
 use Rattle.asl_tree.specs.declared.term.Op.{Op}
@@ -8,7 +8,7 @@ use Rattle.asl_tree.specs.declared.term.Term.{Term}
 use Rattle.asl_tree.specs.declared.term.Term as D
 use Rattle.asl_tree.specs.Tree.{At, Tree, For, While, Trees, no_trees, tree}
 use Rattle.asl_tree.specs.View.{form, tree_of, row_trees, trees_of}
-use Rattle.asl_formats.specs.Forms.{followed, optional, stepped_all, for_trees, is_steppable, spread}
+use Rattle.asl_formats.specs.Forms.{followed, optional, stepped_all, for_trees, spread}
 use Rattle.asl_formats.specs.Nodes.{node_tree, CanStep, DoTheSame, IsLoop, for_parts}
 use Rattle.asl_formats.proofs.Nodes.{rows, args_row, body_row, form_tree, behind_all}
 use Rattle.asl_formats.proofs.StepForms.{IsThere, there_form}
@@ -64,7 +64,7 @@ loop_row (Op.Control Control.For) args body h =
     (refl, subst (λ ts. CanStep ts (trees_of body.items)) (rows a.0 a.1 ∙ ap trees_of (D.items_hidden-the_row-Node-0 args)) (subst (λ ts. CanStep (row_trees a.1) ts) (rows b.0 b.1 ∙ ap trees_of (D.items_hidden-the_row-Node-0 body)) h))
 loop_row op args body h = absurd h
 
-spread_parts : (at : At) (args body : Trees) → CanStep args body → for_parts args body ≡ spread (form at (Op.Control Control.For) args body) no_trees
+pub spread_parts : (at : At) (args body : Trees) → CanStep args body → for_parts args body ≡ spread (form at (Op.Control Control.For) args body) no_trees
 spread_parts at (tree start (tree test (tree step no_trees))) body h =
     sym (ap (λ c. if c then followed (for_trees start test step body) no_trees else tree (For start test step body) no_trees) h ∙ none_behind (for_trees start test step body))
   where

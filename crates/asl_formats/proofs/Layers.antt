@@ -1,15 +1,14 @@
 -- Terms that are forms, and others.
-use Rattle.std.proofs.Common.{◌≡◌, ℕ, suc, Bool, true, false, List, [], ◌∷◌, length, Vec, Global, refl, sym, ap, ◌∙◌, arith, subst}
+use Rattle.std.proofs.Common.{◌≡◌, suc, Bool, true, false, List, [], ◌∷◌, length, Vec, Global, refl, sym, ap, ◌∙◌, arith}
 use Rattle.std.specs.Prelude.{nat_eq, ◌&&◌}
 use Rattle.std.proofs.lemmas.Bool.Decides.{nat_tests}
-use Rattle.asl_tree.specs.declared.path.Path.{Path}
 use Rattle.asl_tree.specs.declared.term.Control.TheVariants as Control
 use Rattle.asl_tree.specs.declared.term.Op.{Op}
 use Rattle.asl_tree.specs.declared.term.Node.{Node}
 use Rattle.asl_tree.specs.declared.term.Term.{Term}
 use Rattle.asl_tree.specs.declared.term.Term as D
 use Rattle.asl_tree.specs.declared.term.Term.TheVariants as V
-use Rattle.asl_tree.specs.Tree.{At, Tree, Trees, no_trees, tree}
+use Rattle.asl_tree.specs.Tree.{At, Trees, no_trees, tree}
 use Rattle.asl_tree.specs.View.{form, tree_of, trees_of}
 use Rattle.asl_formats.specs.Forms.{stepped, stepped_all}
 use Rattle.asl_formats.specs.Nodes.{goes_in, stepped_body, is_continue, none_in, is_next}
@@ -40,7 +39,7 @@ no_form t not_form = by_layer (D.out-Term t) (sym (D.roll-out-Term t))
     by_layer (D.Term-F.Offset n) e = ap is_form (e ∙ V.rolls-Offset n)
     by_layer (D.Term-F.Access access attribute count) e = ap is_form (e ∙ V.rolls-Access access attribute count)
 
-flat_stepped : (steps : Trees) (at : At) (t : Term) → is_form t ≡ false → tree_of at t ≡ stepped steps (tree_of at t)
+pub flat_stepped : (steps : Trees) (at : At) (t : Term) → is_form t ≡ false → tree_of at t ≡ stepped steps (tree_of at t)
 unfolding tree_of
 flat_stepped steps at (D.Form' op shape args shape' body) e = absurd (grind arith)
 flat_stepped steps at t e = refl

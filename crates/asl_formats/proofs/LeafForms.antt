@@ -1,7 +1,7 @@
--- No form is a name or an integer.
+-- No form is a name, an integer, a text, some bytes or a constant operand.
 use Rattle.std.proofs.Common.{◌≡◌, ℕ, Bool, true, false, List, Option, Some, None, refl}
 use Rattle.std.specs.Prelude.{nat_le, if◌then◌else◌}
-use Rattle.acpi_values.specs.Operators.{Row, row_of}
+use Rattle.acpi_values.specs.Operators.{row_of}
 use Rattle.acpi_values.specs.declared.operator.IntOp.{IntOp}
 use Rattle.acpi_values.specs.declared.operator.Plain.{Plain}
 use Rattle.acpi_state.specs.Outcomes.{choose}
@@ -11,14 +11,16 @@ use Rattle.asl_tree.specs.declared.term.Declaration.TheVariants as Declaration
 use Rattle.asl_tree.specs.declared.term.Control.TheVariants as Control
 use Rattle.asl_tree.specs.declared.term.Special.TheVariants as Special
 use Rattle.asl_tree.specs.declared.term.Symbolic.TheVariants as Symbolic
-use Rattle.asl_tree.specs.Tree.{At, Tree, Integer, String, Use, Omitted, Package, VarPackage, Misshapen, Trees, no_trees, tree, count, UnitName}
-use Rattle.asl_tree.specs.View.{fits, form, operands_as, apply_of, operated, buffer, body_bytes, packaged, counted, items_in}
-use Rattle.asl_formats.specs.Stands.{is_use, is_integer}
+use Rattle.asl_tree.specs.Tree.{At, Tree, Integer, String, Raw, Fill, Use, Omitted, Package, VarPackage, Misshapen, Trees, no_trees, tree, count, UnitName}
+use Rattle.asl_tree.specs.View.{fits, form, operands_as, apply_of, operated, buffer, body_bytes, packaged, items_in}
 
--- a name or an integer
+-- a name, an integer, a text, some bytes or a constant operand
 abbrev pub is_leaf : Tree → Bool
 is_leaf (Use at name) = true
 is_leaf (Integer number) = true
+is_leaf (String text) = true
+is_leaf (Fill bytes) = true
+is_leaf (Raw size number) = true
 is_leaf _ = false
 
 leaf_apply : (op : Plain) (args : Trees) → is_leaf (apply_of op args) ≡ false

@@ -1,6 +1,6 @@
 -- Tests of nodes one after another, and of terms that are no forms.
 use Rattle.std.proofs.Common.{◌≡◌, ℕ, zero, suc, ◌+◌, ◌<◌, ◌≤◌, Bool, true, false, not, List, [], ◌∷◌, ◌++◌, length, take, drop, get_or, Vec, Global, refl, sym, ap, ◌∙◌, arith}
-use Rattle.std.specs.Prelude.{nat_eq, ◌&&◌, ◌||◌, if◌then◌else◌}
+use Rattle.std.specs.Prelude.{nat_eq, ◌&&◌, ◌||◌}
 use Rattle.std.proofs.lemmas.Bool.Decides.{nat_tests}
 use Rattle.asl_operators.specs.Letters.{letters_as}
 use Rattle.asl_operators.specs.declared.letter.Letter.{Letter as CodeLetter}
@@ -9,12 +9,11 @@ use Rattle.asl_tree.specs.declared.term.Op.{Op}
 use Rattle.asl_tree.specs.declared.term.Node.{Node}
 use Rattle.asl_tree.specs.declared.term.Term.{Term}
 use Rattle.asl_tree.specs.declared.term.Term as D
-use Rattle.asl_tree.specs.declared.term.Term.TheVariants as V
 use Rattle.asl_tree.specs.declared.term.Word.{Word}
 use Rattle.asl_tree.specs.Tree.{At, Tree, Integer, Use, Omitted, Trees, no_trees, tree}
 use Rattle.asl_tree.specs.View.{fits, form, tree_of, row_trees, trees_of}
 use Rattle.asl_meaning.specs.Continues.{has_continue, have_continue}
-use Rattle.asl_formats.specs.Forms.{optional, is_given, are_given, has_far_continue, have_far_continue}
+use Rattle.asl_formats.specs.Forms.{is_given, are_given, has_far_continue, have_far_continue}
 use Rattle.asl_formats.specs.Nodes.{node_tree, is_continue, none_in}
 use Rattle.asl_formats.specs.Stands.{are, is_use, is_integer, are_integers, integers, is_named_with, braces_in, leaves, leaves_far}
 use Rattle.asl_formats.specs.declared.leave.Braces.{Braces}

@@ -1,10 +1,13 @@
 pub mod Runs
 pub mod Loops
+pub mod Bare
 pub mod Prints
 pub mod Alike
 pub mod Formed
 pub mod Nodes
 pub mod PlanNodes
+pub mod NodeNumbers
+pub mod RenewNumbers
 pub mod Copies
 pub mod PlanSteps
 pub mod StepForms
@@ -18,6 +21,7 @@ pub mod FormedForms
 pub mod TextForms
 pub mod Writes
 pub mod PlanWrites
+pub mod PrintNumbers
 pub mod Expressions
 pub mod Continuing
 pub mod FarContinuing
@@ -27,7 +31,13 @@ pub mod Leaving
 pub mod Standing
 pub mod Programs
 pub mod PlanPrograms
+pub mod Asked
+pub mod Formless
 pub mod Declared
 pub mod Sources
 pub mod PlanTrees
+pub mod PlainTerms
+pub mod BareForms
+pub mod Shown
+pub mod StepNumbers
 pub mod PlanForms

@@ -10,13 +10,13 @@ use Rattle.acpi_state.specs.Outcomes.{Flow, Normal, Gives, NoValue, Result, Done
 use Rattle.acpi_state.specs.Outcomes as O
 use Rattle.acpi_state.specs.Loops.{is_true, after_turn, loop}
 use Rattle.asl_tree.specs.Names.{Known}
-use Rattle.asl_tree.specs.Tree.{Tree, Omitted, Container', Scope, If, ElseIf, Else, While, For, Switch, Case, Default, Continue, Trees, no_trees, tree}
-use Rattle.asl_meaning.specs.Continues.{Lasts, Lasting, have_continue}
+use Rattle.asl_tree.specs.Tree.{Tree, Omitted, Container', Scope, If, ElseIf, Else, For, Switch, Case, Default, Continue, Trees, no_trees, tree}
+use Rattle.asl_meaning.specs.Continues.{Lasts, Lasting}
 use Rattle.asl_meaning.specs.Meaning as S
 use Rattle.asl_meaning.specs.Meaning.{SourceRun, leave_switch, unless_omitted, then_step}
 use Rattle.asl_meaning.proofs.Lasting.{lasting}
 use Rattle.asl_formats.specs.Forms.{followed, optional, stepped, stepped_all, while_tree, for_trees, is_expression, has_far_continue, have_far_continue, is_steppable}
-use Rattle.asl_formats.proofs.Runs.{assoc_at, then_assoc, then_same, Settles, Settled, undue, followed_runs, settled}
+use Rattle.asl_formats.proofs.Runs.{then_assoc, then_same, Settles, Settled, undue, followed_runs, settled}
 
 first_false : (a b : Bool) → (a || b) ≡ false → a ≡ false
 first_false true b h = absurd (grind arith)

@@ -1,5 +1,5 @@
 -- The plans of what stands for a For.
-use Rattle.std.proofs.Common.{◌≡◌, ℕ, ◌<◌, ◌≤◌, Bool, true, false, List, [], ◌∷◌, ◌++◌, length, get_or, Vec, Global, refl, sym, ap, ◌∙◌, subst, arith}
+use Rattle.std.proofs.Common.{◌≡◌, ℕ, ◌<◌, ◌≤◌, Bool, true, List, [], ◌∷◌, ◌++◌, length, get_or, Vec, Global, refl, sym, ap, ◌∙◌, subst, arith}
 use Rattle.std.specs.Prelude.{if◌then◌else◌}
 use Rattle.iasl_messages.specs.declared.place.Place.{Place}
 use Rattle.asl_tree.specs.declared.term.Control.TheVariants as Control
@@ -9,7 +9,7 @@ use Rattle.asl_tree.specs.declared.term.Term.{Term}
 use Rattle.asl_tree.specs.declared.term.Term as D
 use Rattle.asl_tree.specs.Tree.{Trees, no_trees, tree}
 use Rattle.asl_tree.specs.View.{trees_of}
-use Rattle.asl_shape.specs.Plans.{Plan, omitted, a_form, Plans, no_plans, plan, join, plan_of, plans_of}
+use Rattle.asl_shape.specs.Plans.{Plan, a_form, Plans, no_plans, plan, join, plan_of, plans_of}
 use Rattle.asl_shape.proofs.Plans.{plan_form}
 use Rattle.asl_formats.specs.Nodes.{CanStep, IsLoop}
 use Rattle.asl_formats.specs.Plans.{optional, stepped_all, while_plan, is_steppable, spread}

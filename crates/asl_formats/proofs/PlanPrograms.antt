@@ -1,6 +1,6 @@
 -- The plans of nodes that are formed one after another, from the last on.
-use Rattle.std.proofs.Common.{◌≡◌, ℕ, Bool, true, false, not, List, [], ◌∷◌, ◌++◌, length, reverse, Vec, Global, refl, sym, ap, ◌∙◌, arith}
-use Rattle.std.specs.Prelude.{if◌then◌else◌, ◌&&◌}
+use Rattle.std.proofs.Common.{◌≡◌, ℕ, Bool, true, false, List, [], ◌∷◌, ◌++◌, length, reverse, Vec, Global, refl, sym, ap, ◌∙◌, arith}
+use Rattle.std.specs.Prelude.{if◌then◌else◌}
 use Rattle.std.proofs.lemmas.List.{reverse-append}
 use Rattle.iasl_messages.specs.declared.place.Place.{Place}
 use Rattle.asl_tree.specs.declared.path.Path.{Path}
@@ -129,7 +129,7 @@ stays : (here : Place) (p : Plan) (t : Tree) (rest : Plans) → Stands p t → s
 stays here (a_form op ps qs) t rest s e = form_stays here op ps qs s.0 s.1 s.2 rest s.4 s.5 (sym (ap stand_of s.3 ∙ stand_form s.0 op s.1 s.2) ∙ e)
 stays here p t rest s e = refl
 
-node_stands : (node : Node) → Stands (plan_of node.term) (node_tree node)
+pub node_stands : (node : Node) → Stands (plan_of node.term) (node_tree node)
 unfolding plans_of trees_of
 node_stands node = (nodes_stand (node ∷ [])).0
 
@@ -192,7 +192,7 @@ each_done left made whole e h = sym (ap (λ ps. join ps (backward_plans made)) (
 
 -- ---- a term
 
-abbrev is_flat : Term → Bool
+abbrev pub is_flat : Term → Bool
 is_flat (D.Call' path shape args) = false
 is_flat (D.Form' op shape args shape' body) = false
 is_flat _ = true
@@ -203,8 +203,8 @@ flat_formed (D.Call' path shape args) e = absurd cc
 flat_formed (D.Form' op shape args shape' body) e = absurd cc
 flat_formed t e = refl
 
-pub other_formed : (t : Term) → ((p : Path) (v : Vec Node Global) → t ≡ D.Call p v → ⊥) → ((o : Op) (v w : Vec Node Global) → t ≡ D.Form o v w → ⊥) → plan_of t ≡ formed_plan (plan_of t)
-other_formed t not_call not_form = flat_formed t (by_layer (D.out-Term t) (sym (D.roll-out-Term t)))
+pub flat_term : (t : Term) → ((p : Path) (v : Vec Node Global) → t ≡ D.Call p v → ⊥) → ((o : Op) (v w : Vec Node Global) → t ≡ D.Form o v w → ⊥) → is_flat t ≡ true
+flat_term t not_call not_form = by_layer (D.out-Term t) (sym (D.roll-out-Term t))
   where
     by_layer : (f : D.Term-F Term Node) → t ≡ D.roll-Term f → is_flat t ≡ true
     by_layer (D.Term-F.Call p v) e = absurd (not_call p v (e ∙ V.rolls-Call p v))
@@ -222,6 +222,9 @@ other_formed t not_call not_form = flat_formed t (by_layer (D.out-Term t) (sym (
     by_layer (D.Term-F.Skip n) e = ap is_flat (e ∙ V.rolls-Skip n)
     by_layer (D.Term-F.Offset n) e = ap is_flat (e ∙ V.rolls-Offset n)
     by_layer (D.Term-F.Access access attribute count) e = ap is_flat (e ∙ V.rolls-Access access attribute count)
+
+pub other_formed : (t : Term) → ((p : Path) (v : Vec Node Global) → t ≡ D.Call p v → ⊥) → ((o : Op) (v w : Vec Node Global) → t ≡ D.Form o v w → ⊥) → plan_of t ≡ formed_plan (plan_of t)
+other_formed t not_call not_form = flat_formed t (flat_term t not_call not_form)
 
 call_plan : (path : Path) (args : Plans) → formed_plan (a_call path args) ≡ a_call path (formed_args args)
 unfolding formed_plan

@@ -1,19 +1,19 @@
 -- The plans of terms with steps before each Continue, one after another.
-use Rattle.std.proofs.Common.{◌≡◌, ℕ, suc, ◌+◌, ◌<◌, Bool, true, false, List, [], ◌∷◌, ◌++◌, length, take, get_or, Vec, Global, refl, sym, ap, ◌∙◌, subst}
-use Rattle.std.specs.Prelude.{if◌then◌else◌, ◌&&◌}
+use Rattle.std.proofs.Common.{◌≡◌, ℕ, ◌+◌, ◌<◌, Bool, true, false, List, [], ◌∷◌, ◌++◌, length, take, get_or, Vec, Global, refl, sym, ap, ◌∙◌}
+use Rattle.std.specs.Prelude.{if◌then◌else◌}
 use Rattle.iasl_messages.specs.declared.place.Place.{Place}
 use Rattle.asl_tree.specs.declared.term.Control.TheVariants as Control
 use Rattle.asl_tree.specs.declared.term.Op.{Op}
 use Rattle.asl_tree.specs.declared.term.Node.{Node}
 use Rattle.asl_tree.specs.declared.term.Term.{Term}
 use Rattle.asl_tree.specs.declared.term.Term as D
-use Rattle.asl_tree.specs.Tree.{At, Tree, Continue, Trees, no_trees, tree}
+use Rattle.asl_tree.specs.Tree.{At, Tree, Trees, no_trees, tree}
 use Rattle.asl_tree.specs.View.{form, tree_of, trees_of}
 use Rattle.asl_shape.specs.Plans.{Plan, a_name, a_unit, a_call, a_form, Plans, no_plans, plan, join, plan_of, plans_of}
 use Rattle.asl_shape.proofs.Plans.{plan_form}
-use Rattle.asl_formats.specs.Nodes.{goes_in, is_next, none_in}
+use Rattle.asl_formats.specs.Nodes.{goes_in, is_next}
 use Rattle.asl_formats.specs.Plans.{stepped, stepped_all, steps_before}
-use Rattle.asl_formats.specs.PlanPass.{placed}
+use Rattle.asl_formats.specs.PlanPass.{is_continue, placed}
 use Rattle.asl_formats.proofs.Layers.{is_form, no_form}
 use Rattle.asl_formats.proofs.StepForms.{other_form}
 use Rattle.asl_formats.proofs.PlanTrees.{Stands, StandAll, nodes_stand}
@@ -35,11 +35,7 @@ plans_appended front nodes all i h e = e ∙ ap (λ ns. join (plans_of front) (p
 
 -- ---- a Continue
 
-abbrev is_alone : Plan → Bool
-is_alone (a_form (Op.Control Control.Continue) no_plans no_plans) = true
-is_alone p = false
-
-before_alone : (steps : Plans) (p : Plan) → steps_before steps p ≡ (if is_alone p then steps else no_plans)
+before_alone : (steps : Plans) (p : Plan) → steps_before steps p ≡ (if is_continue p then steps else no_plans)
 before_alone steps (a_form (Op.Control Control.Continue) no_plans no_plans) = refl
 before_alone steps (a_form (Op.Control Control.Continue) no_plans (plan place p ps)) = refl
 before_alone steps (a_form (Op.Control Control.Continue) (plan place p ps) body) = refl
@@ -60,7 +56,7 @@ next_none at no_trees no_trees s r = refl
 next_none at no_trees (tree t ts) s r = absurd r
 next_none at (tree t ts) bs s r = absurd s
 
-next_stands : (p : Plan) (t : Tree) → Stands p t → is_next t ≡ is_alone p
+next_stands : (p : Plan) (t : Tree) → Stands p t → is_next t ≡ is_continue p
 next_stands (a_form (Op.Control Control.Continue) no_plans no_plans) t s = ap is_next s.3 ∙ next_none s.0 s.1 s.2 s.4 s.5
 next_stands (a_form (Op.Control Control.Continue) no_plans (plan place p ps)) t s = ap is_next s.3 ∙ next_in s.0 place p ps s.1 s.2 s.5
 next_stands (a_form (Op.Control Control.Continue) (plan place p ps) body) t s = ap is_next s.3 ∙ next_with s.0 place p ps s.1 s.2 s.4
@@ -74,7 +70,7 @@ first_stands : (node : Node) → Stands (plan_of node.term) (tree_of (record { i
 unfolding plans_of trees_of
 first_stands node = (nodes_stand (node ∷ [])).0
 
-node_next : (node : Node) → is_next (tree_of (record { id = node.id; place = node.place }) node.term) ≡ is_alone (plan_of node.term)
+pub node_next : (node : Node) → is_next (tree_of (record { id = node.id; place = node.place }) node.term) ≡ is_continue (plan_of node.term)
 node_next node = next_stands (plan_of node.term) (tree_of (record { id = node.id; place = node.place }) node.term) (first_stands node)
 
 steps_by : (steps : Plans) (node : Node) (b c : Bool) → ((at : At) → is_next (tree_of at node.term) ≡ b) → b ≡ c → steps_before steps (plan_of node.term) ≡ (if c then steps else no_plans)

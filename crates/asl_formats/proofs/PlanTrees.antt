@@ -62,7 +62,7 @@ abbrev mutual
 mutual
   unfolding tree_of plan_of
 
-  term_stands : (at : At) (t : Term) → Stands (plan_of t) (tree_of at t)
+  pub term_stands : (at : At) (t : Term) → Stands (plan_of t) (tree_of at t)
   term_stands at (D.Form' op shape args shape' body) = (at, row_trees args, row_trees body, refl, row_stand args, row_stand body)
   term_stands at (D.Call' path shape args) = (at, row_trees args, refl, row_stand args)
   term_stands at (D.Name path) = (at, refl)
@@ -192,7 +192,7 @@ given_stands (a_name name) t s = sym (ap F.is_given s.1)
 given_stands (a_unit segment bits) t s = sym (ap F.is_given s.1)
 given_stands p t s = sym (ap F.is_given s)
 
-given_stand : (ps : Plans) (ts : Trees) → StandAll ps ts → P.are_given ps ≡ F.are_given ts
+pub given_stand : (ps : Plans) (ts : Trees) → StandAll ps ts → P.are_given ps ≡ F.are_given ts
 given_stand no_plans no_trees s = refl
 given_stand no_plans (tree t ts) s = absurd s
 given_stand (plan place p ps) no_trees s = absurd s
@@ -206,7 +206,7 @@ filled_stand format ps ts s =
 -- ---- forms
 
 module _ (args body : Plans) (cs bs : Trees) (s : StandAll args cs) (r : StandAll body bs) where
-  expresses_stand : (op : Op) → P.expresses op args body ≡ S.expresses op cs bs
+  pub expresses_stand : (op : Op) → P.expresses op args body ≡ S.expresses op cs bs
   expresses_stand (Op.Plain op) = none_stand body bs r
   expresses_stand (Op.Literal literal) = both (P.are 0 args) (none_in cs) (P.are 0 body) (none_in bs) (none_stand args cs s) (none_stand body bs r)
   expresses_stand (Op.Special Special.CondRefOf) = both (P.are 2 args) (S.are 2 cs) (P.are 0 body) (none_in bs) (are_stand args cs s 2) (none_stand body bs r)

@@ -4,7 +4,6 @@ use Rattle.std.specs.Prelude.{if◌then◌else◌}
 use Rattle.iasl_messages.specs.declared.place.Place.{Place}
 use Rattle.acpi_values.specs.declared.operator.Plain.{Plain}
 use Rattle.acpi_values.specs.declared.operator.DataOp.{DataOp}
-use Rattle.acpi_values.specs.declared.operator.DataOp.TheVariants as DataOp
 use Rattle.asl_tree.specs.declared.term.Control.TheVariants as Control
 use Rattle.asl_tree.specs.declared.term.Op.{Op}
 use Rattle.asl_tree.specs.declared.term.Node.{Node}
@@ -16,7 +15,7 @@ use Rattle.asl_tree.specs.View.{trees_of}
 use Rattle.asl_shape.specs.Plans.{Plan, a_text, debug, omitted, a_form, Plans, no_plans, plan, plan_of, plans_of}
 use Rattle.asl_shape.proofs.Plans.{plan_form}
 use Rattle.asl_formats.specs.Nodes.{CanPrint, IsPrint}
-use Rattle.asl_formats.specs.Texts.{all_texts, is_text}
+use Rattle.asl_formats.specs.Texts.{all_texts}
 use Rattle.asl_formats.specs.Plans.{operator, concatenated, with_text, with_arguments, is_filled, print_plan, spread}
 use Rattle.asl_formats.specs.PlanPass.{fills, placed, printed, prints, text_plan}
 use Rattle.asl_formats.proofs.Writes.{first_text, print_row, not_print}
@@ -89,7 +88,7 @@ argument_made here front arg copy both made text c b m f =
     m (place_is both here x e) ∙ ap (λ p. at_place here (with_text here p text)) (plan_is both here x e)
 
 -- the first node of some
-first_plan : (nodes : List Node) (node : Node) → 1 ≤ length nodes → node ≡ get_or nodes 0 node → plans_of nodes ≡ plan node.place (plan_of node.term) (plans_of (drop 1 nodes))
+pub first_plan : (nodes : List Node) (node : Node) → 1 ≤ length nodes → node ≡ get_or nodes 0 node → plans_of nodes ≡ plan node.place (plan_of node.term) (plans_of (drop 1 nodes))
 unfolding plans_of
 first_plan [] node h e = absurd (omega (arith, h))
 first_plan (n ∷ nodes) node h e = ap (λ (m : Node). plan m.place (plan_of m.term) (plans_of nodes)) (sym e)
@@ -135,12 +134,12 @@ pub format_made : (here : Place) (made : Place × Plan) (format : Node) (text no
 format_made here made format text now args e n m can =
     m ∙ ap (λ t. at_place here (text_plan here (plan format.place (a_text t) args))) n ∙ sym (ap (λ p. at_place here (text_plan here (plan format.place p args))) (text_is format.term text e))
 
-no_literal : (t : Term) → ((text : List ℕ) → t ≡ D.Text text → ⊥) → is_literal (plan_of t) ≡ false
+pub no_literal : (t : Term) → ((text : List ℕ) → t ≡ D.Text text → ⊥) → is_literal (plan_of t) ≡ false
 unfolding plan_of
 no_literal (D.Text text) never = absurd (never text refl)
 no_literal t never = refl
 
-fills_literal : (place : Place) (p : Plan) (ps : Plans) → is_literal p ≡ false → fills (plan place p ps) ≡ true → ⊥
+pub fills_literal : (place : Place) (p : Plan) (ps : Plans) → is_literal p ≡ false → fills (plan place p ps) ≡ true → ⊥
 fills_literal place (a_text text) ps e can = cc
 fills_literal place p ps e can = cc
 
@@ -214,7 +213,7 @@ fills_stands place (a_text text) ps format ts s r e f = ap (λ (t : Tree). is_fi
     text_in t = []
 fills_stands place p ps format ts s r e f = absurd cc
 
-prints_stand : (op : Op) (ps : Plans) (ts : Trees) → StandAll ps ts → CanPrint op ts → prints op ps ≡ true
+pub prints_stand : (op : Op) (ps : Plans) (ts : Trees) → StandAll ps ts → CanPrint op ts → prints op ps ≡ true
 prints_stand (Op.Control Control.Printf) (plan a p ps) (tree (String format) ts) s can =
     fills_stands a p ps format ts s.0 s.1 (literal p format s.0) (filled_stand format ps ts s.1 ∙ can.0)
 prints_stand (Op.Control Control.Printf) no_plans (tree (String format) ts) s can = absurd s

@@ -10,7 +10,7 @@ use Rattle.acpi_values.specs.Paths.{AbsolutePath}
 use Rattle.acpi_values.specs.Values.{Datum, String, Value, Data}
 use Rattle.acpi_values.specs.Conversions.{to_string, to_kind_of}
 use Rattle.acpi_state.specs.State.{Store, State}
-use Rattle.acpi_state.specs.Outcomes.{Flow, Normal, Step, Steps, Fails, Waits, Result, Done, Stopped, Outcome, done, next, then_run, act, value_of, on_flow}
+use Rattle.acpi_state.specs.Outcomes.{Flow, Normal, Step, Steps, Fails, Waits, done, then_run, act, value_of, on_flow}
 use Rattle.acpi_state.specs.Actions.{give, and_then, computed, go_on}
 use Rattle.acpi_state.specs.Acts.{Operand, OfValue, OfSpot, answer_or, data_of, act_of, last_of, give_datum, give_one, joined}
 use Rattle.acpi_state.specs.Stores.{Spot, store, store_to}

@@ -1,5 +1,5 @@
 -- Nodes that are formed one after another, from the last on.
-use Rattle.std.proofs.Common.{◌≡◌, ℕ, suc, ◌+◌, Bool, true, false, List, [], ◌∷◌, ◌++◌, length, reverse, Vec, Global, refl, sym, ap, ◌∙◌, arith}
+use Rattle.std.proofs.Common.{◌≡◌, suc, ◌+◌, Bool, true, false, List, [], ◌∷◌, ◌++◌, length, reverse, Vec, Global, refl, sym, ap, ◌∙◌, arith}
 use Rattle.std.proofs.lemmas.List.{reverse-append}
 use Rattle.asl_tree.specs.declared.path.Path.{Path}
 use Rattle.asl_tree.specs.declared.term.Op.{Op}
@@ -7,8 +7,8 @@ use Rattle.asl_tree.specs.declared.term.Node.{Node}
 use Rattle.asl_tree.specs.declared.term.Term.{Term}
 use Rattle.asl_tree.specs.declared.term.Term as D
 use Rattle.asl_tree.specs.declared.term.Term.TheVariants as V
-use Rattle.asl_tree.specs.Tree.{At, Tree, Call, Trees, no_trees, tree}
-use Rattle.asl_tree.specs.View.{form, tree_of, row_trees, trees_of}
+use Rattle.asl_tree.specs.Tree.{At, Call, Trees, no_trees, tree}
+use Rattle.asl_tree.specs.View.{form, tree_of, trees_of}
 use Rattle.asl_formats.specs.Forms.{followed, formed, formed_all, formed_args, spread}
 use Rattle.asl_formats.specs.Nodes.{node_tree, nodes_size, term_size}
 use Rattle.asl_formats.specs.Pass.{backwards, formed_body, spread_all}

@@ -24,7 +24,7 @@ use Rattle.asl_tree.specs.Symbols.{compound_operator}
 use Rattle.asl_tree.specs.Tree.{Tree, Integer, Constant, String, InSlot, Debug, Omitted, Use, Call, Apply, Operated, Assigned, AssignedBy, Buffer, Package, VarPackage, CondRefOf, Trees, no_trees, tree}
 use Rattle.asl_meaning.specs.Meaning as S
 use Rattle.asl_meaning.specs.Meaning.{SourceRun, store_last, two_values, call_method, target_operator}
-use Rattle.asl_formats.specs.Forms.{followed, optional, is_expression}
+use Rattle.asl_formats.specs.Forms.{followed, is_expression}
 
 pub assoc_at : {B A C D : Type 0} (m : Run B A) (k : A → Run B C) (l : C → Run B D) (s : State B) → then_run (then_run m k) l s ≡ then_run m (λ a. then_run (k a) l) s
 assoc_at {B} {A} m k l s = by_result (m s).result (m s).state

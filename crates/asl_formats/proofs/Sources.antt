@@ -1,5 +1,5 @@
 -- Whether something else stands for a For and for what prints is told from the source: what its parts become changes nothing of that.
-use Rattle.std.proofs.Common.{◌≡◌, ℕ, Bool, true, false, List, [], ◌∷◌, refl, sym, ap, ◌∙◌, arith}
+use Rattle.std.proofs.Common.{◌≡◌, ℕ, Bool, true, false, List, [], ◌∷◌, refl, ap, ◌∙◌, arith}
 use Rattle.std.specs.Prelude.{if◌then◌else◌, ◌&&◌, ◌||◌, not}
 use Rattle.asl_tree.specs.Formats.{cut}
 use Rattle.asl_tree.specs.Tree.{Tree, Omitted, Call, Container', Scope, If, ElseIf, Else, For, Print, Switch, Case, Default, Continue, Trees, no_trees, tree}

@@ -1,5 +1,5 @@
 -- What stands for a term, by its nodes.
-use Rattle.std.proofs.Common.{◌≡◌, ℕ, zero, suc, ◌<◌, ◌≤◌, Bool, true, false, not, List, [], ◌∷◌, length, drop, get_or, Vec, Global, Option, refl, sym, ap, ◌∙◌, arith}
+use Rattle.std.proofs.Common.{◌≡◌, ℕ, suc, ◌<◌, ◌≤◌, Bool, true, false, not, List, [], ◌∷◌, length, drop, get_or, Vec, Global, Option, refl, sym, ap, ◌∙◌, arith}
 use Rattle.std.specs.Prelude.{nat_eq, ◌&&◌, if◌then◌else◌}
 use Rattle.std.proofs.lemmas.Bool.Decides.{nat_tests}
 use Rattle.asl_tree.specs.declared.term.Control.TheVariants as Control
@@ -7,10 +7,9 @@ use Rattle.asl_tree.specs.declared.term.Op.{Op}
 use Rattle.asl_tree.specs.declared.term.Node.{Node}
 use Rattle.asl_tree.specs.declared.term.Term.{Term}
 use Rattle.asl_tree.specs.declared.term.Term as D
-use Rattle.asl_tree.specs.declared.term.Term.TheVariants as V
 use Rattle.asl_tree.specs.Formats.{cut}
 use Rattle.asl_tree.specs.Tree.{At, Tree, String, For, Print, Omitted, Trees, no_trees, tree}
-use Rattle.asl_tree.specs.View.{form, tree_of, row_trees, trees_of}
+use Rattle.asl_tree.specs.View.{tree_of, row_trees, trees_of}
 use Rattle.asl_formats.specs.Forms.{are_filled, are_given, is_given, is_expression, is_filled, is_steppable, have_far_continue, for_trees, followed, print_tree, spread}
 use Rattle.asl_formats.specs.Nodes.{node_tree, none_in, AreGiven, IsGiven, CanStep, CanPrint, IsLoop, IsPrint, Prints}
 use Rattle.asl_formats.specs.Texts.{all_texts, is_text}

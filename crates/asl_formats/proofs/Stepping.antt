@@ -35,7 +35,7 @@ stepped_joined steps (tree t ts) ys =
     stepped_first steps t (followed ts ys) ∙ ap (followed one) (stepped_joined steps ts ys) ∙ sym (followed_assoc one (stepped_all steps ts) (stepped_all steps ys))
     ∙ sym (ap (λ us. followed us (stepped_all steps ys)) (stepped_first steps t ts))
 
-none_taken : (nodes : List Node) → take 0 nodes ≡ []
+pub none_taken : (nodes : List Node) → take 0 nodes ≡ []
 none_taken [] = refl
 none_taken (node ∷ nodes) = refl
 
@@ -43,14 +43,14 @@ no_nodes : trees_of [] ≡ no_trees
 unfolding trees_of
 no_nodes = refl
 
-all_taken : (nodes : List Node) (i : ℕ) → (i < length nodes → ⊥) → take i nodes ≡ nodes
+pub all_taken : (nodes : List Node) (i : ℕ) → (i < length nodes → ⊥) → take i nodes ≡ nodes
 all_taken [] zero h = refl
 all_taken [] (suc i) h = refl
 all_taken (node ∷ nodes) zero h = absurd (h (omega arith))
 all_taken (node ∷ nodes) (suc i) h = ap (λ ns. node ∷ ns) (all_taken nodes i (λ lt. h (omega (arith, lt))))
 
 -- the first of some nodes, with the next one
-taken_next : (nodes : List Node) (i : ℕ) (node : Node) → i < length nodes → node ≡ get_or nodes i node → trees_of (take (i + 1) nodes) ≡ followed (trees_of (take i nodes)) (tree (node_tree node) no_trees)
+pub taken_next : (nodes : List Node) (i : ℕ) (node : Node) → i < length nodes → node ≡ get_or nodes i node → trees_of (take (i + 1) nodes) ≡ followed (trees_of (take i nodes)) (tree (node_tree node) no_trees)
 taken_next nodes i node lt is =
     let one : i + 1 ≡ suc i = omega arith in
     ap (λ n. trees_of (take n nodes)) one ∙ ap trees_of (take_next nodes i node lt is) ∙ behind_all (take i nodes) node
@@ -79,6 +79,16 @@ stepped_next steps nodes old front new i node copy lt is h f same e =
     ∙ followed_assoc (trees_of old) (steps_before steps (node_tree node)) one ∙ ap (λ us. followed us (followed (steps_before steps (node_tree node)) one)) h
     ∙ sym (ap (followed (stepped_all steps ts)) (stepped_first steps (node_tree node) no_trees ∙ followed_none (followed (steps_before steps (node_tree node)) one)))
     ∙ sym (stepped_joined steps ts (tree (node_tree node) no_trees)) ∙ ap (stepped_all steps) (sym (taken_next nodes i node lt is))
+
+-- some first terms, and the next one
+pub stepped_taken : (steps : Trees) (nodes : List Node) (i : ℕ) (node : Node) → i < length nodes → node ≡ get_or nodes i node
+    → stepped_all steps (trees_of (take (i + 1) nodes)) ≡ followed (followed (stepped_all steps (trees_of (take i nodes))) (steps_before steps (node_tree node))) (tree (stepped steps (node_tree node)) no_trees)
+stepped_taken steps nodes i node lt is =
+    let one = tree (stepped steps (node_tree node)) no_trees in
+    let ts = trees_of (take i nodes) in
+    ap (stepped_all steps) (taken_next nodes i node lt is) ∙ stepped_joined steps ts (tree (node_tree node) no_trees)
+    ∙ ap (followed (stepped_all steps ts)) (stepped_first steps (node_tree node) no_trees ∙ followed_none (followed (steps_before steps (node_tree node)) one))
+    ∙ sym (followed_assoc (stepped_all steps ts) (steps_before steps (node_tree node)) one)
 
 pub stepped_last : (steps : Trees) (nodes made : List Node) (i : ℕ) → (i < length nodes → ⊥) → trees_of made ≡ stepped_all steps (trees_of (take i nodes)) → trees_of made ≡ stepped_all steps (trees_of nodes)
 stepped_last steps nodes made i h e = e ∙ ap (λ ns. stepped_all steps (trees_of ns)) (all_taken nodes i h)

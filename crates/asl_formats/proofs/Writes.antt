@@ -1,5 +1,5 @@
 -- The nodes of what stands for what prints.
-use Rattle.std.proofs.Common.{◌≡◌, ℕ, suc, Bool, true, false, List, [], ◌∷◌, ◌++◌, Vec, Global, refl, sym, ap, ◌∙◌, subst, arith, ◌<◌, ◌≤◌, length, get_or, drop}
+use Rattle.std.proofs.Common.{◌≡◌, ℕ, suc, false, List, [], ◌∷◌, ◌++◌, Vec, Global, refl, sym, ap, ◌∙◌, subst, arith, ◌<◌, ◌≤◌, length, get_or, drop}
 use Rattle.std.specs.Prelude.{if◌then◌else◌}
 use Rattle.acpi_values.specs.Operators.{Letter, Valued, Placed}
 use Rattle.acpi_values.specs.declared.operator.Plain.{Plain}
@@ -11,8 +11,8 @@ use Rattle.asl_tree.specs.declared.term.Term.{Term}
 use Rattle.asl_tree.specs.declared.term.Term as D
 use Rattle.asl_tree.specs.Formats.{cut}
 use Rattle.asl_tree.specs.Tree.{At, Tree, String, Omitted, Debug, Print, Apply, Trees, no_trees, tree}
-use Rattle.asl_tree.specs.View.{form, tree_of, row_trees, trees_of, plain_of, operands_as}
-use Rattle.asl_formats.specs.Forms.{concatenated, with_text, with_arguments, print_tree, is_filled, spread}
+use Rattle.asl_tree.specs.View.{form, tree_of, row_trees, trees_of, operands_as}
+use Rattle.asl_formats.specs.Forms.{concatenated, with_text, with_arguments, print_tree, spread}
 use Rattle.asl_formats.specs.Nodes.{node_tree, IsGiven, AreGiven, plain_tree, CanPrint, IsPrint, print_parts}
 use Rattle.asl_formats.specs.Texts.{all_texts, is_text, CanFill, text_tree, stored_tree}
 use Rattle.asl_formats.proofs.TextForms.{no_text_form}

@@ -3,7 +3,7 @@ use Rattle.std.specs.Prelude.{ℕ, Bool, true, false, not, ◌&&◌, ◌||◌, i
 use Rattle.acpi_values.specs.declared.operator.Plain.{Plain}
 use Rattle.acpi_values.specs.declared.operator.DataOp.TheVariants as DataOp
 use Rattle.asl_tree.specs.Formats.{cut}
-use Rattle.asl_tree.specs.Tree.{Tree, Integer, Constant, String, InSlot, Debug, Omitted, Raw, Use, Call, Apply, Operated, Assigned}
+use Rattle.asl_tree.specs.Tree.{Tree, Integer, Constant, String, InSlot, Debug, Omitted, Use, Call, Apply, Operated, Assigned}
 use Rattle.asl_tree.specs.Tree.{AssignedBy, Buffer, Package, VarPackage, CondRefOf, Return, Name, Method, Container', Scope, If, ElseIf}
 use Rattle.asl_tree.specs.Tree.{Else, While, Switch, Case, Default, Continue, For, Print, OperationRegion, BankField, CreateField, Trees}
 use Rattle.asl_tree.specs.Tree.{no_trees, tree}

@@ -1,17 +1,22 @@
 -- The plans of nodes, and of the parts of what stands for a For and for what prints.
-use Rattle.std.specs.Prelude.{Bool, false, List, reverse}
+use Rattle.std.specs.Prelude.{Bool, true, false, List, reverse}
 use Rattle.iasl_messages.specs.declared.place.Place.{Place}
 use Rattle.acpi_values.specs.declared.operator.DataOp.TheVariants as DataOp
 use Rattle.asl_tree.specs.declared.term.Control.TheVariants as Control
 use Rattle.asl_tree.specs.declared.term.Op.{Op}
 use Rattle.asl_tree.specs.declared.term.Node.{Node}
 use Rattle.asl_tree.specs.Formats.{cut}
-use Rattle.asl_shape.specs.Plans.{Plan, a_text, debug, omitted, Plans, no_plans, plan, join, plan_of, plans_of}
+use Rattle.asl_shape.specs.Plans.{Plan, a_text, a_form, debug, omitted, Plans, no_plans, plan, join, plan_of, plans_of}
 use Rattle.asl_formats.specs.Plans.{operator, with_arguments, is_filled, optional, while_plan, spread}
 
 -- a node: its place and its plan
 abbrev pub placed : Node → Place × Plan
 placed node = (node.place, plan_of node.term)
+
+-- a Continue, with nothing in it
+abbrev pub is_continue : Plan → Bool
+is_continue (a_form (Op.Control Control.Continue) no_plans no_plans) = true
+is_continue p = false
 
 -- what stands for a For with these arguments and this body
 abbrev pub for_plans : Place → Plans → Plans → Plans

@@ -1,12 +1,12 @@
 -- What the nodes of a For and of what prints have to be, for others to stand for them.
 use Rattle.std.specs.Prelude.{ℕ, zero, suc, Bool, true, false, ◌&&◌}
-use Rattle.acpi_values.specs.Operators.{Row, row_of}
+use Rattle.acpi_values.specs.Operators.{row_of}
 use Rattle.asl_tree.specs.declared.term.Declaration.TheVariants as Declaration
 use Rattle.asl_tree.specs.declared.term.Control.TheVariants as Control
 use Rattle.asl_tree.specs.declared.term.Special.TheVariants as Special
 use Rattle.asl_tree.specs.declared.term.Symbolic.TheVariants as Symbolic
 use Rattle.asl_tree.specs.declared.term.Op.{Op}
-use Rattle.asl_tree.specs.Tree.{Tree, Integer, String, Omitted, Use, For, Print, Trees, no_trees, tree}
+use Rattle.asl_tree.specs.Tree.{Tree, Integer, String, Use, For, Print, Trees, no_trees, tree}
 use Rattle.asl_tree.specs.View.{fits}
 use Rattle.asl_meaning.specs.Continues.{have_continue}
 use Rattle.asl_formats.specs.Forms.{have_far_continue, is_filled, is_steppable}

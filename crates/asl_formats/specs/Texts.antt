@@ -1,5 +1,5 @@
 -- The texts of a format one after another, as they are read.
-use Rattle.std.specs.Prelude.{◌≡◌, ℕ, Bool, true, false, if◌then◌else◌, List, [], ◌∷◌, ◌++◌}
+use Rattle.std.specs.Prelude.{ℕ, Bool, true, false, if◌then◌else◌, List, [], ◌∷◌, ◌++◌}
 use Rattle.asl_tree.specs.Formats.{Cut, cut, is_hole, is_percent}
 use Rattle.acpi_values.specs.declared.operator.Plain.{Plain}
 use Rattle.acpi_values.specs.declared.operator.DataOp.TheVariants as DataOp

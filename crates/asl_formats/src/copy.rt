@@ -1,9 +1,10 @@
 //! Copies of nodes.
-ghost use Rattle.std.specs.Prelude.{◌≡◌, IfOk};
+ghost use Rattle.std.specs.Prelude.{◌≡◌, ◌∷◌, [], IfOk};
 ghost use Rattle.asl_formats.specs.Nodes.{node_tree};
 ghost use Rattle.asl_tree.specs.Tree.{At};
 ghost use Rattle.asl_tree.specs.View.{tree_of, trees_of};
 ghost use Rattle.asl_shape.specs.Plans.{plan_of, plans_of};
+ghost use Rattle.asl_formats.specs.Numbers.{numbers_in, numbers_of};
 ghost use Rattle.asl_formats.specs.PlanPass.{placed};
 
 use asl_tree::path::Path;
@@ -11,7 +12,7 @@ use asl_tree::term::{NamedDescriptor, Node, Term};
 use iasl_ports::list::{List, Text};
 use std::alloc::{AllocError, Global};
 
-fn copied_path(alloc: Global, path: &Path) -> Result<Path, AllocError>
+pub(crate) fn copied_path(alloc: Global, path: &Path) -> Result<Path, AllocError>
     ensures { IfOk result (λ copy. copy ≡ path.now) }
 {
     let segs = path.segs.as_slice().to_vec(alloc)?;
@@ -44,6 +45,7 @@ fn copied_names(
 pub(crate) fn copied(alloc: Global, node: &Node) -> Result<Node, AllocError>
     ensures tree { IfOk result (λ copy. node_tree copy ≡ node_tree node.now) }
     ensures plan { IfOk result (λ copy. placed copy ≡ placed node.now) }
+    ensures numbers { IfOk result (λ copy. numbers_of (copy ∷ []) ≡ numbers_of (node.now ∷ [])) }
 {
     let term = copied_term(alloc, &node.term)?;
     Ok(Node {
@@ -57,6 +59,7 @@ pub(crate) fn copied(alloc: Global, node: &Node) -> Result<Node, AllocError>
 pub(crate) fn copied_all(alloc: Global, nodes: &[Node]) -> Result<Vec<Node>, AllocError>
     ensures trees { IfOk result (λ copies. trees_of copies.items ≡ trees_of nodes.now) }
     ensures plans { IfOk result (λ copies. plans_of copies.items ≡ plans_of nodes.now) }
+    ensures numbers { IfOk result (λ copies. numbers_of copies.items ≡ numbers_of nodes.now) }
 {
     let mut copies = Vec::new(alloc);
     for node in nodes {
@@ -66,10 +69,11 @@ pub(crate) fn copied_all(alloc: Global, nodes: &[Node]) -> Result<Vec<Node>, All
 }
 
 #[cycle(copy)]
-#[tactic(auto, using(crate::proofs::Nodes::form_tree, crate::proofs::Nodes::call_tree, asl_shape::proofs::Plans::plan_form, asl_shape::proofs::Plans::plan_call))]
+#[tactic(auto, using(crate::proofs::Nodes::form_tree, crate::proofs::Nodes::call_tree, asl_shape::proofs::Plans::plan_form, asl_shape::proofs::Plans::plan_call, crate::proofs::NodeNumbers::numbers_form, crate::proofs::NodeNumbers::numbers_call))]
 pub(crate) fn copied_term(alloc: Global, term: &Term) -> Result<Term, AllocError>
     ensures tree { IfOk result (λ copy. (at : At) → tree_of at copy ≡ tree_of at term.now) }
     ensures plan { IfOk result (λ copy. plan_of copy ≡ plan_of term.now) }
+    ensures numbers { IfOk result (λ copy. numbers_in copy ≡ numbers_in term.now) }
 {
     match term {
         Term::Call { path, args } => {

@@ -129,7 +129,7 @@ fn has_continue(term: &Term) -> bool
 /// Whether a Continue leaves nodes from the braces of a Device, a Scope or another container.
 #[cycle(far)]
 #[tactic(auto, using(crate::proofs::Leaving::far_none, crate::proofs::Leaving::far_last))]
-pub(crate) fn have_far_continue(nodes: &[Node]) -> bool
+pub fn have_far_continue(nodes: &[Node]) -> bool
     ensures { result ≡ trees_have_far (trees_of nodes.now) }
 {
     for node in nodes {

@@ -3,9 +3,12 @@
 
 mod copy;
 pub mod for_loop;
-mod leave;
+pub mod leave;
+mod plain;
+pub mod present;
 pub mod print;
 pub mod program;
-mod stand;
+mod renew;
+pub mod stand;
 mod steps;
-mod texts;
+pub mod texts;

@@ -1,5 +1,5 @@
 //! What stands for a Printf and an Fprintf: a Store of what Concatenates join.
-ghost use Rattle.std.specs.Prelude.{◌≡◌, ◌∷◌, [], drop, true, IfOk};
+ghost use Rattle.std.specs.Prelude.{◌≡◌, ℕ, suc, ◌+◌, ◌%◌, List, ◌∷◌, [], ◌++◌, Option, None, drop, true, IfOk};
 ghost use Rattle.asl_tree.specs.Formats.{cut};
 ghost use Rattle.asl_tree.specs.Tree.{no_trees, tree};
 ghost use Rattle.asl_tree.specs.Tree as T;
@@ -10,6 +10,9 @@ ghost use Rattle.asl_formats.specs.Nodes.{node_tree, plain_tree, print_parts, Ar
 ghost use Rattle.asl_formats.specs.Plans.{concatenated as concatenated_plan, operator as operator_plan, spread as spread_plans};
 ghost use Rattle.asl_formats.specs.Plans.{with_arguments as plan_with_arguments, with_text as plan_with_text};
 ghost use Rattle.asl_formats.specs.PlanPass.{fills, placed, printed, prints, text_plan};
+ghost use Rattle.asl_formats.specs.Numbers.{form_numbers, joined as joined_numbers, kept, next_behind, number_behind, numbered, numbers_of};
+ghost use Rattle.asl_formats.specs.Numbers.{print_numbers, text_numbers, with_arguments as numbers_with_arguments, with_text as numbers_with_text};
+ghost use Rattle.asl_formats.specs.PrintNumbers.{joins, numbers_behind, text_joins, HasNumbers, IsNumberedText};
 ghost use Rattle.asl_formats.specs.Texts.{stored_tree, text_tree, CanFill};
 ghost use Rattle.acpi_values.specs.declared.operator.DataOp.TheVariants as D;
 ghost use Rattle.asl_tree.specs.declared.term.Op.{Op as O};
@@ -32,14 +35,22 @@ struct Numbers {
 }
 
 // The number of the next node, which is no Concatenate.
-fn next_up(numbers: &mut Numbers) -> u32 {
+fn next_up(numbers: &mut Numbers) -> u32
+    ensures id { result ≡ numbers.old.up }
+    ensures up { numbers.new.up ≡ number_behind numbers.old.up }
+    ensures down { numbers.new.down ≡ numbers.old.down }
+{
     let id = numbers.up;
     numbers.up = id.wrapping_add(1);
     id
 }
 
 // The number of the next Concatenate.
-fn next_down(numbers: &mut Numbers) -> u32 {
+fn next_down(numbers: &mut Numbers) -> u32
+    ensures id { result ≡ numbers.old.down }
+    ensures up { numbers.new.up ≡ numbers.old.up }
+    ensures down { number_behind numbers.new.down ≡ numbers.old.down }
+{
     let id = numbers.down;
     numbers.down = id.wrapping_sub(1);
     id
@@ -50,6 +61,7 @@ fn next_down(numbers: &mut Numbers) -> u32 {
 fn operator(alloc: Global, id: u32, place: Place, op: DataOp, args: Vec<Node>) -> Node
     ensures tree { node_tree result ≡ plain_tree op (trees_of args.items) }
     ensures plan { placed result ≡ (place, operator_plan op (plans_of args.items)) }
+    ensures numbers { numbers_of (result ∷ []) ≡ id ∷ numbers_of args.items }
 {
     Node {
         id,
@@ -74,6 +86,12 @@ fn concatenate(
         node_tree made ≡ concatenated (node_tree first) (node_tree second)) }
     ensures plan { IfOk result (λ made. first.place ≡ place →
         placed made ≡ (place, concatenated_plan place (plan_of first.term) second.place (plan_of second.term))) }
+    ensures numbers { IfOk result (λ made. (front behind : List (Option ℕ)) →
+        numbers_of (first ∷ []) ≡ numbered (number_behind numbers.old.down) front →
+        numbers_of (second ∷ []) ≡ numbered (next_behind (number_behind numbers.old.down) front) behind →
+        numbers.old.up ≡ next_behind (next_behind (number_behind numbers.old.down) front) behind →
+        HasNumbers numbers.new made (joined_numbers front behind)) }
+    ensures down { IfOk result (λ made. number_behind numbers.new.down ≡ numbers.old.down) }
 {
     let mut args = Vec::with_capacity(alloc, 3)?;
     args.push(first)?;
@@ -91,6 +109,9 @@ fn concatenate(
 fn text_node(place: Place, numbers: &mut Numbers, text: Text) -> Node
     ensures tree { node_tree result ≡ T.String text }
     ensures plan { placed result ≡ (place, a_text text) }
+    ensures numbers { numbers_of (result ∷ []) ≡ numbers.old.up ∷ [] }
+    ensures up { numbers.new.up ≡ number_behind numbers.old.up }
+    ensures down { numbers.new.down ≡ numbers.old.down }
 {
     Node {
         id: next_up(numbers),
@@ -111,6 +132,9 @@ fn with_text(
     ensures tree { IfOk result (λ made. IsGiven (node_tree front) → node_tree made ≡ tree_with_text (node_tree front) text.now) }
     ensures plan { IfOk result (λ made. front.place ≡ place →
         placed made ≡ (place, plan_with_text place (plan_of front.term) text.now)) }
+    ensures numbers { IfOk result (λ made. (ids : List (Option ℕ)) → HasNumbers numbers.old front ids →
+        HasNumbers numbers.new made (numbers_with_text ids text.now)) }
+    ensures down { IfOk result (λ made. numbers_behind (text_joins text.now) numbers.new.down ≡ numbers.old.down) }
 {
     if text.as_bytes().is_empty() {
         return Ok(front);
@@ -139,6 +163,9 @@ fn with_argument(
           plan_with_text place
               (concatenated_plan place (plan_of front.term) argument.now.place (plan_of argument.now.term)) text.now,
         )) }
+    ensures numbers { IfOk result (λ made. (ids : List (Option ℕ)) → HasNumbers numbers.old front ids →
+        HasNumbers numbers.new made (numbers_with_text (joined_numbers ids (kept (numbers_of (argument.now ∷ [])))) text.now)) }
+    ensures down { IfOk result (λ made. numbers_behind (suc (text_joins text.now)) numbers.new.down ≡ numbers.old.down) }
 {
     let argument = copied(alloc, argument)?;
     let joined = concatenate(alloc, place, numbers, front, argument)?;
@@ -180,6 +207,9 @@ fn joined(
         node_tree made ≡ with_arguments (node_tree front) texts.now (trees_of args.now)) }
     ensures plan { IfOk result (λ made. front.place ≡ place →
         placed made ≡ (place, plan_with_arguments place (plan_of front.term) texts.now (plans_of args.now))) }
+    ensures numbers { IfOk result (λ made. (ids : List (Option ℕ)) → HasNumbers numbers.old front ids →
+        HasNumbers numbers.new made (numbers_with_arguments ids texts.now args.now)) }
+    ensures down { IfOk result (λ made. numbers_behind (joins texts.now args.now) numbers.new.down ≡ numbers.old.down) }
 {
     match texts {
         [text, ..] => match args {
@@ -201,30 +231,36 @@ fn joined(
     }
 }
 
-fn next_count(count: u32, is_more: bool) -> u32 {
-    if is_more {
-        count.wrapping_add(1)
-    } else {
+// One more than a count, and one more where there is a text.
+fn with_joins(count: u32, text: &Text) -> u32
+    ensures { result ≡ (suc (text_joins text.now) + count) % 4294967296 }
+{
+    let count = count.wrapping_add(1);
+    if text.as_bytes().is_empty() {
         count
+    } else {
+        count.wrapping_add(1)
     }
 }
 
-// How many Concatenates the arguments and the texts behind them take.
-fn count(texts: &[Text], args: &[Node]) -> u32 {
-    let mut count: u32 = 0;
-    for _ in args {
-        count = next_count(count, true);
+// How many Concatenates arguments with the texts behind them take, of 32 bits.
+fn count(texts: &[Text], args: &[Node]) -> u32
+    ensures { result ≡ joins texts.now args.now % 4294967296 }
+{
+    match texts {
+        [text, ..] => match args {
+            [_, ..] => with_joins(count(other_texts(texts), others(args)), text),
+            _ => 0,
+        },
+        _ => 0,
     }
-    for text in texts {
-        count = next_count(count, !text.as_bytes().is_empty());
-    }
-    count
 }
 
 #[tactic(auto, using(crate::proofs::Writes::debug_made))]
 fn debug(id: u32, place: Place) -> Node
     ensures tree { node_tree result ≡ T.Debug }
     ensures plan { placed result ≡ (place, debug_plan) }
+    ensures numbers { numbers_of (result ∷ []) ≡ id ∷ [] }
 {
     Node {
         id,
@@ -235,9 +271,9 @@ fn debug(id: u32, place: Place) -> Node
 
 /// A node that is made, with the number of the next one.
 #[derive(Drop)]
-struct Numbered {
-    node: Node,
-    next: u32,
+pub(crate) struct Numbered {
+    pub(crate) node: Node,
+    pub(crate) next: u32,
 }
 
 // The text of a format with its arguments, whose first node has this number.
@@ -257,6 +293,7 @@ fn value(
           plan_with_arguments place (a_text (cut format.now).0) (cut format.now).1
               (plans_of args.now),
         )) }
+    ensures numbers { IfOk result (λ made. IsNumberedText id made (numbers_with_arguments (None ∷ []) (cut format.now).1 args.now)) }
 {
     let texts = texts_of(alloc, format.as_bytes())?;
     match texts.as_slice() {
@@ -300,6 +337,9 @@ fn format_value(
     ensures plan { IfOk result
         (λ made. fills (plan format.now.place (plan_of format.now.term) (plans_of args.now)) ≡ true →
         placed made.node ≡ (place, text_plan place (plan format.now.place (plan_of format.now.term) (plans_of args.now)))) }
+    ensures numbers { IfOk result
+        (λ made. fills (plan format.now.place (plan_of format.now.term) (plans_of args.now)) ≡ true →
+        IsNumberedText id made (text_numbers (format.now ∷ args.now))) }
 {
     match &format.term {
         Term::Text(text) => {
@@ -315,6 +355,7 @@ fn listed_value(alloc: Global, id: u32, place: Place, args: &[Node]) -> Result<N
     ensures tree { IfOk result (λ made. CanFill (trees_of args.now) → node_tree made.node ≡ text_tree (trees_of args.now)) }
     ensures plan { IfOk result (λ made. fills (plans_of args.now) ≡ true →
         placed made.node ≡ (place, text_plan place (plans_of args.now))) }
+    ensures numbers { IfOk result (λ made. fills (plans_of args.now) ≡ true → IsNumberedText id made (text_numbers args.now)) }
 {
     match args {
         [format, ..] => {
@@ -341,6 +382,7 @@ fn store(
           operator_plan D.Store (plan value.place (plan_of value.term)
               (plan target.place (plan_of target.term) no_plans)),
         )) }
+    ensures numbers { IfOk result (λ made. numbers_of (made ∷ []) ≡ id ∷ (numbers_of (value ∷ []) ++ numbers_of (target ∷ []))) }
 {
     let mut operands = Vec::with_capacity(alloc, 2)?;
     operands.push(value)?;
@@ -349,42 +391,64 @@ fn store(
 }
 
 // A Store of a format with its arguments into the Debug object. The Store comes first, and the Debug object last.
-fn to_debug(alloc: Global, id: u32, place: Place, args: &[Node]) -> Result<Node, AllocError>
+fn to_debug(alloc: Global, id: u32, place: Place, args: &[Node]) -> Result<Numbered, AllocError>
     ensures tree { IfOk result (λ made. CanPrint (O.Control C.Printf) (trees_of args.now) →
-        node_tree made ≡ print_parts (O.Control C.Printf) (trees_of args.now)) }
+        node_tree made.node ≡ print_parts (O.Control C.Printf) (trees_of args.now)) }
     ensures plan { IfOk result (λ made. prints (O.Control C.Printf) (plans_of args.now) ≡ true →
-        placed made ≡ (place, printed place (O.Control C.Printf) (plans_of args.now))) }
+        placed made.node ≡ (place, printed place (O.Control C.Printf) (plans_of args.now))) }
+    ensures numbers { IfOk result (λ made. prints (O.Control C.Printf) (plans_of args.now) ≡ true →
+        numbers_of (made.node ∷ []) ≡ numbered id (print_numbers (O.Control C.Printf) args.now)) }
+    ensures next { IfOk result (λ made. prints (O.Control C.Printf) (plans_of args.now) ≡ true →
+        made.next ≡ next_behind id (print_numbers (O.Control C.Printf) args.now)) }
 {
     let value = listed_value(alloc, id.wrapping_add(1), place, args)?;
     let Numbered { node, next } = value;
     let made = store(alloc, id, place, node, debug(next, place))?;
-    Ok(made)
+    Ok(Numbered {
+        node: made,
+        next: next.wrapping_add(1),
+    })
 }
 
 // The same into a place, which stands before the format.
-fn to_place(alloc: Global, id: u32, place: Place, args: &[Node]) -> Result<Node, AllocError>
+fn to_place(alloc: Global, id: u32, place: Place, args: &[Node]) -> Result<Numbered, AllocError>
     ensures tree { IfOk result (λ made. CanPrint (O.Control C.Fprintf) (trees_of args.now) →
-        node_tree made ≡ print_parts (O.Control C.Fprintf) (trees_of args.now)) }
+        node_tree made.node ≡ print_parts (O.Control C.Fprintf) (trees_of args.now)) }
     ensures plan { IfOk result (λ made. prints (O.Control C.Fprintf) (plans_of args.now) ≡ true →
-        placed made ≡ (place, printed place (O.Control C.Fprintf) (plans_of args.now))) }
+        placed made.node ≡ (place, printed place (O.Control C.Fprintf) (plans_of args.now))) }
+    ensures numbers { IfOk result (λ made. prints (O.Control C.Fprintf) (plans_of args.now) ≡ true →
+        numbers_of (made.node ∷ []) ≡ numbered id (print_numbers (O.Control C.Fprintf) args.now)) }
+    ensures next { IfOk result (λ made. prints (O.Control C.Fprintf) (plans_of args.now) ≡ true →
+        made.next ≡ next_behind id (print_numbers (O.Control C.Fprintf) args.now)) }
 {
     match args {
         [target, ..] => {
             let value = listed_value(alloc, id.wrapping_add(1), place, others(args))?;
             let target = copied(alloc, target)?;
-            let made = store(alloc, id, place, value.node, target)?;
-            Ok(made)
+            let Numbered { node, next } = value;
+            let made = store(alloc, id, place, node, target)?;
+            Ok(Numbered { node: made, next })
         }
-        _ => Ok(debug(id, place)),
+        _ => Ok(nothing(id, place)),
     }
 }
 
 // What stands for a form with these arguments.
-#[tactic(auto, using(crate::proofs::Writes::to_printf, crate::proofs::Writes::to_fprintf, crate::proofs::Writes::no_print, crate::proofs::PlanWrites::to_printf, crate::proofs::PlanWrites::to_fprintf, crate::proofs::PlanWrites::no_print))]
-fn parts(alloc: Global, id: u32, place: Place, op: Op, args: &[Node]) -> Result<Node, AllocError>
-    ensures tree { IfOk result (λ made. CanPrint op (trees_of args.now) → node_tree made ≡ print_parts op (trees_of args.now)) }
+#[tactic(auto, using(crate::proofs::Writes::to_printf, crate::proofs::Writes::to_fprintf, crate::proofs::Writes::no_print, crate::proofs::PlanWrites::to_printf, crate::proofs::PlanWrites::to_fprintf, crate::proofs::PlanWrites::no_print, crate::proofs::PrintNumbers::printf_numbers, crate::proofs::PrintNumbers::fprintf_numbers, crate::proofs::PrintNumbers::no_print_numbers, crate::proofs::PrintNumbers::printf_next, crate::proofs::PrintNumbers::fprintf_next, crate::proofs::PrintNumbers::no_print_next))]
+fn parts(
+    alloc: Global,
+    id: u32,
+    place: Place,
+    op: Op,
+    args: &[Node],
+) -> Result<Numbered, AllocError>
+    ensures tree { IfOk result (λ made. CanPrint op (trees_of args.now) → node_tree made.node ≡ print_parts op (trees_of args.now)) }
     ensures plan { IfOk result
-        (λ made. prints op (plans_of args.now) ≡ true → placed made ≡ (place, printed place op (plans_of args.now))) }
+        (λ made. prints op (plans_of args.now) ≡ true → placed made.node ≡ (place, printed place op (plans_of args.now))) }
+    ensures numbers { IfOk result
+        (λ made. prints op (plans_of args.now) ≡ true → numbers_of (made.node ∷ []) ≡ numbered id (print_numbers op args.now)) }
+    ensures next { IfOk result
+        (λ made. prints op (plans_of args.now) ≡ true → made.next ≡ next_behind id (print_numbers op args.now)) }
 {
     match op {
         Op::Control(Control::Printf) => {
@@ -395,23 +459,25 @@ fn parts(alloc: Global, id: u32, place: Place, op: Op, args: &[Node]) -> Result<
             let made = to_place(alloc, id, place, args)?;
             Ok(made)
         }
-        _ => Ok(debug(id, place)),
+        _ => Ok(nothing(id, place)),
     }
 }
 
-// What stands for a node.
-#[tactic(auto, using(crate::proofs::Writes::no_print_form, crate::proofs::PlanWrites::no_print_form))]
-fn stands(alloc: Global, node: &Node, id: u32) -> Result<Node, AllocError>
+// What stands for a node, and the next number.
+#[tactic(auto, using(crate::proofs::Writes::no_print_form, crate::proofs::PlanWrites::no_print_form, crate::proofs::PrintNumbers::no_print_form_numbers, crate::proofs::PrintNumbers::no_print_form_next))]
+pub(crate) fn stands(alloc: Global, node: &Node, id: u32) -> Result<Numbered, AllocError>
     requires { IsPrint node.now.term }
-    ensures tree { IfOk result (λ made. tree (node_tree made) no_trees ≡ spread (node_tree node.now) no_trees) }
-    ensures plan { IfOk result (λ made. plans_of (made ∷ []) ≡ spread_plans node.now.place (plan_of node.now.term) no_plans) }
+    ensures tree { IfOk result (λ made. tree (node_tree made.node) no_trees ≡ spread (node_tree node.now) no_trees) }
+    ensures plan { IfOk result (λ made. plans_of (made.node ∷ []) ≡ spread_plans node.now.place (plan_of node.now.term) no_plans) }
+    ensures numbers { IfOk result (λ made. numbers_of (made.node ∷ []) ≡ numbered id (form_numbers node.now.term)) }
+    ensures next { IfOk result (λ made. made.next ≡ next_behind id (form_numbers node.now.term)) }
 {
     match &node.term {
         Term::Form { op, args, body: _ } => {
             let made = parts(alloc, id, node.place, *op, args)?;
             Ok(made)
         }
-        _ => Ok(debug(id, node.place)),
+        _ => Ok(nothing(id, node.place)),
     }
 }
 
@@ -423,8 +489,9 @@ pub fn print_form(alloc: Global, node: &Node, next_id: u32) -> Result<Node, Allo
     requires { IsPrint node.now.term }
     ensures tree { IfOk result (λ made. tree (node_tree made) no_trees ≡ spread (node_tree node.now) no_trees) }
     ensures plans { IfOk result (λ made. plans_of (made ∷ []) ≡ spread_plans node.now.place (plan_of node.now.term) no_plans) }
+    ensures numbers { IfOk result (λ made. numbers_of (made ∷ []) ≡ numbered next_id (form_numbers node.now.term)) }
     ensures same { IfOk result (λ made. DoTheSame (tree (node_tree node.now) no_trees) (tree (node_tree made) no_trees)) }
 {
     let made = stands(alloc, node, next_id)?;
-    Ok(made)
+    Ok(made.node)
 }

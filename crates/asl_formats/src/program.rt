@@ -12,18 +12,12 @@ ghost use Rattle.asl_formats.specs.PlanPass.{backward_plans, placed, spread_all 
 ghost use Rattle.asl_formats.specs.Stands.{stand_of as tree_stand};
 ghost use Rattle.asl_formats.specs.declared.stand.Stand.TheVariants as S;
 
-use crate::for_loop::for_form;
-use crate::print::print_form;
+use crate::for_loop::loop_form;
+use crate::print::{Numbered, stands as print_stands};
+use crate::renew::take_id;
 use crate::stand::{Stand, stand_of};
 use asl_tree::term::{Control, Declaration, Node, Op, Special, Term};
 use std::alloc::{AllocError, Global};
-
-// The next number.
-fn take_id(next: &mut u32) -> u32 {
-    let id = *next;
-    *next = id.wrapping_add(1);
-    id
-}
 
 // Moves terms behind others that stand backwards.
 fn put_all(made: &mut Vec<Node>, terms: Vec<Node>) -> Result<(), AllocError>
@@ -48,7 +42,7 @@ fn put_loop(
     ensures plans { OnOk result
         (backward_plans made.new.items ≡ spread_plans node.now.place (plan_of node.now.term) (backward_plans made.old.items)) }
 {
-    let terms = for_form(alloc, node, take_id(next))?;
+    let terms = loop_form(alloc, node, take_id(next))?;
     put_all(made, terms)?;
     Ok(())
 }
@@ -64,7 +58,12 @@ fn put_text(
     ensures plans { OnOk result
         (backward_plans made.new.items ≡ spread_plans node.now.place (plan_of node.now.term) (backward_plans made.old.items)) }
 {
-    let term = print_form(alloc, node, take_id(next))?;
+    let printed = print_stands(alloc, node, *next)?;
+    let Numbered {
+        node: term,
+        next: behind,
+    } = printed;
+    *next = behind;
     made.push(term)?;
     Ok(())
 }
@@ -201,7 +200,9 @@ fn form_body(
     }
 }
 
-/// The program with what stands for each Printf, Fprintf and For, from the inside out. What is made has the next numbers.
+/// The program with what stands for each Printf, Fprintf and For, from the inside out. The nodes that are made have the numbers from
+/// `next_id` on (0 follows the greatest); copies of a For's step have those of the nodes that they copy, so that these stand there
+/// more than once.
 pub fn forms(alloc: Global, terms: Vec<Node>, next_id: u32) -> Result<Vec<Node>, AllocError>
     ensures trees { IfOk result (λ made. trees_of made.items ≡ formed_all (trees_of terms.items)) }
     ensures plans { IfOk result (λ made. plans_of made.items ≡ formed_plans (plans_of terms.items)) }

@@ -38,7 +38,7 @@ fn fit(op: Plain, args: &[Node]) -> bool
     args.len() == letters(op).len()
 }
 
-fn form_expresses(op: Op, args: &[Node], body: &[Node]) -> bool
+pub(crate) fn form_expresses(op: Op, args: &[Node], body: &[Node]) -> bool
     ensures { result ≡ expresses op (trees_of args.now) (trees_of body.now) }
 {
     match op {
@@ -52,9 +52,9 @@ fn form_expresses(op: Op, args: &[Node], body: &[Node]) -> bool
     }
 }
 
-// Whether a term is an expression, or left out.
+/// Whether a term is an expression, or left out.
 #[tactic(auto, using(crate::proofs::Standing::expression_form, crate::proofs::Standing::fill_is, crate::proofs::Standing::unit_is, crate::proofs::Standing::skip_is, crate::proofs::Standing::offset_is, crate::proofs::Standing::access_is, crate::proofs::Standing::value_is))]
-fn is_expression(term: &Term) -> bool
+pub fn is_expression(term: &Term) -> bool
     ensures { (at : At) → tree_expresses (tree_of at term.now) ≡ result }
 {
     match term {
@@ -86,7 +86,7 @@ fn is_given(term: &Term) -> bool
 }
 
 #[tactic(auto, using(crate::proofs::Leaving::given_none, crate::proofs::Leaving::given_last))]
-fn are_given(nodes: &[Node]) -> bool
+pub fn are_given(nodes: &[Node]) -> bool
     ensures { result ≡ trees_given (trees_of nodes.now) }
 {
     for node in nodes {

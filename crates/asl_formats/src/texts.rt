@@ -7,7 +7,7 @@ use std::alloc::{AllocError, Global};
 
 /// What a format begins with.
 #[derive(Clone, Copy, PartialEq, Eq, Debug)]
-pub(crate) enum Mark {
+pub enum Mark {
     /// Nothing is left.
     End,
     /// `%o`.
@@ -19,7 +19,7 @@ pub(crate) enum Mark {
 }
 
 #[tactic(auto, using(crate::proofs::Cuts::mark_none, crate::proofs::Cuts::mark_one, crate::proofs::Cuts::mark_two))]
-fn first_mark(format: &[u8]) -> Mark
+pub fn first_mark(format: &[u8]) -> Mark
     ensures { result ≡ mark_of format.now }
 {
     match format {

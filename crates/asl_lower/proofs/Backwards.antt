@@ -1,5 +1,5 @@
 -- Nodes that stand backwards, and an ElseIf that is put before them.
-use Rattle.std.proofs.Common.{◌≡◌, Bool, true, false, List, [], ◌∷◌, ◌++◌, length, reverse, Vec, Global, refl, sym, ap, ◌∙◌, arith}
+use Rattle.std.proofs.Common.{◌≡◌, ℕ, suc, ◌+◌, ◌<◌, ◌≤◌, Bool, true, false, List, [], ◌∷◌, ◌++◌, length, get_or, reverse, Vec, Global, refl, sym, ap, ◌∙◌, arith, below_more}
 use Rattle.std.proofs.lemmas.List.{reverse-append}
 use Rattle.acpi_values.specs.declared.operator.Plain.{Plain}
 use Rattle.acpi_values.specs.Operators.{row_of}
@@ -22,6 +22,7 @@ use Rattle.asl_lower.specs.Nests.{if_of, first_else, behind_else, joined, backwa
 use Rattle.asl_lower.specs.Nodes.{before, nested}
 use Rattle.asl_lower.specs.declared.kind.Kind.{Kind}
 use Rattle.asl_lower.proofs.KindRows.{kind_is}
+use Rattle.asl_lower.proofs.Turns.{any_default}
 
 -- ---- an ElseIf as an If
 
@@ -161,6 +162,27 @@ put_nested old rest new node made args inner one first single k ef es et er ei e
     ∙ ap (λ ts. form (record { id = made.id; place = made.place }) (Op.Control Control.Else) ts (trees_of inner.items)) no_tree
     ∙ ap Else (ei ∙ ap (λ ns. joined (trees_of ns) (first_else (backwards old))) (es ∙ ap (λ ns. ns ++ one ∷ []) ef) ∙ ap (λ ts. joined ts (first_else (backwards old))) (one_tree one [] ∙ ap (λ t. tree t (trees_of [])) et ∙ ap (tree (if_of (node_tree node))) no_tree)))
     ∙ sym (before_else_if (node_tree node) (backwards old) (kind_is (record { id = node.id; place = node.place }) node.term ∙ k))
+
+-- ---- a list with no ElseIf
+
+-- the first so many nodes are none
+abbrev pub AreOthers : List Node → ℕ → Type 0
+AreOthers nodes i = (k : ℕ) → k < i → (e : Node) → shape_kind (term_shape (get_or nodes k e).term) ≡ Kind.ElseIf → ⊥
+
+pub one_more : (nodes : List Node) (i : ℕ) (node : Node) → i < length nodes → node ≡ get_or nodes i node → AreOthers nodes i → (shape_kind (term_shape node.term) ≡ Kind.ElseIf → ⊥) → AreOthers nodes (i + 1)
+one_more nodes i node lt is others never =
+    below_more (λ k. (e : Node) → shape_kind (term_shape (get_or nodes k e).term) ≡ Kind.ElseIf → ⊥) i others
+    (λ e kind. never (ap (λ (n : Node). shape_kind (term_shape n.term)) (is ∙ any_default nodes i node e lt) ∙ kind))
+
+pub all_others : (nodes : List Node) (i : ℕ) → length nodes ≤ i → AreOthers nodes i → AreOthers nodes (length nodes)
+all_others nodes i le others = λ k lt e. others k (omega (arith, lt, le)) e
+
+pub nested_same : (nodes : List Node) → AreOthers nodes (length nodes) → trees_of nodes ≡ nested (trees_of nodes)
+unfolding trees_of
+nested_same [] others = refl
+nested_same (node ∷ nodes) others =
+    ap (tree (node_tree node)) (nested_same nodes (λ k lt e. others (suc k) (omega (arith, lt)) e))
+    ∙ sym (before_other (node_tree node) (nested (trees_of nodes)) (λ e. others 0 (omega arith) node (sym (kind_tree node (shape_kind (term_shape node.term)) refl) ∙ e)))
 
 -- ---- the whole list
 

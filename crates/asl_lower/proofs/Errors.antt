@@ -16,7 +16,7 @@ use Rattle.asl_tree.specs.Names.{place_of, denoted}
 use Rattle.asl_tree.specs.Tree.{At, Tree, Omitted, Use, Call, Apply, Buffer, Package, VarPackage, CondRefOf, Return, Name, Alias, External, Method, Mutex, Event, Container', Scope, If, ElseIf, Else, While, For, Print, OperationRegion, Field, IndexField, BankField, CreateField, UnitName, Operated, Assigned, AssignedBy, Trees, no_trees, tree, count, Switch, Case, Default}
 use Rattle.asl_meaning.specs.Declarations.{As, Declarations, nothing_declared, is_named, scope_path, with_declared, declare, declarations, called, calls_all, known_of}
 use Rattle.asl_meaning.specs.Meaning.{SpotForm, OfResult, OfInside, NoSpot, spot_form, target_operator}
-use Rattle.acpi_names.specs.Errors.{Asked, Anything, AValue, AMutex, AnEvent, AUnit, ARegion, asked_by, asked_types, used_types, NameError, Whole, whole_of, names, names_all, cond_errors, use_errors, call_errors, declared_errors, scope_errors, items_errors, types, types_all, spot_types, first_types, operand_types, spot_types_all, element_types, element_types_all, letter_types, spot_form_types, name_errors, type_errors}
+use Rattle.acpi_names.specs.Errors.{Asked, Anything, AnObject, AValue, AMutex, AnEvent, AUnit, ARegion, asked_by, asked_types, used_types, NameError, Whole, whole_of, names, names_all, cond_errors, use_errors, call_errors, declared_errors, scope_errors, items_errors, types, types_all, spot_types, first_types, operand_types, spot_types_all, element_types, element_types_all, letter_types, spot_form_types, name_errors, type_errors}
 use Rattle.acpi_names.specs.Errors as E
 use Rattle.asl_tree.specs.FieldItems.{FieldItem, UnitItem, SkipItem, OffsetItem, AccessItem, ConnectionItem, ToName, ToBytes}
 use Rattle.acpi_names.specs.Terms.{has_no_targets, is_value, are_values, is_term, are_terms}
@@ -256,6 +256,7 @@ module _ (whole : Whole) (others : List (AbsolutePath × ℕ)) (same : (path : A
   -- what is asked of a used name
   asked_right : (asked : Asked) (at : At) (name : Path) (scope : AbsolutePath) → asked_types whole asked at name scope ≡ [] → asked_types after asked at name scope ≡ []
   asked_right Anything at name scope h = refl
+  asked_right AnObject at name scope h = refl
   asked_right AValue at name scope h = h
   asked_right AMutex at name scope h = h
   asked_right AnEvent at name scope h = h

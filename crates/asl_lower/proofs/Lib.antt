@@ -8,6 +8,7 @@ pub mod KindRows
 pub mod Backwards
 pub mod Copies
 pub mod Givens
+pub mod Turns
 pub mod Lowered
 pub mod Places
 mod Rows

@@ -1,7 +1,7 @@
 -- Terms that are made in the place of others.
-use Rattle.std.proofs.Common.{◌≡◌, ℕ, zero, suc, ◌+◌, ◌<◌, Bool, true, false, List, [], ◌∷◌, ◌++◌, length, get_or, Vec, Global, None, refl, sym, ap, ◌∙◌, arith}
+use Rattle.std.proofs.Common.{◌≡◌, ℕ, zero, suc, ◌+◌, ◌<◌, ◌≤◌, Bool, true, false, List, [], ◌∷◌, ◌++◌, length, get_or, set, Vec, Global, None, refl, sym, ap, ◌∙◌, arith}
 use Rattle.std.specs.Prelude.{if◌then◌else◌}
-use Rattle.std.specs.List.{remove}
+use Rattle.std.specs.List.{remove, swap}
 use Rattle.acpi_values.specs.declared.operator.Plain.{Plain}
 use Rattle.acpi_values.specs.declared.operator.DataOp.TheVariants as DataOp
 use Rattle.acpi_values.specs.Operators.{row_of}
@@ -22,10 +22,12 @@ use Rattle.acpi_names.specs.Parts.{term_size, nodes_size}
 use Rattle.acpi_names.specs.Walked.{OfForm, term_shape, node_tree}
 use Rattle.acpi_names.proofs.Trees.{form_tree, call_tree, form_rows}
 use Rattle.asl_lower.specs.Kinds.{flagged, shape_kind, shape_args}
-use Rattle.asl_lower.specs.Nests.{joined, backwards}
+use Rattle.asl_lower.specs.Nests.{joined}
 use Rattle.asl_lower.specs.Nodes.{given, last_target, named, named_args, named_body, is_symbolic}
+use Rattle.asl_lower.specs.Places.{lowered_at, lowered_places, nested_at, nested_places}
 use Rattle.asl_lower.specs.declared.kind.Kind.{Kind}
-use Rattle.asl_lower.proofs.Backwards.{pushed, behind_all, joined_none}
+use Rattle.asl_lower.proofs.Turns.{Turns}
+use Rattle.asl_lower.proofs.Backwards.{behind_all, joined_none}
 use Rattle.asl_lower.proofs.Forms.{kept_form, symbol_named, store_named, operator_named, compound_named}
 use Rattle.asl_lower.proofs.KindRows.{kind_is, kind_operator, operator_of_kind}
 use Rattle.asl_lower.proofs.Givens.{form_given}
@@ -94,26 +96,33 @@ target_last all new target left us e f h = ap trees_of f ∙ behind_all all targ
 pub target_none : (all : List Node) (target : Node) (left : ℕ) → left ≡ 0 → trees_of all ≡ joined (trees_of all) (last_target left (node_tree target))
 target_none all target left e = sym (ap (λ n. joined (trees_of all) (last_target n (node_tree target))) e ∙ joined_none (trees_of all))
 
--- ---- terms each by itself, from the last on
+-- ---- terms each by itself
 
-args_last : (nodes : List Node) (node : Node) (ts : Trees) → joined (named_args (trees_of (nodes ++ node ∷ []))) ts ≡ joined (named_args (trees_of nodes)) (tree (named (node_tree node)) ts)
+-- a node and what it is lowered to
+pub record IsLowered (old now : Node) : Type 0 where
+  pub is : node_tree now ≡ named (node_tree old)
+  pub places : nested_at now.place now.term ≡ lowered_at old.place old.term
+
+trees_lowered : (old now : List Node) → length now ≡ length old → ((k : ℕ) → k < length old → (e : Node) → IsLowered (get_or old k e) (get_or now k e)) → trees_of now ≡ named_args (trees_of old)
 unfolding trees_of
-args_last [] node ts = refl
-args_last (n ∷ nodes) node ts = ap (tree (named (node_tree n))) (args_last nodes node ts)
+trees_lowered [] [] size h = refl
+trees_lowered [] (n ∷ now) size h = absurd (omega (arith, size))
+trees_lowered (o ∷ old) [] size h = absurd (omega (arith, size))
+trees_lowered (o ∷ old) (n ∷ now) size h =
+    ap (λ t. tree t (trees_of now)) (h 0 (omega arith) o).is ∙ ap (tree (named (node_tree o))) (trees_lowered old now (omega (arith, size)) (λ k lt e. h (suc k) (omega (arith, lt)) e))
 
-pub lowered_none : (nodes made : List Node) → made ≡ [] → joined (named_args (trees_of nodes)) (backwards made) ≡ named_args (trees_of nodes)
-lowered_none nodes made e = ap (λ ns. joined (named_args (trees_of nodes)) (backwards ns)) e ∙ ap (joined (named_args (trees_of nodes))) none ∙ joined_none (named_args (trees_of nodes))
+places_lowered : (old now : List Node) → length now ≡ length old → ((k : ℕ) → k < length old → (e : Node) → IsLowered (get_or old k e) (get_or now k e)) → nested_places now ≡ lowered_places old
+unfolding nested_places lowered_places
+places_lowered [] [] size h = refl
+places_lowered [] (n ∷ now) size h = absurd (omega (arith, size))
+places_lowered (o ∷ old) [] size h = absurd (omega (arith, size))
+places_lowered (o ∷ old) (n ∷ now) size h =
+    ap (λ ps. ps ++ nested_places now) (h 0 (omega arith) o).places ∙ ap (λ ps. lowered_at o.place o.term ++ ps) (places_lowered old now (omega (arith, size)) (λ k lt e. h (suc k) (omega (arith, lt)) e))
 
-pub lowered_next : (all left more made new : List Node) (node low : Node) → left ≡ more ++ node ∷ [] → new ≡ made ++ low ∷ [] → node_tree low ≡ named (node_tree node)
-    → joined (named_args (trees_of left)) (backwards made) ≡ named_args (trees_of all) → joined (named_args (trees_of more)) (backwards new) ≡ named_args (trees_of all)
-lowered_next all left more made new node low e f same h =
-    ap (joined (named_args (trees_of more))) (pushed made new low f ∙ ap (λ t. tree t (backwards made)) same) ∙ sym (args_last more node (backwards made))
-    ∙ ap (λ ns. joined (named_args (trees_of ns)) (backwards made)) (sym e) ∙ h
-
-pub lowered_all : (left made : List Node) → length left ≡ 0 → backwards made ≡ joined (named_args (trees_of left)) (backwards made)
-unfolding trees_of
-lowered_all [] made e = refl
-lowered_all (node ∷ left) made e = absurd (omega (arith, e))
+pub each_lowered : (old now : List Node) (i : ℕ) → length old ≤ i → Turns (λ k. IsLowered) old now i → (trees_of now ≡ named_args (trees_of old)) × (nested_places now ≡ lowered_places old)
+each_lowered old now i le turns =
+    let each : (k : ℕ) → k < length old → (e : Node) → IsLowered (get_or old k e) (get_or now k e) = λ k lt e. turns.done k (omega (arith, lt, le)) e in
+    (trees_lowered old now turns.size each, places_lowered old now turns.size each)
 
 last_size : (nodes : List Node) (node : Node) → nodes_size (nodes ++ node ∷ []) ≡ nodes_size nodes + suc (term_size node.term)
 unfolding nodes_size
@@ -184,18 +193,17 @@ no_args made t e not_form = (ap trees_of e ∙ none ∙ sym (by_layer (D.out-Ter
 pub call_named : (at : At) (t : Term) (path : Path) (args made : Vec Node Global) → t ≡ D.Call path args → trees_of made.items ≡ named_args (trees_of args.items) → tree_of at (D.Call path made) ≡ named (tree_of at t)
 call_named at t path args made e h = call_tree at path made ∙ ap (Call at path) h ∙ ap named (sym (call_tree at path args)) ∙ ap (λ t. named (tree_of at t)) (sym e)
 
-pub form_named : (at : At) (t made : Term) (op : Op) (args body : Vec Node Global) → t ≡ D.Form op args body → tree_of at made ≡ named (form at op (trees_of args.items) (trees_of body.items)) → tree_of at made ≡ named (tree_of at t)
-form_named at t made op args body e h = h ∙ ap named (sym (form_tree at op args body)) ∙ ap (λ t. named (tree_of at t)) (sym e)
+pub form_named : (at : At) (t : Term) (op new : Op) (args body made more : Vec Node Global) → t ≡ D.Form op args body → form at new (trees_of made.items) (trees_of more.items) ≡ named (form at op (trees_of args.items) (trees_of body.items))
+    → tree_of at (D.Form new made more) ≡ named (tree_of at t)
+form_named at t op new args body made more e h = form_tree at new made more ∙ h ∙ ap named (sym (form_tree at op args body)) ∙ ap (λ t. named (tree_of at t)) (sym e)
 
 not_symbolic : (op : Op) → ((symbol : Symbolic) → op ≡ Op.Symbolic symbol → ⊥) → is_symbolic op ≡ false
 not_symbolic (Op.Symbolic symbol) never = absurd (never symbol refl)
 not_symbolic op never = refl
 
-pub kept_named : (at : At) (op : Op) (args body made more : Vec Node Global) → ((symbol : Symbolic) → op ≡ Op.Symbolic symbol → ⊥) → trees_of made.items ≡ named_args (trees_of args.items)
-    → trees_of more.items ≡ named_body op (trees_of body.items) → tree_of at (D.Form op made more) ≡ named (form at op (trees_of args.items) (trees_of body.items))
+pub kept_named : (at : At) (op : Op) (args body made more : Trees) → ((symbol : Symbolic) → op ≡ Op.Symbolic symbol → ⊥) → made ≡ named_args args → more ≡ named_body op body → form at op made more ≡ named (form at op args body)
 kept_named at op args body made more never ha hb =
-    form_tree at op made more ∙ ap (λ ts. form at op ts (trees_of more.items)) ha ∙ ap (form at op (named_args (trees_of args.items))) hb
-    ∙ sym (kept_form at op (trees_of args.items) (trees_of body.items) (not_symbolic op never))
+    ap (λ ts. form at op ts more) ha ∙ ap (form at op (named_args args)) hb ∙ sym (kept_form at op args body (not_symbolic op never))
 
 -- ---- symbols that do not fit
 
@@ -218,17 +226,18 @@ unfolding trees_of
 body_misfits at symbol args [] never = absurd (never refl)
 body_misfits at symbol args (node ∷ body) never = symbol_with_body at symbol args (node_tree node) (trees_of body)
 
-pub symbol_misfits : (at : At) (symbol : Symbolic) (args body : Vec Node Global) → (length body.items ≡ 0 → ⊥) → tree_of at (D.Form (Op.Symbolic symbol) args body) ≡ named (form at (Op.Symbolic symbol) (trees_of args.items) (trees_of body.items))
-symbol_misfits at symbol args body never = form_tree at (Op.Symbolic symbol) args body ∙ misshapen_named (form at (Op.Symbolic symbol) (trees_of args.items) (trees_of body.items)) (body_misfits at symbol (trees_of args.items) body.items never)
+pub symbol_misfits : (at : At) (op : Op) (symbol : Symbolic) (args : Trees) (body : List Node) → op ≡ Op.Symbolic symbol → (length body ≡ 0 → ⊥) → form at op args (trees_of body) ≡ named (form at op args (trees_of body))
+symbol_misfits at op symbol args body e never = misshapen_named (form at op args (trees_of body)) (ap (λ o. form at o args (trees_of body)) e ∙ body_misfits at symbol args body never)
 
 no_node : (nodes : List Node) → length nodes ≡ 0 → trees_of nodes ≡ no_trees
 unfolding trees_of
 no_node [] e = refl
 no_node (node ∷ nodes) e = absurd (omega (arith, e))
 
-pub symbol_bare : (at : At) (symbol : Symbolic) (made : Term) (args body : Vec Node Global) → length body.items ≡ 0 → tree_of at made ≡ named (form at (Op.Symbolic symbol) (trees_of args.items) no_trees)
-    → tree_of at made ≡ named (form at (Op.Symbolic symbol) (trees_of args.items) (trees_of body.items))
-symbol_bare at symbol made args body e h = h ∙ ap (λ ts. named (form at (Op.Symbolic symbol) (trees_of args.items) ts)) (sym (no_node body.items e))
+pub symbol_bare : (at : At) (op new : Op) (symbol : Symbolic) (args made : Trees) (body : List Node) → op ≡ Op.Symbolic symbol → length body ≡ 0 → form at new made no_trees ≡ named (form at (Op.Symbolic symbol) args no_trees)
+    → form at new made (trees_of body) ≡ named (form at op args (trees_of body))
+symbol_bare at op new symbol args made body is e h =
+    ap (form at new made) (no_node body e) ∙ h ∙ ap (λ o. named (form at o args no_trees)) (sym is) ∙ ap (λ ts. named (form at op args ts)) (sym (no_node body e))
 
 pub operator_misfits : (at : At) (op : Plain) (args : Trees) → fits (row_of op).operands args ≡ false → form at (Op.Symbolic (S.Operator op)) args no_trees ≡ named (form at (Op.Symbolic (S.Operator op)) args no_trees)
 operator_misfits at op args e = misshapen_named (form at (Op.Symbolic (S.Operator op)) args no_trees) (ap (λ c. if c then operated op (operands_as (row_of op).operands args) else Misshapen) e)
@@ -301,24 +310,72 @@ not_operated : (k : Kind) → ((op : Plain) → k ≡ Kind.Operated op → ⊥) 
 not_operated (Kind.Operated op) never = absurd (never op refl)
 not_operated k never = refl
 
-pub store_lowered : (at : At) (args all : List Node) (target value low made there : Node) (k : Kind) → args ≡ target ∷ value ∷ [] → node_tree low ≡ named (node_tree target) → node_tree made ≡ named (node_tree value) → node_tree there ≡ given (node_tree made)
-    → k ≡ shape_kind (term_shape value.term) → ((op : Plain) → k ≡ Kind.Operated op → ⊥) → all ≡ there ∷ low ∷ []
-    → form at (Op.Plain (Plain.Data DataOp.Store)) (trees_of all) no_trees ≡ named (form at (Op.Symbolic S.Assign) (trees_of args) no_trees)
-store_lowered at args all target value low made there k two low_is made_is there_is k_is never all_are =
+-- nodes that stand for two trees are two
+record TwoNodes (nodes : List Node) (t u : Tree) : Type 0 where
+  first : Node
+  second : Node
+  are : nodes ≡ first ∷ second ∷ []
+  first_is : node_tree first ≡ t
+  second_is : node_tree second ≡ u
+
+two_nodes : (nodes : List Node) (t u : Tree) → trees_of nodes ≡ tree t (tree u no_trees) → TwoNodes nodes t u
+unfolding trees_of
+two_nodes [] t u e = absurd cc
+two_nodes (a ∷ []) t u e = absurd cc
+two_nodes (a ∷ b ∷ []) t u e = record { first = a; second = b; are = refl; first_is = cc; second_is = cc }
+two_nodes (a ∷ b ∷ c ∷ nodes) t u e = absurd cc
+
+pub two_long : (nodes : List Node) (d : Node) → length nodes ≡ 2 → nodes ≡ get_or nodes 0 d ∷ get_or nodes 1 d ∷ []
+two_long [] d e = absurd (omega (arith, e))
+two_long (a ∷ []) d e = absurd (omega (arith, e))
+two_long (a ∷ b ∷ []) d e = refl
+two_long (a ∷ b ∷ c ∷ nodes) d e = absurd (omega (arith, e))
+
+-- the arguments of an assignment, lowered
+args_lowered : (args each : List Node) (target value : Node) → args ≡ target ∷ value ∷ [] → trees_of each ≡ named_args (trees_of args) → TwoNodes each (named (node_tree target)) (named (node_tree value))
+args_lowered args each target value e h = two_nodes each (named (node_tree target)) (named (node_tree value)) (h ∙ ap named_args (two_trees args target value e))
+
+pub both_long : (args each : List Node) → length args ≡ 2 → trees_of each ≡ named_args (trees_of args) → length each ≡ 2
+both_long [] each e h = absurd (omega (arith, e))
+both_long (a ∷ []) each e h = absurd (omega (arith, e))
+both_long (a ∷ b ∷ []) each e h = ap length (args_lowered (a ∷ b ∷ []) each a b refl h).are
+both_long (a ∷ b ∷ c ∷ args) each e h = absurd (omega (arith, e))
+
+-- `X = E` as a Store: the arguments lowered, each in the other's place, with a value that has to be there
+pub store_lowered : (at : At) (args each swapped : List Node) (value first there : Node) (k : Kind) → length args ≡ 2 → value ≡ get_or args 1 value → trees_of each ≡ named_args (trees_of args) → swapped ≡ swap each 0 1
+    → first ≡ get_or swapped 0 first → node_tree there ≡ given (node_tree first) → k ≡ shape_kind (term_shape value.term) → ((op : Plain) → k ≡ Kind.Operated op → ⊥)
+    → form at (Op.Plain (Plain.Data DataOp.Store)) (trees_of (set swapped 0 there)) no_trees ≡ named (form at (Op.Symbolic S.Assign) (trees_of args) no_trees)
+store_lowered at args each swapped value first there k long is low turned first_is there_is k_is never =
+    let target : Node = get_or args 0 value in
+    let two : args ≡ target ∷ value ∷ [] = two_long args value long ∙ ap (λ n. target ∷ n ∷ []) (sym is) in
+    let both = args_lowered args each target value two low in
     let here : At = record { id = value.id; place = value.place } in
+    let swapped_are : swapped ≡ both.second ∷ both.first ∷ [] = turned ∙ ap (λ ns. swap ns 0 1) both.are in
+    let given_is : node_tree there ≡ given (named (node_tree value)) = there_is ∙ ap (λ n. given (node_tree n)) (first_is ∙ ap (λ ns. get_or ns 0 first) swapped_are) ∙ ap given both.second_is in
     ap (λ ts. form at (Op.Plain (Plain.Data DataOp.Store)) ts no_trees)
-    (two_trees all there low all_are ∙ ap (λ t. tree t (tree (node_tree low) no_trees)) (there_is ∙ ap given made_is) ∙ ap (λ t. tree (given (named (node_tree value))) (tree t no_trees)) low_is)
+    (ap (λ ns. trees_of (set ns 0 there)) swapped_are ∙ two_trees (there ∷ both.first ∷ []) there both.first refl ∙ ap (λ t. tree t (tree (node_tree both.first) no_trees)) given_is
+    ∙ ap (λ t. tree (given (named (node_tree value))) (tree t no_trees)) both.first_is)
     ∙ sym (store_named at (node_tree target) (node_tree value) (operator_of_kind (node_tree value) ∙ ap kind_operator (kind_is here value.term ∙ sym k_is) ∙ not_operated k never))
     ∙ ap (λ ts. named (form at (Op.Symbolic S.Assign) ts no_trees)) (sym (two_trees args target value two))
 
-pub compound_lowered : (at : At) (op : Compound) (plain : Plain) (args operands : List Node) (all : Trees) (target value low made first second copy : Node) → plain ≡ compound_operator op → args ≡ target ∷ value ∷ [] → node_tree low ≡ named (node_tree target)
-    → node_tree made ≡ named (node_tree value) → node_tree copy ≡ node_tree low → node_tree first ≡ given (node_tree low) → node_tree second ≡ given (node_tree made) → operands ≡ first ∷ second ∷ []
-    → all ≡ joined (trees_of operands) (last_target (row_of plain).targets (node_tree copy)) → form at (Op.Plain plain) all no_trees ≡ named (form at (Op.Symbolic (S.AssignBy op)) (trees_of args) no_trees)
-compound_lowered at op plain args operands all target value low made first second copy op_is two low_is made_is copy_is first_is second_is operands_are all_are =
+-- `X op= Y`: the arguments lowered, both of which have to be there, and a copy of the first as the target
+pub compound_lowered : (at : At) (op : Compound) (plain : Plain) (args each : List Node) (target copy first there second behind : Node) (all : Trees) → plain ≡ compound_operator op → length args ≡ 2 → trees_of each ≡ named_args (trees_of args)
+    → target ≡ get_or each 0 target → node_tree copy ≡ node_tree target → first ≡ get_or each 0 first → node_tree there ≡ given (node_tree first) → second ≡ get_or (set each 0 there) 1 second → node_tree behind ≡ given (node_tree second)
+    → all ≡ joined (trees_of (set (set each 0 there) 1 behind)) (last_target (row_of plain).targets (node_tree copy)) → form at (Op.Plain plain) all no_trees ≡ named (form at (Op.Symbolic (S.AssignBy op)) (trees_of args) no_trees)
+compound_lowered at op plain args each target copy first there second behind all op_is long low target_is copied first_is there_is second_is behind_is all_are =
+    let old : Node = get_or args 0 target in
+    let value : Node = get_or args 1 target in
+    let two : args ≡ old ∷ value ∷ [] = two_long args target long in
+    let both = args_lowered args each old value two low in
+    let copy_is : node_tree copy ≡ named (node_tree old) = copied ∙ ap node_tree (target_is ∙ ap (λ ns. get_or ns 0 target) both.are) ∙ both.first_is in
+    let one_is : node_tree there ≡ given (named (node_tree old)) = there_is ∙ ap (λ n. given (node_tree n)) (first_is ∙ ap (λ ns. get_or ns 0 first) both.are) ∙ ap given both.first_is in
+    let other_is : node_tree behind ≡ given (named (node_tree value)) = behind_is ∙ ap (λ n. given (node_tree n)) (second_is ∙ ap (λ ns. get_or (set ns 0 there) 1 second) both.are) ∙ ap given both.second_is in
+    let operands : List Node = set (set each 0 there) 1 behind in
+    let operands_are : operands ≡ there ∷ behind ∷ [] = ap (λ ns. set (set ns 0 there) 1 behind) both.are in
     ap (λ ts. form at (Op.Plain plain) ts no_trees)
-    (all_are ∙ ap (λ t. joined (trees_of operands) (last_target (row_of plain).targets t)) (copy_is ∙ low_is)
-    ∙ ap (λ ts. joined ts (last_target (row_of plain).targets (named (node_tree target))))
-    (two_trees operands first second operands_are ∙ ap (λ t. tree t (tree (node_tree second) no_trees)) (first_is ∙ ap given low_is) ∙ ap (λ t. tree (given (named (node_tree target))) (tree t no_trees)) (second_is ∙ ap given made_is)))
-    ∙ ap (λ o. form at (Op.Plain o) (tree (given (named (node_tree target))) (tree (given (named (node_tree value))) (last_target (row_of o).targets (named (node_tree target))))) no_trees) op_is
-    ∙ sym (compound_named at op (node_tree target) (node_tree value))
-    ∙ ap (λ ts. named (form at (Op.Symbolic (S.AssignBy op)) ts no_trees)) (sym (two_trees args target value two))
+    (all_are ∙ ap (λ t. joined (trees_of operands) (last_target (row_of plain).targets t)) copy_is
+    ∙ ap (λ ts. joined ts (last_target (row_of plain).targets (named (node_tree old))))
+    (two_trees operands there behind operands_are ∙ ap (λ t. tree t (tree (node_tree behind) no_trees)) one_is ∙ ap (λ t. tree (given (named (node_tree old))) (tree t no_trees)) other_is))
+    ∙ ap (λ o. form at (Op.Plain o) (tree (given (named (node_tree old))) (tree (given (named (node_tree value))) (last_target (row_of o).targets (named (node_tree old))))) no_trees) op_is
+    ∙ sym (compound_named at op (node_tree old) (node_tree value))
+    ∙ ap (λ ts. named (form at (Op.Symbolic (S.AssignBy op)) ts no_trees)) (sym (two_trees args old value two))

@@ -25,6 +25,7 @@ use Rattle.asl_lower.specs.Kinds.{flagged, shape_kind, shape_args}
 use Rattle.asl_lower.specs.Nodes.{named_args}
 use Rattle.asl_lower.specs.Places.{form_places, has_terms, lowered_at, lowered_row, lowered_places, nested_at, nested_places}
 use Rattle.asl_lower.specs.declared.kind.Kind.{Kind}
+use Rattle.asl_lower.proofs.Backwards.{AreOthers}
 
 -- ---- a form by its nodes
 
@@ -87,8 +88,9 @@ pub call_places : (place : Place) (t : Term) (path : _) (args made : Vec Node Gl
 unfolding lowered_at
 call_places place t path args made e = sym (ap (lowered_at place) e)
 
-pub form_places_of : (place : Place) (t made : Term) (op : Op) (args body : Vec Node Global) → t ≡ D.Form op args body → nested_at place made ≡ form_places op (trees_of args.items) place (lowered_places body.items) → nested_at place made ≡ lowered_at place t
-form_places_of place t made op args body e h = h ∙ sym (form_lowered place op args body) ∙ ap (lowered_at place) (sym e)
+pub form_places_of : (place : Place) (t : Term) (op new : Op) (args body made more : Vec Node Global) → t ≡ D.Form op args body
+    → form_places new (trees_of made.items) place (places_of more.items) ≡ form_places op (trees_of args.items) place (lowered_places body.items) → nested_at place (D.Form new made more) ≡ lowered_at place t
+form_places_of place t op new args body made more e h = form_nested place new made more ∙ h ∙ sym (form_lowered place op args body) ∙ ap (lowered_at place) (sym e)
 
 -- as many arguments as before
 as_many : (n : ℕ) (ts : Trees) → are n (named_args ts) ≡ are n ts
@@ -109,22 +111,10 @@ inner_same : (op : Op) (ts : Trees) (place : Place) (xs ys : List Place) → (ha
 inner_same (Op.Control Control.ElseIf) ts place xs ys h = ap (λ ps. if are 1 ts then place ∷ place ∷ ps else place ∷ []) (h refl)
 inner_same op ts place xs ys h = inner_if (holds_terms op) place xs ys h
 
-pub kept_places : (place : Place) (op : Op) (args body made more : Vec Node Global) → trees_of made.items ≡ named_args (trees_of args.items) → (has_terms op ≡ true → places_of more.items ≡ lowered_places body.items)
-    → nested_at place (D.Form op made more) ≡ form_places op (trees_of args.items) place (lowered_places body.items)
-kept_places place op args body made more ea eb =
-    form_nested place op made more ∙ ap (λ ts. form_places op ts place (places_of more.items)) ea ∙ args_named op (trees_of args.items) place (places_of more.items)
-    ∙ inner_same op (trees_of args.items) place (places_of more.items) (lowered_places body.items) eb
+pub kept_places : (place : Place) (op : Op) (args made : Trees) (xs ys : List Place) → made ≡ named_args args → (has_terms op ≡ true → xs ≡ ys) → form_places op made place xs ≡ form_places op args place ys
+kept_places place op args made xs ys e h = ap (λ ts. form_places op ts place xs) e ∙ args_named op args place xs ∙ inner_same op args place xs ys h
 
--- ---- terms each by itself, from the last on
-
-lowered-append : (xs ys : List Node) → lowered_places (xs ++ ys) ≡ lowered_places xs ++ lowered_places ys
-unfolding lowered_places
-lowered-append [] ys = refl
-lowered-append (x ∷ xs) ys = ap (λ ps. lowered_at x.place x.term ++ ps) (lowered-append xs ys) ∙ sym (append_assoc (lowered_at x.place x.term) (lowered_places xs) (lowered_places ys))
-
-lowered_one : (node : Node) → lowered_places (node ∷ []) ≡ lowered_at node.place node.term
-unfolding lowered_places
-lowered_one node = append-nil (lowered_at node.place node.term)
+-- ---- from the last on
 
 nested-append : (xs ys : List Node) → nested_places (xs ++ ys) ≡ nested_places xs ++ nested_places ys
 unfolding nested_places
@@ -135,35 +125,12 @@ nested_one : (node : Node) → nested_places (node ∷ []) ≡ nested_at node.pl
 unfolding nested_places
 nested_one node = append-nil (nested_at node.place node.term)
 
-nested_first : (made : List Node) (node : Node) → nested_places (reverse (made ++ node ∷ [])) ≡ nested_at node.place node.term ++ nested_places (reverse made)
-unfolding nested_places
-nested_first made node = ap nested_places (reverse-append made (node ∷ []))
-
 places_first : (made : List Node) (node : Node) → places_of (reverse (made ++ node ∷ [])) ≡ term_places node ++ places_of (reverse made)
 places_first made node = ap places_of (reverse-append made (node ∷ [])) ∙ places_cons node (reverse made)
 
 -- what a list of which the last one moves says
 moved : (before here after whole : List Place) (left : List Place) → left ≡ before ++ here → left ++ after ≡ whole → before ++ (here ++ after) ≡ whole
 moved before here after whole left e h = sym (append_assoc before here after) ∙ ap (λ ps. ps ++ after) (sym e) ∙ h
-
-none_behind : (ps : List Place) (made : List Node) → made ≡ [] → ps ++ nested_places (reverse made) ≡ ps
-unfolding nested_places
-none_behind ps made e = ap (λ ns. ps ++ nested_places (reverse ns)) e ∙ append-nil ps
-
-pub each_none : (nodes made : List Node) → made ≡ [] → lowered_places nodes ++ nested_places (reverse made) ≡ lowered_places nodes
-each_none nodes made e = none_behind (lowered_places nodes) made e
-
-pub each_next : (all left more made new : List Node) (node low : Node) → left ≡ more ++ node ∷ [] → new ≡ made ++ low ∷ [] → nested_at low.place low.term ≡ lowered_at node.place node.term
-    → lowered_places left ++ nested_places (reverse made) ≡ lowered_places all → lowered_places more ++ nested_places (reverse new) ≡ lowered_places all
-each_next all left more made new node low e f same h =
-    ap (λ ns. lowered_places more ++ nested_places (reverse ns)) f ∙ ap (λ ps. lowered_places more ++ ps) (nested_first made low ∙ ap (λ ps. ps ++ nested_places (reverse made)) same)
-    ∙ moved (lowered_places more) (lowered_at node.place node.term) (nested_places (reverse made)) (lowered_places all) (lowered_places left)
-    (ap lowered_places e ∙ lowered-append more (node ∷ []) ∙ ap (λ ps. lowered_places more ++ ps) (lowered_one node)) h
-
-pub each_all : (left made : List Node) → length left ≡ 0 → nested_places (reverse made) ≡ lowered_places left ++ nested_places (reverse made)
-unfolding lowered_places
-each_all [] made e = refl
-each_all (node ∷ left) made e = absurd (omega (arith, e))
 
 -- ---- ElseIfs
 
@@ -196,6 +163,13 @@ other_kind place t never = refl
 
 pub put_other_places : (old new : List Node) (node : Node) → new ≡ old ++ node ∷ [] → (shape_kind (term_shape node.term) ≡ Kind.ElseIf → ⊥) → places_of (reverse new) ≡ nested_at node.place node.term ++ places_of (reverse old)
 put_other_places old new node e never = ap (λ ns. places_of (reverse ns)) e ∙ places_first old node ∙ ap (λ ps. ps ++ places_of (reverse old)) (other_kind node.place node.term never)
+
+pub same_places : (nodes : List Node) → AreOthers nodes (length nodes) → places_of nodes ≡ nested_places nodes
+unfolding nested_places places_of
+same_places [] others = refl
+same_places (node ∷ nodes) others =
+    ap (λ ps. ps ++ places_of nodes) (other_kind node.place node.term (others 0 (omega arith) node))
+    ∙ ap (λ ps. nested_at node.place node.term ++ ps) (same_places nodes (λ k lt e. others (suc k) (omega (arith, lt)) e))
 
 -- an ElseIf as an If
 no_flag : (a b : Bool) (op : Plain) → flagged a (flagged b (Kind.Operated op)) ≡ Kind.ElseIf → ⊥

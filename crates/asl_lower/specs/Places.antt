@@ -46,10 +46,6 @@ unfoldable pub nested_places : List Node → List Place
 nested_places [] = []
 nested_places (node ∷ nodes) = nested_at node.place node.term ++ nested_places nodes
 
--- wherever a term stands: what it is lowered to has its places
-abbrev pub TakesPlacesOf : Term → Term → Type 0
-TakesPlacesOf term made = (place : Place) → nested_at place made ≡ lowered_at place term
-
--- it holds no list of terms
-abbrev pub StandsAlone : Term → Type 0
-StandsAlone term = (place : Place) → nested_at place term ≡ place ∷ []
+-- a form of an operator: it holds no list of terms
+abbrev pub StandsAlone : Op → Type 0
+StandsAlone op = (args : Trees) (place : Place) (inner : List Place) → form_places op args place inner ≡ place ∷ []

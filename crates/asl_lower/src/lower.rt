@@ -1,5 +1,5 @@
 //! A program with its symbolic operators named (ACPI Specification 6.4, 19.2.6) and its ElseIfs nested (19.6.40).
-ghost use Rattle.std.specs.Prelude.{◌≡◌, ◌≤◌, ◌∷◌, [], length, true, IfOk};
+ghost use Rattle.std.specs.Prelude.{◌≡◌, ◌≤◌, ◌∷◌, [], length, true, OnOk, IfOk};
 ghost use Rattle.acpi_values.specs.Operators.{row_of};
 ghost use Rattle.acpi_names.specs.Parts.{term_size, nodes_size};
 ghost use Rattle.acpi_names.specs.Walked.{term_shape, node_tree};
@@ -13,7 +13,6 @@ ghost use Rattle.asl_lower.specs.Kinds.{shape_args};
 ghost use Rattle.asl_lower.specs.Nests.{joined};
 ghost use Rattle.asl_lower.specs.Nodes.{given as given_tree, last_target, named, named_args, named_all, named_body};
 ghost use Rattle.asl_lower.specs.Places.{form_places, has_terms, lowered_at, lowered_places, nested_at, nested_places, StandsAlone};
-ghost use Rattle.asl_lower.specs.Places.{TakesPlacesOf};
 ghost use Rattle.term_places.specs.Places.{places_of};
 
 use crate::copy::copied;
@@ -23,6 +22,7 @@ use acpi_values::operator::{DataOp, IntOp, Plain};
 use asl_tree::term::{Compound, Control, Declaration, Node, Op, Special, Symbolic, Term};
 use iasl_messages::place::Place;
 use std::alloc::{AllocError, Global};
+use std::mem::replace;
 
 // The operator of `X op= Y`.
 fn compound(op: Compound) -> Plain
@@ -56,25 +56,14 @@ fn bare(alloc: Global, op: Op, args: Vec<Node>) -> Term
 }
 
 // An operand that has to be there: what is left out is no term.
-#[tactic(auto, using(crate::proofs::Lowered::given_omitted, crate::proofs::Lowered::given_other))]
-fn given(alloc: Global, term: Term) -> Term
-    ensures { (at : At) → tree_of at result ≡ given_tree (tree_of at term) }
+fn give(alloc: Global, node: &mut Node)
+    ensures { node_tree node.new ≡ given_tree (node_tree node.old) }
 {
-    match term {
-        Term::Omitted => bare(alloc, Op::Symbolic(Symbolic::Assign), Vec::new(alloc)),
-        other => other,
-    }
-}
-
-// A node whose operand has to be there.
-fn given_node(alloc: Global, node: Node) -> Node
-    ensures { node_tree result ≡ given_tree (node_tree node) }
-{
-    let Node { id, place, term } = node;
-    Node {
-        id,
-        place,
-        term: given(alloc, term),
+    match &node.term {
+        Term::Omitted => {
+            node.term = bare(alloc, Op::Symbolic(Symbolic::Assign), Vec::new(alloc));
+        }
+        _ => (),
     }
 }
 
@@ -87,16 +76,6 @@ fn two(nodes: Vec<Node>) -> (Node, Node)
     let second = nodes.remove(1);
     let first = nodes.remove(0);
     (first, second)
-}
-
-// A list of two nodes.
-fn pair(alloc: Global, first: Node, second: Node) -> Result<Vec<Node>, AllocError>
-    ensures { IfOk result (λ nodes. nodes.items ≡ first ∷ second ∷ []) }
-{
-    let mut nodes = Vec::with_capacity(alloc, 2)?;
-    nodes.push(first)?;
-    nodes.push(second)?;
-    Ok(nodes)
 }
 
 // The arguments of a form.
@@ -115,118 +94,121 @@ fn operands(alloc: Global, term: Term) -> Vec<Node>
 }
 
 // The targets of an operator behind its operands: all are left out but the last one.
-fn with_target(op: Plain, args: Vec<Node>, target: Node) -> Result<Vec<Node>, AllocError>
-    ensures { IfOk result (λ all. trees_of all.items ≡ joined (trees_of args.items) (last_target (row_of op).targets (node_tree target))) }
+fn put_targets(op: Plain, args: &mut Vec<Node>, target: Node) -> Result<(), AllocError>
+    ensures { OnOk result (trees_of args.new.items ≡ joined (trees_of args.old.items) (last_target (row_of op).targets (node_tree target))) }
 {
-    let mut all = args;
     let mut left = targets(op);
     if left == 0 {
-        return Ok(all);
+        return Ok(());
     }
     while left > 1 {
-        all.push(Node {
+        args.push(Node {
             id: target.id,
             place: target.place,
             term: Term::Omitted,
         })?;
         left -= 1;
     }
-    all.push(target)?;
-    Ok(all)
+    args.push(target)?;
+    Ok(())
 }
 
 /// The program in which each symbolic operator and assignment is an operator with a name (ACPI Specification 6.4, 19.2.6), and
 /// each ElseIf is an If in an Else (19.6.40). A node that is made has the id and the place of the one that it stands for.
-#[cycle(lower)]
 pub fn lower(alloc: Global, terms: Vec<Node>) -> Result<Vec<Node>, AllocError>
     ensures trees { IfOk result (λ lowered. trees_of lowered.items ≡ named_all (trees_of terms.items)) }
     ensures places { IfOk result (λ lowered. places_of lowered.items ≡ lowered_places terms.items) }
 {
-    let each = lower_each(alloc, terms)?;
-    let nested = nest(alloc, each)?;
-    Ok(nested)
+    let mut lowered = terms;
+    lower_list(alloc, &mut lowered)?;
+    Ok(lowered)
+}
+
+// The terms of a list.
+#[cycle(lower)]
+fn lower_list(alloc: Global, terms: &mut Vec<Node>) -> Result<(), AllocError>
+    ensures trees { OnOk result (trees_of terms.new.items ≡ named_all (trees_of terms.old.items)) }
+    ensures places { OnOk result (places_of terms.new.items ≡ lowered_places terms.old.items) }
+{
+    lower_each(alloc, terms)?;
+    nest(alloc, terms)?;
+    Ok(())
 }
 
 // Terms each by itself.
 #[cycle(lower)]
-fn lower_each(alloc: Global, nodes: Vec<Node>) -> Result<Vec<Node>, AllocError>
-    ensures trees { IfOk result (λ made. trees_of made.items ≡ named_args (trees_of nodes.items)) }
-    ensures places { IfOk result (λ made. nested_places made.items ≡ lowered_places nodes.items) }
+fn lower_each(alloc: Global, nodes: &mut Vec<Node>) -> Result<(), AllocError>
+    ensures trees { OnOk result (trees_of nodes.new.items ≡ named_args (trees_of nodes.old.items)) }
+    ensures places { OnOk result (nested_places nodes.new.items ≡ lowered_places nodes.old.items) }
 {
-    let mut left = nodes;
-    let mut made = Vec::new(alloc);
-    while let Some(node) = left.pop() {
-        made.push(lower_node(alloc, node)?)?;
+    for node in nodes.iter_mut() {
+        lower_node(alloc, node)?;
     }
-    made.reverse();
-    Ok(made)
+    Ok(())
 }
 
 #[cycle(lower)]
-fn lower_node(alloc: Global, node: Node) -> Result<Node, AllocError>
-    ensures tree { IfOk result (λ made. node_tree made ≡ named (node_tree node)) }
-    ensures places { IfOk result (λ made. nested_at made.place made.term ≡ lowered_at node.place node.term) }
+fn lower_node(alloc: Global, node: &mut Node) -> Result<(), AllocError>
+    ensures tree { OnOk result (node_tree node.new ≡ named (node_tree node.old)) }
+    ensures places { OnOk result (nested_at node.new.place node.new.term ≡ lowered_at node.old.place node.old.term) }
 {
-    let Node { id, place, term } = node;
-    let term = lower_term(alloc, id, place, term)?;
-    Ok(Node { id, place, term })
-}
-
-// The term of a node with an id and a place.
-#[cycle(lower)]
-fn lower_term(alloc: Global, id: u32, place: Place, term: Term) -> Result<Term, AllocError>
-    ensures tree { IfOk result (λ made. (at : At) → tree_of at made ≡ named (tree_of at term)) }
-    ensures places { IfOk result (TakesPlacesOf term) }
-{
-    match term {
-        Term::Call { path, args } => {
-            let args = lower_each(alloc, args)?;
-            Ok(Term::Call { path, args })
+    let id = node.id;
+    let place = node.place;
+    match &mut node.term {
+        Term::Call { path: _, args } => {
+            lower_each(alloc, args)?;
+            Ok(())
         }
         Term::Form { op, args, body } => {
-            let made = lower_form(alloc, id, place, op, args, body)?;
-            Ok(made)
+            lower_form(alloc, id, place, op, args, body)?;
+            Ok(())
         }
-        other => Ok(other),
+        _ => Ok(()),
     }
 }
 
+// A form with an id and a place. A symbol with something in braces stays as it is.
 #[cycle(lower)]
 fn lower_form(
     alloc: Global,
     id: u32,
     place: Place,
-    op: Op,
-    args: Vec<Node>,
-    body: Vec<Node>,
-) -> Result<Term, AllocError>
-    ensures tree { IfOk result (λ made. (at : At) → tree_of at made ≡ named (form at op (trees_of args.items) (trees_of body.items))) }
-    ensures places { IfOk result (λ made. (here : Here) → nested_at here made ≡ form_places op (trees_of args.items) here
-        (lowered_places body.items)) }
+    op: &mut Op,
+    args: &mut Vec<Node>,
+    body: &mut Vec<Node>,
+) -> Result<(), AllocError>
+    ensures tree { OnOk result ((at : At) → form at op.new (trees_of args.new.items) (trees_of body.new.items)
+        ≡ named (form at op.old (trees_of args.old.items) (trees_of body.old.items))) }
+    ensures places { OnOk result ((here : Here) → form_places op.new (trees_of args.new.items) here (places_of body.new.items)
+        ≡ form_places op.old (trees_of args.old.items) here (lowered_places body.old.items)) }
 {
-    match op {
+    match *op {
         Op::Symbolic(symbol) => {
-            let made = lower_symbol(alloc, id, place, symbol, args, body)?;
-            Ok(made)
+            if !body.is_empty() {
+                return Ok(());
+            }
+            let made = lower_symbol(alloc, id, place, symbol, args)?;
+            *op = made;
+            Ok(())
         }
         _ => {
-            let args = lower_each(alloc, args)?;
-            let body = lower_body(alloc, op, body)?;
-            Ok(Term::Form { op, args, body })
+            lower_each(alloc, args)?;
+            lower_body(alloc, *op, body)?;
+            Ok(())
         }
     }
 }
 
 // What stands in the braces of a form.
 #[cycle(lower)]
-fn lower_body(alloc: Global, op: Op, body: Vec<Node>) -> Result<Vec<Node>, AllocError>
-    ensures trees { IfOk result (λ made. trees_of made.items ≡ named_body op (trees_of body.items)) }
-    ensures places { IfOk result (λ made. has_terms op ≡ true → places_of made.items ≡ lowered_places body.items) }
+fn lower_body(alloc: Global, op: Op, body: &mut Vec<Node>) -> Result<(), AllocError>
+    ensures trees { OnOk result (trees_of body.new.items ≡ named_body op (trees_of body.old.items)) }
+    ensures places { OnOk result (has_terms op ≡ true → places_of body.new.items ≡ lowered_places body.old.items) }
 {
     match op {
         Op::Special(Special::Package) => {
-            let elements = lower_each(alloc, body)?;
-            Ok(elements)
+            lower_each(alloc, body)?;
+            Ok(())
         }
         Op::Declaration(
             Declaration::Method
@@ -246,34 +228,26 @@ fn lower_body(alloc: Global, op: Op, body: Vec<Node>) -> Result<Vec<Node>, Alloc
             | Control::Case
             | Control::Default,
         ) => {
-            let terms = lower(alloc, body)?;
-            Ok(terms)
+            lower_list(alloc, body)?;
+            Ok(())
         }
-        _ => Ok(body),
+        _ => Ok(()),
     }
 }
 
-// What is written with a symbol. What does not fit stays as it is.
+// The operator of what is written with a symbol, on its arguments. What does not fit keeps its symbol.
 #[cycle(lower)]
 fn lower_symbol(
     alloc: Global,
     id: u32,
     place: Place,
     symbol: Symbolic,
-    args: Vec<Node>,
-    body: Vec<Node>,
-) -> Result<Term, AllocError>
-    ensures tree { IfOk result
-        (λ made. (at : At) → tree_of at made ≡ named (form at (O.Symbolic symbol) (trees_of args.items) (trees_of body.items))) }
+    args: &mut Vec<Node>,
+) -> Result<Op, AllocError>
+    ensures tree { IfOk result (λ op. (at : At) → form at op (trees_of args.new.items) no_trees
+        ≡ named (form at (O.Symbolic symbol) (trees_of args.old.items) no_trees)) }
     ensures alone { IfOk result StandsAlone }
 {
-    if !body.is_empty() {
-        return Ok(Term::Form {
-            op: Op::Symbolic(symbol),
-            args,
-            body,
-        });
-    }
     match symbol {
         Symbolic::Operator(op) => {
             let made = lower_operator(alloc, id, place, op, args)?;
@@ -296,66 +270,74 @@ fn lower_operator(
     id: u32,
     place: Place,
     op: Plain,
-    args: Vec<Node>,
-) -> Result<Term, AllocError>
-    ensures tree { IfOk result
-        (λ made. (at : At) → tree_of at made ≡ named (form at (O.Symbolic (S.Operator op)) (trees_of args.items) no_trees)) }
+    args: &mut Vec<Node>,
+) -> Result<Op, AllocError>
+    ensures tree { IfOk result (λ made. (at : At) → form at made (trees_of args.new.items) no_trees
+        ≡ named (form at (O.Symbolic (S.Operator op)) (trees_of args.old.items) no_trees)) }
     ensures alone { IfOk result StandsAlone }
 {
-    if !fit(op, &args) {
-        return Ok(bare(alloc, Op::Symbolic(Symbolic::Operator(op)), args));
+    if !fit(op, args) {
+        return Ok(Op::Symbolic(Symbolic::Operator(op)));
     }
-    let omitted = Node {
-        id,
-        place,
-        term: Term::Omitted,
-    };
-    let operands = lower_each(alloc, args)?;
-    let all = with_target(op, operands, omitted)?;
-    Ok(bare(alloc, Op::Plain(op), all))
+    lower_each(alloc, args)?;
+    put_targets(
+        op,
+        args,
+        Node {
+            id,
+            place,
+            term: Term::Omitted,
+        },
+    )?;
+    Ok(Op::Plain(op))
 }
 
 // `X = E`: the operator of E with the target X, or else Store.
 #[cycle(lower)]
-fn lower_assignment(alloc: Global, args: Vec<Node>) -> Result<Term, AllocError>
-    ensures tree { IfOk result (λ made. (at : At) → tree_of at made ≡ named (form at (O.Symbolic S.Assign) (trees_of args.items) no_trees)) }
+fn lower_assignment(alloc: Global, args: &mut Vec<Node>) -> Result<Op, AllocError>
+    ensures tree { IfOk result (λ made. (at : At) → form at made (trees_of args.new.items) no_trees
+        ≡ named (form at (O.Symbolic S.Assign) (trees_of args.old.items) no_trees)) }
     ensures alone { IfOk result StandsAlone }
 {
     if args.len() != 2 {
-        return Ok(bare(alloc, Op::Symbolic(Symbolic::Assign), args));
+        return Ok(Op::Symbolic(Symbolic::Assign));
     }
-    let (target, value) = two(args);
-    let target = lower_node(alloc, target)?;
-    match kind_of(&value.term) {
+    match kind_of(&args[1].term) {
         Kind::Operated(op) => {
-            let operands = lower_each(alloc, operands(alloc, value.term))?;
-            let all = with_target(op, operands, target)?;
-            Ok(bare(alloc, Op::Plain(op), all))
+            let both = replace(args, Vec::new(alloc));
+            let (target, value) = two(both);
+            let mut target = target;
+            let mut operands = operands(alloc, value.term);
+            lower_node(alloc, &mut target)?;
+            lower_each(alloc, &mut operands)?;
+            put_targets(op, &mut operands, target)?;
+            *args = operands;
+            Ok(Op::Plain(op))
         }
         _ => {
-            let value = lower_node(alloc, value)?;
-            let all = pair(alloc, given_node(alloc, value), target)?;
-            Ok(bare(alloc, Op::Plain(Plain::Data(DataOp::Store)), all))
+            lower_each(alloc, args)?;
+            args.swap(0, 1);
+            give(alloc, &mut args[0]);
+            Ok(Op::Plain(Plain::Data(DataOp::Store)))
         }
     }
 }
 
 // `X op= Y`: the operator on X and Y with the target X.
 #[cycle(lower)]
-fn lower_compound(alloc: Global, op: Compound, args: Vec<Node>) -> Result<Term, AllocError>
-    ensures tree { IfOk result
-        (λ made. (at : At) → tree_of at made ≡ named (form at (O.Symbolic (S.AssignBy op)) (trees_of args.items) no_trees)) }
+fn lower_compound(alloc: Global, op: Compound, args: &mut Vec<Node>) -> Result<Op, AllocError>
+    ensures tree { IfOk result (λ made. (at : At) → form at made (trees_of args.new.items) no_trees
+        ≡ named (form at (O.Symbolic (S.AssignBy op)) (trees_of args.old.items) no_trees)) }
     ensures alone { IfOk result StandsAlone }
 {
     if args.len() != 2 {
-        return Ok(bare(alloc, Op::Symbolic(Symbolic::AssignBy(op)), args));
+        return Ok(Op::Symbolic(Symbolic::AssignBy(op)));
     }
-    let (target, value) = two(args);
-    let target = lower_node(alloc, target)?;
-    let value = lower_node(alloc, value)?;
-    let copy = copied(alloc, &target)?;
-    let operands = pair(alloc, given_node(alloc, target), given_node(alloc, value))?;
+    lower_each(alloc, args)?;
+    let target = copied(alloc, &args[0])?;
+    give(alloc, &mut args[0]);
+    give(alloc, &mut args[1]);
     let plain = compound(op);
-    let all = with_target(plain, operands, copy)?;
-    Ok(bare(alloc, Op::Plain(plain), all))
+    put_targets(plain, args, target)?;
+    Ok(Op::Plain(plain))
 }

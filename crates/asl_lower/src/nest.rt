@@ -1,5 +1,5 @@
 //! A list of terms, in which an ElseIf is an Else with an If in it, and takes the Else behind it inside.
-ghost use Rattle.std.specs.Prelude.{◌≡◌, ◌++◌, ◌∷◌, reverse, OnOk, IfOk};
+ghost use Rattle.std.specs.Prelude.{◌≡◌, ◌++◌, ◌∷◌, reverse, false, OnOk, IfOk};
 ghost use Rattle.acpi_names.specs.Walked.{term_shape, node_tree};
 ghost use Rattle.asl_tree.specs.Tree.{At};
 ghost use Rattle.asl_tree.specs.View.{tree_of, trees_of};
@@ -14,6 +14,7 @@ ghost use Rattle.asl_lower.specs.declared.kind.Kind.TheVariants as K;
 use crate::kind::{Kind, kind_of};
 use asl_tree::term::{Control, Node, Op, Term};
 use std::alloc::{AllocError, Global};
+use std::mem::replace;
 
 // The If of an ElseIf.
 fn as_if(term: Term) -> Term
@@ -95,8 +96,8 @@ fn put_before(alloc: Global, made: &mut Vec<Node>, node: Node) -> Result<(), All
     }
 }
 
-/// A list of terms with its ElseIfs nested, from the last on.
-pub(crate) fn nest(alloc: Global, nodes: Vec<Node>) -> Result<Vec<Node>, AllocError>
+// A list of terms with its ElseIfs nested, from the last on.
+fn nest_all(alloc: Global, nodes: Vec<Node>) -> Result<Vec<Node>, AllocError>
     ensures trees { IfOk result (λ made. trees_of made.items ≡ nested (trees_of nodes.items)) }
     ensures places { IfOk result (λ made. places_of made.items ≡ nested_places nodes.items) }
 {
@@ -107,4 +108,44 @@ pub(crate) fn nest(alloc: Global, nodes: Vec<Node>) -> Result<Vec<Node>, AllocEr
     }
     made.reverse();
     Ok(made)
+}
+
+// Whether a term is written as an ElseIf.
+fn is_else_if(term: &Term) -> bool
+    ensures { result ≡ false → shape_kind (term_shape term.now) ≡ K.ElseIf → ⊥ }
+{
+    match term {
+        Term::Form {
+            op,
+            args: _,
+            body: _,
+        } => matches!(*op, Op::Control(Control::ElseIf)),
+        _ => false,
+    }
+}
+
+// Whether an ElseIf stands among some terms.
+fn has_else_if(nodes: &[Node]) -> bool
+    ensures trees { result ≡ false → trees_of nodes.now ≡ nested (trees_of nodes.now) }
+    ensures places { result ≡ false → places_of nodes.now ≡ nested_places nodes.now }
+{
+    for node in nodes {
+        if is_else_if(&node.term) {
+            return true;
+        }
+    }
+    false
+}
+
+/// Nests the ElseIfs of a list of terms. A list with none of them stays where it is.
+pub(crate) fn nest(alloc: Global, nodes: &mut Vec<Node>) -> Result<(), AllocError>
+    ensures trees { OnOk result (trees_of nodes.new.items ≡ nested (trees_of nodes.old.items)) }
+    ensures places { OnOk result (places_of nodes.new.items ≡ nested_places nodes.old.items) }
+{
+    if has_else_if(nodes) {
+        let all = replace(nodes, Vec::new(alloc));
+        let made = nest_all(alloc, all)?;
+        *nodes = made;
+    }
+    Ok(())
 }

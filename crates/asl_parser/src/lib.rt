@@ -1,6 +1,7 @@
 //! The syntax of a source: its tokens to the one tree that spells them.
 #![tactic(auto)]
 
+mod finish;
 mod frame;
 mod levels;
 mod machine;

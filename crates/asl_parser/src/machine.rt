@@ -4,7 +4,6 @@ ghost use Rattle.asl_parser.specs.Grow.{no_subtrees, leaf, posted};
 ghost use Rattle.asl_parser.specs.Looks.{lexeme_of};
 ghost use Rattle.asl_parser.specs.Marks.{mark, lexeme};
 ghost use Rattle.asl_parser.specs.Machine as spec;
-ghost use Rattle.asl_parser.specs.Machine.{Finishes};
 ghost use Rattle.asl_parser.specs.Opens.{IsOne, tree_of, kind_of, added, lists};
 ghost use Rattle.asl_parser.specs.Stages.{state_of, Holds, StepsTo, BeginsNext, ends};
 ghost use Rattle.asl_parser.specs.Steps.{is_args, is_list, is_index, binds as binds_by, applied_once, args_closed, list_closed};
@@ -55,9 +54,9 @@ fn apply(stack: &mut Stack) -> Result<(), AllocError>
     Ok(())
 }
 
-// Applies the operators that bind at least as tightly to the tree that is held.
+/// Applies the operators that bind at least as tightly to the tree that is held.
 #[inline(always)]
-fn settle(stack: &mut Stack, pull: u8) -> Result<(), AllocError>
+pub fn settle(stack: &mut Stack, pull: u8) -> Result<(), AllocError>
     requires one { IsOne stack.old.0 }
     ensures stack { OnOk result ((tree_of stack.new.0, stack.new.1) ≡ spec.settle pull (tree_of stack.old.0) stack.old.1) }
     ensures one { OnOk result (IsOne stack.new.0) }
@@ -749,55 +748,4 @@ pub fn end_expression(stack: &mut Stack, stage: &mut Stage) -> Result<(), Refusa
         stack.call(spot, word)?;
     }
     end_tree(stack)
-}
-
-// The end of the source, whose items were read.
-fn finish_source(stack: &mut Stack) -> Result<Subtrees, Refusal>
-    requires { stack.old.0 ≡ no_subtrees }
-    ensures { Finishes result (spec.finish states.Sequence stack.old.1) }
-{
-    match stack.kind() {
-        FrameKind::Unit => {}
-        _ => return Err(Refusal::Refused),
-    }
-    stack.end();
-    match stack.kind() {
-        FrameKind::Nothing => {}
-        _ => return Err(Refusal::Refused),
-    }
-    Ok(stack.take()?)
-}
-
-#[tactic(auto, unfolding(crate::specs::Machine::finish_whole))]
-fn finish_whole(stack: &mut Stack) -> Result<Subtrees, Refusal>
-    requires { IsOne stack.old.0 }
-    ensures { Finishes result (spec.finish_whole (tree_of stack.old.0) stack.old.1) }
-{
-    settle(stack, LOOSEST)?;
-    match stack.kind() {
-        FrameKind::Unit => {}
-        _ => return Err(Refusal::Refused),
-    }
-    stack.add()?;
-    finish_source(stack)
-}
-
-/// What the end of the tokens does.
-pub fn finish(stack: &mut Stack, stage: Stage) -> Result<Subtrees, Refusal>
-    requires { Holds stage stack.old.0 }
-    ensures { Finishes result (spec.finish (state_of stage stack.old.0) stack.old.1) }
-{
-    match stage {
-        Stage::Sequence => finish_source(stack),
-        Stage::Word { spot, word } => {
-            stack.name(spot, word)?;
-            finish_whole(stack)
-        }
-        Stage::Called { spot, word } => {
-            stack.call(spot, word)?;
-            finish_whole(stack)
-        }
-        Stage::Whole => finish_whole(stack),
-        _ => Err(Refusal::Refused),
-    }
 }

@@ -12,8 +12,9 @@ ghost use Rattle.asl_parser.specs.Within.{AreWithin};
 ghost use Rattle.asl_parser.specs.Written.{writtens};
 ghost use Rattle.asl_parser.specs.declared.raw.Raw.{Raw};
 
+use crate::finish::finish;
 use crate::frame::Refusal;
-use crate::machine::{end_expression, finish, step, word_on};
+use crate::machine::{end_expression, step, word_on};
 use crate::mark::{is_word, look_of};
 use crate::pairs::skip_pair;
 use crate::raw::RawUnit;

@@ -34,6 +34,8 @@ use Rattle.asl_words.specs.declared.meaning.Meaning.TheVariants as is
 use Rattle.asl_words.specs.declared.meaning.Reading.{Reading}
 use Rattle.asl_words.specs.declared.meaning.Reading.TheVariants as read
 use Rattle.asl_shape.specs.declared.around.Around.{Around}
+use Rattle.asl_shape.specs.declared.work.Outcome.{Outcome}
+use Rattle.asl_shape.specs.declared.work.Outcome.TheVariants as outcome
 use Rattle.asl_shape.specs.Around.{in_method}
 use Rattle.asl_tree.specs.declared.term.Word.{Word}
 use Rattle.asl_shape.specs.declared.fields.Due.{Due}
@@ -192,6 +194,12 @@ case_value width place p = choose (member_count p) (case_member width place p)
 abbrev pub meaning_in : Written → Meaning
 meaning_in (item p w args body) = meaning_of w (is_given body)
 meaning_in _ = is.Unknown
+
+-- what an outcome makes of an expression
+abbrev pub come_to : Outcome → Place → Plan → Shaped Plan
+come_to outcome.Stays place p = fine p
+come_to (outcome.Number n) place p = fine (an_integer n)
+come_to (outcome.Fault number) place p = refused number place
 
 -- an expression where a constant may be asked for; one that is left out is none. Constants of a stated range are evaluated with 64 bits,
 -- others at the table's width

@@ -58,7 +58,7 @@ pub fn number(
             if takes_expression(slot) {
                 Ok(Term::Integer(wrap(Width::W64, value)))
             } else {
-                Ok(refuse(alloc, work, unfit(slot), place)?)
+                refuse(alloc, work, unfit(slot), place)
             }
         }
     }
@@ -93,9 +93,9 @@ fn string(
     ensures made { IfOk result (λ term. plan_of term ≡ (spec.string_shape form place bytes.now).made) }
 {
     if has_form(form, bytes.as_bytes()) && is_text(bytes.as_bytes()) {
-        Ok(copied(alloc, bytes)?)
+        copied(alloc, bytes)
     } else {
-        Ok(refuse(alloc, work, unformed(form), place)?)
+        refuse(alloc, work, unformed(form), place)
     }
 }
 
@@ -128,7 +128,7 @@ pub fn path(alloc: Global, work: &mut Work, place: Place, text: &[u8]) -> Result
 {
     match path_of(alloc, text)? {
         Some(path) => Ok(Term::Name(path)),
-        None => Ok(refuse(alloc, work, VALUE_OUT_OF_RANGE, place)?),
+        None => refuse(alloc, work, VALUE_OUT_OF_RANGE, place),
     }
 }
 
@@ -252,7 +252,7 @@ fn types(
     if raws.len() as u64 <= most {
         Ok(Term::Integer(raws.len() as u64))
     } else {
-        Ok(refuse(alloc, work, VALUE_OUT_OF_RANGE, place)?)
+        refuse(alloc, work, VALUE_OUT_OF_RANGE, place)
     }
 }
 
@@ -279,7 +279,7 @@ pub fn listed(
     ensures made { IfOk result (λ term. plan_of term ≡ (at.listed_at slot place raws.now).made) }
 {
     match most_types(slot) {
-        Some(most) => Ok(types(alloc, work, most, place, raws)?),
-        None => Ok(refuse(alloc, work, unfit(slot), place)?),
+        Some(most) => types(alloc, work, most, place, raws),
+        None => refuse(alloc, work, unfit(slot), place),
     }
 }

@@ -6,6 +6,7 @@ ghost use Rattle.asl_shape.specs.Plans.{plan_of, plans_of, plan_at, number_of, f
 use crate::work::{is_omitted, value_of};
 use acpi_values::width::Width;
 use asl_tree::term::{Control, Declaration, Literal, Node, Op, Special, Term};
+use asl_words::operator::Parameter;
 use iasl_messages::place::Place;
 use std::alloc::{AllocError, Global};
 
@@ -48,6 +49,22 @@ pub fn push(nodes: &mut Vec<Node>, place: Place, term: Term) -> Result<(), Alloc
 {
     nodes.push(Node { id: 0, place, term })?;
     Ok(())
+}
+
+/// Adds what stands for an argument that is not there: a further one has nothing.
+#[tactic(auto, using(crate::proofs::Shapes::missing_rules))]
+pub fn add_missing(
+    nodes: &mut Vec<Node>,
+    place: Place,
+    parameter: Parameter,
+) -> Result<(), AllocError>
+    ensures { OnOk result (plans_of nodes.new.items ≡ join (plans_of nodes.old.items) (spec.missing place parameter)) }
+{
+    if parameter.further {
+        Ok(())
+    } else {
+        Ok(push(nodes, place, Term::Omitted)?)
+    }
 }
 
 // So many of the first.

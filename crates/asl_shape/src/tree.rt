@@ -20,9 +20,9 @@ use crate::lists::{
 };
 use crate::macros::first_term;
 use crate::resources;
-use crate::settle::{arrange, number_in, push, settle};
+use crate::settle::{add_missing, arrange, number_in, push, settle};
 use crate::symbol::symbol_of;
-use crate::work::{NOWHERE, Work, evaluate, refuse, tell};
+use crate::work::{NOWHERE, Work, evaluate, is_evaluated, refuse, tell};
 use asl_parser::{Raw, Raws};
 use asl_tree::term::{Node, Op, Term};
 use asl_words::meaning::{Reading, is_whole, meaning_of, reading_of, slot_as, takes_role, unfit};
@@ -52,11 +52,15 @@ fn shape(
     ensures faults { OnOk result (work.new.faults.items ≡ work.old.faults.items ++ (at.shape_at slot inside raw.now).faults) }
     ensures made { IfOk result (λ term. plan_of term ≡ (at.shape_at slot inside raw.now).made) }
 {
+    // Most slots ask for no more, and what is read is then moved once less.
+    if !is_evaluated(slot) {
+        return bare(alloc, work, slot, inside, raw);
+    }
     let before = work.faults.len();
     let term = bare(alloc, work, slot, inside, raw)?;
     if work.faults.len() == before {
         let place = place_in(NOWHERE, raw);
-        Ok(evaluate(alloc, work, inside.width, slot, place, term)?)
+        evaluate(alloc, work, inside.width, slot, place, term)
     } else {
         Ok(term)
     }
@@ -75,10 +79,10 @@ fn bare(
     ensures made { IfOk result (λ term. plan_of term ≡ (at.bare_at slot inside raw.now).made) }
 {
     match raw {
-        Raw::Number { place, value } => Ok(number(alloc, work, slot, *place, *value)?),
-        Raw::Text { place, text: bytes } => Ok(text(alloc, work, slot, *place, bytes)?),
-        Raw::List { place, items } => Ok(listed(alloc, work, slot, *place, items.as_slice())?),
-        Raw::Apply { place, op, args } => Ok(symbol(
+        Raw::Number { place, value } => number(alloc, work, slot, *place, *value),
+        Raw::Text { place, text: bytes } => text(alloc, work, slot, *place, bytes),
+        Raw::List { place, items } => listed(alloc, work, slot, *place, items.as_slice()),
+        Raw::Apply { place, op, args } => symbol(
             alloc,
             work,
             slot,
@@ -86,13 +90,13 @@ fn bare(
             inside,
             *place,
             args.as_slice(),
-        )?),
+        ),
         Raw::Item {
             place,
             word,
             args,
             body,
-        } => Ok(item(alloc, work, slot, inside, *place, word, args, body)?),
+        } => item(alloc, work, slot, inside, *place, word, args, body),
         Raw::Comma => Ok(Term::Omitted),
         Raw::Semicolon => Ok(Term::Omitted),
         Raw::Empty => Ok(Term::Omitted),
@@ -182,7 +186,7 @@ fn item(
     if let Some(fault) = item_fault(slot, inside, meaning, inside_of(args), is_given(body)) {
         return Ok(refuse(alloc, work, fault, place)?);
     }
-    Ok(read(
+    read(
         alloc,
         work,
         slot,
@@ -192,7 +196,7 @@ fn item(
         word,
         args,
         body,
-    )?)
+    )
 }
 
 // An item as it is read.
@@ -214,17 +218,15 @@ fn read(
     ensures made { IfOk result (λ term. plan_of term ≡ (at.read_at slot place word.now reading inside args.now body.now).made) }
 {
     match reading {
-        Reading::Wrong => Ok(refuse(alloc, work, unfit(slot), place)?),
-        Reading::Path => Ok(path(alloc, work, place, word.as_bytes())?),
-        Reading::Call => Ok(call(alloc, work, inside, place, word, args)?),
-        Reading::Element(word) => Ok(element(alloc, work, word, inside, place, args)?),
-        Reading::Macro(of) => Ok(text_macro(alloc, work, of, inside, place, args)?),
-        Reading::Template => Ok(template(alloc, work, inside, place, body)?),
-        Reading::Descriptor(of) => Ok(descriptor(alloc, work, of, inside, place, args, body)?),
+        Reading::Wrong => refuse(alloc, work, unfit(slot), place),
+        Reading::Path => path(alloc, work, place, word.as_bytes()),
+        Reading::Call => call(alloc, work, inside, place, word, args),
+        Reading::Element(word) => element(alloc, work, word, inside, place, args),
+        Reading::Macro(of) => text_macro(alloc, work, of, inside, place, args),
+        Reading::Template => template(alloc, work, inside, place, body),
+        Reading::Descriptor(of) => descriptor(alloc, work, of, inside, place, args, body),
         Reading::Known(known) => Ok(known_term(slot, known)),
-        Reading::Form(op) => {
-            Ok(form(alloc, work, slot, op, inside, place, inside_of(args), body)?)
-        }
+        Reading::Form(op) => { form(alloc, work, slot, op, inside, place, inside_of(args), body) }
     }
 }
 
@@ -397,7 +399,7 @@ fn symbol(
         (spec.symbol_shape inside.width slot place op (at.arguments_in_at (table.parameters_of op) place inside args.now)).made) }
 {
     if takes_role(slot, role_of(op)) {
-        Ok(form(
+        form(
             alloc,
             work,
             Slot::Expression,
@@ -406,9 +408,9 @@ fn symbol(
             place,
             args,
             &None,
-        )?)
+        )
     } else {
-        Ok(refuse(alloc, work, unfit(slot), place)?)
+        refuse(alloc, work, unfit(slot), place)
     }
 }
 
@@ -455,18 +457,6 @@ fn form(
         args: nodes,
         body: terms,
     })
-}
-
-// What stands for an argument that is not there: a further one has nothing.
-#[tactic(auto, using(crate::proofs::Shapes::missing_rules))]
-fn add_missing(nodes: &mut Vec<Node>, place: Place, parameter: Parameter) -> Result<(), AllocError>
-    ensures { OnOk result (plans_of nodes.new.items ≡ join (plans_of nodes.old.items) (spec.missing place parameter)) }
-{
-    if parameter.further {
-        Ok(())
-    } else {
-        Ok(push(nodes, place, Term::Omitted)?)
-    }
 }
 
 // The argument of this number, by its letter.

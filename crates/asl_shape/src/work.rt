@@ -1,8 +1,10 @@
 //! The errors that are found on the way.
-ghost use Rattle.std.specs.Prelude.{◌≡◌, ◌++◌, OnOk, IfOk};
+ghost use Rattle.std.specs.Prelude.{◌≡◌, ◌++◌, false, OnOk, IfOk};
 ghost use Rattle.asl_shape.specs.Shapes as spec;
-ghost use Rattle.asl_shape.specs.Plans.{plan_of, plans_of, constant_of};
+ghost use Rattle.asl_shape.specs.Plans.{Plan, plan_of, plans_of, constant_of};
 ghost use Rattle.asl_shape.specs.Plans.{is_omitted as is_left_out};
+ghost use Rattle.acpi_values.specs.declared.width.Width.{Width};
+ghost use Rattle.iasl_messages.specs.declared.place.Place.{Place};
 ghost use Rattle.asl_tree.specs.Names.{is_searched};
 
 use acpi_values::width::Width;
@@ -51,29 +53,31 @@ pub fn refuse(alloc: Global, work: &mut Work, number: u16, place: Place) -> Resu
     Ok(Term::Omitted)
 }
 
-// What a constant of this range stands as.
-#[tactic(auto, using(crate::proofs::Terms::nothing_more), unfolding(crate::specs::Plans::plan_of))]
-fn valued(
-    alloc: Global,
-    work: &mut Work,
-    least: u64,
-    most: u64,
-    place: Place,
-    constant: Result<u64, NoConstant>,
-) -> Result<Term, AllocError>
-    ensures faults { OnOk result (work.new.faults.items ≡ work.old.faults.items ++ (spec.valued least most place constant).faults) }
-    ensures made { IfOk result (λ term. plan_of term ≡ (spec.valued least most place constant).made) }
+/// What comes of an expression where a value is asked for.
+#[derive(Clone, Copy)]
+pub enum Outcome {
+    /// It stays as it is.
+    Stays,
+    /// It is this number.
+    Number(u64),
+    /// It is refused with an error of this number.
+    Fault(u16),
+}
+
+// What comes of a constant of this range.
+fn valued(least: u64, most: u64, constant: Result<u64, NoConstant>) -> Outcome
+    ensures { (place : Place) (term : Plan) → spec.come_to result place term ≡ spec.valued least most place constant }
 {
     match constant {
         Ok(value) => {
             if least <= value && value <= most {
-                Ok(Term::Integer(value))
+                Outcome::Number(value)
             } else {
-                Ok(refuse(alloc, work, VALUE_OUT_OF_RANGE, place)?)
+                Outcome::Fault(VALUE_OUT_OF_RANGE)
             }
         }
-        Err(NoConstant::Fault) => refuse(alloc, work, VALUE_OUT_OF_RANGE, place),
-        Err(NoConstant::Form) => refuse(alloc, work, WRONG_ARGUMENT_FORM, place),
+        Err(NoConstant::Fault) => Outcome::Fault(VALUE_OUT_OF_RANGE),
+        Err(NoConstant::Form) => Outcome::Fault(WRONG_ARGUMENT_FORM),
     }
 }
 
@@ -169,21 +173,13 @@ fn member_count(term: &Term) -> Option<usize>
 }
 
 // A member of a Package that is the value of a Case.
-#[tactic(auto, using(crate::proofs::Terms::nothing_more))]
-fn case_member(
-    alloc: Global,
-    work: &mut Work,
-    width: Width,
-    place: Place,
-    term: Term,
-) -> Result<Term, AllocError>
-    ensures faults { OnOk result (work.new.faults.items ≡ work.old.faults.items ++ (spec.case_member width place (plan_of term)).faults) }
-    ensures made { IfOk result (λ made. plan_of made ≡ (spec.case_member width place (plan_of term)).made) }
+fn case_member(width: Width, term: &Term) -> Outcome
+    ensures { (place : Place) → spec.come_to result place (plan_of term.now) ≡ spec.case_member width place (plan_of term.now) }
 {
-    if is_case_member(&term) {
-        Ok(term)
+    if is_case_member(term) {
+        Outcome::Stays
     } else {
-        Ok(valued(alloc, work, 0, u64::MAX, place, value_of(width, &term))?)
+        valued(0, u64::MAX, value_of(width, term))
     }
 }
 
@@ -198,24 +194,16 @@ fn is_case_package(members: usize) -> bool
 }
 
 // The value of a Case.
-#[tactic(auto, using(crate::proofs::Terms::nothing_more))]
-fn case_value(
-    alloc: Global,
-    work: &mut Work,
-    width: Width,
-    place: Place,
-    term: Term,
-) -> Result<Term, AllocError>
-    ensures faults { OnOk result (work.new.faults.items ≡ work.old.faults.items ++ (spec.case_value width place (plan_of term)).faults) }
-    ensures made { IfOk result (λ made. plan_of made ≡ (spec.case_value width place (plan_of term)).made) }
+fn case_value(width: Width, term: &Term) -> Outcome
+    ensures { (place : Place) → spec.come_to result place (plan_of term.now) ≡ spec.case_value width place (plan_of term.now) }
 {
-    match member_count(&term) {
-        None => Ok(case_member(alloc, work, width, place, term)?),
+    match member_count(term) {
+        None => case_member(width, term),
         Some(members) => {
             if is_case_package(members) {
-                Ok(term)
+                Outcome::Stays
             } else {
-                Ok(refuse(alloc, work, VALUE_OUT_OF_RANGE, place)?)
+                Outcome::Fault(VALUE_OUT_OF_RANGE)
             }
         }
     }
@@ -256,8 +244,47 @@ pub fn value_of(width: Width, term: &Term) -> Result<u64, NoConstant>
     constant(term, width)
 }
 
+// What comes of an expression where a constant may be asked for. This is the table's width.
+fn outcome_of(width: Width, slot: Slot, term: &Term) -> Outcome
+    ensures { (place : Place) → spec.come_to result place (plan_of term.now) ≡ spec.evaluated width slot place (plan_of term.now) }
+{
+    match slot {
+        Slot::Constant { least, most } => {
+            if is_omitted(term) {
+                Outcome::Stays
+            } else {
+                valued(least, most, value_of(Width::W64, term))
+            }
+        }
+        Slot::Measure => {
+            if is_omitted(term) {
+                Outcome::Stays
+            } else {
+                valued(0, u64::MAX, value_of(width, term))
+            }
+        }
+        Slot::Element => {
+            if is_member(term) {
+                Outcome::Stays
+            } else {
+                valued(0, u64::MAX, value_of(width, term))
+            }
+        }
+        Slot::CaseValue => case_value(width, term),
+        Slot::CaseMember => case_member(width, term),
+        Slot::FieldElement => {
+            if is_element(term) {
+                Outcome::Stays
+            } else {
+                Outcome::Fault(WRONG_ARGUMENT_FORM)
+            }
+        }
+        _ => Outcome::Stays,
+    }
+}
+
 /// An expression where a constant may be asked for: its value, if it is one. This is the table's width.
-#[tactic(auto, using(crate::proofs::Terms::nothing_more))]
+#[tactic(auto, using(crate::proofs::Terms::nothing_more), unfolding(crate::specs::Plans::plan_of))]
 pub fn evaluate(
     alloc: Global,
     work: &mut Work,
@@ -269,37 +296,24 @@ pub fn evaluate(
     ensures faults { OnOk result (work.new.faults.items ≡ work.old.faults.items ++ (spec.evaluated width slot place (plan_of term)).faults) }
     ensures made { IfOk result (λ made. plan_of made ≡ (spec.evaluated width slot place (plan_of term)).made) }
 {
+    match outcome_of(width, slot, &term) {
+        Outcome::Stays => Ok(term),
+        Outcome::Number(number) => Ok(Term::Integer(number)),
+        Outcome::Fault(number) => refuse(alloc, work, number, place),
+    }
+}
+
+/// Whether a slot may ask for more than an expression: where it does not, the expression stays as it is.
+pub fn is_evaluated(slot: Slot) -> bool
+    ensures { (width : Width) (place : Place) (term : Plan) → result ≡ false → spec.evaluated width slot place term ≡ spec.fine term }
+{
     match slot {
-        Slot::Constant { least, most } => {
-            if is_omitted(&term) {
-                Ok(term)
-            } else {
-                Ok(valued(alloc, work, least, most, place, value_of(Width::W64, &term))?)
-            }
-        }
-        Slot::Measure => {
-            if is_omitted(&term) {
-                Ok(term)
-            } else {
-                Ok(valued(alloc, work, 0, u64::MAX, place, value_of(width, &term))?)
-            }
-        }
-        Slot::Element => {
-            if is_member(&term) {
-                Ok(term)
-            } else {
-                Ok(valued(alloc, work, 0, u64::MAX, place, value_of(width, &term))?)
-            }
-        }
-        Slot::CaseValue => case_value(alloc, work, width, place, term),
-        Slot::CaseMember => case_member(alloc, work, width, place, term),
-        Slot::FieldElement => {
-            if is_element(&term) {
-                Ok(term)
-            } else {
-                Ok(refuse(alloc, work, WRONG_ARGUMENT_FORM, place)?)
-            }
-        }
-        _ => Ok(term),
+        Slot::Constant { .. } => true,
+        Slot::Measure => true,
+        Slot::Element => true,
+        Slot::CaseValue => true,
+        Slot::CaseMember => true,
+        Slot::FieldElement => true,
+        _ => false,
     }
 }

@@ -1,10 +1,10 @@
 -- Messages and tokens are in files that there are.
-use Rattle.std.proofs.Common.{◌≡◌, ℕ, ◌-◌, ◌<◌, Bool, true, false, List, [], ◌∷◌, length, get_or, Option, Some, None, Result, Ok, Err, refl, sym, subst, arith}
-use Rattle.std.specs.Prelude.{nat_le, ◌++◌, if◌then◌else◌, slice_get, IfOk, map}
+use Rattle.std.proofs.Common.{◌≡◌, ℕ, ◌-◌, ◌<◌, Bool, true, false, List, [], ◌∷◌, length, Option, Some, None, Result, Ok, Err, refl, sym, subst, arith}
+use Rattle.std.specs.Prelude.{nat_le, ◌++◌, if◌then◌else◌, slice_get, IfOk}
 use Rattle.std.specs.declared.alloc.AllocError.{AllocError}
 use Rattle.std.specs.List.{All}
 use Rattle.std.specs.Option.{option_map_or}
-use Rattle.std.proofs.lemmas.List.Elements.{All-push, All-map, All-append}
+use Rattle.std.proofs.lemmas.List.Elements.{All-push, All-append}
 use Rattle.std.proofs.lemmas.Option.{get_or_from_slice_get, slice_get_within}
 use Rattle.iasl_messages.specs.declared.place.Place.{Place}
 use Rattle.iasl_messages.specs.declared.place.Line.{Line}
@@ -13,17 +13,12 @@ use Rattle.iasl_messages.specs.declared.message.Message.{Message}
 use Rattle.asl_lexer.specs.declared.token.Token.{Token}
 use Rattle.asl_parser.specs.declared.raw.Raw.{Raw}
 use Rattle.asl_parser.specs.Place.{first_place, place_behind, place_at}
-use Rattle.asl_tree.specs.Tree.{Trees as Trees'}
-use Rattle.acpi_names.specs.Errors.{NameError, Twice, DeclaredHere, Missing, NoContainer, LeavesRoot, Differs, TooLong, WrongCount, WrongKind, name_errors, type_errors}
-use Rattle.name_checks.specs.Messages.{message_of, first_errors, told_errors}
-use Rattle.named_sessions.specs.Places.{at_of, AreWithin as TreesWithin}
-use Rattle.named_sessions.proofs.Places.{errors_within as names_within}
 use Rattle.asl_parser.specs.Written.{Writtens, item, none, more, written, writtens}
 use Rattle.asl_parser.specs.Within.{IsWithin, AreWithin as PartsWithin}
 use Rattle.asl_shape.specs.Forms.{source_errors, alone, block_place}
 use Rattle.asl_shape.proofs.Places.{source_errors_within}
 use Rattle.literal_checks.proofs.Places.{literals_within}
-use Rattle.program_shapes.specs.Sources.{source_in, names_in, uses_in, plans_in, terms_in, statements_in, layouts_in, regions_in, types_in, sizes_in, values_in, locals_in, notes_in, fields_in, width_in}
+use Rattle.program_shapes.specs.Sources.{source_in, names_in, uses_in, checked_in, program_in, plans_in, terms_in, statements_in, layouts_in, regions_in, types_in, sizes_in, values_in, locals_in, notes_in, fields_in, width_in}
 use Rattle.program_shapes.proofs.Places.{terms_within}
 use Rattle.program_shapes.proofs.StatementPlaces.{statement_errors_within}
 use Rattle.program_shapes.proofs.ListPlaces.{list_errors_within}
@@ -31,8 +26,9 @@ use Rattle.program_shapes.proofs.RegionPlaces.{access_errors_within}
 use Rattle.program_shapes.proofs.TypePlaces.{types_within, sizes_within}
 use Rattle.program_shapes.proofs.SwitchPlaces.{repeats_within, locals_within}
 use Rattle.program_shapes.proofs.NotePlaces.{source_notes_within}
-use Rattle.program_shapes.proofs.TreePlaces.{plans_within, source_within}
-use Rattle.descriptor_shapes.proofs.Places.{names_told_within, kinds_told_within}
+use Rattle.asl_tables.proofs.CopyPlaces.{copies_within}
+use Rattle.program_shapes.proofs.TreePlaces.{plans_within, checked_plans_within, program_within}
+use Rattle.descriptor_shapes.proofs.ToldPlaces.{names_told_within, kinds_told_within}
 use Rattle.aml_writer.specs.Written.{most_table_bytes}
 use Rattle.block_outcomes.specs.declared.outcome.Class.{Class}
 use Rattle.block_outcomes.specs.declared.outcome.Class.TheVariants as class
@@ -42,7 +38,7 @@ use Rattle.block_outcomes.specs.declared.outcome.Outcome.{Outcome}
 use Rattle.block_outcomes.specs.declared.outcome.Outcome.TheVariants.{Done, Faulty}
 use Rattle.asl_tables.specs.Syntax.{at_token}
 use Rattle.asl_tables.specs.declared.compile.Style.{Style}
-use Rattle.asl_tables.specs.Compiled.{own_in, literals_in, noted_in, all_noted, told_of_names, told_in, others_in, AreWithin, too_long, of_table, unless_wrong, is_of_kinds, with_others, outcome_in, outcomes_in, of_items, written_in, cut_in, TellsWithin}
+use Rattle.asl_tables.specs.Compiled.{own_in, literals_in, noted_in, all_noted, told_in, others_in, copies_in, unlowered_in, AreWithin, too_long, of_table, unless_wrong, is_of_kinds, with_others, outcome_in, outcomes_in, of_items, written_in, cut_in, TellsWithin}
 use Rattle.block_outcomes.specs.Joined.{first_told, unless_refused, unless_noted, class_in, is_class_in, if_class, of_class, later_errors, tables_among, joined}
 
 module _ (files : ℕ) where
@@ -73,32 +69,6 @@ module _ (files : ℕ) where
   wrong_home [] it h k = k
   wrong_home (m ∷ ms) it h k = h
 
-  messages_home : (errors : List NameError) → All (λ e. (at_of e).place.file < files) errors → AreWithin files (map message_of errors)
-  messages_home errors h = All-map (λ (m : Message). m.place.file < files) message_of errors (each errors h)
-    where
-      one : (e : NameError) → (at_of e).place.file < files → (message_of e).place.file < files
-      one (Twice at path) h = h
-      one (DeclaredHere at path) h = h
-      one (Missing at name) h = h
-      one (NoContainer at name) h = h
-      one (LeavesRoot at name) h = h
-      one (Differs at name) h = h
-      one (TooLong at name) h = h
-      one (WrongCount at name) h = h
-      one (WrongKind at name) h = h
-
-      each : (es : List NameError) → All (λ e. (at_of e).place.file < files) es → All (λ e. (message_of e).place.file < files) es
-      each es h = λ i d lt. one (get_or es i d) (h i d lt)
-
-  told_home : (terms : Trees') → TreesWithin files terms → AreWithin files (told_errors terms)
-  told_home terms h =
-      let errors = names_within files terms h in
-      by (name_errors terms) (type_errors terms) errors.0 errors.1
-    where
-      by : (ns ts : List NameError) → All (λ e. (at_of e).place.file < files) ns → All (λ e. (at_of e).place.file < files) ts → AreWithin files (map message_of (first_errors ns ts))
-      by [] ts hn ht = messages_home ts ht
-      by (n ∷ ns) ts hn ht = messages_home (n ∷ ns) hn
-
   first_home : (messages others : List Message) → AreWithin files messages → AreWithin files others → AreWithin files (first_told messages others)
   first_home [] others h k = k
   first_home (m ∷ ms) others h k = h
@@ -119,22 +89,24 @@ module _ (files : ℕ) where
   outcome_home : (style : Style) (lines : List Line) (items : List Raw) → PartsWithin files (writtens items) → 0 < files → OutcomeHome (outcome_in style lines items)
   outcome_home style lines items parts main =
       let written = terms_within files (writtens items) parts in
-      let before = first_home (names_in items) (uses_in items) (names_told_within files (source_in items) written) (kinds_told_within files (source_in items) written) in
-      let names = first_home (told_of_names (source_in items)) (told_errors (terms_in items)) before (told_home (terms_in items) (source_within files 0 (writtens items) parts)) in
+      let names = first_home (names_in items) (uses_in items) (names_told_within files (source_in items) written) (kinds_told_within files (source_in items) written) in
+      let checked = checked_plans_within files (writtens items) parts in
       let plans = plans_within files (writtens items) parts in
       let lists = All-append (λ (m : Message). m.place.file < files) (statements_in items) (layouts_in items) (statement_errors_within files (plans_in items) plans) (list_errors_within files (plans_in items) plans) in
       let accesses = All-append (λ (m : Message). m.place.file < files) (statements_in items ++ layouts_in items) (regions_in items) lists
-      (access_errors_within files (width_in items) (terms_in items) (plans_in items) (source_within files 0 (writtens items) parts) plans) in
-      let types = All-append (λ (m : Message). m.place.file < files) (statements_in items ++ layouts_in items ++ regions_in items) (types_in items) accesses (types_within files (terms_in items) (plans_in items) plans) in
+      (access_errors_within files (width_in items) (program_in items) (checked_in items) (program_within files (writtens items) parts) checked) in
+      let types = All-append (λ (m : Message). m.place.file < files) (statements_in items ++ layouts_in items ++ regions_in items) (types_in items) accesses (types_within files (program_in items) (checked_in items) checked) in
       let sizes = All-append (λ (m : Message). m.place.file < files) (statements_in items ++ layouts_in items ++ regions_in items ++ types_in items) (sizes_in items) types (sizes_within files (width_in items) (plans_in items) plans) in
       let others = All-append (λ (m : Message). m.place.file < files) (statements_in items ++ layouts_in items ++ regions_in items ++ types_in items ++ sizes_in items) (values_in items) sizes (repeats_within files (width_in items) (plans_in items) plans) in
       let table = of_table (block_place (writtens items)) (fields_in items).signature (own_in items) (written_in style items) (cut_in style lines items) in
-      wrong_home (with_others (told_in items) (others_in items)) (unless_wrong (locals_in items) table) (statements_home (told_in items) (others_in items) names others)
-      (wrong_home (locals_in items) table (locals_within files (terms_in items) (plans_in items) main plans)
-      (of_table_home (block_place (writtens items)) (fields_in items).signature (own_in items) (written_in style items) (cut_in style lines items) (block_home (writtens items) parts main)))
+      let place = block_home (writtens items) parts main in
+      let unlowered = All-append (λ (m : Message). m.place.file < files) (locals_in items) (copies_in items) (locals_within files (terms_in items) (plans_in items) main plans) (copies_within files (block_place (writtens items)) (plans_in items) place plans) in
+      wrong_home (with_others (told_in items) (others_in items)) (unless_wrong (unlowered_in items) table) (statements_home (told_in items) (others_in items) names others)
+      (wrong_home (unlowered_in items) table unlowered
+      (of_table_home (block_place (writtens items)) (fields_in items).signature (own_in items) (written_in style items) (cut_in style lines items) place))
 
   noted_home : (items : List Raw) → PartsWithin files (writtens items) → AreWithin files (noted_in items)
-  noted_home items parts = All-append (λ (m : Message). m.place.file < files) (literals_in items) (notes_in items) (literals_within files (width_in items) items parts) (source_notes_within files 0 (writtens items) parts)
+  noted_home items parts = All-append (λ (m : Message). m.place.file < files) (literals_in items) (notes_in items) (literals_within files (width_in items) items parts) (source_notes_within files (writtens items) parts)
 
   -- ---- blocks together
 

@@ -15,7 +15,7 @@ use Rattle.asl_tree.specs.declared.program.Block.{Block}
 use Rattle.asl_shape.specs.Forms.{errors_at, source_errors, alone, block_place, IsBlockOf, AreBlocksOf, AreRight}
 use Rattle.aml_writer.specs.Written.{most_table_bytes}
 use Rattle.program_shapes.specs.Kept.{IsKeptSource, AreKeptAlone}
-use Rattle.program_shapes.specs.Sources.{fields_in, locals_in}
+use Rattle.program_shapes.specs.Sources.{fields_in}
 use Rattle.program_shapes.proofs.OwnNames.{own_is_ascii}
 use Rattle.asl_tables.specs.declared.compile.Style.{Style}
 use Rattle.block_outcomes.specs.declared.outcome.Class.TheVariants as class
@@ -24,7 +24,7 @@ use Rattle.block_outcomes.specs.declared.outcome.Compiled.TheVariants.{Made}
 use Rattle.block_outcomes.specs.declared.outcome.Outcome.{Outcome}
 use Rattle.block_outcomes.specs.declared.outcome.Outcome.TheVariants.{Done, Faulty}
 use Rattle.block_outcomes.specs.declared.outcome.Sorted.{Sorted}
-use Rattle.asl_tables.specs.Compiled.{own_in, told_in, others_in, with_others, noted_in, all_noted, unless_wrong, of_table, written_in, cut_in, too_long, outcome_in, outcomes_in, of_items, HaveAsciiNames, HasAsciiNames}
+use Rattle.asl_tables.specs.Compiled.{own_in, told_in, others_in, unlowered_in, with_others, noted_in, all_noted, unless_wrong, of_table, written_in, cut_in, too_long, outcome_in, outcomes_in, of_items, HaveAsciiNames, HasAsciiNames}
 use Rattle.block_outcomes.specs.Joined.{unless_refused, unless_noted, of_class, tables_among, later_errors, joined}
 use Rattle.block_outcomes.specs.Sorted.{AreSorted}
 
@@ -119,12 +119,12 @@ one_ascii style lines items e kept = by_names (with_others (told_in items) (othe
     by_length true h = h
     by_length false h = tt
 
-    by_locals : (ms : List Message) → IsAscii (own_in items) → HasAsciiName (unless_wrong ms (of_table place (fields_in items).signature (own_in items) (written_in style items) (cut_in style lines items)))
-    by_locals [] h = by_length (nat_le (length (written_in style items)) most_table_bytes) h
-    by_locals (m ∷ ms) h = tt
+    by_lowering : (ms : List Message) → IsAscii (own_in items) → HasAsciiName (unless_wrong ms (of_table place (fields_in items).signature (own_in items) (written_in style items) (cut_in style lines items)))
+    by_lowering [] h = by_length (nat_le (length (written_in style items)) most_table_bytes) h
+    by_lowering (m ∷ ms) h = tt
 
-    by_names : (ms : List Message) → IsAscii (own_in items) → HasAsciiName (unless_wrong ms (unless_wrong (locals_in items) (of_table place (fields_in items).signature (own_in items) (written_in style items) (cut_in style lines items))))
-    by_names [] h = by_locals (locals_in items) h
+    by_names : (ms : List Message) → IsAscii (own_in items) → HasAsciiName (unless_wrong ms (unless_wrong (unlowered_in items) (of_table place (fields_in items).signature (own_in items) (written_in style items) (cut_in style lines items))))
+    by_names [] h = by_lowering (unlowered_in items) h
     by_names (m ∷ ms) h = tt
 
 each_ascii : (style : Style) (lines : List Line) (raws : List Raw) → AreRight raws → AreKeptAlone raws → HaveAsciiNames (tables_among (outcomes_in style lines raws))

@@ -6,7 +6,7 @@ pub mod Items
 pub mod Sources
 pub mod Homes
 pub mod Given
-pub mod Classes
-pub mod Resolving
-pub mod Spots
+pub mod Named
+pub mod Owners
+pub mod CopyPlaces
 pub mod Results

@@ -1,7 +1,6 @@
 -- What a block, a program and a source come to.
 use Rattle.std.proofs.Common.{ℕ, ◌≡◌, ◌<◌, ◌≤◌, ◌^◌, length, List, [], ◌∷◌, Result, Ok, Err, refl, sym, ap, ◌∙◌, subst, arith}
-use Rattle.std.specs.Prelude.{map, IfOk, if◌then◌else◌, ◌++◌, Bool, true, false}
-use Rattle.statement_checks.specs.Statements.{errors_of_statements}
+use Rattle.std.specs.Prelude.{IfOk, if◌then◌else◌, ◌++◌, Bool, true, false}
 use Rattle.std.specs.declared.alloc.AllocError.{AllocError}
 use Rattle.iasl_messages.specs.declared.message.Stage.{Stage}
 use Rattle.iasl_messages.specs.declared.message.Stage.TheVariants.{Refused as Refused'}
@@ -12,7 +11,6 @@ use Rattle.iasl_messages.specs.declared.message.Message.{Message}
 use Rattle.asl_tree.specs.declared.program.Block.{Block}
 use Rattle.asl_tree.specs.Tree.{Trees}
 use Rattle.aml_code.specs.Header.{HeaderFields, fields_of}
-use Rattle.acpi_names.specs.Errors.{NameError, name_errors, type_errors}
 use Rattle.named_sessions.specs.Shaped.{AreFormed, AreNamed, AreShaped}
 use Rattle.asl_lower.specs.Nodes.{named_all}
 use Rattle.asl_formats.specs.Forms.{formed_all}
@@ -20,37 +18,32 @@ use Rattle.form_shapes.specs.Near.{AreNear}
 use Rattle.hidden_locals.specs.Switches.{without_switches}
 use Rattle.asl_parser.specs.declared.raw.Raw.{Raw}
 use Rattle.asl_parser.specs.Written.{writtens}
-use Rattle.asl_shape.specs.Plans.{Plans, plans_of, plan_at, number_of}
+use Rattle.asl_shape.specs.Plans.{plans_of, plan_at, number_of}
 use Rattle.asl_shape.specs.Forms.{IsBlock, IsBlockOf, errors_at, args_of, block_place}
 use Rattle.asl_numbers.specs.Numbers.{numbered_all}
-use Rattle.name_checks.specs.Messages.{message_of, first_errors, told_errors}
 use Rattle.program_shapes.specs.Kept.{IsKeptSource}
-use Rattle.program_shapes.specs.Sources.{plans_in, terms_in, statements_in, layouts_in, regions_in, types_in, sizes_in, values_in, locals_in, fields_in, width_in, IsRight}
+use Rattle.program_shapes.specs.Sources.{plans_in, terms_in, statements_in, layouts_in, regions_in, types_in, sizes_in, values_in, notes_in, fields_in, width_in, IsRight}
+use Rattle.region_checks.specs.Regions.{region_errors}
 use Rattle.type_checks.specs.Types.{wrong_types}
-use Rattle.type_checks.specs.Sizes.{long_lists}
-use Rattle.switch_checks.specs.Repeats.{repeated_values}
-use Rattle.switch_checks.specs.Locals.{few_locals}
-use Rattle.name_notes.specs.Notes.{name_notes}
 use Rattle.iasl_messages.specs.declared.place.Place.{Place}
 use Rattle.iasl_messages.specs.declared.place.Line.{Line}
 use Rattle.source_pieces.specs.Places.{core_places}
 use Rattle.program_shapes.proofs.Blocks.{terms_as, room_in}
-use Rattle.descriptor_names.specs.Resolved.{resolved_terms}
+use Rattle.descriptor_names.specs.Resolved.{checked_terms, resolved_terms}
+use Rattle.descriptor_names.specs.Told.{checked_trees}
 use Rattle.program_shapes.proofs.Headers.{HaveRoom}
-use Rattle.field_checks.specs.Lists.{all_errors}
-use Rattle.region_checks.specs.Regions.{region_errors}
 use Rattle.program_shapes.proofs.Tables.{terms_are_formed, terms_are_near, core_is_shaped}
-use Rattle.acpi_values.specs.declared.width.Width.{Width}
 use Rattle.acpi_values.specs.Revisions.{width_of}
-use Rattle.literal_checks.specs.Literals.{cut_literals_at}
 use Rattle.block_outcomes.specs.declared.outcome.Compiled.{Compiled}
 use Rattle.block_outcomes.specs.declared.outcome.Compiled.TheVariants.{Refused}
 use Rattle.block_outcomes.specs.declared.outcome.Outcome.{Outcome}
 use Rattle.block_outcomes.specs.declared.outcome.Outcome.TheVariants.{Faulty}
 use Rattle.asl_tables.specs.declared.compile.Style.{Style}
-use Rattle.asl_tables.specs.Compiled.{table_with, its_pieces, noted_in, unless_wrong, told_of_names, told_in, is_of_kinds, others_in, with_others, own_in, of_table, of_terms, outcome_in}
+use Rattle.asl_tables.specs.Compiled.{table_with, its_pieces, unless_wrong, told_of_names, told_in, is_of_kinds, others_in, with_others, own_in, of_table, of_terms, unlowered, unlowered_in, outcome_in}
 use Rattle.block_outcomes.specs.Joined.{unless_refused, first_told}
+use Rattle.asl_tables.specs.Findings.{others_of}
 use Rattle.asl_tables.specs.Ready.{HasRoom}
+use Rattle.asl_tables.proofs.Named.{noted_of}
 
 -- errors that there are
 pub refused_is : (messages errors : List Message) (it : Outcome) → (messages ≡ errors) × (errors ≡ [] → ⊥) → Faulty messages ≡ unless_wrong errors it
@@ -60,15 +53,6 @@ refused_is messages (m ∷ ms) it h = ap Faulty h.0
 -- none
 pub right_is : (errors : List Message) (it other : Outcome) → errors ≡ [] → it ≡ other → it ≡ unless_wrong errors other
 right_is errors it other e h = h ∙ sym (ap (λ es. unless_wrong es other) e)
-
--- no errors of names, nor of kinds
-pub none_told : (terms : Trees) → name_errors terms ≡ [] → type_errors terms ≡ [] → told_errors terms ≡ []
-none_told terms names types = by (name_errors terms) (type_errors terms) names types
-  where
-    by : (ns ts : List NameError) → ns ≡ [] → ts ≡ [] → map message_of (first_errors ns ts) ≡ []
-    by [] [] en et = refl
-    by [] (t ∷ ts) en et = absurd cc
-    by (n ∷ ns) ts en et = absurd cc
 
 -- nothing is told first, nor else
 pub none_first : (messages others : List Message) → messages ≡ [] → others ≡ [] → first_told messages others ≡ []
@@ -119,9 +103,28 @@ unfolding errors_at IsBlockOf
 written_formed items block e h k = subst (λ ps. AreFormed (Unit {0}) AreNamed (Unit {0}) (Unit {0}) (numbered_all 0 ps)) (sym h.terms) (terms_as (writtens items) e k 0)
 
 -- what is told of the names of a block's terms is what is told of those of its source
-pub same_told : (items : List Raw) (block : Block) (names : List Message) → IsBlockOf items block → names ≡ first_told (told_of_names (plans_of block.terms.items)) (told_errors (numbered_all 0 (resolved_terms (plans_of block.terms.items)))) → names ≡ told_in items
+pub same_told : (items : List Raw) (block : Block) (names : List Message) → IsBlockOf items block → names ≡ told_of_names (plans_of block.terms.items) → names ≡ told_in items
 unfolding IsBlockOf
-same_told items block names h e = e ∙ ap (λ ps. first_told (told_of_names ps) (told_errors (numbered_all 0 (resolved_terms ps)))) h.terms
+same_told items block names h e = e ∙ ap told_of_names h.terms
+
+-- so are the accesses to its regions, the kinds of its arguments, and the notes on its names
+pub same_regions : (items : List Raw) (block : Block) (regions : List Message) → IsBlockOf items block → regions ≡ region_errors (width_of block.revision) (checked_trees (plans_of block.terms.items)) (checked_terms (plans_of block.terms.items)) → regions ≡ regions_in items
+unfolding IsBlockOf
+same_regions items block regions h e =
+    e ∙ ap (λ n. region_errors (width_of n) (checked_trees (plans_of block.terms.items)) (checked_terms (plans_of block.terms.items))) h.revision
+    ∙ ap (λ ps. region_errors (width_in items) (checked_trees ps) (checked_terms ps)) h.terms
+
+pub same_types : (items : List Raw) (block : Block) (types : List Message) → IsBlockOf items block → types ≡ wrong_types (checked_trees (plans_of block.terms.items)) (checked_terms (plans_of block.terms.items)) → types ≡ types_in items
+unfolding IsBlockOf
+same_types items block types h e = e ∙ ap (λ ps. wrong_types (checked_trees ps) (checked_terms ps)) h.terms
+
+pub same_notes : (items : List Raw) (block : Block) (notes : List Message) → IsBlockOf items block → notes ≡ noted_of (plans_of block.terms.items) → notes ≡ notes_in items
+unfolding IsBlockOf
+same_notes items block notes h e = e ∙ ap noted_of h.terms
+
+-- the width of its integers
+pub same_width : (items : List Raw) (block : Block) → IsResolvedOf items block → width_of block.revision ≡ width_in items
+same_width items block h = ap width_of h.revision
 
 -- the header of a block has room
 pub block_room : (items : List Raw) (block : Block) → errors_at items ≡ [] → IsResolvedOf items block → IsKeptSource (writtens items) → HasRoom (fields_of block)
@@ -138,15 +141,13 @@ block_room items block e h k =
 same_terms : (items : List Raw) (block : Block) (terms : Trees) → IsResolvedOf items block → terms ≡ numbered_all 0 (plans_of block.terms.items) → terms ≡ terms_in items
 same_terms items block terms h e = e ∙ ap (numbered_all 0) h.terms
 
--- what is wrong with the statements of some plans, then with their lists of fields and the accesses of these, and then with the kinds of
--- arguments, the lengths of lists and the values of Cases, at a width
-abbrev pub others_of : Width → Trees → Plans → List Message
-others_of width terms ps = errors_of_statements ps ++ all_errors ps ++ region_errors width terms ps ++ wrong_types terms ps ++ long_lists width ps ++ repeated_values width ps
-
-same_others : (items : List Raw) (block : Block) (terms : Trees) → IsResolvedOf items block → terms ≡ numbered_all 0 (plans_of block.terms.items) → others_of (width_of block.revision) terms (plans_of block.terms.items) ≡ others_in items
-same_others items block terms h is =
-    ap (λ n. others_of (width_of n) terms (plans_of block.terms.items)) h.revision ∙ ap (λ ts. others_of (width_in items) ts (plans_of block.terms.items)) (same_terms items block terms h is)
-    ∙ ap (others_of (width_in items) (terms_in items)) h.terms
+-- what else is wrong with it, with its accesses and the kinds of its arguments, is what is wrong with its source
+pub same_others : (items : List Raw) (block : Block) (regions types : List Message) → IsResolvedOf items block → regions ≡ regions_in items → types ≡ types_in items → others_of (width_of block.revision) (plans_of block.terms.items) regions types ≡ others_in items
+same_others items block regions types h r t =
+    ap (λ n. others_of (width_of n) (plans_of block.terms.items) regions types) h.revision
+    ∙ ap (λ ps. others_of (width_in items) ps regions types) h.terms
+    ∙ ap (λ rs. others_of (width_in items) (plans_in items) rs types) r
+    ∙ ap (others_of (width_in items) (plans_in items) (regions_in items)) t
 
 -- its terms, numbered, are formed
 pub block_formed : (items : List Raw) (block : Block) (terms : Trees) → errors_at items ≡ [] → IsResolvedOf items block → IsKeptSource (writtens items) → terms ≡ numbered_all 0 (plans_of block.terms.items) → AreFormed (Unit {0}) AreNamed (Unit {0}) (Unit {0}) terms
@@ -184,15 +185,16 @@ both_right items right =
     ∙ right.values
 
 -- no Continue of a For stands in a container in it, where nothing else is wrong
-pub block_near : (items : List Raw) (block : Block) (terms : Trees) (others : List Message) → IsResolvedOf items block → terms ≡ numbered_all 0 (plans_of block.terms.items) → others ≡ others_of (width_of block.revision) terms (plans_of block.terms.items) → others ≡ [] → AreNear terms
+pub block_near : (items : List Raw) (block : Block) (terms : Trees) (others : List Message) → IsResolvedOf items block → terms ≡ numbered_all 0 (plans_of block.terms.items) → others ≡ others_in items → others ≡ [] → AreNear terms
 block_near items block terms others h is are none =
-    let nothing : others_in items ≡ [] = sym (same_others items block terms h is) ∙ sym are ∙ none in
+    let nothing : others_in items ≡ [] = sym are ∙ none in
     subst AreNear (sym (same_terms items block terms h is)) (terms_are_near items (none_of_others items nothing).statements)
 
 -- and shaped, where nothing else is wrong
-pub block_shaped : (items : List Raw) (block : Block) (terms : Trees) (others : List Message) → errors_at items ≡ [] → IsResolvedOf items block → IsKeptSource (writtens items) → terms ≡ numbered_all 0 (plans_of block.terms.items) → others ≡ others_of (width_of block.revision) terms (plans_of block.terms.items) → others ≡ [] → AreShaped (named_all (without_switches (formed_all terms)))
+pub block_shaped : (items : List Raw) (block : Block) (terms : Trees) (others : List Message) → errors_at items ≡ [] → IsResolvedOf items block → IsKeptSource (writtens items) → terms ≡ numbered_all 0 (plans_of block.terms.items) → others ≡ others_in items → others ≡ []
+    → AreShaped (named_all (without_switches (formed_all terms)))
 block_shaped items block terms others e h k is are none =
-    let nothing : others_in items ≡ [] = sym (same_others items block terms h is) ∙ sym are ∙ none in
+    let nothing : others_in items ≡ [] = sym are ∙ none in
     subst (λ ts. AreShaped (named_all (without_switches (formed_all ts)))) (sym (same_terms items block terms h is)) (core_is_shaped items e (none_of_others items nothing).statements (none_of_others items nothing).layouts k)
 
 same_fields : (items : List Raw) (block : Block) → IsResolvedOf items block → fields_of block ≡ fields_in items
@@ -208,21 +210,16 @@ same_place items block h = h.place
 same_places : (items : List Raw) (block : Block) → IsResolvedOf items block → core_places (plans_of block.terms.items) ≡ core_places (plans_in items)
 same_places items block h = ap core_places h.terms
 
--- its Switches for which too few Locals are free are those of its source
-same_locals : (items : List Raw) (block : Block) (terms : Trees) → IsResolvedOf items block → terms ≡ numbered_all 0 (plans_of block.terms.items) → few_locals terms (plans_of block.terms.items) ≡ locals_in items
-same_locals items block terms h is = ap (λ ts. few_locals ts (plans_of block.terms.items)) (same_terms items block terms h is) ∙ ap (few_locals (terms_in items)) h.terms
-
--- the notes on its literals and on its names
-abbrev pub noted_at : Width → List Raw → Trees → List Message
-noted_at width items terms = cut_literals_at width items ++ name_notes terms
-
--- are those of its source
-pub same_notes : (items : List Raw) (block : Block) (terms : Trees) → IsResolvedOf items block → terms ≡ numbered_all 0 (plans_of block.terms.items) → noted_at (width_of block.revision) items terms ≡ noted_in items
-same_notes items block terms h is = ap (λ n. noted_at (width_of n) items terms) h.revision ∙ ap (noted_at (width_in items) items) (same_terms items block terms h is)
+-- what of it cannot be lowered is what cannot of its source
+same_unlowered : (items : List Raw) (block : Block) (terms : Trees) → IsResolvedOf items block → terms ≡ numbered_all 0 (plans_of block.terms.items) → unlowered block.place terms (plans_of block.terms.items) ≡ unlowered_in items
+same_unlowered items block terms h is =
+    ap (λ p. unlowered p terms (plans_of block.terms.items)) (same_place items block h)
+    ∙ ap (λ ts. unlowered (block_place (writtens items)) ts (plans_of block.terms.items)) (same_terms items block terms h is)
+    ∙ ap (unlowered (block_place (writtens items)) (terms_in items)) h.terms
 
 -- and it comes to what its source comes to
 pub block_comes : (style : Style) (lines : List Line) (items : List Raw) (block : Block) (terms : Trees) (inner : List Place) (names statements few : List Message) (it : Outcome) → IsResolvedOf items block → terms ≡ numbered_all 0 (plans_of block.terms.items)
-    → inner ≡ core_places (plans_of block.terms.items) → names ≡ told_in items → statements ≡ others_of (width_of block.revision) terms (plans_of block.terms.items) → few ≡ few_locals terms (plans_of block.terms.items)
+    → inner ≡ core_places (plans_of block.terms.items) → names ≡ told_in items → statements ≡ others_in items → few ≡ unlowered block.place terms (plans_of block.terms.items)
     → it ≡ of_terms style lines block.place inner block.file (fields_of block) names statements few terms → it ≡ outcome_in style lines items
 block_comes style lines items block terms inner names statements few it h is places told are lacks comes =
     let at = block_place (writtens items) in
@@ -233,9 +230,9 @@ block_comes style lines items block terms inner names statements few it h is pla
     ∙ ap (λ own. of_terms style lines at core own (fields_of block) names statements few terms) (same_own items block h)
     ∙ ap (λ f. of_terms style lines at core (own_in items) f names statements few terms) (same_fields items block h)
     ∙ ap (λ ns. of_terms style lines at core (own_in items) (fields_in items) ns statements few terms) told
-    ∙ ap (λ ss. of_terms style lines at core (own_in items) (fields_in items) (told_in items) ss few terms) (are ∙ same_others items block terms h is)
-    ∙ ap (λ fs. of_terms style lines at core (own_in items) (fields_in items) (told_in items) (others_in items) fs terms) (lacks ∙ same_locals items block terms h is)
-    ∙ ap (of_terms style lines at core (own_in items) (fields_in items) (told_in items) (others_in items) (locals_in items)) (same_terms items block terms h is)
+    ∙ ap (λ ss. of_terms style lines at core (own_in items) (fields_in items) (told_in items) ss few terms) are
+    ∙ ap (λ fs. of_terms style lines at core (own_in items) (fields_in items) (told_in items) (others_in items) fs terms) (lacks ∙ same_unlowered items block terms h is)
+    ∙ ap (of_terms style lines at core (own_in items) (fields_in items) (told_in items) (others_in items) (unlowered_in items)) (same_terms items block terms h is)
 
 -- a block in whose names nothing is wrong
 pub right_comes : (r : Result Outcome AllocError) (errors : List Message) (it : Outcome) → errors ≡ [] → IfOk r (λ made. made ≡ it) → IfOk r (λ made. made ≡ unless_wrong errors it)

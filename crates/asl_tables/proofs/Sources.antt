@@ -2,7 +2,7 @@
 use Rattle.std.proofs.Common.{◌≡◌, ◌≤◌, length, Bool, true, false, List, [], ◌∷◌, refl, ap, ◌∙◌, arith}
 use Rattle.std.proofs.lemmas.Bool.{le-leb}
 use Rattle.std.proofs.lemmas.Bool.Decides.{nat_tests}
-use Rattle.std.specs.Prelude.{map, nat_le, if◌then◌else◌}
+use Rattle.std.specs.Prelude.{nat_le, ◌++◌, if◌then◌else◌}
 use Rattle.iasl_messages.specs.declared.message.Message.{Message}
 use Rattle.iasl_messages.specs.declared.place.Line.{Line}
 use Rattle.iasl_messages.specs.declared.place.Place.{Place}
@@ -10,33 +10,35 @@ use Rattle.asl_parser.specs.declared.raw.Raw.{Raw}
 use Rattle.asl_parser.specs.Written.{writtens}
 use Rattle.asl_shape.specs.Forms.{errors_at, source_errors, alone, block_place, AreRight}
 use Rattle.asl_shape.proofs.Units.{each_right, right_source}
-use Rattle.acpi_names.specs.Errors.{NameError, name_errors, type_errors}
-use Rattle.name_checks.specs.Messages.{message_of, first_errors, told_errors}
 use Rattle.aml_writer.specs.Written.{most_table_bytes}
-use Rattle.program_shapes.specs.Sources.{source_in, names_in, uses_in, terms_in, locals_in, fields_in, IsRight, EachRight, IsRightSource}
+use Rattle.program_shapes.specs.Sources.{names_in, uses_in, locals_in, fields_in, IsRight, EachRight, IsRightSource}
 use Rattle.asl_tables.specs.declared.compile.Style.{Style}
 use Rattle.block_outcomes.specs.declared.outcome.Compiled.TheVariants.{Made}
 use Rattle.block_outcomes.specs.declared.outcome.Outcome.{Outcome}
 use Rattle.block_outcomes.specs.declared.outcome.Outcome.TheVariants.{Done, Faulty}
 use Rattle.block_outcomes.specs.declared.outcome.Table.{Table}
-use Rattle.asl_tables.specs.Compiled.{own_in, told_in, told_of_names, others_in, with_others, all_noted, unless_wrong, of_table, written_in, cut_in, too_long, outcome_in, outcomes_in, of_items, tables_of, EachWithin}
-use Rattle.block_outcomes.specs.Joined.{first_told, unless_refused, tables_among, joined}
+use Rattle.asl_tables.specs.Compiled.{own_in, told_in, others_in, with_others, all_noted, unless_wrong, of_table, written_in, cut_in, too_long, copies_in, unlowered_in, outcome_in, outcomes_in, of_items, tables_of, IsWithin, EachWithin}
+use Rattle.block_outcomes.specs.Joined.{unless_refused, tables_among, joined}
 use Rattle.block_outcomes.proofs.Joins.{table_with, AreDone, AreSome, done_joined, made_done}
-use Rattle.asl_tables.proofs.Programs.{none_told, none_first, none_behind, none_of_others, both_right, some_behind}
+use Rattle.asl_tables.proofs.Named.{both_first}
+use Rattle.asl_tables.proofs.Programs.{none_first, none_behind, none_of_others, both_right, some_behind}
 
 -- nothing is told of the names of a right block
 nothing_told : (items : List Raw) → IsRight items → told_in items ≡ []
-nothing_told items right =
-    none_first (told_of_names (source_in items)) (told_errors (terms_in items)) (none_first (names_in items) (uses_in items) right.declared right.uses) (none_told (terms_in items) right.names right.counts)
+nothing_told items right = none_first (names_in items) (uses_in items) right.names right.uses
+
+-- nor is anything of it not lowered
+all_lowered : (items : List Raw) → IsRight items → copies_in items ≡ [] → unlowered_in items ≡ []
+all_lowered items right copies = ap (λ ms. ms ++ copies_in items) right.locals ∙ copies
 
 -- what a right block comes to
-right_done : (style : Style) (lines : List Line) (items : List Raw) → IsRight items → length (written_in style items) ≤ most_table_bytes → outcome_in style lines items ≡ Done (fields_in items).signature (own_in items) (cut_in style lines items)
+right_done : (style : Style) (lines : List Line) (items : List Raw) → IsRight items → IsWithin style items → outcome_in style lines items ≡ Done (fields_in items).signature (own_in items) (cut_in style lines items)
 right_done style lines items right within =
     let place = block_place (writtens items) in
     let table = of_table place (fields_in items).signature (own_in items) (written_in style items) (cut_in style lines items) in
-    let le : nat_le (length (written_in style items)) most_table_bytes ≡ true = le-leb (length (written_in style items)) most_table_bytes within in
-    ap (λ es. unless_wrong es (unless_wrong (locals_in items) table)) (none_behind (told_in items) (others_in items) (nothing_told items right) (both_right items right))
-    ∙ ap (λ es. unless_wrong es table) right.locals
+    let le : nat_le (length (written_in style items)) most_table_bytes ≡ true = le-leb (length (written_in style items)) most_table_bytes within.table in
+    ap (λ es. unless_wrong es (unless_wrong (unlowered_in items) table)) (none_behind (told_in items) (others_in items) (nothing_told items right) (both_right items right))
+    ∙ ap (λ es. unless_wrong es table) (all_lowered items right within.copies)
     ∙ ap (λ c. if c then Done (fields_in items).signature (own_in items) (cut_in style lines items) else Faulty (too_long place ∷ [])) le
 
 -- and right blocks
@@ -69,7 +71,7 @@ forms_of : (items : List Raw) → EachRight items → AreRight items
 forms_of [] h = tt
 forms_of (item ∷ items) h = (h.0.form, forms_of items h.1)
 
--- a source in which nothing is wrong, and none of whose tables is too long, comes to these
+-- a source in which nothing is wrong, of which not too many copies are made, and none of whose tables is too long, comes to these
 pub made_of : (style : Style) (lines : List Line) (items : List Raw) → IsRightSource items → EachWithin style items → of_items style lines items ≡ Made (tables_of style lines items) (all_noted items)
 made_of style lines items right within =
     let done = each_done style lines items right.blocks within in
@@ -79,18 +81,9 @@ made_of style lines items right within =
 
 -- ---- and only such a source
 
--- no errors of names are told where there are none of either class
-right_names : (terms : _) → told_errors terms ≡ [] → (name_errors terms ≡ []) × (type_errors terms ≡ [])
-right_names terms e = by (name_errors terms) (type_errors terms) e
-  where
-    by : (ns ts : List NameError) → map message_of (first_errors ns ts) ≡ [] → (ns ≡ []) × (ts ≡ [])
-    by [] [] e = (refl, refl)
-    by [] (t ∷ ts) e = absurd cc
-    by (n ∷ ns) ts e = absurd cc
-
-both_first : (messages others : List Message) → first_told messages others ≡ [] → (messages ≡ []) × (others ≡ [])
-both_first [] others e = (refl, e)
-both_first (m ∷ ms) others e = absurd cc
+both_empty : (first second : List Message) → first ++ second ≡ [] → (first ≡ []) × (second ≡ [])
+both_empty [] second e = (refl, e)
+both_empty (m ∷ ms) second e = absurd cc
 
 both_none : (errors statements : List Message) → with_others errors statements ≡ [] → (errors ≡ []) × (statements ≡ [])
 both_none [] statements e = (refl, e)
@@ -104,8 +97,8 @@ abbrev IsSome : Outcome → Type 0
 IsSome (Done signature own pieces) = Unit {0}
 IsSome (Faulty messages) = messages ≡ [] → ⊥
 
--- a block that comes to a table is right, and that is not too long
-done_right : (style : Style) (lines : List Line) (items : List Raw) → errors_at items ≡ [] → IsDone (outcome_in style lines items) → IsRight items × (length (written_in style items) ≤ most_table_bytes)
+-- a block that comes to a table is right, not too many copies are made of it, and its table is not too long
+done_right : (style : Style) (lines : List Line) (items : List Raw) → errors_at items ≡ [] → IsDone (outcome_in style lines items) → IsRight items × IsWithin style items
 done_right style lines items form h = by_names (with_others (told_in items) (others_in items)) refl h
   where
     place : Place
@@ -118,23 +111,23 @@ done_right style lines items form h = by_names (with_others (told_in items) (oth
     by_size true e h = grind (arith, nat_tests)
     by_size false e h = absurd h
 
-    by_locals : (ms : List Message) → locals_in items ≡ ms → (locals_in items ≡ [] → IsRight items) → IsDone (unless_wrong ms table) → IsRight items × (length (written_in style items) ≤ most_table_bytes)
-    by_locals [] e right h = (right e, by_size (nat_le (length (written_in style items)) most_table_bytes) refl h)
-    by_locals (m ∷ ms) e right h = absurd h
+    by_lowering : (ms : List Message) → unlowered_in items ≡ ms → (locals_in items ≡ [] → IsRight items) → IsDone (unless_wrong ms table) → IsRight items × IsWithin style items
+    by_lowering [] e right h =
+        let none = both_empty (locals_in items) (copies_in items) e in
+        (right none.0, record { copies = none.1; table = by_size (nat_le (length (written_in style items)) most_table_bytes) refl h })
+    by_lowering (m ∷ ms) e right h = absurd h
 
-    by_names : (ms : List Message) → with_others (told_in items) (others_in items) ≡ ms → IsDone (unless_wrong ms (unless_wrong (locals_in items) table)) → IsRight items × (length (written_in style items) ≤ most_table_bytes)
+    by_names : (ms : List Message) → with_others (told_in items) (others_in items) ≡ ms → IsDone (unless_wrong ms (unless_wrong (unlowered_in items) table)) → IsRight items × IsWithin style items
     by_names [] e h =
         let none = both_none (told_in items) (others_in items) e in
-        let told = both_first (told_of_names (source_in items)) (told_errors (terms_in items)) none.0 in
-        let written = both_first (names_in items) (uses_in items) told.0 in
-        let names = right_names (terms_in items) told.1 in
+        let told = both_first (names_in items) (uses_in items) none.0 in
         let others = none_of_others items none.1 in
-        by_locals (locals_in items) refl (λ locals. record { form = form; declared = written.0; uses = written.1; names = names.0; counts = names.1; statements = others.statements; layouts = others.layouts; regions = others.regions; types = others.types; sizes = others.sizes; values = others.values; locals = locals }) h
+        by_lowering (unlowered_in items) refl (λ locals. record { form = form; names = told.0; uses = told.1; statements = others.statements; layouts = others.layouts; regions = others.regions; types = others.types; sizes = others.sizes; values = others.values; locals = locals }) h
     by_names (m ∷ ms) e h = absurd h
 
 -- what is wrong with a block is something
 some_in : (style : Style) (lines : List Line) (items : List Raw) → IsSome (outcome_in style lines items)
-some_in style lines items = by (with_others (told_in items) (others_in items)) (locals_in items)
+some_in style lines items = by (with_others (told_in items) (others_in items)) (unlowered_in items)
   where
     place : Place
     place = block_place (writtens items)

@@ -1,5 +1,5 @@
 -- What a source of ASL comes to: a table for each of its blocks, or errors.
-use Rattle.std.specs.Prelude.{ℕ, suc, ◌-◌, nat_le, nat_eq, Bool, ◌||◌, if◌then◌else◌, List, [], ◌∷◌, ◌++◌, length, All, ◌<◌, ◌≤◌, ⊤}
+use Rattle.std.specs.Prelude.{◌≡◌, ℕ, suc, ◌-◌, nat_le, nat_eq, Bool, ◌||◌, if◌then◌else◌, List, [], ◌∷◌, ◌++◌, length, All, ◌<◌, ◌≤◌, ⊤}
 use Rattle.std.specs.Prelude.{Result, Ok, Err}
 use Rattle.iasl_messages.specs.declared.place.Place.{Place}
 use Rattle.iasl_messages.specs.declared.place.Line.{Line}
@@ -22,7 +22,6 @@ use Rattle.wrapped_externals.specs.Wraps.{wrapped_where}
 use Rattle.wrapped_externals.specs.Starts.{placed_where}
 use Rattle.asl_formats.specs.Forms.{formed_all}
 use Rattle.hidden_locals.specs.Switches.{without_switches}
-use Rattle.name_checks.specs.Messages.{told_errors}
 use Rattle.descriptor_names.specs.Told.{names_told, kinds_told}
 use Rattle.asl_parser.specs.declared.raw.Raw.{Raw}
 use Rattle.asl_parser.specs.Parse.{ParseOutcome, outcome, read, stopped, sunk, tall}
@@ -35,6 +34,8 @@ use Rattle.program_shapes.specs.Sources.{values_in, locals_in, notes_in, fields_
 use Rattle.source_pieces.specs.Places.{core_places}
 use Rattle.source_pieces.specs.Pieces.{pieces_in}
 use Rattle.literal_checks.specs.Literals.{cut_literals_at}
+use Rattle.switch_checks.specs.Locals.{few_locals}
+use Rattle.form_counts.specs.Copies.{too_many_copies}
 use Rattle.asl_tables.specs.declared.compile.Style.{Style}
 use Rattle.block_outcomes.specs.declared.outcome.Compiled.{Compiled}
 use Rattle.block_outcomes.specs.declared.outcome.Compiled.TheVariants.{Made, Refused}
@@ -75,8 +76,8 @@ abbrev pub unless_wrong : List Message → Outcome → Outcome
 unless_wrong [] it = it
 unless_wrong (m ∷ ms) it = Faulty (m ∷ ms)
 
--- what is told of the names of terms as they are written, those of resource descriptors among these, or where nothing
--- is, of what names stand for
+-- what is told of the names of terms, those of resource descriptors among these, or where nothing is, of what names stand
+-- for
 abbrev pub told_of_names : Plans → List Message
 told_of_names written = first_told (names_told written) (kinds_told written)
 
@@ -98,8 +99,12 @@ of_right style lines place inner own fields terms =
     of_table place fields.signature own (table_with style fields core)
     (its_pieces style lines (place ∷ placed_where style.wrap lowered inner) fields core)
 
+-- what of terms of a block at this place cannot be lowered: Switches for which too few Locals are free, and then too many copies
+abbrev pub unlowered : Place → Trees → Plans → List Message
+unlowered block terms ps = few_locals terms ps ++ too_many_copies block ps
+
 -- a block of this form that is refused with what is wrong with its names, its statements or the lists of its fields,
--- and where nothing is, with its Switches for which too few Locals are free
+-- and where nothing is, with what of it cannot be lowered
 abbrev pub of_terms : Style → List Line → Place → List Place → List ℕ → HeaderFields → (names others few : List Message) → Trees → Outcome
 of_terms style lines place inner own fields names others few terms =
     unless_wrong (with_others names others) (unless_wrong few (of_right style lines place inner own fields terms))
@@ -129,15 +134,24 @@ own_in items = text_of (plan_at (args_of (writtens items)) 0)
 abbrev pub others_in : List Raw → List Message
 others_in items = statements_in items ++ layouts_in items ++ regions_in items ++ types_in items ++ sizes_in items ++ values_in items
 
--- what is told of its names: as they are written, or where nothing is, as they are left where its descriptors are resolved
+-- what is told of its names
 abbrev pub told_in : List Raw → List Message
-told_in items = first_told (told_of_names (source_in items)) (told_errors (terms_in items))
+told_in items = told_of_names (source_in items)
+
+-- too many copies in it: its nodes, and those that it has with what stands for its Fors and for what prints, are together to have
+-- numbers of 32 bits
+abbrev pub copies_in : List Raw → List Message
+copies_in items = too_many_copies (block_place (writtens items)) (plans_in items)
+
+-- what of it cannot be lowered
+abbrev pub unlowered_in : List Raw → List Message
+unlowered_in items = locals_in items ++ copies_in items
 
 -- what a block comes to
 abbrev pub outcome_in : Style → List Line → List Raw → Outcome
 outcome_in style lines items =
     of_terms style lines (block_place (writtens items)) (core_places (plans_in items)) (own_in items) (fields_in items) (told_in items)
-    (others_in items) (locals_in items) (terms_in items)
+    (others_in items) (unlowered_in items) (terms_in items)
 
 -- what each of some blocks comes to, in a namespace of its own
 abbrev pub outcomes_in : Style → List Line → List Raw → List Outcome
@@ -159,10 +173,15 @@ tables_of style lines (item ∷ items) = record {
       cut_in style lines (alone item);
 } ∷ tables_of style lines items
 
--- none of which is too long
+-- not too many copies are made of a block that is read alone, and its table is not too long
+pub record IsWithin (style : Style) (items : List Raw) : Type 0 where
+  pub copies : copies_in items ≡ []
+  pub table : length (written_in style items) ≤ most_table_bytes
+
+-- so it is with each
 abbrev pub EachWithin : Style → List Raw → Type 0
 EachWithin style [] = ⊤
-EachWithin style (item ∷ items) = (length (written_in style (alone item)) ≤ most_table_bytes) × EachWithin style items
+EachWithin style (item ∷ items) = IsWithin style (alone item) × EachWithin style items
 
 -- the tree of a source's syntax, that is refused with what is wrong with its form
 abbrev pub of_items : Style → List Line → List Raw → Compiled

@@ -2,4 +2,3 @@ pub mod Syntax
 pub mod Compiled
 pub mod Ready
 pub mod Findings
-pub mod Spots

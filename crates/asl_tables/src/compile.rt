@@ -1,25 +1,17 @@
 //! An ASL source to its tables, or its errors.
 ghost use Rattle.std.specs.Prelude.{◌≡◌, ◌↔◌, ℕ, ◌<◌, ◌^◌, ◌++◌, ◌∷◌, [], length, All, Ok, IfOk, IfErr, IsTrue, true};
 ghost use Rattle.acpi_values.specs.Revisions.{width_of};
-ghost use Rattle.literal_checks.specs.Literals.{cut_literals_at};
-ghost use Rattle.name_notes.specs.Notes.{name_notes};
 ghost use Rattle.asl_tree.specs.Tree.{Trees};
 ghost use Rattle.asl_tree.specs.View.{trees_of};
 ghost use Rattle.aml_code.specs.Header.{fields_of};
 ghost use Rattle.asl_parser.specs.Parse.{outcome};
 ghost use Rattle.asl_shape.specs.Forms.{errors_at, alone, IsBlockOf, AreBlocksOf, AreRight};
 ghost use Rattle.asl_parser.specs.Written.{writtens};
-ghost use Rattle.field_checks.specs.Lists.{all_errors};
-ghost use Rattle.region_checks.specs.Regions.{region_errors};
-ghost use Rattle.type_checks.specs.Types.{wrong_types};
-ghost use Rattle.type_checks.specs.Sizes.{long_lists};
-ghost use Rattle.switch_checks.specs.Repeats.{repeated_values};
-ghost use Rattle.switch_checks.specs.Locals.{few_locals};
+ghost use Rattle.asl_numbers.specs.Numbers.{nodes as node_count};
 ghost use Rattle.asl_formats.specs.Forms.{formed_all};
+ghost use Rattle.asl_formats.specs.Plans.{formed_plans};
 ghost use Rattle.form_shapes.specs.Near.{AreNear};
 ghost use Rattle.hidden_locals.specs.Switches.{without_switches};
-ghost use Rattle.acpi_names.specs.Terms.{are_terms};
-ghost use Rattle.statement_checks.specs.Statements.{errors_of_statements};
 ghost use Rattle.asl_shape.specs.Plans.{plans_of};
 ghost use Rattle.term_places.specs.Places.{places_of};
 ghost use Rattle.source_pieces.specs.Places.{core_places};
@@ -30,26 +22,24 @@ ghost use Rattle.asl_fold.specs.Folds.{folded_where};
 ghost use Rattle.wrapped_externals.specs.Wraps.{wrapped_where};
 ghost use Rattle.wrapped_externals.specs.Starts.{placed_where};
 ghost use Rattle.program_shapes.proofs.Kept.{HaveShortTexts};
-ghost use Rattle.iasl_messages.specs.declared.message.Stage.TheVariants as stages;
 ghost use Rattle.aml_writer.specs.Pieces.{joined_pieces};
 ghost use Rattle.aml_writer.specs.Cuts.{IsCut};
 ghost use Rattle.aml_writer.specs.Written.{IsTable, RefusedFor};
 ghost use Rattle.asl_tables.specs.Syntax.{at_token};
 ghost use Rattle.asl_tables.specs.Ready.{HasRoom, IsCoreOf};
-ghost use Rattle.asl_tables.specs.Findings.{AreNamesOf, FindsFew, Finds};
+ghost use Rattle.asl_tables.specs.Findings.{AreNamesOf, FindsFew, Finds, IsNamed, others_of};
 ghost use Rattle.block_outcomes.specs.declared.outcome.Compiled.TheVariants.{Refused};
-ghost use Rattle.name_checks.specs.Messages.{told_errors};
-ghost use Rattle.asl_tables.specs.Compiled.{its_table, its_pieces, of_table, of_right, of_terms, is_of_kinds as of_kinds, with_others};
+ghost use Rattle.asl_tables.specs.Compiled.{its_table, its_pieces, of_table, of_right, of_terms, is_of_kinds as of_kinds, unlowered as not_lowered, with_others};
 ghost use Rattle.asl_tables.specs.Compiled.{outcome_in, outcomes_in, noted_in, all_noted, of_items, of_lines, of_outcome, HasAsciiNames};
 ghost use Rattle.asl_tables.specs.Compiled.{TellsWithin};
-ghost use Rattle.block_outcomes.specs.Joined.{first_told, joined};
+ghost use Rattle.block_outcomes.specs.Joined.{joined};
 
-use crate::count::count_nodes;
-use crate::resolved::{Resolved, resolve_block};
+use crate::names::{Asked, Findings, NamedBlock, name_block};
 use acpi_values::width::Width;
 use aml_writer::stop::WriteStop;
 use aml_writer::write::write_block;
 use asl_fold::fold::fold_where;
+use asl_formats::present::has_form;
 use asl_formats::program::forms;
 use asl_lexer::token::Tokens;
 use asl_lexer::tokens;
@@ -61,18 +51,18 @@ use asl_tree::term::Node;
 use block_outcomes::messages::{both, one_message, refusal};
 use block_outcomes::outcome::{Compiled, Outcome, join, none_sorted, with_outcome};
 use field_checks::check::list_faults;
+use form_counts::copies::too_many_copies;
+use form_counts::plain::count_nodes;
 use iasl_messages::message::{Message, Messages, Stage};
 use iasl_messages::number::{
     FIELD_NOT_WHOLE_BYTES, NESTING_TOO_DEEP, SYNTAX, UNKNOWN_OPERATOR, WRONG_CALL_ARGUMENT_COUNT,
     WRONG_OBJECT_KIND, WRONG_TYPE,
 };
-use iasl_messages::place::{Line, Lines, Pieces};
+use iasl_messages::place::{Line, Lines, Pieces, Place};
 use iasl_ports::list::{List, Text};
 use literal_checks::check::cut_literals;
-use name_checks::check::{Names, check};
-use name_notes::check::notes as notes_on_names;
+use name_checks::check::Names;
 use name_spelling::spell::spell;
-use region_checks::check::region_faults;
 use source_lines::lines::SourceLines;
 use statement_checks::check::statement_errors;
 use std::alloc::{AllocError, Global};
@@ -80,7 +70,6 @@ use std::mem::{drop, forget, replace};
 use switch_checks::locals::few_locals;
 use switch_checks::repeat::repeated_values;
 use switch_loops::loops::loops;
-use type_checks::check::wrong_types;
 use type_checks::size::long_lists;
 use wrapped_externals::wrap::wrap_where;
 
@@ -167,6 +156,21 @@ fn with_others(errors: Messages, others: Messages) -> Result<Messages, AllocErro
     }
 }
 
+// Terms with what stands for their Fors and for what prints; where none of these stands among them, the terms as they are.
+fn formed(alloc: Global, terms: Vec<Node>) -> Result<Vec<Node>, AllocError>
+    requires numbers { node_count (plans_of terms.items) < 2 ^ 32 }
+    ensures trees { IfOk result (λ plain. trees_of plain.items ≡ formed_all (trees_of terms.items)) }
+    ensures plans { IfOk result (λ plain. plans_of plain.items ≡ formed_plans (plans_of terms.items)) }
+{
+    if !has_form(&terms) {
+        return Ok(terms);
+    }
+    // (the nodes have the numbers before this one)
+    let next = count_nodes(&terms) as u32;
+    let plain = forms(alloc, terms, next)?;
+    Ok(plain)
+}
+
 // Terms with what stands for their Fors and for what prints, loops for their Switches, their symbolic operators named
 // and their ElseIfs nested, and their constants folded where that is asked for.
 #[tactic(auto, using(crate::proofs::Given::forms_given, source_pieces::proofs::Planned::places_planned))]
@@ -178,13 +182,12 @@ fn lowered_terms(
 ) -> Result<Vec<Node>, AllocError>
     requires formed { AreFormed (Unit {0}) AreNamed (Unit {0}) (Unit {0}) (trees_of terms.items) }
     requires near { AreNear (trees_of terms.items) }
+    requires numbers { node_count (plans_of terms.items) < 2 ^ 32 }
     ensures terms { IfOk result
         (λ core. trees_of core.items ≡ folded_where fold width (named_all (without_switches (formed_all (trees_of terms.items))))) }
     ensures places { IfOk result (λ core. places_of core.items ≡ core_places (plans_of terms.items)) }
 {
-    // (the nodes have the numbers before this one)
-    let next = count_nodes(&terms).ok_or(AllocError)?;
-    let plain = forms(alloc, terms, next)?;
+    let plain = formed(alloc, terms)?;
     let turns = loops(alloc, plain)?;
     let named = lower(alloc, turns)?;
     fold_where(alloc, fold, width, named)
@@ -199,6 +202,7 @@ fn core_terms(
 ) -> Result<Vec<Node>, AllocError>
     requires formed { AreFormed (Unit {0}) AreNamed (Unit {0}) (Unit {0}) (trees_of terms.items) }
     requires near { AreNear (trees_of terms.items) }
+    requires numbers { node_count (plans_of terms.items) < 2 ^ 32 }
     ensures terms { IfOk result
         (λ core. trees_of core.items ≡ wrapped_where style.wrap
         (folded_where style.fold width (named_all (without_switches (formed_all (trees_of terms.items)))))) }
@@ -217,6 +221,7 @@ fn core_terms(
 fn lowered(alloc: Global, style: Style, block: Block) -> Result<Block, AllocError>
     requires formed { AreFormed (Unit {0}) AreNamed (Unit {0}) (Unit {0}) (trees_of block.terms.items) }
     requires near { AreNear (trees_of block.terms.items) }
+    requires numbers { node_count (plans_of block.terms.items) < 2 ^ 32 }
     ensures terms { IfOk result
         (λ core. trees_of core.terms.items ≡ wrapped_where style.wrap
         (folded_where style.fold (width_of block.revision) (named_all (without_switches (formed_all (trees_of block.terms.items)))))) }
@@ -236,18 +241,26 @@ fn lowered(alloc: Global, style: Style, block: Block) -> Result<Block, AllocErro
     Ok(core)
 }
 
-/// What is found of a block's terms: their names, where nothing is wrong, or what is wrong.
-#[derive(Drop)]
-enum Findings {
-    Right(Names),
-    Wrong(Messages),
+// What of terms of a block at this place cannot be lowered: Switches for which too few Locals are free, and then too many copies.
+fn unlowered(alloc: Global, block: Place, terms: &[Node]) -> Result<Messages, AllocError>
+    ensures { IfOk result (λ ms. ms ≡ not_lowered block (trees_of terms.now) (plans_of terms.now)) }
+{
+    both(
+        few_locals(alloc, terms)?,
+        too_many_copies(alloc, block, terms)?,
+    )
 }
 
-// The names, or else the Switches for which too few Locals are free.
-fn right_or_few(alloc: Global, terms: &[Node], names: Names) -> Result<Findings, AllocError>
-    ensures { IfOk result (λ found. FindsFew found names (few_locals (trees_of terms.now) (plans_of terms.now))) }
+// The names, or else what cannot be lowered.
+fn right_or_few(
+    alloc: Global,
+    block: Place,
+    terms: &[Node],
+    names: Names,
+) -> Result<Findings, AllocError>
+    ensures { IfOk result (λ found. FindsFew found names (not_lowered block (trees_of terms.now) (plans_of terms.now))) }
 {
-    let few = few_locals(alloc, terms)?;
+    let few = unlowered(alloc, block, terms)?;
     if few.is_empty() {
         Ok(Findings::Right(names))
     } else {
@@ -255,26 +268,23 @@ fn right_or_few(alloc: Global, terms: &[Node], names: Names) -> Result<Findings,
     }
 }
 
-// What is wrong with the names of terms, some of which may be told of before, with their statements and the lists of
-// their fields, or else the Switches for which too few Locals are free; and where nothing is, their names.
+// What is wrong with the names of terms, with their statements and the lists of their fields, or else what of them cannot be
+// lowered; and where nothing is, their names.
 fn find(
     alloc: Global,
+    block: Place,
     terms: &[Node],
-    told: Messages,
+    names: Findings,
     others: Messages,
 ) -> Result<Findings, AllocError>
-    requires { are_terms (trees_of terms.now) ≡ true }
-    ensures { IfOk result
-        (λ found. Finds found (first_told told (told_errors (trees_of terms.now))) others
-        (few_locals (trees_of terms.now) (plans_of terms.now)) (trees_of terms.now)) }
+    ghost told: { List Message }
+    requires { IsNamed names told (trees_of terms.now) }
+    ensures { IfOk result (λ found. Finds found told others (not_lowered block (trees_of terms.now) (plans_of terms.now)) (trees_of terms.now)) }
 {
-    if !told.is_empty() {
-        return Ok(Findings::Wrong(with_others(told, others)?));
-    }
-    match check(alloc, terms) {
-        Ok(names) if others.is_empty() => right_or_few(alloc, terms, names),
-        Ok(_) => Ok(Findings::Wrong(others)),
-        Err(stage) => Ok(Findings::Wrong(with_others(refusal(stage)?, others)?)),
+    match names {
+        Findings::Right(names) if others.is_empty() => right_or_few(alloc, block, terms, names),
+        Findings::Right(_) => Ok(Findings::Wrong(others)),
+        Findings::Wrong(told) => Ok(Findings::Wrong(with_others(told, others)?)),
     }
 }
 
@@ -290,6 +300,7 @@ fn table_of(
     requires room { HasRoom (fields_of block) }
     requires formed { AreFormed (Unit {0}) AreNamed (Unit {0}) (Unit {0}) (trees_of block.terms.items) }
     requires near { AreNear (trees_of block.terms.items) }
+    requires numbers { node_count (plans_of block.terms.items) < 2 ^ 32 }
     requires shaped { AreShaped (named_all (without_switches (formed_all (trees_of block.terms.items)))) }
     requires names { AreNamesOf (trees_of block.terms.items) names }
     ensures { IfOk result (λ it. it ≡ of_right style lines.now block.place (core_places (plans_of block.terms.items)) block.file
@@ -303,28 +314,22 @@ fn table_of(
     write_core(alloc, style, lines, core)
 }
 
-// A block whose nodes have their numbers: its table, or what is wrong with its names, some of which may be told of
-// before, its statements and the lists of its fields, or else the Switches for which too few Locals are free.
-fn compile_block(
+// What is wrong with statements, then with the lists of fields and their accesses, and then with the kinds of
+// arguments, the lengths of lists and the values of Cases.
+fn other_errors(
     alloc: Global,
-    style: Style,
-    lines: &SourceLines<'_>,
-    block: Block,
-    told: Messages,
-    others: Messages,
-) -> Result<Outcome, AllocError>
-    requires room { HasRoom (fields_of block) }
-    requires formed { AreFormed (Unit {0}) AreNamed (Unit {0}) (Unit {0}) (trees_of block.terms.items) }
-    requires near { others ≡ [] → AreNear (trees_of block.terms.items) }
-    requires shaped { others ≡ [] → AreShaped (named_all (without_switches (formed_all (trees_of block.terms.items)))) }
-    ensures { IfOk result (λ it. it ≡ of_terms style lines.now block.place (core_places (plans_of block.terms.items)) block.file
-        (fields_of block) (first_told told (told_errors (trees_of block.terms.items))) others
-        (few_locals (trees_of block.terms.items) (plans_of block.terms.items)) (trees_of block.terms.items)) }
+    width: Width,
+    terms: &[Node],
+    regions: Messages,
+    types: Messages,
+) -> Result<Messages, AllocError>
+    ensures { IfOk result (λ ms. ms ≡ others_of width (plans_of terms.now) regions types) }
 {
-    match find(alloc, block.terms.as_slice(), told, others)? {
-        Findings::Right(names) => table_of(alloc, style, lines, block, names),
-        Findings::Wrong(errors) => Ok(Outcome::Faulty(errors)),
-    }
+    let errors = both(statement_errors(alloc, terms)?, list_faults(alloc, terms)?)?;
+    let errors = both(errors, regions)?;
+    let errors = both(errors, types)?;
+    let errors = both(errors, long_lists(alloc, width, terms)?)?;
+    both(errors, repeated_values(alloc, width, terms)?)
 }
 
 // What a block comes to, and the notes on it.
@@ -334,43 +339,50 @@ struct Noted {
     notes: Messages,
 }
 
-// A block, with the notes on the literals of its source, which are found before, and on its names.
+// A block whose nodes have their numbers, of whose names this was asked: its table, or what is wrong with its names, its
+// statements and the lists of its fields, or else what of it cannot be lowered. With it stand the notes on the literals of its
+// source, which are found before, and on its names.
 fn compile_noted(
     alloc: Global,
     style: Style,
     lines: &SourceLines<'_>,
     literals: Messages,
     block: Block,
-    told: Messages,
-    others: Messages,
+    asked: Asked,
 ) -> Result<Noted, AllocError>
+    ghost told: { List Message }
     requires room { HasRoom (fields_of block) }
     requires formed { AreFormed (Unit {0}) AreNamed (Unit {0}) (Unit {0}) (trees_of block.terms.items) }
-    requires near { others ≡ [] → AreNear (trees_of block.terms.items) }
-    requires shaped { others ≡ [] → AreShaped (named_all (without_switches (formed_all (trees_of block.terms.items)))) }
-    ensures notes { IfOk result (λ it. it.notes ≡ literals ++ name_notes (trees_of block.terms.items)) }
+    requires names { IsNamed asked.names told (trees_of block.terms.items) }
+    requires near { others_of (width_of block.revision) (plans_of block.terms.items) asked.regions asked.types ≡ [] →
+        AreNear (trees_of block.terms.items) }
+    requires shaped { others_of (width_of block.revision) (plans_of block.terms.items) asked.regions asked.types ≡ [] →
+        AreShaped (named_all (without_switches (formed_all (trees_of block.terms.items)))) }
+    ensures notes { IfOk result (λ it. it.notes ≡ literals ++ asked.notes) }
     ensures outcome { IfOk result (λ it. it.outcome ≡ of_terms style lines.now block.place (core_places (plans_of block.terms.items)) block.file
-        (fields_of block) (first_told told (told_errors (trees_of block.terms.items))) others
-        (few_locals (trees_of block.terms.items) (plans_of block.terms.items)) (trees_of block.terms.items)) }
+        (fields_of block) told (others_of (width_of block.revision) (plans_of block.terms.items) asked.regions asked.types)
+        (not_lowered block.place (trees_of block.terms.items) (plans_of block.terms.items)) (trees_of block.terms.items)) }
 {
-    let notes = both(literals, notes_on_names(alloc, block.terms.as_slice())?)?;
-    let outcome = compile_block(alloc, style, lines, block, told, others)?;
-    Ok(Noted { outcome, notes })
-}
-
-// What is wrong with statements, then with the lists of fields and their accesses, and then with the kinds of
-// arguments, the lengths of lists and the values of Cases.
-fn other_errors(alloc: Global, width: Width, terms: &[Node]) -> Result<Messages, AllocError>
-    requires { are_terms (trees_of terms.now) ≡ true }
-    ensures { IfOk result (λ ms. ms ≡ errors_of_statements (plans_of terms.now) ++ all_errors (plans_of terms.now)
-        ++ region_errors width (trees_of terms.now) (plans_of terms.now) ++ wrong_types (trees_of terms.now) (plans_of terms.now)
-        ++ long_lists width (plans_of terms.now) ++ repeated_values width (plans_of terms.now)) }
-{
-    let errors = both(statement_errors(alloc, terms)?, list_faults(alloc, terms)?)?;
-    let errors = both(errors, region_faults(alloc, width, terms)?)?;
-    let errors = both(errors, wrong_types(alloc, terms)?)?;
-    let errors = both(errors, long_lists(alloc, width, terms)?)?;
-    both(errors, repeated_values(alloc, width, terms)?)
+    let Asked {
+        names,
+        regions,
+        types,
+        notes,
+    } = asked;
+    let terms = block.terms.as_slice();
+    let width = Width::of_revision(block.revision);
+    let others = other_errors(alloc, width, terms, regions, types)?;
+    let notes = both(literals, notes)?;
+    match find(alloc, block.place, terms, names, others)? {
+        Findings::Right(names) => {
+            let outcome = table_of(alloc, style, lines, block, names)?;
+            Ok(Noted { outcome, notes })
+        }
+        Findings::Wrong(errors) => Ok(Noted {
+            outcome: Outcome::Faulty(errors),
+            notes,
+        }),
+    }
 }
 
 // An item that is a block, read alone.
@@ -387,12 +399,10 @@ fn compile_item(
     ensures outcome { IfOk result (λ it. it.outcome ≡ outcome_in style lines.now (alone raw)) }
     ensures notes { IfOk result (λ it. it.notes ≡ noted_in (alone raw)) }
 {
-    let Resolved { block, told } = resolve_block(alloc, block)?;
-    let width = Width::of_revision(block.revision);
-    let literals = cut_literals(alloc, width, &raw)?;
+    let NamedBlock { block, asked } = name_block(alloc, block)?;
+    let literals = cut_literals(alloc, Width::of_revision(block.revision), &raw)?;
     drop(raw);
-    let others = other_errors(alloc, width, block.terms.as_slice())?;
-    compile_noted(alloc, style, lines, literals, block, told, others)
+    compile_noted(alloc, style, lines, literals, block, asked)
 }
 
 // Items that are these blocks, each read alone. What was read of an item is let go with it.

@@ -2,5 +2,4 @@
 #![tactic(auto)]
 
 pub mod compile;
-mod count;
-mod resolved;
+mod names;

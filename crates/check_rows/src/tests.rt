@@ -1,5 +1,6 @@
 mod of_descriptor_names;
 mod of_field_checks;
+mod of_form_counts;
 mod of_statement_checks;
 mod of_switch_checks;
 mod of_type_checks;

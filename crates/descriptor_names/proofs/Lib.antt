@@ -1,8 +1,11 @@
 pub mod Terms
-pub mod Positions
+pub mod Said
+pub mod Following
+pub mod Placing
+pub mod Resolving
+pub mod Owning
+pub mod Telling
+pub mod Naming
+pub mod Operands
 pub mod Walks
-pub mod Uses
-pub mod Tables
-pub mod Declared
-pub mod Checked
 pub mod Senses

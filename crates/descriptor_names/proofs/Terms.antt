@@ -9,16 +9,12 @@ use Rattle.asl_tree.specs.declared.term.NamedDescriptor.{NamedDescriptor}
 use Rattle.asl_tree.specs.declared.term.Node.{Node}
 use Rattle.asl_tree.specs.declared.term.Term.{Term}
 use Rattle.asl_tree.specs.declared.term.Term as D
-use Rattle.asl_tree.specs.View.{trees_of}
-use Rattle.acpi_names.specs.Parts.{path_of, name_at}
-use Rattle.acpi_names.proofs.Trees.{used}
 use Rattle.asl_shape.specs.Plans.{Plans, no_plans, plan, a_name, a_fill, a_form, plan_of, plans_of, plan_at, join}
 use Rattle.asl_shape.specs.Descriptors.{named_of}
 use Rattle.asl_shape.proofs.Plans.{plan_form, plan_call, no_plans_are}
 use Rattle.asl_shape.proofs.Terms.{term_rules}
 use Rattle.asl_shape.proofs.Settled.{push_is, at_some, at_none}
 use Rattle.descriptor_names.specs.Declaring.{has_terms, names_first, is_first, names_descriptor, names_descriptors, names_inside, names_among, alone, segment_path, declaration, opened, declaring, is_naming, declared_by, unless_declared, closed, stripped}
-use Rattle.descriptor_names.specs.Resolved.{name_in, first_name}
 
 pub first_form : (o : Op) (args body : Vec Node Global) → is_first (plan_of (D.Form o args body)) ≡ names_first o
 first_form o args body = ap is_first (plan_form o args body)
@@ -116,19 +112,3 @@ unless_none (named ∷ names) term e = absurd (omega (arith, e))
 pub unless_some : (names : List NamedDescriptor) (term : Plans) → (length names ≡ 0 → ⊥) → unless_declared names term ≡ no_plans
 unless_some [] term e = absurd (e refl)
 unless_some (named ∷ names) term e = refl
-
--- ---- the name that is the first argument
-
-path_plan : (t : Term) → path_of t ≡ name_in (plan_of t)
-unfolding plan_of
-path_plan (D.Name path) = refl
-path_plan (D.Call' path shape args) = refl
-path_plan (D.Form' op shape args shape' body) = refl
-path_plan t = refl
-
-pub first_is : (nodes : List Node) → name_at 0 (trees_of nodes) ≡ first_name (plans_of nodes)
-unfolding plans_of trees_of
-first_is [] = refl
-first_is (node ∷ nodes) = used (record { id = node.id; place = node.place }) node.term ∙ path_plan node.term
-
-pub ruleset use_rules = (term_rules)

@@ -1,5 +1,9 @@
 pub mod Declaring
 pub mod Senses
+pub mod Values
 pub mod Resolved
-pub mod Shown
+pub mod Nodes
 pub mod Told
+pub mod Fields
+pub mod Shown
+pub mod Resolves

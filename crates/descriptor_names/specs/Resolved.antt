@@ -1,203 +1,135 @@
--- Terms in which the fields of descriptors are constants, and what is told of uses of descriptors (ACPI Specification 6.4, 19.2.8).
-use Rattle.std.specs.Prelude.{ℕ, suc, ◌/◌, ◌%◌, nat_eq, nat_lt, Bool, true, false, ◌||◌, if◌then◌else◌, List, [], ◌∷◌, ◌++◌, length}
+-- The descriptors that the terms of a block declare, and the terms in which fields of these are constants (ACPI Specification 6.4,
+-- 19.2.8).
+use Rattle.std.specs.Prelude.{ℕ, suc, ◌+◌, ◌/◌, ◌%◌, nat_eq, Bool, true, false, ◌||◌, if◌then◌else◌, List, [], ◌∷◌, ◌++◌}
 use Rattle.std.specs.Prelude.{Option, Some, None}
 use Rattle.acpi_values.specs.Paths.{AbsolutePath}
 use Rattle.acpi_state.specs.Objects.{lookup}
 use Rattle.acpi_state.specs.Outcomes.{choose}
 use Rattle.iasl_messages.specs.declared.place.Place.{Place}
 use Rattle.iasl_messages.specs.declared.message.Message.{Message}
-use Rattle.asl_tree.specs.Names.{place_of, denoted}
+use Rattle.asl_tree.specs.Names.{place_of}
+use Rattle.asl_tree.specs.Tree.{At}
 use Rattle.asl_tree.specs.declared.path.Path.{Path}
-use Rattle.asl_tree.specs.declared.term.Op.{Op}
-use Rattle.asl_tree.specs.declared.term.Declaration.{Declaration}
 use Rattle.asl_tree.specs.declared.term.Word.{Word}
 use Rattle.asl_tree.specs.declared.term.NamedDescriptor.{NamedDescriptor}
-use Rattle.asl_meaning.specs.Declarations.{is_named, declarations as all_declared}
-use Rattle.asl_numbers.specs.Numbers.{numbered_all}
+use Rattle.asl_meaning.specs.Declarations.{is_named, nothing_declared, declarations as all_declared}
+use Rattle.acpi_names.specs.Mentions.{Mention, Used', Sought, Declares, block_mentions}
+use Rattle.asl_numbers.specs.Numbers.{inside, nodes, numbered_all}
 use Rattle.asl_shape.specs.Plans.{Plan, a_word, a_name, a_call, a_form, Plans, no_plans, plan}
-use Rattle.name_checks.specs.Messages.{name_text}
 use Rattle.descriptor_names.specs.Declaring.{has_terms, declared_by, declaring, stripped}
-use Rattle.descriptor_names.specs.Senses.{Sense, ADescriptor, AField, outer_path, sense_of, Position, Value, Spot, AnyPath, APath, Written}
-use Rattle.descriptor_names.specs.Senses.{position, content_position, in_bits}
+use Rattle.descriptor_names.specs.Senses.{Sense, AField, sense_of}
+use Rattle.descriptor_names.specs.Values.{Among, Arguments, Contents, OfCall, is_value_in, is_in_bits}
 
--- ---- one use
+-- what a list says of the node with a number
+abbrev pub at_node : {A : Type 0} → List (ℕ × A) → ℕ → Option A
+at_node [] node = None
+at_node (said ∷ others) node = if nat_eq said.0 node then Some said.1 else at_node others node
 
--- a field as a number of bits or of bytes
-abbrev pub counted : Bool → ℕ → ℕ
-counted bits bit = if bits then bit else bit / 8
+-- ---- the descriptors that terms declare, by the nodes that are their names; `next` is the number of the first node inside a term,
+-- or of the first of some terms
+abbrev pub named_first : (next : ℕ) → List NamedDescriptor → List (ℕ × NamedDescriptor)
+named_first next [] = []
+named_first next (named ∷ others) = (next, named) ∷ []
 
--- an expression that is a field is a constant; anywhere else a field stands for its descriptor
-abbrev pub resolved_use : Bool → Position → Path → Sense → Plan
-resolved_use bits Written name s = a_name name
-resolved_use bits Value name (AField bit) = a_word (Word.FieldPlace (counted bits bit))
-resolved_use bits p name (AField bit) = a_name (outer_path name)
-resolved_use bits p name s = a_name name
+abbrev mutual
+  pub named_in : (next : ℕ) → Plan → List (ℕ × NamedDescriptor)
+  named_in next (a_form op args body) =
+      if has_terms op then named_from (next + nodes args) body else named_first next (declared_by (a_form op args body))
+  named_in next p = []
 
-abbrev pub resolved_call : Path → Sense → Path
-resolved_call name (AField bit) = outer_path name
-resolved_call name s = name
+  pub named_from : (next : ℕ) → Plans → List (ℕ × NamedDescriptor)
+  named_from next no_plans = []
+  named_from next (plan place p ps) = named_in (suc next) p ++ named_from (suc (next + inside p)) ps
 
-abbrev pub message : ℕ → Place → List ℕ → List Message
-message number place name = record { number = number; place = place; name = name } ∷ []
+-- each at its path, which the mention of its name has
+abbrev pub described_by : List (ℕ × NamedDescriptor) → Mention → List (AbsolutePath × NamedDescriptor)
+described_by named (Declares at name as' scope) = choose (at_node named at.id) [] (λ descriptor. (place_of name scope, descriptor) ∷ [])
+described_by named m = []
 
--- a field in bytes that does not begin with one
-abbrev pub broken : Bool → ℕ → Place → List Message
-broken bits bit place = if bits || nat_eq (bit % 8) 0 then [] else message 6056 place []
+abbrev pub described : List (ℕ × NamedDescriptor) → List Mention → List (AbsolutePath × NamedDescriptor)
+described named [] = []
+described named (m ∷ ms) = described_by named m ++ described named ms
 
--- a descriptor has no value and is no place; a field is no place; both are no path of any other kind. What asks for a path of some kind
--- tells of a descriptor itself, as of anything else that is of another kind
-abbrev pub told_use : Bool → Position → Path → Place → Sense → List Message
-told_use bits Value name place ADescriptor = message 6050 place []
-told_use bits Value name place (AField bit) = broken bits bit place
-told_use bits Spot name place ADescriptor = message 6050 place []
-told_use bits Spot name place (AField bit) = message 6050 place []
-told_use bits AnyPath name place ADescriptor = message 6054 place (name_text name)
-told_use bits AnyPath name place (AField bit) = message 6054 place (name_text name)
-told_use bits APath name place (AField bit) = message 6054 place (name_text name)
-told_use bits p name place s = []
-
--- a field is no method; a call of a descriptor is told of as a call of anything else that is none
-abbrev pub told_call : Path → Place → Sense → List Message
-told_call name place (AField bit) = message 6051 place (name_text name)
-told_call name place s = []
-
--- a field by a path with more steps up than scopes stand around it: its name is the path as it is written, also where
--- the field stands for its descriptor
-abbrev pub leaving : Path → Place → AbsolutePath → Sense → List Message
-leaving name place scope (AField bit) = if nat_lt (length scope) name.up then message 6043 place (name_text name) else []
-leaving name place scope s = []
-
--- a Scope of a field, which is no container: its name is the path as it is written
-abbrev pub opened : Path → Place → Sense → List Message
-opened name place (AField bit) = message 6042 place (name_text name)
-opened name place s = []
-
--- ---- scopes
-
--- the name that is the first argument
-abbrev pub name_in : Plan → Option Path
-name_in (a_name name) = Some name
-name_in _ = None
-
-abbrev pub first_name : Plans → Option Path
-first_name no_plans = None
-first_name (plan place p ps) = name_in p
-
-abbrev pub is_scope : Op → Bool
-is_scope (Op.Declaration Declaration.Scope) = true
-is_scope _ = false
-
--- whether the terms of a form stand in the scope that it declares
-abbrev pub names_scope : Op → Bool
-names_scope (Op.Declaration Declaration.Method) = true
-names_scope (Op.Declaration Declaration.Device) = true
-names_scope (Op.Declaration Declaration.ThermalZone) = true
-names_scope (Op.Declaration Declaration.PowerResource) = true
-names_scope (Op.Declaration Declaration.Processor) = true
-names_scope _ = false
-
--- the descriptor that a term in a scope declares, with its path
-abbrev pub placed : AbsolutePath → List NamedDescriptor → List (AbsolutePath × NamedDescriptor)
-placed scope [] = []
-placed scope (named ∷ others) = (named.name ∷ scope, named) ∷ []
-
-module _ (has : AbsolutePath → Bool) where
-  -- where the terms of a Scope stand: at what its name denotes, or else at its first place
-  abbrev pub scope_of : Path → AbsolutePath → AbsolutePath
-  scope_of name scope = choose (denoted has name scope) (place_of name scope) (λ path. path)
-
-  -- where the terms of a form stand that has these arguments
-  abbrev pub inner : Op → Plans → AbsolutePath → AbsolutePath
-  inner (Op.Declaration Declaration.Scope) args scope = choose (first_name args) scope (λ name. scope_of name scope)
-  inner (Op.Declaration declaration) args scope = if has_terms (Op.Declaration declaration) then
-      choose (first_name args) scope (λ name. place_of name scope) else scope
-  inner op args scope = scope
-
-  -- the same by its name
-  abbrev pub inner_named : Op → Path → AbsolutePath → AbsolutePath
-  inner_named op name scope = if is_scope op then scope_of name scope else if names_scope op then place_of name scope else scope
-
-  -- the descriptors that terms declare, each with its path
-  abbrev mutual
-    pub described_by : Plan → AbsolutePath → List (AbsolutePath × NamedDescriptor)
-    described_by (a_form op args body) scope =
-        if has_terms op then described body (inner op args scope) else placed scope (declared_by (a_form op args body))
-    described_by p scope = []
-
-    pub described : Plans → AbsolutePath → List (AbsolutePath × NamedDescriptor)
-    described no_plans scope = []
-    described (plan place p ps) scope = described_by p scope ++ described ps scope
-
--- ---- terms
-
--- where the nodes of a list stand: as the arguments of a form, as its body, or as the arguments of a call
-pub data Among : Type 0 where
-  Arguments Contents : (op : Op) → Among
-  OfCall : Among
-
-abbrev pub position_in : Among → ℕ → Position
-position_in (Arguments op) n = position op n
-position_in (Contents op) n = content_position op
-position_in OfCall n = Value
-
-abbrev pub is_in_bits : Among → ℕ → Bool
-is_in_bits (Arguments op) n = in_bits op n
-is_in_bits _ n = false
-
-module _ (has : AbsolutePath → Bool) (look : AbsolutePath → Option NamedDescriptor) where
-  abbrev mutual
-    pub resolved : Bool → Position → Plan → AbsolutePath → Plan
-    resolved bits p (a_name name) scope = resolved_use bits p name (sense_of has look name scope)
-    resolved bits p (a_call name args) scope = a_call (resolved_call name (sense_of has look name scope))
-        (resolved_from OfCall 0 bits args scope)
-    resolved bits p (a_form op args body) scope =
-        let given = resolved_from (Arguments op) 0 bits args scope in
-        a_form op given (resolved_from (Contents op) 0 bits body (inner has op given scope))
-    resolved bits p q scope = q
-
-    -- from the one with this number on
-    pub resolved_from : Among → ℕ → Bool → Plans → AbsolutePath → Plans
-    resolved_from among n bits no_plans scope = no_plans
-    resolved_from among n bits (plan place p ps) scope =
-        plan place (resolved (bits || is_in_bits among n) (position_in among n) p scope) (resolved_from among (suc n) bits ps scope)
-
-  -- what is told of a form with these arguments beside what is told of them
-  abbrev pub told_form : Op → Place → Plans → AbsolutePath → List Message
-  told_form op place args scope = if is_scope op then choose (first_name args) [] (λ name. opened name place (sense_of has look name scope))
-      else []
-
-  abbrev mutual
-    pub told : Bool → Position → Place → Plan → AbsolutePath → List Message
-    told bits p place (a_name name) scope = let sense = sense_of has look name scope in leaving name place scope sense
-        ++ told_use bits p name place sense
-    told bits p place (a_call name args) scope =
-        let sense = sense_of has look name scope in leaving name place scope sense
-        ++ (told_call name place sense ++ told_from OfCall 0 bits args scope)
-    told bits p place (a_form op args body) scope =
-        told_form op place args scope
-        ++ (told_from (Arguments op) 0 bits args scope ++ told_from (Contents op) 0 bits body
-        (inner has op (resolved_from (Arguments op) 0 bits args scope) scope))
-    told bits p place q scope = []
-
-    pub told_from : Among → ℕ → Bool → Plans → AbsolutePath → List Message
-    told_from among n bits no_plans scope = []
-    told_from among n bits (plan place p ps) scope =
-        told (bits || is_in_bits among n) (position_in among n) place p scope ++ told_from among (suc n) bits ps scope
-
--- ---- a block: its terms as a list of expressions that may be terms too
+-- ---- a block: its mentions, its names and its descriptors
+abbrev pub mentions_of : Plans → List Mention
+mentions_of ps = block_mentions (numbered_all 0 ps) [] nothing_declared
 
 abbrev pub names_of : Plans → AbsolutePath → Bool
 names_of ps = is_named (all_declared (numbered_all 0 ps))
 
 abbrev pub table_of : Plans → AbsolutePath → Option NamedDescriptor
-table_of ps = lookup (described (names_of ps) ps [])
+table_of ps = lookup (described (named_from 0 ps) (mentions_of ps))
 
--- the terms with those that declare their descriptors, where uses are resolved
+-- ---- the fields that are used, each by its node with its lowest bit in the template
+abbrev pub field_at : At → Sense → List (ℕ × ℕ)
+field_at at (AField bit) = (at.id, bit) ∷ []
+field_at at s = []
+
+module _ (has : AbsolutePath → Bool) (look : AbsolutePath → Option NamedDescriptor) where
+  -- a field that is called or opened as a scope is no value
+  abbrev pub fields_by : Mention → List (ℕ × ℕ)
+  fields_by (Used' asked at name scope) = field_at at (sense_of has look name scope)
+  fields_by (Sought at name scope) = field_at at (sense_of has look name scope)
+  fields_by m = []
+
+  abbrev pub fields_in : List Mention → List (ℕ × ℕ)
+  fields_in [] = []
+  fields_in (m ∷ ms) = fields_by m ++ fields_in ms
+
+abbrev pub fields_of : Plans → List (ℕ × ℕ)
+fields_of ps = fields_in (names_of ps) (table_of ps) (mentions_of ps)
+
+-- ---- an expression that is a field is a constant: its place as a number of bits or of bytes
+abbrev pub counted : Bool → ℕ → ℕ
+counted bits bit = if bits then bit else bit / 8
+
+abbrev pub resolved_use : (bits value : Bool) → Path → Option ℕ → Plan
+resolved_use bits true name (Some bit) = a_word (Word.FieldPlace (counted bits bit))
+resolved_use bits value name field = a_name name
+
+-- a field in bytes that does not begin with one
+abbrev pub broken_use : (bits value : Bool) → Place → Option ℕ → List Message
+broken_use bits true place (Some bit) =
+    if bits || nat_eq (bit % 8) 0 then [] else record { number = 6056; place = place; name = [] } ∷ []
+broken_use bits value place field = []
+
+-- terms by the fields at their nodes; a term at the node with a number, whether it is counted in bits, and whether it is a value
+module _ (fields : List (ℕ × ℕ)) where
+  abbrev mutual
+    pub resolved : (bits value : Bool) → (node : ℕ) → Plan → Plan
+    resolved bits value node (a_name name) = resolved_use bits value name (at_node fields node)
+    resolved bits value node (a_call name args) = a_call name (resolved_from OfCall 0 bits (suc node) args)
+    resolved bits value node (a_form op args body) =
+        a_form op (resolved_from (Arguments op) 0 bits (suc node) args) (resolved_from (Contents op) 0 bits (suc node + nodes args) body)
+    resolved bits value node p = p
+
+    -- those of a list from the one with this number on
+    pub resolved_from : Among → ℕ → Bool → (node : ℕ) → Plans → Plans
+    resolved_from among n bits node no_plans = no_plans
+    resolved_from among n bits node (plan place p ps) =
+        plan place (resolved (bits || is_in_bits among n) (is_value_in among n) node p)
+        (resolved_from among (suc n) bits (suc (node + inside p)) ps)
+
+  abbrev mutual
+    pub broken : (bits value : Bool) → Place → (node : ℕ) → Plan → List Message
+    broken bits value place node (a_name name) = broken_use bits value place (at_node fields node)
+    broken bits value place node (a_call name args) = broken_from OfCall 0 bits (suc node) args
+    broken bits value place node (a_form op args body) =
+        broken_from (Arguments op) 0 bits (suc node) args ++ broken_from (Contents op) 0 bits (suc node + nodes args) body
+    broken bits value place node p = []
+
+    pub broken_from : Among → ℕ → Bool → (node : ℕ) → Plans → List Message
+    broken_from among n bits node no_plans = []
+    broken_from among n bits node (plan place p ps) =
+        broken (bits || is_in_bits among n) (is_value_in among n) place node p
+        ++ broken_from among (suc n) bits (suc (node + inside p)) ps
+
+-- the terms of a block with those that declare its descriptors, in which fields are constants
 abbrev pub checked_terms : Plans → Plans
-checked_terms ps = let all = declaring ps in resolved_from (names_of all) (table_of all) OfCall 0 false all []
+checked_terms ps = let all = declaring ps in resolved_from (fields_of all) OfCall 0 false 0 all
 
-abbrev pub use_errors : Plans → List Message
-use_errors ps = let all = declaring ps in told_from (names_of all) (table_of all) OfCall 0 false all []
+abbrev pub broken_fields : Plans → List Message
+broken_fields ps = let all = declaring ps in broken_from (fields_of all) OfCall 0 false 0 all
 
 -- the terms that are compiled
 abbrev pub resolved_terms : Plans → Plans

@@ -1,24 +1,73 @@
--- What is told of the names of a block where descriptors have names.
-use Rattle.std.specs.Prelude.{Bool, false, not, ◌&&◌, ◌||◌, nat_eq, List, [], ◌∷◌, ◌++◌, map, filter, Option, is_some}
-use Rattle.std.specs.List.{list_any}
-use Rattle.iasl_messages.specs.declared.place.Place.{Place}
-use Rattle.iasl_messages.specs.declared.message.Message.{Message}
+-- What is told of the names of a block where descriptors have names, mention by mention (ACPI Specification 6.4, 19.2.8).
+use Rattle.std.specs.Prelude.{ℕ, Bool, true, false, not, if◌then◌else◌, List, [], ◌∷◌, ◌++◌, map, filter, Option, is_some}
 use Rattle.acpi_values.specs.Paths.{AbsolutePath}
+use Rattle.iasl_messages.specs.declared.message.Message.{Message}
+use Rattle.iasl_messages.specs.declared.place.Place.{Place}
 use Rattle.asl_tree.specs.Names.{place_of}
-use Rattle.asl_tree.specs.declared.path.Path.{Path}
 use Rattle.asl_tree.specs.Tree.{At, Trees}
+use Rattle.asl_tree.specs.declared.path.Path.{Path}
 use Rattle.asl_tree.specs.declared.term.NamedDescriptor.{NamedDescriptor}
 use Rattle.asl_meaning.specs.Declarations.{nothing_declared}
-use Rattle.acpi_names.specs.Errors.{NameError, Missing, unless, name_errors, type_errors}
-use Rattle.acpi_names.specs.Mentions.{Mention, Declares, block_mentions}
+use Rattle.acpi_names.specs.Errors.{NameError, Missing, NoContainer, whole_of, Asked, Anything, AValue, unless, step_errors}
+use Rattle.acpi_names.specs.Mentions.{Mention, Used', Sought, Called, Declares, Opens, all_errors, all_types}
 use Rattle.asl_numbers.specs.Numbers.{numbered_all}
 use Rattle.asl_shape.specs.Plans.{Plans}
-use Rattle.name_checks.specs.Messages.{message_of}
-use Rattle.descriptor_names.specs.Resolved.{checked_terms, table_of, use_errors}
+use Rattle.name_checks.specs.Messages.{message_of, name_text}
+use Rattle.descriptor_names.specs.Senses.{Sense, Nothing, AField, outer_path, sense_of}
+use Rattle.descriptor_names.specs.Declaring.{declaring}
+use Rattle.descriptor_names.specs.Resolved.{checked_terms, broken_fields, mentions_of, names_of, table_of}
 
--- ---- paths that are declared below a descriptor, which has nothing below it but its fields
+-- ---- one mention
+
+abbrev pub is_nothing : Sense → Bool
+is_nothing Nothing = true
+is_nothing s = false
+
+abbrev pub is_field_sense : Sense → Bool
+is_field_sense (AField bit) = true
+is_field_sense s = false
+
+-- what is told of a descriptor or a field where a value or a place is asked for; where an object is
+abbrev pub fault : ℕ → Place → List ℕ → List Message
+fault number place name = record { number = number; place = place; name = name } ∷ []
+
+abbrev pub wrong_value : At → List Message
+wrong_value at = fault 6050 at.place []
+
+abbrev pub wrong_object : At → Path → List Message
+wrong_object at name = fault 6054 at.place (name_text name)
+
+abbrev pub fault_asked : Asked → At → Path → List Message
+fault_asked Anything at name = wrong_value at
+fault_asked AValue at name = wrong_value at
+fault_asked asked at name = wrong_object at name
+
+-- a descriptor and a field are no value, no place, no object of any kind, and no method
+abbrev pub fault_of : Mention → List Message
+fault_of (Used' asked at name scope) = fault_asked asked at name
+fault_of (Sought at name scope) = wrong_value at
+fault_of (Called asked at name args scope) = fault 6051 at.place (name_text name)
+fault_of (Opens here at name scope inner) = wrong_object at name
+fault_of m = []
+
+-- of the class of names: a field by a path that leaves the root, and a Scope of one, which is no container
+abbrev pub field_errors : Mention → List NameError
+field_errors (Used' asked at name scope) = step_errors at name scope
+field_errors (Sought at name scope) = step_errors at name scope
+field_errors (Called asked at name args scope) = step_errors at name scope
+field_errors (Opens here at name scope inner) = step_errors at name scope ++ NoContainer here name ∷ []
+field_errors m = []
+
+-- the path of the descriptor whose field is used
+abbrev pub owner_of : Mention → List AbsolutePath
+owner_of (Used' asked at name scope) = place_of (outer_path name) scope ∷ []
+owner_of (Sought at name scope) = place_of (outer_path name) scope ∷ []
+owner_of (Called asked at name args scope) = place_of (outer_path name) scope ∷ []
+owner_of (Opens here at name scope inner) = place_of (outer_path name) scope ∷ []
+owner_of m = []
 
 module _ (look : AbsolutePath → Option NamedDescriptor) where
+  -- a descriptor has nothing below it but its fields
   abbrev pub is_below : AbsolutePath → Bool
   is_below [] = false
   is_below (segment ∷ outer) = is_some (look outer)
@@ -26,50 +75,76 @@ module _ (look : AbsolutePath → Option NamedDescriptor) where
   abbrev pub declared_below : At → Path → AbsolutePath → List NameError
   declared_below at name scope = unless (not (is_below (place_of name scope))) (Missing at name)
 
-  abbrev pub mention_below : Mention → List NameError
-  mention_below (Declares at name as' scope) = declared_below at name scope
-  mention_below _ = []
+  abbrev pub below_errors : Mention → List NameError
+  below_errors (Declares at name as' scope) = declared_below at name scope
+  below_errors m = []
 
   abbrev pub all_below : List Mention → List NameError
   all_below [] = []
-  all_below (m ∷ ms) = mention_below m ++ all_below ms
+  all_below (m ∷ ms) = below_errors m ++ all_below ms
 
-  -- of a block with the terms that declare its descriptors
-  abbrev pub below_errors : Trees → List NameError
-  below_errors program = all_below (block_mentions program [] nothing_declared)
+module _ (has : AbsolutePath → Bool) (look : AbsolutePath → Option NamedDescriptor) where
+  abbrev pub sense_in : Mention → Sense
+  sense_in (Used' asked at name scope) = sense_of has look name scope
+  sense_in (Sought at name scope) = sense_of has look name scope
+  sense_in (Called asked at name args scope) = sense_of has look name scope
+  sense_in (Opens here at name scope inner) = sense_of has look name scope
+  sense_in m = Nothing
 
--- ---- the two classes
+  -- ---- some mentions
+
+  abbrev pub is_no_field : Mention → Bool
+  is_no_field m = not (is_field_sense (sense_in m))
+
+  abbrev pub is_of_no_descriptor : Mention → Bool
+  is_of_no_descriptor m = is_nothing (sense_in m)
+
+  abbrev pub all_field_errors : List Mention → List NameError
+  all_field_errors [] = []
+  all_field_errors (m ∷ ms) = (if is_no_field m then [] else field_errors m) ++ all_field_errors ms
+
+  -- of the class of kinds: of a descriptor and of a field nothing else is told
+  abbrev pub use_faults : Mention → List Message
+  use_faults m = if is_of_no_descriptor m then [] else fault_of m
+
+  abbrev pub all_use_faults : List Mention → List Message
+  all_use_faults [] = []
+  all_use_faults (m ∷ ms) = use_faults m ++ all_use_faults ms
+
+  -- the descriptors whose fields are used
+  abbrev pub field_owners : List Mention → List AbsolutePath
+  field_owners [] = []
+  field_owners (m ∷ ms) = (if is_no_field m then [] else owner_of m) ++ field_owners ms
+
+-- ---- a block, whose terms stand with those that declare its descriptors
+
+-- of its mentions that are no fields, and below its descriptors
+abbrev pub names_wrong : Plans → List NameError
+names_wrong ps =
+    all_errors (whole_of (numbered_all 0 ps)) (filter (is_no_field (names_of ps) (table_of ps)) (mentions_of ps)) nothing_declared
+    ++ all_below (table_of ps) (mentions_of ps)
+
+abbrev pub fields_wrong : Plans → List NameError
+fields_wrong ps = all_field_errors (names_of ps) (table_of ps) (mentions_of ps)
+
+abbrev pub kinds_wrong : Plans → List Message
+kinds_wrong ps =
+    map message_of (all_types (whole_of (numbered_all 0 ps)) (filter (is_of_no_descriptor (names_of ps) (table_of ps)) (mentions_of ps)))
+    ++ all_use_faults (names_of ps) (table_of ps) (mentions_of ps)
+
+-- the descriptors whose fields are used, once for each use
+abbrev pub owners_of : Plans → List AbsolutePath
+owners_of ps = field_owners (names_of ps) (table_of ps) (mentions_of ps)
 
 -- the terms with those that declare descriptors, as a tree
 abbrev pub checked_trees : Plans → Trees
 checked_trees ps = numbered_all 0 (checked_terms ps)
 
--- names that are declared directly below its descriptors
-abbrev pub names_below : Plans → List NameError
-names_below ps = below_errors (table_of (checked_terms ps)) (checked_trees ps)
-
--- those of some messages that stand at another place than each of others
-abbrev pub stands_at : Place → Message → Bool
-stands_at place m = nat_eq m.place.file place.file && (nat_eq m.place.line place.line && nat_eq m.place.column place.column)
-
-abbrev pub besides : List Message → List Message → List Message
-besides others ms = filter (λ m. not (list_any (stands_at m.place) others)) ms
-
--- messages with those of uses, which have the names as they are written and stand alone at their places
-abbrev pub with_uses : List Message → List Message → List Message
-with_uses uses ms = besides uses ms ++ uses
-
--- the uses by paths that leave the root, and those that a Scope would open, which are of the class of names
-abbrev pub is_of_names : Message → Bool
-is_of_names m = nat_eq m.number 6043 || nat_eq m.number 6042
-
-abbrev pub name_uses_told : Plans → List Message
-name_uses_told ps = filter is_of_names (use_errors ps)
-
--- of names: declared twice or nowhere, of a Scope, of an External and of steps up, as for any other name
+-- of names: declared twice or nowhere, of a Scope, of an External and of steps up; the fields are those of the terms in which they
+-- are not constants yet
 abbrev pub names_told : Plans → List Message
-names_told ps = with_uses (name_uses_told ps) (map message_of (name_errors (checked_trees ps) ++ names_below ps))
+names_told ps = map message_of (names_wrong (checked_terms ps) ++ fields_wrong (declaring ps))
 
--- of kinds and counts, where the class of names has none
+-- of kinds and counts
 abbrev pub kinds_told : Plans → List Message
-kinds_told ps = with_uses (use_errors ps) (map message_of (type_errors (checked_trees ps)))
+kinds_told ps = kinds_wrong (checked_terms ps) ++ broken_fields ps

@@ -3,13 +3,16 @@ ghost use Rattle.std.specs.Prelude.{◌≡◌, ◌<◌, [], length, get_or, Opti
 ghost use Rattle.acpi_values.specs.Paths.{AbsolutePath};
 ghost use Rattle.asl_meaning.specs.Declarations.{Declarations, is_named};
 ghost use Rattle.acpi_names.specs.Parts.{Agrees};
+ghost use Rattle.acpi_names.specs.Shown.{shown};
 ghost use Rattle.acpi_names.specs.Tables.{Tabled, entry_at};
 ghost use Rattle.asl_tree.specs.declared.term.NamedDescriptor.{NamedDescriptor as ANamed};
 ghost use Rattle.descriptor_names.specs.Senses as spec;
 ghost use Rattle.descriptor_names.specs.Shown.{sense_as};
+ghost use Rattle.descriptor_names.specs.Told as told;
 
 use acpi_names::index::{Index, denoted_by};
-use acpi_names::place::{find, prefixed, single};
+use acpi_names::mention::Mention;
+use acpi_names::place::{find, prefixed, scope_in, single};
 use asl_tree::path::{NameSeg, Path};
 use asl_tree::term::NamedDescriptor;
 use resource_layout::layout::descriptor_field;
@@ -117,8 +120,9 @@ pub fn sense_of(
     ensures sense { IfOk result (λ sense. (d : Declarations) (look : AbsolutePath → Option ANamed) →
         Agrees index.now.paths index.now.named.items d → Tabled index.now.paths table.now look →
         sense_as sense ≡ spec.sense_of (is_named d) look name.now (get_or index.now.paths scope [])) }
-    ensures far { IfErr result (λ _. (d : Declarations) (look : AbsolutePath → Option ANamed) → Agrees index.now.paths index.now.named.items d →
-        Tabled index.now.paths table.now look → spec.IsTooFar (spec.sense_of (is_named d) look name.now (get_or index.now.paths scope []))) }
+    ensures far { IfErr result (λ _. (d : Declarations) (look : AbsolutePath → Option ANamed) →
+        Agrees index.now.paths index.now.named.items d → Tabled index.now.paths table.now look →
+        spec.IsTooFar (spec.sense_of (is_named d) look name.now (get_or index.now.paths scope []))) }
 {
     let count = index.paths.len();
     match denoted_by(index, name, scope) {
@@ -130,5 +134,49 @@ pub fn sense_of(
             Some(_) => Ok(Sense::Nothing),
             None => Ok(field_sense(index, table, name, scope)?),
         },
+    }
+}
+
+// The same in the scope of a mention.
+fn used_sense(
+    index: &Index,
+    table: &[Option<NamedDescriptor>],
+    name: &Path,
+    scope: usize,
+) -> Result<Sense, AllocError>
+    requires all { length index.now.named.items ≡ length index.now.paths }
+    ensures sense { IfOk result (λ sense. (d : Declarations) (look : AbsolutePath → Option ANamed) →
+        Agrees index.now.paths index.now.named.items d → Tabled index.now.paths table.now look →
+        sense_as sense ≡ spec.sense_of (is_named d) look name.now (get_or index.now.paths scope [])) }
+    ensures far { IfErr result (λ _. (d : Declarations) (look : AbsolutePath → Option ANamed) →
+        Agrees index.now.paths index.now.named.items d → Tabled index.now.paths table.now look →
+        spec.IsTooFar (spec.sense_of (is_named d) look name.now (get_or index.now.paths scope []))) }
+{
+    let scope = scope_in(&index.paths, scope);
+    Ok(sense_of(index, table, name, scope)?)
+}
+
+/// What the name of a mention denotes; one that declares a name denotes no descriptor. The only error is want of memory, as
+/// which a template of 2^61 bytes is answered, and nothing else.
+pub fn sense_in(
+    index: &Index,
+    table: &[Option<NamedDescriptor>],
+    mention: &Mention,
+) -> Result<Sense, AllocError>
+    requires all { length index.now.named.items ≡ length index.now.paths }
+    ensures sense { IfOk result (λ sense. (d : Declarations) (look : AbsolutePath → Option ANamed) →
+        Agrees index.now.paths index.now.named.items d → Tabled index.now.paths table.now look →
+        sense_as sense ≡ told.sense_in (is_named d) look (shown index.now.paths mention.now)) }
+    ensures far { IfErr result (λ _. (d : Declarations) (look : AbsolutePath → Option ANamed) →
+        Agrees index.now.paths index.now.named.items d → Tabled index.now.paths table.now look →
+        spec.IsTooFar (told.sense_in (is_named d) look (shown index.now.paths mention.now))) }
+{
+    match mention {
+        Mention::Used { name, scope, .. } => Ok(used_sense(index, table, name, *scope)?),
+        Mention::Sought { name, scope, .. } => Ok(used_sense(index, table, name, *scope)?),
+        Mention::Called { name, scope, .. } => Ok(used_sense(index, table, name, *scope)?),
+        Mention::Opens { name, scope, .. } => Ok(used_sense(index, table, name, *scope)?),
+        Mention::Declares { .. } => Ok(Sense::Nothing),
+        Mention::Outside { .. } => Ok(Sense::Nothing),
     }
 }

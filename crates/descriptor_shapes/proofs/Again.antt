@@ -1,19 +1,19 @@
--- The terms of a program without those that declare descriptors are its own terms, resolved.
-use Rattle.std.proofs.Common.{◌≡◌, ℕ, suc, Bool, true, false, List, [], ◌∷◌, Option, refl, sym, ap, ◌∙◌}
+-- The terms of a program without those that declare descriptors are its own terms, in which fields may be constants.
+use Rattle.std.proofs.Common.{◌≡◌, ℕ, suc, ◌+◌, Bool, true, false, List, [], ◌∷◌, Option, Some, None, refl, sym, subst, ap, ◌∙◌}
 use Rattle.std.specs.Prelude.{◌||◌, if◌then◌else◌}
 use Rattle.iasl_messages.specs.declared.place.Place.{Place}
-use Rattle.acpi_values.specs.Paths.{AbsolutePath}
 use Rattle.asl_tree.specs.declared.path.Path.{Path}
 use Rattle.asl_tree.specs.declared.term.Op.{Op}
 use Rattle.asl_tree.specs.declared.term.Special.TheVariants as Special
 use Rattle.asl_tree.specs.declared.term.Declaration.TheVariants as Declaration
-use Rattle.asl_tree.specs.declared.term.Word.{Word}
 use Rattle.asl_tree.specs.declared.term.NamedDescriptor.{NamedDescriptor}
-use Rattle.asl_shape.specs.Plans.{Plan, a_word, a_name, a_call, a_form, Plans, no_plans, plan, plan_at, join}
+use Rattle.asl_shape.specs.Plans.{Plan, a_name, a_call, a_form, Plans, no_plans, plan, plan_at, join}
 use Rattle.asl_shape.specs.Descriptors.{named_of}
-use Rattle.descriptor_names.specs.Declaring.{has_terms, names_inside, declarations, alone, beside, is_first, opened, declaring, is_naming, declared_by, unless_declared, closed, stripped}
-use Rattle.descriptor_names.specs.Senses.{Sense, Nothing, ADescriptor, AField, Position, Value, Spot, AnyPath, APath, Written, sense_of, content_position}
-use Rattle.descriptor_names.specs.Resolved.{Arguments, Contents, OfCall, resolved_use, inner, resolved, resolved_from}
+use Rattle.asl_numbers.specs.Numbers.{inside, nodes}
+use Rattle.descriptor_names.specs.Declaring.{has_terms, names_inside, declaration, declarations, alone, beside, is_first, opened, declaring, is_naming, declared_by, unless_declared, closed, stripped}
+use Rattle.descriptor_names.specs.Values.{Among, Arguments, Contents, OfCall, has_values, is_value_in, is_in_bits}
+use Rattle.descriptor_names.specs.Resolved.{at_node, resolved_use, resolved, resolved_from}
+use Rattle.descriptor_shapes.proofs.Uses.{Resolves, Stays, Becomes, InCall, InForm, AllResolve, NoneResolve, MoreResolve, all_resolves}
 
 -- the terms declare no descriptor themselves
 abbrev pub IfTerms : Bool → Type 0 → Type 0
@@ -30,130 +30,102 @@ abbrev mutual
   AreOwn (plan place p ps) = IsOwn p × AreOwn ps
 
 -- terms stand where names are expressions
-terms_are_values : (op : Op) → has_terms op ≡ true → content_position op ≡ Value
+terms_are_values : (op : Op) → has_terms op ≡ true → has_values op ≡ true
 terms_are_values (Op.Special Special.Buffer) e = absurd cc
 terms_are_values (Op.Declaration Declaration.Field) e = absurd cc
 terms_are_values (Op.Declaration Declaration.IndexField) e = absurd cc
 terms_are_values (Op.Declaration Declaration.BankField) e = absurd cc
 terms_are_values _ e = refl
 
--- a use is a constant or a name
-used_as : (P : Plan → Type 0) (bits : Bool) (p : Position) (name : Path) (s : Sense) → ((w : Word) → P (a_word w)) → ((n : Path) → P (a_name n)) → P (resolved_use bits p name s)
-used_as P bits Written name s word named = named name
-used_as P bits Value name (AField bit) word named = word _
-used_as P bits Value name Nothing word named = named name
-used_as P bits Value name ADescriptor word named = named name
-used_as P bits Spot name (AField bit) word named = named _
-used_as P bits Spot name Nothing word named = named name
-used_as P bits Spot name ADescriptor word named = named name
-used_as P bits AnyPath name (AField bit) word named = named _
-used_as P bits AnyPath name Nothing word named = named name
-used_as P bits AnyPath name ADescriptor word named = named name
-used_as P bits APath name (AField bit) word named = named _
-used_as P bits APath name Nothing word named = named name
-used_as P bits APath name ADescriptor word named = named name
-
-join_none : (ps : Plans) → join ps no_plans ≡ ps
-join_none no_plans = refl
-join_none (plan place p ps) = ap (plan place p) (join_none ps)
-
 join_again : (ps qs rs : Plans) → join (join ps qs) rs ≡ join ps (join qs rs)
 join_again no_plans qs rs = refl
 join_again (plan place p ps) qs rs = ap (plan place p) (join_again ps qs rs)
 
-stripped_join : (ps qs : Plans) → stripped (join ps qs) ≡ join (stripped ps) (stripped qs)
-stripped_join no_plans qs = refl
-stripped_join (plan place p ps) qs =
-    let own = unless_declared (declared_by p) (alone place (closed p)) in ap (join own) (stripped_join ps qs) ∙ sym (join_again own (stripped ps) (stripped qs))
+use_named_none : (bits value : Bool) (name : Path) (field : Option ℕ) → named_of (resolved_use bits value name field) ≡ []
+use_named_none bits true name (Some bit) = refl
+use_named_none bits true name None = refl
+use_named_none bits false name field = refl
 
-module _ (has : AbsolutePath → Bool) (look : AbsolutePath → Option NamedDescriptor) where
-  -- terms, wherever they stand
-  abbrev pub resolved_all : Bool → Plans → AbsolutePath → Plans
-  resolved_all bits ps scope = resolved_from has look OfCall 0 bits ps scope
+use_declares_none : (bits value : Bool) (name : Path) (field : Option ℕ) → declared_by (resolved_use bits value name field) ≡ []
+use_declares_none bits true name (Some bit) = refl
+use_declares_none bits true name None = refl
+use_declares_none bits false name field = refl
 
-  anywhere : (n : ℕ) (bits : Bool) (ps : Plans) (scope : AbsolutePath) → resolved_from has look OfCall n bits ps scope ≡ resolved_all bits ps scope
-  anywhere n bits no_plans scope = refl
-  anywhere n bits (plan place p ps) scope = ap (plan place (resolved has look (bits || false) Value p scope)) (anywhere (suc n) bits ps scope ∙ sym (anywhere 1 bits ps scope))
+use_closed : (bits value : Bool) (name : Path) (field : Option ℕ) → Resolves value (a_name name) (closed (resolved_use bits value name field))
+use_closed bits true name (Some bit) = Becomes name _
+use_closed bits true name None = Stays (a_name name) tt
+use_closed bits false name field = Stays (a_name name) tt
 
-  pub in_body : (op : Op) (n : ℕ) (bits : Bool) (ps : Plans) (scope : AbsolutePath) → content_position op ≡ Value → resolved_from has look (Contents op) n bits ps scope ≡ resolved_all bits ps scope
-  in_body op n bits no_plans scope e = refl
-  in_body op n bits (plan place p ps) scope e =
-      ap (λ position. plan place (resolved has look (bits || false) position p scope) (resolved_from has look (Contents op) (suc n) bits ps scope)) e
-      ∙ ap (plan place (resolved has look (bits || false) Value p scope)) (in_body op (suc n) bits ps scope e ∙ sym (anywhere 1 bits ps scope))
+-- a list of terms, all of which stand where names are expressions
+abbrev AreValues : Among → Type 0
+AreValues among = (k : ℕ) → is_value_in among k ≡ true
 
-  resolved_join : (bits : Bool) (ps qs : Plans) (scope : AbsolutePath) → resolved_all bits (join ps qs) scope ≡ join (resolved_all bits ps scope) (resolved_all bits qs scope)
-  resolved_join bits no_plans qs scope = refl
-  resolved_join bits (plan place p ps) qs scope =
-      ap (plan place (resolved has look (bits || false) Value p scope)) (anywhere 1 bits (join ps qs) scope ∙ resolved_join bits ps qs scope ∙ ap (λ rs. join rs (resolved_all bits qs scope)) (sym (anywhere 1 bits ps scope)))
+module _ (fields : List (ℕ × ℕ)) where
+  -- ---- no other term declares a descriptor
 
-  -- a term that declares a descriptor stays, and is taken out
-  gone : (bits : Bool) (names : List NamedDescriptor) (scope : AbsolutePath) → stripped (resolved_all bits (declarations names) scope) ≡ no_plans
-  gone bits [] scope = refl
-  gone bits (named ∷ names) scope = ap stripped (anywhere 1 bits (declarations names) scope) ∙ gone bits names scope
+  named_same : (bits value : Bool) (node : ℕ) (p : Plan) → named_of (resolved fields bits value node p) ≡ named_of p
+  named_same bits value node (a_name name) = use_named_none bits value name (at_node fields node)
+  named_same bits value node (a_call name args) = refl
+  named_same bits value node (a_form op args body) = refl
+  named_same bits value node _ = refl
 
-  -- no other term declares one
-  named_same : (bits : Bool) (p : Position) (q : Plan) (scope : AbsolutePath) → named_of (resolved has look bits p q scope) ≡ named_of q
-  named_same bits p (a_name name) scope = used_as (λ q. named_of q ≡ []) bits p name (sense_of has look name scope) (λ w. refl) (λ n. refl)
-  named_same bits p (a_call name args) scope = refl
-  named_same bits p (a_form op args body) scope = refl
-  named_same bits p _ scope = refl
+  value_same : (op : Op) (bits : Bool) (node : ℕ) (args : Plans) → named_of (plan_at (resolved_from fields (Arguments op) 0 bits node args) 1) ≡ named_of (plan_at args 1)
+  value_same op bits node no_plans = refl
+  value_same op bits node (plan place p no_plans) = refl
+  value_same op bits node (plan place p (plan at q ps)) = named_same _ _ _ q
 
-  value_same : (op : Op) (bits : Bool) (args : Plans) (scope : AbsolutePath) → named_of (plan_at (resolved_from has look (Arguments op) 0 bits args scope) 1) ≡ named_of (plan_at args 1)
-  value_same op bits no_plans scope = refl
-  value_same op bits (plan place p no_plans) scope = refl
-  value_same op bits (plan place p (plan at q ps)) scope = named_same _ _ q scope
+  declares_none : (bits value : Bool) (node : ℕ) (p : Plan) → IsOwn p → declared_by (resolved fields bits value node (opened p)) ≡ []
+  declares_none bits value node (a_name name) h = use_declares_none bits value name (at_node fields node)
+  declares_none bits value node (a_call name args) h = refl
+  declares_none bits value node (a_form op args body) h = ap (λ ns. if is_naming op then ns else []) (value_same op bits (suc node) args) ∙ h.0
+  declares_none bits value node _ h = refl
 
-  naming_same : (op : Op) (bits : Bool) (args : Plans) (scope : AbsolutePath) → (if is_naming op then named_of (plan_at (resolved_from has look (Arguments op) 0 bits args scope) 1) else []) ≡ (if is_naming op then named_of (plan_at args 1) else [])
-  naming_same op bits args scope = ap (λ ns. if is_naming op then ns else []) (value_same op bits args scope)
+  -- ---- the terms that declare descriptors are taken out
 
-  declares_none : (bits : Bool) (p : Plan) (scope : AbsolutePath) → IsOwn p → declared_by (resolved has look bits Value (opened p) scope) ≡ []
-  declares_none bits (a_name name) scope h = used_as (λ q. declared_by q ≡ []) bits Value name (sense_of has look name scope) (λ w. refl) (λ n. refl)
-  declares_none bits (a_call name args) scope h = refl
-  declares_none bits (a_form op args body) scope h = naming_same op bits args scope ∙ h.0
-  declares_none bits _ scope h = refl
+  without : (among : Among) (i n : ℕ) (bits : Bool) (node : ℕ) (names : List NamedDescriptor) (ps qs : Plans) → ((n node : ℕ) → AllResolve among i ps (stripped (resolved_from fields among n bits node qs)))
+      → AllResolve among i ps (stripped (resolved_from fields among n bits node (join (declarations names) qs)))
+  without among i n bits node [] ps qs go = go n node
+  without among i n bits node (named ∷ names) ps qs go = without among i (suc n) bits (suc (node + inside (declaration named))) names ps qs go
 
-  alone_again : (bits : Bool) (place : Place) (p : Plan) (scope : AbsolutePath) → IsOwn p → closed (resolved has look (bits || false) Value (opened p) scope) ≡ resolved has look (bits || false) Value p scope
-      → stripped (resolved_all bits (alone place (opened p)) scope) ≡ alone place (resolved has look (bits || false) Value p scope)
-  alone_again bits place p scope h same =
-      join_none (unless_declared (declared_by (resolved has look (bits || false) Value (opened p) scope)) (alone place (closed (resolved has look (bits || false) Value (opened p) scope))))
-      ∙ ap (λ names. unless_declared names (alone place (closed (resolved has look (bits || false) Value (opened p) scope)))) (declares_none (bits || false) p scope h)
-      ∙ ap (alone place) same
+  -- a term of its own, and what stands behind it
+  term_first : (among : Among) → AreValues among → (i n : ℕ) (bits : Bool) (node : ℕ) (place : Place) (p : Plan) (ps qs : Plans) → IsOwn p
+      → Resolves (is_value_in among n) p (closed (resolved fields (bits || is_in_bits among n) (is_value_in among n) node (opened p)))
+      → ((n node : ℕ) → AllResolve among (suc i) ps (stripped (resolved_from fields among n bits node qs)))
+      → AllResolve among i (plan place p ps) (stripped (resolved_from fields among n bits node (plan place (opened p) qs)))
+  term_first among values i n bits node place p ps qs h term rest =
+      let here = resolved fields (bits || is_in_bits among n) (is_value_in among n) node (opened p) in
+      let others = stripped (resolved_from fields among (suc n) bits (suc (node + inside (opened p))) qs) in
+      subst (λ names. AllResolve among i (plan place p ps) (join (unless_declared names (alone place (closed here))) others)) (sym (declares_none (bits || is_in_bits among n) (is_value_in among n) node p h))
+      (MoreResolve place (subst (λ value. Resolves value p (closed here)) (values n ∙ sym (values i)) term) (rest (suc n) (suc (node + inside (opened p)))))
 
-  body_again : (bits : Bool) (op : Op) (body : Plans) (scope : AbsolutePath) (b : Bool) → has_terms op ≡ b → IfTerms b (AreOwn body) → (AreOwn body → stripped (resolved_all bits (declaring body) scope) ≡ resolved_all bits body scope)
-      → (if b then stripped (resolved_from has look (Contents op) 0 bits (if b then declaring body else body) scope) else resolved_from has look (Contents op) 0 bits (if b then declaring body else body) scope)
-      ≡ resolved_from has look (Contents op) 0 bits body scope
-  body_again bits op body scope true e h go =
-      let value = terms_are_values op e in ap stripped (in_body op 0 bits (declaring body) scope value) ∙ go h ∙ sym (in_body op 0 bits body scope value)
-  body_again bits op body scope false e h go = refl
+  -- a term of its own with the names beside it
+  term_beside : (b : Bool) (among : Among) → AreValues among → (i n : ℕ) (bits : Bool) (node : ℕ) (place : Place) (p : Plan) (names : List NamedDescriptor) (ps qs : Plans) → IsOwn p
+      → ((n node : ℕ) → Resolves (is_value_in among n) p (closed (resolved fields (bits || is_in_bits among n) (is_value_in among n) node (opened p))))
+      → ((n node : ℕ) → AllResolve among (suc i) ps (stripped (resolved_from fields among n bits node qs)))
+      → AllResolve among i (plan place p ps) (stripped (resolved_from fields among n bits node (join (beside b (declarations names) (alone place (opened p))) qs)))
+  term_beside true among values i n bits node place p names ps qs h term rest =
+      term_first among values i n bits node place p ps (join (declarations names) qs) h (term n node) (λ m other. without among (suc i) m bits other names ps qs rest)
+  term_beside false among values i n bits node place p names ps qs h term rest =
+      subst (λ rs. AllResolve among i (plan place p ps) (stripped (resolved_from fields among n bits node rs))) (sym (join_again (declarations names) (alone place (opened p)) qs))
+      (without among i n bits node names (plan place p ps) (plan place (opened p) qs) (λ m other. term_first among values i m bits other place p ps qs h (term m other) rest))
+
+  body_again : (op : Op) (bits : Bool) (node : ℕ) (body : Plans) (b : Bool) → has_terms op ≡ b → IfTerms b (AreOwn body)
+      → (AreValues (Contents op) → AreOwn body → AllResolve (Contents op) 0 body (stripped (resolved_from fields (Contents op) 0 bits node (declaring body))))
+      → AllResolve (Contents op) 0 body (if b then stripped (resolved_from fields (Contents op) 0 bits node (if b then declaring body else body)) else resolved_from fields (Contents op) 0 bits node (if b then declaring body else body))
+  body_again op bits node body true e h go = go (λ k. terms_are_values op e) h
+  body_again op bits node body false e h go = all_resolves fields (Contents op) 0 bits node body
 
   mutual
-    closed_again : (bits : Bool) (p : Plan) (scope : AbsolutePath) → IsOwn p → closed (resolved has look bits Value (opened p) scope) ≡ resolved has look bits Value p scope
-    closed_again bits (a_name name) scope h = used_as (λ q. closed q ≡ q) bits Value name (sense_of has look name scope) (λ w. refl) (λ n. refl)
-    closed_again bits (a_call name args) scope h = refl
-    closed_again bits (a_form op args body) scope h =
-        ap (a_form op (resolved_from has look (Arguments op) 0 bits args scope)) (body_again bits op body (inner has op (resolved_from has look (Arguments op) 0 bits args scope) scope) (has_terms op) refl h.1
-        (λ k. all_again bits body (inner has op (resolved_from has look (Arguments op) 0 bits args scope) scope) k))
-    closed_again bits _ scope h = refl
+    closed_again : (bits value : Bool) (node : ℕ) (p : Plan) → IsOwn p → Resolves value p (closed (resolved fields bits value node (opened p)))
+    closed_again bits value node (a_name name) h = use_closed bits value name (at_node fields node)
+    closed_again bits value node (a_call name args) h = InCall name (all_resolves fields OfCall 0 bits (suc node) args)
+    closed_again bits value node (a_form op args body) h =
+        InForm op (all_resolves fields (Arguments op) 0 bits (suc node) args)
+        (body_again op bits (suc node + nodes args) body (has_terms op) refl h.1 (λ values own. all_again (Contents op) values 0 0 bits (suc node + nodes args) body own))
+    closed_again bits value node p h = Stays p tt
 
-    pub all_again : (bits : Bool) (ps : Plans) (scope : AbsolutePath) → AreOwn ps → stripped (resolved_all bits (declaring ps) scope) ≡ resolved_all bits ps scope
-    all_again bits no_plans scope h = refl
-    all_again bits (plan place p ps) scope h =
-        let names = declarations (names_inside p) in
-        let term = alone place (opened p) in
-        let mine = beside (is_first p) names term in
-        ap stripped (resolved_join bits mine (declaring ps) scope)
-        ∙ stripped_join (resolved_all bits mine scope) (resolved_all bits (declaring ps) scope)
-        ∙ ap (λ qs. join qs (stripped (resolved_all bits (declaring ps) scope))) (besides (is_first p) ∙ alone_again bits place p scope h.0 (closed_again (bits || false) p scope h.0))
-        ∙ ap (plan place (resolved has look (bits || false) Value p scope)) (all_again bits ps scope h.1 ∙ sym (anywhere 1 bits ps scope))
-      where
-        -- what is beside it is gone
-        besides : (b : Bool) → stripped (resolved_all bits (beside b (declarations (names_inside p)) (alone place (opened p))) scope) ≡ stripped (resolved_all bits (alone place (opened p)) scope)
-        besides true =
-            ap stripped (resolved_join bits (alone place (opened p)) (declarations (names_inside p)) scope)
-            ∙ stripped_join (resolved_all bits (alone place (opened p)) scope) (resolved_all bits (declarations (names_inside p)) scope)
-            ∙ ap (join (stripped (resolved_all bits (alone place (opened p)) scope))) (gone bits (names_inside p) scope)
-            ∙ join_none (stripped (resolved_all bits (alone place (opened p)) scope))
-        besides false =
-            ap stripped (resolved_join bits (declarations (names_inside p)) (alone place (opened p)) scope)
-            ∙ stripped_join (resolved_all bits (declarations (names_inside p)) scope) (resolved_all bits (alone place (opened p)) scope)
-            ∙ ap (λ qs. join qs (stripped (resolved_all bits (alone place (opened p)) scope))) (gone bits (names_inside p) scope)
+    pub all_again : (among : Among) → AreValues among → (i n : ℕ) (bits : Bool) (node : ℕ) (ps : Plans) → AreOwn ps → AllResolve among i ps (stripped (resolved_from fields among n bits node (declaring ps)))
+    all_again among values i n bits node no_plans h = NoneResolve
+    all_again among values i n bits node (plan place p ps) h =
+        term_beside (is_first p) among values i n bits node place p (names_inside p) ps (declaring ps) h.0
+        (λ m other. closed_again (bits || is_in_bits among m) (is_value_in among m) other p h.0) (λ m other. all_again among values (suc i) m bits other ps h.1)

@@ -1,5 +1,5 @@
 -- Trees that are like formed ones are formed.
-use Rattle.std.proofs.Common.{◌≡◌, ℕ, true, false, List, [], refl, sym, ◌∙◌}
+use Rattle.std.proofs.Common.{◌≡◌, ℕ, Bool, true, false, List, [], refl, sym, ◌∙◌}
 use Rattle.acpi_values.specs.Operators.{Letter, Valued, Kept, Placed, Used, Row, row_of}
 use Rattle.acpi_values.specs.Operators as L
 use Rattle.asl_meaning.specs.Meaning.{SpotForm, OfResult, OfInside, NoSpot, spot_form}
@@ -7,8 +7,8 @@ use Rattle.asl_tree.specs.FieldItems.{FieldItem}
 use Rattle.asl_tree.specs.Tree.{Tree, Trees, count, UnitName}
 use Rattle.aml_sessions.specs.Ready.{is_expression, RawReady, SpotReady}
 use Rattle.named_sessions.specs.Shaped.{UsedShaped, LetterShaped, ElementShaped, EffectShaped, IsFormed, IsFormedSpot, IsFormedAlone, AreFormedOperands, AreFormedSpots, AreFormedValues, AreFormedElements, AreFormed, AreFormedCases, IsNumber, IsCaseMember, AreCaseMembers, HaveCaseMembers, IsCaseValue, StartsNoElse, IsFollowed, AreNamed}
-use Rattle.descriptor_names.specs.Senses.{Position, by_letter}
-use Rattle.descriptor_shapes.proofs.Like.{MayCount, Like, LikeInteger, LikeConstant, LikeString, LikeSlot, LikeDebug, LikeOmitted, LikeRaw, LikeMisshapen, Declared, Moved, Counted, LikeCall, LikeApply, LikeOperated, LikeAssigned, LikeAssignedBy, LikeBuffer, LikeBytes, LikePackage, LikeVarPackage, LikeSized, LikeCondRefOf, LikeReturn, LikeName, LikeAlias, LikeMethod, LikeContainer, LikeScope, LikeIf, LikeElseIf, LikeElse, LikeWhile, LikeFor, LikePrint, LikeSwitch, LikeCase, LikeDefault, LikeRegion, LikeField, LikeIndexField, LikeBankField, LikeCreate, LikeBy, NoneBy, FirstBy, TargetBy, LikeAll, NoneAll, MoreAll, SameUnit, SameSkip, SameOffset, SameAccess, LikeConnected, SameResource, LikeUnits, NoUnits, MoreUnits, same_targets, same_count}
+use Rattle.descriptor_names.specs.Values.{has_value}
+use Rattle.descriptor_shapes.proofs.Like.{MayCount, Like, LikeInteger, LikeConstant, LikeString, LikeSlot, LikeDebug, LikeOmitted, LikeRaw, LikeMisshapen, SameUse, Counted, LikeCall, LikeApply, LikeOperated, LikeAssigned, LikeAssignedBy, LikeBuffer, LikeBytes, LikePackage, LikeVarPackage, LikeSized, LikeCondRefOf, LikeReturn, LikeName, LikeAlias, LikeMethod, LikeContainer, LikeScope, LikeIf, LikeElseIf, LikeElse, LikeWhile, LikeFor, LikePrint, LikeSwitch, LikeCase, LikeDefault, LikeRegion, LikeField, LikeIndexField, LikeBankField, LikeCreate, LikeBy, NoneBy, FirstBy, TargetBy, LikeAll, NoneAll, MoreAll, SameUnit, SameSkip, SameOffset, SameAccess, LikeConnected, SameResource, LikeUnits, NoUnits, MoreUnits, same_targets, same_count}
 
 never : {A : Type 0} → false ≡ true → A
 never e = absurd cc
@@ -20,27 +20,26 @@ spot_by NoSpot R I R' I' r i h = h
 
 -- ---- what needs no more than the form
 
-expression : {p : Position} {t u : Tree} → Like p t u → is_expression t ≡ true → is_expression u ≡ true
+expression : {p : Bool} {t u : Tree} → Like p t u → is_expression t ≡ true → is_expression u ≡ true
 expression LikeMisshapen e = e
 expression _ e = e
 
-used_shaped : {p : Position} {t u : Tree} → (MayCount p → ⊥) → Like p t u → UsedShaped t → UsedShaped u
-used_shaped fixed (Declared name) h = h
-used_shaped fixed (Moved name other may stays) h = stays h
+used_shaped : {p : Bool} {t u : Tree} → (MayCount p → ⊥) → Like p t u → UsedShaped t → UsedShaped u
+used_shaped fixed (SameUse name) h = h
 used_shaped fixed (Counted name n may) h = absurd (fixed may)
 used_shaped fixed _ h = absurd h
 
-raw_shaped : {p : Position} {t u : Tree} (size : ℕ) → Like p t u → RawReady size t → RawReady size u
+raw_shaped : {p : Bool} {t u : Tree} (size : ℕ) → Like p t u → RawReady size t → RawReady size u
 raw_shaped size (LikeRaw other number) h = h
 raw_shaped size _ h = absurd h
 
 -- ---- what a Case compares with
 
-number_shaped : {p : Position} {t u : Tree} → Like p t u → IsNumber t → IsNumber u
+number_shaped : {p : Bool} {t u : Tree} → Like p t u → IsNumber t → IsNumber u
 number_shaped (LikeInteger n) h = h
 number_shaped _ h = absurd h
 
-member_shaped : {p : Position} {t u : Tree} → Like p t u → IsCaseMember t → IsCaseMember u
+member_shaped : {p : Bool} {t u : Tree} → Like p t u → IsCaseMember t → IsCaseMember u
 member_shaped (LikeInteger n) h = h
 member_shaped (LikeConstant literal) h = h
 member_shaped (LikeString text) h = h
@@ -56,7 +55,7 @@ some_shaped : {ts us : Trees} → LikeAll ts us → HaveCaseMembers ts → HaveC
 some_shaped NoneAll h = h
 some_shaped (MoreAll like rest) h = members_shaped (MoreAll like rest) h
 
-case_shaped : {p : Position} {t u : Tree} → Like p t u → IsCaseValue t → IsCaseValue u
+case_shaped : {p : Bool} {t u : Tree} → Like p t u → IsCaseValue t → IsCaseValue u
 case_shaped (LikeInteger n) h = h
 case_shaped (LikeConstant literal) h = h
 case_shaped (LikeString text) h = h
@@ -99,10 +98,10 @@ module _ (Forms Symbols Switches : Type 0) where
   units_named (MoreUnits (SameSkip bits) rest) h = units_named rest h
   units_named (MoreUnits (SameOffset bytes) rest) h = units_named rest h
   units_named (MoreUnits (SameAccess access attribute count) rest) h = (h.0, units_named rest h.1)
-  units_named (MoreUnits (LikeConnected at to name other stays) rest) h = (stays h.0, units_named rest h.1)
+  units_named (MoreUnits (LikeConnected at to name) rest) h = (h.0, units_named rest h.1)
   units_named (MoreUnits (SameResource bytes) rest) h = (tt, units_named rest h.1)
 
-  letter_shaped : (letter : Letter) {t u : Tree} → Like (by_letter letter) t u → (Formed t → Formed u) → ((MayCount (by_letter letter) → ⊥) → Spot t → Spot u) → LetterShaped letter t (Value t) (Spot t) → LetterShaped letter u (Value u) (Spot u)
+  letter_shaped : (letter : Letter) {t u : Tree} → Like (has_value letter) t u → (Formed t → Formed u) → ((MayCount (has_value letter) → ⊥) → Spot t → Spot u) → LetterShaped letter t (Value t) (Spot t) → LetterShaped letter u (Value u) (Spot u)
   letter_shaped Valued like value spot h = (expression like h.0, value h.1)
   letter_shaped Kept like value spot h = (expression like h.0, value h.1)
   letter_shaped Placed like value spot h = spot (λ may. may) h
@@ -110,7 +109,7 @@ module _ (Forms Symbols Switches : Type 0) where
   letter_shaped (L.Raw size) like value spot h = raw_shaped size like h
 
   -- what may be left out
-  effect_shaped : {p : Position} {t u : Tree} → Like p t u → (Formed t → Formed u) → EffectShaped t (Formed t) → EffectShaped u (Formed u)
+  effect_shaped : {p : Bool} {t u : Tree} → Like p t u → (Formed t → Formed u) → EffectShaped t (Formed t) → EffectShaped u (Formed u)
   effect_shaped LikeOmitted go h = h
   effect_shaped like go h = (expression like h.0, go h.1)
 
@@ -121,7 +120,7 @@ module _ (Forms Symbols Switches : Type 0) where
   starts_no_else (MoreAll (LikeElseIf test body) rest) k h = absurd h
   starts_no_else (MoreAll _ rest) k h = tt
 
-  followed : {p : Position} {t u : Tree} {ts us : Trees} → Like p t u → LikeAll ts us → Formed t → All ts → IsFollowed t ts → IsFollowed u us
+  followed : {p : Bool} {t u : Tree} {ts us : Trees} → Like p t u → LikeAll ts us → Formed t → All ts → IsFollowed t ts → IsFollowed u us
   followed (LikeSwitch value cases) rest f k h = starts_no_else rest k h
   followed _ rest f k h = tt
 
@@ -134,10 +133,9 @@ module _ (Forms Symbols Switches : Type 0) where
   ready_spot NoSpot n letters args others targets goals e operands spots alone h = h
 
   mutual
-    formed : {p : Position} {t u : Tree} → Like p t u → Formed t → Formed u
-    formed (Moved name other may stays) h = stays h
+    formed : {p : Bool} {t u : Tree} → Like p t u → Formed t → Formed u
     formed (Counted name n may) h = tt
-    formed (LikeCall name other stays args) h = (stays h.0, values_formed args h.1)
+    formed (LikeCall name args) h = (h.0, values_formed args h.1)
     formed (LikeApply op args targets) h = (h.0, operands_formed args h.1, sym (same_targets targets) ∙ h.2, spots_formed targets h.3)
     formed (LikeOperated op args) h = (h.0, h.1, operands_formed args h.2)
     formed (LikeAssigned target value) h = (h.0, spot_formed (λ may. may) target h.1, expression value h.2, formed value h.3)
@@ -150,10 +148,10 @@ module _ (Forms Symbols Switches : Type 0) where
     formed (LikeCondRefOf place target) h = (spot_formed (λ may. may) place h.0, spot_formed (λ may. may) target h.1)
     formed (LikeReturn value) h = (expression value h.0, formed value h.1)
     formed (LikeName name value) h = (h.0, expression value h.1, formed value h.2)
-    formed (LikeAlias source other name stays) h = (stays h.0, h.1)
+    formed (LikeAlias source name) h = h
     formed (LikeMethod name flags body) h = (h.0, h.1, all_formed body h.2)
     formed (LikeContainer kind name body) h = (h.0, h.1, all_formed body h.2)
-    formed (LikeScope name other stays body) h = (stays h.0, all_formed body h.1)
+    formed (LikeScope name body) h = (h.0, all_formed body h.1)
     formed (LikeIf test body) h = (expression test h.0, formed test h.1, all_formed body h.2)
     formed (LikeElseIf test body) h = (h.0, expression test h.1, formed test h.2, all_formed body h.3)
     formed (LikeElse body) h = all_formed body h
@@ -164,14 +162,13 @@ module _ (Forms Symbols Switches : Type 0) where
     formed (LikeCase value body) h = absurd h
     formed (LikeDefault body) h = absurd h
     formed (LikeRegion name space args) h = (h.0, h.1, operands_formed args h.2)
-    formed (LikeField region other flags stays items) h = (stays h.0, h.1, units_named items h.2)
-    formed (LikeIndexField index other register another flags stays keeps items) h = (stays h.0, keeps h.1, h.2, units_named items h.3)
-    formed (LikeBankField region other bank another flags stays keeps value items) h = (stays h.0, keeps h.1, expression value h.2, formed value h.3, h.4, units_named items h.5)
+    formed (LikeField region flags items) h = (h.0, h.1, units_named items h.2)
+    formed (LikeIndexField index register flags items) h = (h.0, h.1, h.2, units_named items h.3)
+    formed (LikeBankField region bank flags value items) h = (h.0, h.1, expression value h.2, formed value h.3, h.4, units_named items h.5)
     formed (LikeCreate form name args) h = (operands_formed args h.0, h.1)
     formed _ h = h
 
-    spot_formed : {p : Position} {t u : Tree} → (MayCount p → ⊥) → Like p t u → Spot t → Spot u
-    spot_formed fixed (Moved name other may stays) h = stays h
+    spot_formed : {p : Bool} {t u : Tree} → (MayCount p → ⊥) → Like p t u → Spot t → Spot u
     spot_formed fixed (Counted name n may) h = absurd (fixed may)
     spot_formed fixed (LikeApply op args targets) h =
         (h.0, ready_spot (spot_form op) (row_of op).targets (row_of op).operands _ _ _ _ (same_targets targets) (λ k. operands_formed args k) (λ k. spots_formed targets k) (λ k. alone_formed args targets k) h.1)
@@ -180,7 +177,7 @@ module _ (Forms Symbols Switches : Type 0) where
     spot_formed fixed LikeOmitted h = h
     spot_formed fixed LikeDebug h = h
     spot_formed fixed (LikeSlot slot) h = h
-    spot_formed fixed (Declared name) h = h
+    spot_formed fixed (SameUse name) h = h
     spot_formed fixed _ h = absurd h
 
     alone_formed : {letters : List Letter} {args others targets spots : Trees} → LikeBy letters args others → LikeBy [] targets spots → Alone args targets → Alone others spots
@@ -201,12 +198,11 @@ module _ (Forms Symbols Switches : Type 0) where
     values_formed NoneAll h = h
     values_formed (MoreAll like rest) h = (expression like h.0, formed like h.1, values_formed rest h.2)
 
-    element_formed : {p : Position} {t u : Tree} → Like p t u → ElementShaped t (Formed t) → ElementShaped u (Formed u)
+    element_formed : {p : Bool} {t u : Tree} → Like p t u → ElementShaped t (Formed t) → ElementShaped u (Formed u)
     element_formed (LikeInteger n) h = h
     element_formed (LikeConstant literal) h = h
     element_formed (LikeString text) h = h
-    element_formed (Declared name) h = h
-    element_formed (Moved name other may stays) h = stays h
+    element_formed (SameUse name) h = h
     element_formed (Counted name n may) h = (refl, tt)
     element_formed (LikeBuffer bytes more size) h = (refl, (expression size h.1.0, formed size h.1.1))
     element_formed (LikeBytes n m bytes more) h = (refl, (refl, tt))

@@ -5,8 +5,13 @@ pub mod Uses
 pub mod Again
 pub mod Own
 pub mod Resolved
+pub mod Each
 pub mod Unnamed
+pub mod Untold
 pub mod Terms
 pub mod TreePlaces
 pub mod MentionPlaces
 pub mod Places
+pub mod ToldPlaces
+pub mod Whole
+pub mod Stripped

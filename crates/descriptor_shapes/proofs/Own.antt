@@ -63,11 +63,11 @@ mutual
 
 -- ---- forms
 
-fill_value : (here : At) (t : Tree) (bytes : List ℕ) (ts bs : Trees) → IsOwnTree (form here (Op.Declaration Declaration.Name) (tree t (tree (Fill bytes) ts)) bs) → ⊥
+pub fill_value : (here : At) (t : Tree) (bytes : List ℕ) (ts bs : Trees) → IsOwnTree (form here (Op.Declaration Declaration.Name) (tree t (tree (Fill bytes) ts)) bs) → ⊥
 fill_value here (Use at name) bytes no_trees no_trees h = h
 fill_value here _ bytes _ _ h = h
 
-body_own : (here : At) (op : Op) (ts bs : Trees) → has_terms op ≡ true → IsOwnTree (form here op ts bs) → AreOwnTrees bs
+pub body_own : (here : At) (op : Op) (ts bs : Trees) → has_terms op ≡ true → IsOwnTree (form here op ts bs) → AreOwnTrees bs
 body_own here (Op.Declaration Declaration.Method) (tree (Use at name) (tree (Integer arity) no_trees)) bs e h = h
 body_own here (Op.Declaration Declaration.Device) (tree (Use at name) no_trees) bs e h = h
 body_own here (Op.Declaration Declaration.ThermalZone) (tree (Use at name) no_trees) bs e h = h

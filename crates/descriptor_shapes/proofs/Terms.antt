@@ -3,7 +3,6 @@ use Rattle.std.proofs.Common.{◌≡◌, ℕ, suc, ◌+◌, Bool, true, false, L
 use Rattle.std.specs.Prelude.{◌&&◌, if◌then◌else◌}
 use Rattle.std.proofs.lemmas.Bool.{and_from}
 use Rattle.iasl_messages.specs.declared.place.Place.{Place}
-use Rattle.acpi_values.specs.Paths.{AbsolutePath}
 use Rattle.acpi_values.specs.Operators.{Letter}
 use Rattle.asl_meaning.specs.Meaning.{SpotForm, OfResult, OfInside, NoSpot, spot_form}
 use Rattle.asl_tree.specs.declared.term.Op.{Op}
@@ -18,13 +17,12 @@ use Rattle.acpi_names.specs.Terms.{has_no_targets, is_value, are_values, is_term
 use Rattle.named_sessions.specs.Shaped.{AreFormed, AreNamed}
 use Rattle.named_sessions.proofs.Terms.{formed_terms}
 use Rattle.descriptor_names.specs.Declaring.{has_terms, names_inside, declaration, declarations, alone, beside, is_first, opened, declaring}
-use Rattle.descriptor_names.specs.Senses.{Position, Value, position}
-use Rattle.descriptor_names.specs.Resolved.{Arguments, OfCall, names_of, table_of}
+use Rattle.descriptor_names.specs.Values.{Arguments, OfCall, is_value as is_value_of}
+use Rattle.descriptor_names.specs.Resolved.{fields_of}
 use Rattle.descriptor_names.specs.Told.{checked_trees}
-use Rattle.descriptor_shapes.proofs.Like.{Like, LikeInteger, Declared, Moved, Counted, LikeCall, LikeApply, LikeOperated, LikeAssigned, LikeAssignedBy, LikeBuffer, LikePackage, LikeVarPackage, LikeSized, LikeCondRefOf, LikeReturn, LikeName, LikeMethod, LikeContainer, LikeScope, LikeIf, LikeElseIf, LikeElse, LikeWhile, LikeFor, LikePrint, LikeSwitch, LikeCase, LikeDefault, LikeRegion, LikeBankField, LikeCreate, LikeBy, NoneBy, FirstBy, TargetBy, LikeAll, NoneAll, MoreAll, LikeFrom, NoneFrom, MoreFrom, LikeString}
+use Rattle.descriptor_shapes.proofs.Like.{Like, LikeInteger, SameUse, Counted, LikeCall, LikeApply, LikeOperated, LikeAssigned, LikeAssignedBy, LikeBuffer, LikePackage, LikeVarPackage, LikeSized, LikeCondRefOf, LikeReturn, LikeName, LikeMethod, LikeContainer, LikeScope, LikeIf, LikeElseIf, LikeElse, LikeWhile, LikeFor, LikePrint, LikeSwitch, LikeCase, LikeDefault, LikeRegion, LikeBankField, LikeCreate, LikeBy, NoneBy, FirstBy, TargetBy, LikeAll, NoneAll, MoreAll, LikeFrom, NoneFrom, MoreFrom, LikeString}
 use Rattle.descriptor_shapes.proofs.Forms.{values_by, behind_place}
-use Rattle.descriptor_shapes.proofs.Uses.{term_like, from_like, all_like}
-use Rattle.descriptor_shapes.proofs.Unnamed.{no_descriptor, resolved_same, all_same}
+use Rattle.descriptor_shapes.proofs.Uses.{same, all_same, all_resolves, like, from_like, all_like}
 use Rattle.descriptor_shapes.proofs.Own.{IsOwnTree, AreOwnTrees, trees_own}
 
 -- both of two
@@ -44,8 +42,8 @@ targets_same OfResult like e = refl
 targets_same NoSpot like e = refl
 
 mutual
-  value_like : {p : Position} {t u : Tree} → Like p t u → is_value t ≡ true → is_value u ≡ true
-  value_like (LikeCall name other stays args) e = values_like args e
+  value_like : {p : Bool} {t u : Tree} → Like p t u → is_value t ≡ true → is_value u ≡ true
+  value_like (LikeCall name args) e = values_like args e
   value_like (LikeApply op args targets) e = both_like _ _ _ _ (λ k. targets_same (spot_form op) targets k) (λ k. both_like _ _ _ _ (λ l. operands_like args l) (λ l. operands_like targets l) k) e
   value_like (LikeOperated op args) e = operands_like args e
   value_like (LikeAssigned target value) e = both_like _ _ _ _ (λ k. value_like target k) (λ k. value_like value k) e
@@ -67,12 +65,12 @@ mutual
   operands_like (TargetBy like rest) e = both_like _ _ _ _ (λ k. value_like like k) (λ k. operands_like rest k) e
 
 mutual
-  is_term_like : {p : Position} {t u : Tree} → Like p t u → is_term t ≡ true → is_term u ≡ true
+  is_term_like : {p : Bool} {t u : Tree} → Like p t u → is_term t ≡ true → is_term u ≡ true
   is_term_like (LikeReturn value) e = value_like value e
   is_term_like (LikeName name value) e = value_like value e
   is_term_like (LikeMethod name flags body) e = terms_like body e
   is_term_like (LikeContainer kind name body) e = terms_like body e
-  is_term_like (LikeScope name other stays body) e = terms_like body e
+  is_term_like (LikeScope name body) e = terms_like body e
   is_term_like (LikeIf test body) e = both_like _ _ _ _ (λ k. value_like test k) (λ k. terms_like body k) e
   is_term_like (LikeElseIf test body) e = both_like _ _ _ _ (λ k. value_like test k) (λ k. terms_like body k) e
   is_term_like (LikeElse body) e = terms_like body e
@@ -84,9 +82,9 @@ mutual
   is_term_like (LikeCase value body) e = both_like _ _ _ _ (λ k. value_like value k) (λ k. terms_like body k) e
   is_term_like (LikeDefault body) e = terms_like body e
   is_term_like (LikeRegion name space args) e = operands_like args e
-  is_term_like (LikeBankField region other bank another flags stays keeps value items) e = value_like value e
+  is_term_like (LikeBankField region bank flags value items) e = value_like value e
   is_term_like (LikeCreate kind name args) e = operands_like args e
-  is_term_like (LikeCall name other stays args) e = values_like args e
+  is_term_like (LikeCall name args) e = values_like args e
   is_term_like (LikeApply op args targets) e = both_like _ _ _ _ (λ k. targets_same (spot_form op) targets k) (λ k. both_like _ _ _ _ (λ l. operands_like args l) (λ l. operands_like targets l) k) e
   is_term_like (LikeOperated op args) e = operands_like args e
   is_term_like (LikeAssigned target value) e = both_like _ _ _ _ (λ k. value_like target k) (λ k. value_like value k) e
@@ -104,28 +102,25 @@ mutual
 
 -- ---- whatever the numbers of the nodes
 
-abbrev anywhere : AbsolutePath → Bool
-anywhere path = false
+renumbered : (p : Plan) (here there : At) (next more : ℕ) → Like true (numbered here next p) (numbered there more p)
+renumbered p here there next more = like here there next more (same true p)
 
-renumbered : (p : Plan) (here there : At) (next more : ℕ) → Like Value (numbered here next p) (numbered there more p)
-renumbered p here there next more = subst (λ q. Like Value (numbered here next p) (numbered there more q)) (resolved_same anywhere false Value p []) (term_like anywhere no_descriptor false Value p [] here there next more)
-
-args_renumbered : (op : Op) (ps : Plans) (next more : ℕ) → LikeFrom (position op) 0 (numbered_all next ps) (numbered_all more ps)
-args_renumbered op ps next more = subst (λ qs. LikeFrom (position op) 0 (numbered_all next ps) (numbered_all more qs)) (all_same anywhere (Arguments op) 0 false ps []) (from_like anywhere no_descriptor (Arguments op) 0 false ps [] next more)
+args_renumbered : (op : Op) (ps : Plans) (next more : ℕ) → LikeFrom (is_value_of op) 0 (numbered_all next ps) (numbered_all more ps)
+args_renumbered op ps next more = from_like next more (all_same (Arguments op) 0 ps)
 
 all_renumbered : (ps : Plans) (next more : ℕ) → LikeAll (numbered_all next ps) (numbered_all more ps)
-all_renumbered ps next more = subst (λ qs. LikeAll (numbered_all next ps) (numbered_all more qs)) (all_same anywhere OfCall 0 false ps []) (all_like anywhere no_descriptor false ps [] next more)
+all_renumbered ps next more = all_like next more (all_same OfCall 0 ps)
 
 -- ---- a form with other terms in its body
 
-form_opened : (here there : At) (op : Op) {ts us : Trees} (bs cs : Trees) → LikeFrom (position op) 0 ts us → has_terms op ≡ true → (bs ≡ no_trees → cs ≡ no_trees) → (AreOwnTrees bs → are_terms bs ≡ true → are_terms cs ≡ true)
+form_opened : (here there : At) (op : Op) {ts us : Trees} (bs cs : Trees) → LikeFrom (is_value_of op) 0 ts us → has_terms op ≡ true → (bs ≡ no_trees → cs ≡ no_trees) → (AreOwnTrees bs → are_terms bs ≡ true → are_terms cs ≡ true)
     → IsOwnTree (form here op ts bs) → is_term (form here op ts bs) ≡ true → is_term (form there op us cs) ≡ true
-form_opened here there (Op.Declaration Declaration.Method) bs cs (MoreFrom (Declared name) (MoreFrom (LikeInteger flags) NoneFrom)) b none terms own e = terms own e
-form_opened here there (Op.Declaration Declaration.Device) bs cs (MoreFrom (Declared name) NoneFrom) b none terms own e = terms own e
-form_opened here there (Op.Declaration Declaration.ThermalZone) bs cs (MoreFrom (Declared name) NoneFrom) b none terms own e = terms own e
-form_opened here there (Op.Declaration Declaration.PowerResource) bs cs (MoreFrom (Declared name) (MoreFrom (LikeInteger level) (MoreFrom (LikeInteger order) NoneFrom))) b none terms own e = terms own e
-form_opened here there (Op.Declaration Declaration.Processor) bs cs (MoreFrom (Declared name) (MoreFrom (LikeInteger number) (MoreFrom (LikeInteger address) (MoreFrom (LikeInteger size) NoneFrom)))) b none terms own e = terms own e
-form_opened here there (Op.Declaration Declaration.Scope) bs cs (MoreFrom (Moved name other may stays) NoneFrom) b none terms own e = terms own e
+form_opened here there (Op.Declaration Declaration.Method) bs cs (MoreFrom (SameUse name) (MoreFrom (LikeInteger flags) NoneFrom)) b none terms own e = terms own e
+form_opened here there (Op.Declaration Declaration.Device) bs cs (MoreFrom (SameUse name) NoneFrom) b none terms own e = terms own e
+form_opened here there (Op.Declaration Declaration.ThermalZone) bs cs (MoreFrom (SameUse name) NoneFrom) b none terms own e = terms own e
+form_opened here there (Op.Declaration Declaration.PowerResource) bs cs (MoreFrom (SameUse name) (MoreFrom (LikeInteger level) (MoreFrom (LikeInteger order) NoneFrom))) b none terms own e = terms own e
+form_opened here there (Op.Declaration Declaration.Processor) bs cs (MoreFrom (SameUse name) (MoreFrom (LikeInteger number) (MoreFrom (LikeInteger address) (MoreFrom (LikeInteger size) NoneFrom)))) b none terms own e = terms own e
+form_opened here there (Op.Declaration Declaration.Scope) bs cs (MoreFrom (SameUse name) NoneFrom) b none terms own e = terms own e
 form_opened here there (Op.Control Control.Return) no_trees cs (MoreFrom {u = u} value NoneFrom) b none terms own e = subst (λ cs. is_term (form there (Op.Control Control.Return) (tree u no_trees) cs) ≡ true) (sym (none refl)) (value_like value e)
 form_opened here there (Op.Control Control.Return) (tree first rest) cs (MoreFrom value NoneFrom) b none terms own e = absurd own
 form_opened here there (Op.Control Control.If) bs cs (MoreFrom test NoneFrom) b none terms own e = both_like _ _ _ _ (λ k. value_like test k) (λ k. terms own k) e
@@ -171,11 +166,6 @@ form_opened here there (Op.Literal literal) bs cs args b none terms own e = absu
 form_opened here there (Op.Plain op) bs cs args b none terms own e = absurd cc
 form_opened here there (Op.Special op) bs cs args b none terms own e = absurd cc
 form_opened here there (Op.Symbolic op) bs cs args b none terms own e = absurd cc
-form_opened here there (Op.Declaration Declaration.Method) bs cs (MoreFrom (Moved name other may stays) rest) b none terms own e = absurd may
-form_opened here there (Op.Declaration Declaration.Device) bs cs (MoreFrom (Moved name other may stays) rest) b none terms own e = absurd may
-form_opened here there (Op.Declaration Declaration.ThermalZone) bs cs (MoreFrom (Moved name other may stays) rest) b none terms own e = absurd may
-form_opened here there (Op.Declaration Declaration.PowerResource) bs cs (MoreFrom (Moved name other may stays) rest) b none terms own e = absurd may
-form_opened here there (Op.Declaration Declaration.Processor) bs cs (MoreFrom (Moved name other may stays) rest) b none terms own e = absurd may
 form_opened here there (Op.Declaration Declaration.Method) bs cs (MoreFrom (Counted name n may) rest) b none terms own e = absurd may
 form_opened here there (Op.Declaration Declaration.Device) bs cs (MoreFrom (Counted name n may) rest) b none terms own e = absurd may
 form_opened here there (Op.Declaration Declaration.ThermalZone) bs cs (MoreFrom (Counted name n may) rest) b none terms own e = absurd may
@@ -207,7 +197,7 @@ alone_term : (place : Place) (p : Plan) (n : ℕ) → is_term (numbered (record 
 unfolding numbered_all
 alone_term place p n e = and_from _ true e refl
 
-no_body : (body : Plans) (n m : ℕ) → numbered_all n body ≡ no_trees → numbered_all m (declaring body) ≡ no_trees
+pub no_body : (body : Plans) (n m : ℕ) → numbered_all n body ≡ no_trees → numbered_all m (declaring body) ≡ no_trees
 unfolding numbered_all
 no_body no_plans n m e = refl
 no_body (plan place p ps) n m e = absurd cc
@@ -239,5 +229,5 @@ mutual
 
 pub checked_are_terms : (next : ℕ) (ps : Plans) → AreFormed (Unit {0}) AreNamed (Unit {0}) (Unit {0}) (numbered_all next ps) → are_terms (checked_trees ps) ≡ true
 checked_are_terms next ps h =
-    terms_like (all_like (names_of (declaring ps)) (table_of (declaring ps)) false (declaring ps) [] 0 0)
+    terms_like (all_like 0 0 (all_resolves (fields_of (declaring ps)) OfCall 0 false 0 (declaring ps)))
     (declaring_terms ps next 0 (trees_own (numbered_all next ps) h) (formed_terms (Unit {0}) AreNamed (Unit {0}) (Unit {0}) (numbered_all next ps) h))

@@ -1,23 +1,30 @@
 -- Terms in which no descriptor has a name.
-use Rattle.std.proofs.Common.{◌≡◌, ℕ, suc, Bool, true, false, List, [], ◌∷◌, ◌++◌, Option, Some, None, refl, ap, ◌∙◌}
-use Rattle.std.specs.Prelude.{◌||◌, not, if◌then◌else◌}
+use Rattle.std.proofs.Common.{◌≡◌, ℕ, suc, ◌+◌, Bool, true, false, List, [], ◌∷◌, ◌++◌, Option, Some, None, refl, sym, ap, ◌∙◌}
+use Rattle.std.specs.Prelude.{◌||◌, not, if◌then◌else◌, map, filter}
+use Rattle.std.proofs.lemmas.List.{append-nil}
 use Rattle.iasl_messages.specs.declared.place.Place.{Place}
 use Rattle.acpi_values.specs.Paths.{NameSeg, AbsolutePath}
 use Rattle.acpi_state.specs.Objects.{lookup}
 use Rattle.acpi_state.specs.Outcomes.{choose}
 use Rattle.asl_tree.specs.Names.{is_searched, place_of, denoted}
 use Rattle.asl_tree.specs.declared.path.Path.{Path}
-use Rattle.asl_tree.specs.declared.term.Op.{Op}
 use Rattle.asl_tree.specs.declared.term.NamedDescriptor.{NamedDescriptor}
 use Rattle.asl_meaning.specs.Declarations.{nothing_declared}
-use Rattle.acpi_names.specs.Errors.{Missing, unless}
-use Rattle.acpi_names.specs.Mentions.{Mention, Declares, block_mentions}
+use Rattle.acpi_names.specs.Errors.{Missing, unless, whole_of, name_errors, type_errors}
+use Rattle.acpi_names.specs.Mentions.{Mention, Used', Sought, Called, Declares, Outside, Opens, all_errors, all_types}
+use Rattle.acpi_names.specs.Terms.{are_terms}
+use Rattle.acpi_names.proofs.MentionErrors.{block_errors}
+use Rattle.acpi_names.proofs.MentionTypes.{block_types}
+use Rattle.asl_numbers.specs.Numbers.{inside, nodes, numbered_all}
 use Rattle.asl_shape.specs.Plans.{Plan, a_fill, a_name, a_call, a_form, Plans, no_plans, plan, plan_at, join}
 use Rattle.asl_shape.specs.Descriptors.{named_of}
+use Rattle.name_checks.specs.Messages.{message_of}
 use Rattle.descriptor_names.specs.Declaring.{has_terms, names_inside, names_among, declarations, alone, beside, is_first, opened, declaring, is_naming, declared_by, unless_declared, closed, stripped, names_descriptor, names_descriptors}
-use Rattle.descriptor_names.specs.Senses.{Nothing, descriptor_sense, field_in, field_sense, last_segment, outer_path, sense_of, Position, Value, Spot, AnyPath, APath, Written}
-use Rattle.descriptor_names.specs.Resolved.{resolved_use, resolved_call, told_use, told_call, leaving, placed, inner, described_by, described, Among, Arguments, Contents, OfCall, position_in, is_in_bits, resolved, resolved_from, told, opened as opened_by_scope, told_form, is_scope, first_name, told_from, names_of, table_of, checked_terms, use_errors, resolved_terms}
-use Rattle.descriptor_names.specs.Told.{is_below, mention_below, all_below, below_errors, checked_trees, names_below}
+use Rattle.descriptor_names.specs.Senses.{Nothing, descriptor_sense, field_in, field_sense, last_segment, outer_path, sense_of}
+use Rattle.descriptor_names.specs.Values.{Among, Arguments, Contents, OfCall, is_value_in, is_in_bits}
+use Rattle.descriptor_names.specs.Resolved.{named_first, named_in, named_from, described_by, described, mentions_of, names_of, table_of, field_at, fields_by, fields_in, fields_of, resolved_use, broken_use, resolved, resolved_from, broken, broken_from, checked_terms, broken_fields, resolved_terms}
+use Rattle.descriptor_names.specs.Told.{is_nothing, is_field_sense, field_errors, fault_of, is_below, below_errors, all_below, sense_in, is_no_field, is_of_no_descriptor, all_field_errors, all_use_faults, owner_of, field_owners, names_wrong, fields_wrong, kinds_wrong, owners_of, names_told, kinds_told}
+use Rattle.descriptor_shapes.proofs.Each.{Each, all_kept}
 
 -- neither of two
 pub neither : (b c : Bool) → (b || c) ≡ false → (b ≡ false) × (c ≡ false)
@@ -61,7 +68,7 @@ mutual
   opened_same (a_form op args body) e = ap (a_form op args) (body_same (has_terms op) (declaring body) body (declaring_same body (neither (names_descriptors args) (names_descriptors body) e).1))
   opened_same _ e = refl
 
-  declaring_same : (ps : Plans) → names_descriptors ps ≡ false → declaring ps ≡ ps
+  pub declaring_same : (ps : Plans) → names_descriptors ps ≡ false → declaring ps ≡ ps
   declaring_same no_plans e = refl
   declaring_same (plan place p ps) e =
       let h = neither (names_descriptor p) (names_descriptors ps) e in
@@ -96,30 +103,38 @@ mutual
 
 -- ---- no descriptor is declared
 
-module _ (has : AbsolutePath → Bool) where
-  mutual
-    none_by : (p : Plan) (scope : AbsolutePath) → names_descriptor p ≡ false → described_by has p scope ≡ []
-    none_by (a_form op args body) scope e =
-        ap (λ ds. if has_terms op then ds else placed scope (declared_by (a_form op args body))) (none_described body (inner has op args scope) (neither (names_descriptors args) (names_descriptors body) e).1)
-        ∙ ap (λ ns. if has_terms op then [] else placed scope ns) (declared_none (a_form op args body) e) ∙ nowhere (has_terms op)
-      where
-        nowhere : (b : Bool) → (if b then [] else placed scope []) ≡ []
-        nowhere true = refl
-        nowhere false = refl
-    none_by _ scope e = refl
+mutual
+  none_in : (next : ℕ) (p : Plan) → names_descriptor p ≡ false → named_in next p ≡ []
+  none_in next (a_form op args body) e =
+      ap (λ ds. if has_terms op then ds else named_first next (declared_by (a_form op args body))) (none_from (next + nodes args) body (neither (names_descriptors args) (names_descriptors body) e).1)
+      ∙ ap (λ ns. if has_terms op then [] else named_first next ns) (declared_none (a_form op args body) e) ∙ nowhere (has_terms op)
+    where
+      nowhere : (b : Bool) → (if b then [] else named_first next []) ≡ []
+      nowhere true = refl
+      nowhere false = refl
+  none_in next _ e = refl
 
-    none_described : (ps : Plans) (scope : AbsolutePath) → names_descriptors ps ≡ false → described has ps scope ≡ []
-    none_described no_plans scope e = refl
-    none_described (plan place p ps) scope e =
-        let h = neither (names_descriptor p) (names_descriptors ps) e in ap (λ ds. ds ++ described has ps scope) (none_by p scope h.0) ∙ none_described ps scope h.1
+  none_from : (next : ℕ) (ps : Plans) → names_descriptors ps ≡ false → named_from next ps ≡ []
+  none_from next no_plans e = refl
+  none_from next (plan place p ps) e =
+      let h = neither (names_descriptor p) (names_descriptors ps) e in
+      ap (λ ns. ns ++ named_from (suc (next + inside p)) ps) (none_in (suc next) p h.0) ∙ none_from (suc (next + inside p)) ps h.1
 
-abbrev pub no_descriptor : AbsolutePath → Option NamedDescriptor
+none_by : (m : Mention) → described_by [] m ≡ []
+none_by (Declares at name as' scope) = refl
+none_by _ = refl
+
+none_described : (ms : List Mention) → described [] ms ≡ []
+none_described [] = refl
+none_described (m ∷ ms) = ap (λ ds. ds ++ described [] ms) (none_by m) ∙ none_described ms
+
+abbrev no_descriptor : AbsolutePath → Option NamedDescriptor
 no_descriptor path = None
 
 table_none : (ps : Plans) → names_descriptors ps ≡ false → table_of ps ≡ no_descriptor
-table_none ps e = ap (λ ds. lookup ds) (none_described (names_of ps) ps [] e)
+table_none ps e = ap (λ ns. lookup (described ns (mentions_of ps))) (none_from 0 ps e) ∙ ap (λ ds. lookup ds) (none_described (mentions_of ps))
 
--- ---- nothing is resolved
+-- ---- nothing is a field
 
 field_none : (name : Path) (scope : AbsolutePath) → field_sense no_descriptor name scope ≡ Nothing
 field_none name scope = by_last (last_segment name.segs)
@@ -140,88 +155,147 @@ module _ (has : AbsolutePath → Bool) where
       by_denoted None = by_searched (is_searched name)
       by_denoted (Some path) = refl
 
-  use_same : (bits : Bool) (p : Position) (name : Path) → resolved_use bits p name Nothing ≡ a_name name
-  use_same bits Value name = refl
-  use_same bits Spot name = refl
-  use_same bits AnyPath name = refl
-  use_same bits APath name = refl
-  use_same bits Written name = refl
+  mention_none : (m : Mention) → sense_in has no_descriptor m ≡ Nothing
+  mention_none (Used' asked at name scope) = sense_none name scope
+  mention_none (Sought at name scope) = sense_none name scope
+  mention_none (Called asked at name args scope) = sense_none name scope
+  mention_none (Opens here at name scope inner) = sense_none name scope
+  mention_none (Declares at name as' scope) = refl
+  mention_none (Outside here at name type scope) = refl
 
-  use_silent : (bits : Bool) (p : Position) (name : Path) (place : Place) → told_use bits p name place Nothing ≡ []
-  use_silent bits Value name place = refl
-  use_silent bits Spot name place = refl
-  use_silent bits AnyPath name place = refl
-  use_silent bits APath name place = refl
-  use_silent bits Written name place = refl
+  fields_by_none : (m : Mention) → fields_by has no_descriptor m ≡ []
+  fields_by_none (Used' asked at name scope) = ap (field_at at) (sense_none name scope)
+  fields_by_none (Sought at name scope) = ap (field_at at) (sense_none name scope)
+  fields_by_none (Called asked at name args scope) = refl
+  fields_by_none (Opens here at name scope inner) = refl
+  fields_by_none (Declares at name as' scope) = refl
+  fields_by_none (Outside here at name type scope) = refl
 
-  mutual
-    pub resolved_same : (bits : Bool) (p : Position) (q : Plan) (scope : AbsolutePath) → resolved has no_descriptor bits p q scope ≡ q
-    resolved_same bits p (a_name name) scope = ap (resolved_use bits p name) (sense_none name scope) ∙ use_same bits p name
-    resolved_same bits p (a_call name args) scope =
-        ap (λ s. a_call (resolved_call name s) (resolved_from has no_descriptor OfCall 0 bits args scope)) (sense_none name scope) ∙ ap (a_call name) (all_same OfCall 0 bits args scope)
-    resolved_same bits p (a_form op args body) scope =
-        let given = resolved_from has no_descriptor (Arguments op) 0 bits args scope in
-        ap (λ ps. a_form op ps (resolved_from has no_descriptor (Contents op) 0 bits body (inner has op given scope))) (all_same (Arguments op) 0 bits args scope)
-        ∙ ap (a_form op args) (all_same (Contents op) 0 bits body (inner has op given scope))
-    resolved_same bits p _ scope = refl
+  fields_none : (ms : List Mention) → fields_in has no_descriptor ms ≡ []
+  fields_none [] = refl
+  fields_none (m ∷ ms) = ap (λ fs. fs ++ fields_in has no_descriptor ms) (fields_by_none m) ∙ fields_none ms
 
-    pub all_same : (among : Among) (n : ℕ) (bits : Bool) (ps : Plans) (scope : AbsolutePath) → resolved_from has no_descriptor among n bits ps scope ≡ ps
-    all_same among n bits no_plans scope = refl
-    all_same among n bits (plan place p ps) scope =
-        ap (λ q. plan place q (resolved_from has no_descriptor among (suc n) bits ps scope)) (resolved_same (bits || is_in_bits among n) (position_in among n) p scope) ∙ ap (plan place p) (all_same among (suc n) bits ps scope)
+  no_field_errors : (ms : List Mention) → all_field_errors has no_descriptor ms ≡ []
+  no_field_errors [] = refl
+  no_field_errors (m ∷ ms) = ap (λ s. (if not (is_field_sense s) then [] else field_errors m) ++ all_field_errors has no_descriptor ms) (mention_none m) ∙ no_field_errors ms
 
-  form_silent : (op : Op) (place : Place) (args : Plans) (scope : AbsolutePath) → told_form has no_descriptor op place args scope ≡ []
-  form_silent op place args scope = by_scope (is_scope op) (first_name args)
-    where
-      by_scope : (c : Bool) (o : Option Path) → (if c then choose o [] (λ name. opened_by_scope name place (sense_of has no_descriptor name scope)) else []) ≡ []
-      by_scope false o = refl
-      by_scope true None = refl
-      by_scope true (Some name) = ap (opened_by_scope name place) (sense_none name scope)
+  no_owners : (ms : List Mention) → field_owners has no_descriptor ms ≡ []
+  no_owners [] = refl
+  no_owners (m ∷ ms) = ap (λ s. (if not (is_field_sense s) then [] else owner_of m) ++ field_owners has no_descriptor ms) (mention_none m) ∙ no_owners ms
 
-  mutual
-    told_none : (bits : Bool) (p : Position) (place : Place) (q : Plan) (scope : AbsolutePath) → told has no_descriptor bits p place q scope ≡ []
-    told_none bits p place (a_name name) scope = ap (λ s. leaving name place scope s ++ told_use bits p name place s) (sense_none name scope) ∙ use_silent bits p name place
-    told_none bits p place (a_call name args) scope =
-        ap (λ s. leaving name place scope s ++ (told_call name place s ++ told_from has no_descriptor OfCall 0 bits args scope)) (sense_none name scope) ∙ all_silent OfCall 0 bits args scope
-    told_none bits p place (a_form op args body) scope =
-        let given = resolved_from has no_descriptor (Arguments op) 0 bits args scope in
-        ap (λ ms. ms ++ (told_from has no_descriptor (Arguments op) 0 bits args scope ++ told_from has no_descriptor (Contents op) 0 bits body (inner has op given scope))) (form_silent op place args scope)
-        ∙ ap (λ ms. ms ++ told_from has no_descriptor (Contents op) 0 bits body (inner has op given scope)) (all_silent (Arguments op) 0 bits args scope) ∙ all_silent (Contents op) 0 bits body (inner has op given scope)
-    told_none bits p place _ scope = refl
+  no_use_faults : (ms : List Mention) → all_use_faults has no_descriptor ms ≡ []
+  no_use_faults [] = refl
+  no_use_faults (m ∷ ms) = ap (λ s. (if is_nothing s then [] else fault_of m) ++ all_use_faults has no_descriptor ms) (mention_none m) ∙ no_use_faults ms
 
-    all_silent : (among : Among) (n : ℕ) (bits : Bool) (ps : Plans) (scope : AbsolutePath) → told_from has no_descriptor among n bits ps scope ≡ []
-    all_silent among n bits no_plans scope = refl
-    all_silent among n bits (plan place p ps) scope =
-        ap (λ ms. ms ++ told_from has no_descriptor among (suc n) bits ps scope) (told_none (bits || is_in_bits among n) (position_in among n) place p scope) ∙ all_silent among (suc n) bits ps scope
+  each : (P : Mention → Type 0) → ((m : Mention) → P m) → (ms : List Mention) → Each P ms
+  each P h [] = tt
+  each P h (m ∷ ms) = (h m, each P h ms)
+
+  no_fields : (ms : List Mention) → filter (is_no_field has no_descriptor) ms ≡ ms
+  no_fields ms = all_kept (is_no_field has no_descriptor) ms (each (λ m. is_no_field has no_descriptor m ≡ true) (λ m. ap (λ s. not (is_field_sense s)) (mention_none m)) ms)
+
+  no_descriptors : (ms : List Mention) → filter (is_of_no_descriptor has no_descriptor) ms ≡ ms
+  no_descriptors ms = all_kept (is_of_no_descriptor has no_descriptor) ms (each (λ m. is_of_no_descriptor has no_descriptor m ≡ true) (λ m. ap is_nothing (mention_none m)) ms)
+
+below_none : (path : AbsolutePath) → is_below no_descriptor path ≡ false
+below_none [] = refl
+below_none (segment ∷ outer) = refl
+
+declared_below : (m : Mention) → below_errors no_descriptor m ≡ []
+declared_below (Declares at name as' scope) = ap (λ b. unless (not b) (Missing at name)) (below_none (place_of name scope))
+declared_below _ = refl
+
+no_below : (ms : List Mention) → all_below no_descriptor ms ≡ []
+no_below [] = refl
+no_below (m ∷ ms) = ap (λ es. es ++ all_below no_descriptor ms) (declared_below m) ∙ no_below ms
+
+-- ---- no field is a constant
+
+use_same : (bits value : Bool) (name : Path) → resolved_use bits value name None ≡ a_name name
+use_same bits true name = refl
+use_same bits false name = refl
+
+use_silent : (bits value : Bool) (place : Place) → broken_use bits value place None ≡ []
+use_silent bits true place = refl
+use_silent bits false place = refl
+
+mutual
+  resolved_same : (bits value : Bool) (node : ℕ) (p : Plan) → resolved [] bits value node p ≡ p
+  resolved_same bits value node (a_name name) = use_same bits value name
+  resolved_same bits value node (a_call name args) = ap (a_call name) (all_resolved_same OfCall 0 bits (suc node) args)
+  resolved_same bits value node (a_form op args body) =
+      ap (λ ps. a_form op ps (resolved_from [] (Contents op) 0 bits (suc node + nodes args) body)) (all_resolved_same (Arguments op) 0 bits (suc node) args)
+      ∙ ap (a_form op args) (all_resolved_same (Contents op) 0 bits (suc node + nodes args) body)
+  resolved_same bits value node _ = refl
+
+  all_resolved_same : (among : Among) (n : ℕ) (bits : Bool) (node : ℕ) (ps : Plans) → resolved_from [] among n bits node ps ≡ ps
+  all_resolved_same among n bits node no_plans = refl
+  all_resolved_same among n bits node (plan place p ps) =
+      ap (λ q. plan place q (resolved_from [] among (suc n) bits (suc (node + inside p)) ps)) (resolved_same (bits || is_in_bits among n) (is_value_in among n) node p)
+      ∙ ap (plan place p) (all_resolved_same among (suc n) bits (suc (node + inside p)) ps)
+
+mutual
+  broken_none : (bits value : Bool) (place : Place) (node : ℕ) (p : Plan) → broken [] bits value place node p ≡ []
+  broken_none bits value place node (a_name name) = use_silent bits value place
+  broken_none bits value place node (a_call name args) = all_broken_none OfCall 0 bits (suc node) args
+  broken_none bits value place node (a_form op args body) =
+      ap (λ ms. ms ++ broken_from [] (Contents op) 0 bits (suc node + nodes args) body) (all_broken_none (Arguments op) 0 bits (suc node) args)
+      ∙ all_broken_none (Contents op) 0 bits (suc node + nodes args) body
+  broken_none bits value place node _ = refl
+
+  all_broken_none : (among : Among) (n : ℕ) (bits : Bool) (node : ℕ) (ps : Plans) → broken_from [] among n bits node ps ≡ []
+  all_broken_none among n bits node no_plans = refl
+  all_broken_none among n bits node (plan place p ps) =
+      ap (λ ms. ms ++ broken_from [] among (suc n) bits (suc (node + inside p)) ps) (broken_none (bits || is_in_bits among n) (is_value_in among n) place node p)
+      ∙ all_broken_none among (suc n) bits (suc (node + inside p)) ps
 
 -- ---- the block
 
 module _ (ps : Plans) (e : names_descriptors ps ≡ false) where
+  unnamed_fields : fields_of (declaring ps) ≡ []
+  unnamed_fields =
+      ap fields_of (declaring_same ps e) ∙ ap (λ look. fields_in (names_of ps) look (mentions_of ps)) (table_none ps e) ∙ fields_none (names_of ps) (mentions_of ps)
+
   pub unnamed_checked : checked_terms ps ≡ ps
   unnamed_checked =
-      ap (λ all. resolved_from (names_of all) (table_of all) OfCall 0 false all []) (declaring_same ps e)
-      ∙ ap (λ look. resolved_from (names_of ps) look OfCall 0 false ps []) (table_none ps e) ∙ all_same (names_of ps) OfCall 0 false ps []
+      ap (λ fields. resolved_from fields OfCall 0 false 0 (declaring ps)) unnamed_fields ∙ all_resolved_same OfCall 0 false 0 (declaring ps) ∙ declaring_same ps e
 
   pub unnamed_resolved : resolved_terms ps ≡ ps
   unnamed_resolved = ap stripped unnamed_checked ∙ stripped_same ps e
 
-  pub unnamed_uses : use_errors ps ≡ []
-  unnamed_uses =
-      ap (λ all. told_from (names_of all) (table_of all) OfCall 0 false all []) (declaring_same ps e)
-      ∙ ap (λ look. told_from (names_of ps) look OfCall 0 false ps []) (table_none ps e) ∙ all_silent (names_of ps) OfCall 0 false ps []
+  pub unnamed_broken : broken_fields ps ≡ []
+  unnamed_broken = ap (λ fields. broken_from fields OfCall 0 false 0 (declaring ps)) unnamed_fields ∙ all_broken_none OfCall 0 false 0 (declaring ps)
 
-  below_none : (path : AbsolutePath) → is_below no_descriptor path ≡ false
-  below_none [] = refl
-  below_none (segment ∷ outer) = refl
+  pub unnamed_owners : owners_of (declaring ps) ≡ []
+  unnamed_owners =
+      ap owners_of (declaring_same ps e) ∙ ap (λ look. field_owners (names_of ps) look (mentions_of ps)) (table_none ps e) ∙ no_owners (names_of ps) (mentions_of ps)
 
-  mention_none : (m : Mention) → mention_below no_descriptor m ≡ []
-  mention_none (Declares at name as' scope) = ap (λ b. unless (not b) (Missing at name)) (below_none (place_of name scope))
-  mention_none _ = refl
+  names_same : are_terms (numbered_all 0 ps) ≡ true → names_wrong ps ≡ name_errors (numbered_all 0 ps)
+  names_same are =
+      let whole = whole_of (numbered_all 0 ps) in
+      ap (λ look. all_errors whole (filter (is_no_field (names_of ps) look) (mentions_of ps)) nothing_declared ++ all_below look (mentions_of ps)) (table_none ps e)
+      ∙ ap (λ es. all_errors whole (filter (is_no_field (names_of ps) no_descriptor) (mentions_of ps)) nothing_declared ++ es) (no_below (mentions_of ps))
+      ∙ append-nil (all_errors whole (filter (is_no_field (names_of ps) no_descriptor) (mentions_of ps)) nothing_declared)
+      ∙ ap (λ ms. all_errors whole ms nothing_declared) (no_fields (names_of ps) (mentions_of ps))
+      ∙ sym (block_errors whole (numbered_all 0 ps) are [] nothing_declared)
 
-  mentions_none : (ms : List Mention) → all_below no_descriptor ms ≡ []
-  mentions_none [] = refl
-  mentions_none (m ∷ ms) = ap (λ es. es ++ all_below no_descriptor ms) (mention_none m) ∙ mentions_none ms
+  fields_same : fields_wrong ps ≡ []
+  fields_same = ap (λ look. all_field_errors (names_of ps) look (mentions_of ps)) (table_none ps e) ∙ no_field_errors (names_of ps) (mentions_of ps)
 
-  pub unnamed_below : names_below ps ≡ []
-  unnamed_below =
-      ap (λ look. below_errors look (checked_trees ps)) (ap table_of unnamed_checked ∙ table_none ps e) ∙ mentions_none (block_mentions (checked_trees ps) [] nothing_declared)
+  pub unnamed_names : are_terms (numbered_all 0 ps) ≡ true → names_told ps ≡ map message_of (name_errors (numbered_all 0 ps))
+  unnamed_names are =
+      ap (λ qs. map message_of (names_wrong qs ++ fields_wrong (declaring ps))) unnamed_checked
+      ∙ ap (λ qs. map message_of (names_wrong ps ++ fields_wrong qs)) (declaring_same ps e)
+      ∙ ap (λ es. map message_of (names_wrong ps ++ es)) fields_same
+      ∙ ap (λ es. map message_of es) (append-nil (names_wrong ps) ∙ names_same are)
+
+  pub unnamed_kinds : are_terms (numbered_all 0 ps) ≡ true → name_errors (numbered_all 0 ps) ≡ [] → kinds_told ps ≡ map message_of (type_errors (numbered_all 0 ps))
+  unnamed_kinds are none =
+      let whole = whole_of (numbered_all 0 ps) in
+      ap (λ qs. kinds_wrong qs ++ broken_fields ps) unnamed_checked
+      ∙ ap (λ ms. kinds_wrong ps ++ ms) unnamed_broken ∙ append-nil (kinds_wrong ps)
+      ∙ ap (λ look. map message_of (all_types whole (filter (is_of_no_descriptor (names_of ps) look) (mentions_of ps))) ++ all_use_faults (names_of ps) look (mentions_of ps)) (table_none ps e)
+      ∙ ap (λ ms. map message_of (all_types whole (filter (is_of_no_descriptor (names_of ps) no_descriptor) (mentions_of ps))) ++ ms) (no_use_faults (names_of ps) (mentions_of ps))
+      ∙ append-nil (map message_of (all_types whole (filter (is_of_no_descriptor (names_of ps) no_descriptor) (mentions_of ps))))
+      ∙ ap (λ ms. map message_of (all_types whole ms)) (no_descriptors (names_of ps) (mentions_of ps))
+      ∙ ap (map message_of) (sym (block_types whole (numbered_all 0 ps) are [] nothing_declared none))

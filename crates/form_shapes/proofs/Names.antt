@@ -7,7 +7,7 @@ use Rattle.asl_tree.specs.FieldItems.{FieldItem}
 use Rattle.asl_tree.specs.Names.{denoted}
 use Rattle.asl_tree.specs.Tree.{At, Trees, UnitName}
 use Rattle.asl_meaning.specs.Declarations.{ExternalType, Declarations, nothing_declared, is_named, declarations, calls_all, called, external_object, external_names, declared_kinds, as_known, externals, known_of}
-use Rattle.acpi_names.specs.Errors.{NameError, Whole, whole_of, Asked, Anything, AValue, AMutex, AnEvent, AUnit, ARegion, asked_types, names_all, types_all, use_errors, call_errors, name_errors, type_errors}
+use Rattle.acpi_names.specs.Errors.{NameError, Whole, whole_of, Asked, Anything, AnObject, AValue, AMutex, AnEvent, AUnit, ARegion, asked_types, names_all, types_all, use_errors, call_errors, name_errors, type_errors}
 use Rattle.acpi_names.specs.Mentions.{Mention, Used', Sought, Called, Declares, Outside, Opens, after, block_mentions, mention_errors, all_errors, mention_types, all_types}
 use Rattle.acpi_names.specs.Terms.{are_terms}
 use Rattle.acpi_names.proofs.MentionErrors.{block_errors, block_calls}
@@ -102,6 +102,7 @@ module _ (whole : Whole) where
 
     asked_same : (asked : Asked) (at : At) (name : Path) (scope : AbsolutePath) → asked_types with_calls asked at name scope ≡ asked_types whole asked at name scope
     asked_same Anything at name scope = refl
+    asked_same AnObject at name scope = refl
     asked_same AValue at name scope = refl
     asked_same AMutex at name scope = refl
     asked_same AnEvent at name scope = refl

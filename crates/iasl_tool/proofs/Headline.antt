@@ -142,7 +142,7 @@ each_does request lines [] right kept within = tt
 each_does request lines (item ∷ items) right kept within =
     let asked = request.asked.switches in (
       record {
-        does = does_as asked.wrap asked.fold asked.short asked.shorten (alone item) right.0 kept.0 within.0;
+        does = does_as asked.wrap asked.fold asked.short asked.shorten (alone item) right.0 kept.0 within.0.table;
         joined_pieces = bytes_are request lines (alone item) right.0.form right.0.statements kept.0;
       },
       each_does request lines items right.1 kept.1 within.1,

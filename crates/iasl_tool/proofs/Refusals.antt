@@ -26,7 +26,7 @@ use Rattle.iasl_options.specs.CommandLine.{IsCommandLine}
 use Rattle.iasl_options.specs.Task.{Task, Compiles, Generates, Templates, task_by}
 use Rattle.iasl_options.proofs.Tasks.{task_from, task_to}
 use Rattle.generated_lines.specs.Generated.{generated_lines}
-use Rattle.program_shapes.specs.Sources.{locals_in, fields_in, IsRightSource}
+use Rattle.program_shapes.specs.Sources.{fields_in, IsRightSource}
 use Rattle.block_outcomes.specs.declared.outcome.Class.{Class}
 use Rattle.block_outcomes.specs.declared.outcome.Class.TheVariants as class
 use Rattle.block_outcomes.specs.declared.outcome.Compiled.{Compiled}
@@ -37,7 +37,7 @@ use Rattle.block_outcomes.specs.declared.outcome.Table.{Table}
 use Rattle.block_outcomes.specs.Joined.{first_told, if_class, of_class, tables_among, unless_refused, unless_noted}
 use Rattle.asl_tables.specs.declared.compile.Style.{Style}
 use Rattle.asl_tables.specs.Syntax.{not_source, too_deep}
-use Rattle.asl_tables.specs.Compiled.{own_in, all_noted, told_in, others_in, of_lines, of_items, outcome_in, outcomes_in, tables_of, unless_wrong, with_others, of_outcome, of_tokens, written_in, cut_in, too_long, EachWithin}
+use Rattle.asl_tables.specs.Compiled.{unlowered_in, own_in, all_noted, told_in, others_in, of_lines, of_items, outcome_in, outcomes_in, tables_of, unless_wrong, with_others, of_outcome, of_tokens, written_in, cut_in, too_long, EachWithin}
 use Rattle.asl_tables.proofs.Sources.{made_of, made_from}
 use Rattle.table_outputs.specs.Files.{name_in_use}
 use Rattle.iasl_tool.specs.Sources.{is_data_source, data_answer, of_data, of_source}
@@ -61,18 +61,18 @@ first_class c (Faulty messages) os = refl
 
 -- it is what is wrong with the block that is read alone
 alone_told : (style : Style) (lines : List Line) (item : Raw) → told_of (outcome_in style lines (alone item)) ≡ errors_alone style item
-alone_told style lines item = by (with_others (told_in (alone item)) (others_in (alone item))) (locals_in (alone item)) (nat_le (length (written_in style (alone item))) most_table_bytes)
+alone_told style lines item = by (with_others (told_in (alone item)) (others_in (alone item))) (unlowered_in (alone item)) (nat_le (length (written_in style (alone item))) most_table_bytes)
   where
     place : Place
     place = block_place (writtens (alone item))
 
-    by : (wrong locals : List Message) (fits : Bool)
-        → told_of (unless_wrong wrong (unless_wrong locals (if fits then Done (fields_in (alone item)).signature (own_in (alone item)) (cut_in style lines (alone item)) else Faulty (too_long place ∷ []))))
-        ≡ first_told wrong (first_told locals (if fits then [] else too_long place ∷ []))
+    by : (wrong unlowered : List Message) (fits : Bool)
+        → told_of (unless_wrong wrong (unless_wrong unlowered (if fits then Done (fields_in (alone item)).signature (own_in (alone item)) (cut_in style lines (alone item)) else Faulty (too_long place ∷ []))))
+        ≡ first_told wrong (first_told unlowered (if fits then [] else too_long place ∷ []))
     by [] [] true = refl
     by [] [] false = refl
     by [] (l ∷ ls) fits = refl
-    by (w ∷ ws) locals fits = refl
+    by (w ∷ ws) unlowered fits = refl
 
 classes_are : (c : Class) (style : Style) (lines : List Line) (items : List Raw) → of_class c (outcomes_in style lines items) ≡ class_errors c style items
 classes_are c style lines [] = refl

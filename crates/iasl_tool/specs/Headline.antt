@@ -130,7 +130,7 @@ LetsPass asked notes = asked.switches.strict ≡ true → All (λ note. severity
 
 -- The words name lines (`ComeFrom`), which are no data table and are
 -- cut into tokens that spell this source, nowhere too deep; nothing is wrong with it, each of its items being a block
--- with a namespace of its own, and none of its tables is too long; none of its notes, those on its literals among them,
+-- with a namespace of its own, of none are too many copies made, and none of its tables is too long; none of its notes, those on its literals among them,
 -- is a warning, where warnings refuse a source; and no name of the files of its tables is that of a file that was
 -- fetched, or of another of them.
 pub record NamesSource (words : List (List ℕ)) (told : List Named) (request : Request) (items : List Raw) : Type 0 where

@@ -24,10 +24,10 @@ use Rattle.aml_writer.specs.Written.{most_table_bytes}
 use Rattle.data_tables.specs.declared.compiled.Compiled.{Compiled as DataTable}
 use Rattle.iasl_options.specs.Asking.{Asked}
 use Rattle.iasl_options.specs.CommandLine.{IsCommandLine}
-use Rattle.program_shapes.specs.Sources.{IsRightSource, locals_in}
+use Rattle.program_shapes.specs.Sources.{IsRightSource}
 use Rattle.asl_tables.specs.declared.compile.Style.{Style}
 use Rattle.asl_tables.specs.Syntax.{not_source, too_deep}
-use Rattle.asl_tables.specs.Compiled.{all_noted, written_in, told_in, others_in, with_others, too_long, EachWithin}
+use Rattle.asl_tables.specs.Compiled.{all_noted, written_in, told_in, others_in, with_others, unlowered_in, too_long, EachWithin}
 use Rattle.iasl_tool.specs.Sources.{is_data_source, data_answer}
 use Rattle.iasl_tool.specs.Due.{style_of, has_warning, refusal}
 use Rattle.iasl_tool.specs.Headline.{Request, NamesLines, is_generic}
@@ -39,10 +39,10 @@ length_wrong style item = if nat_le (length (written_in style (alone item))) mos
 
 -- All that is wrong with a block that is read alone, of the first class of errors that has some in it: its names, or
 -- behind what is wrong with the kinds of its objects its statements, fields, accesses, arguments, lists and Cases;
--- Switches for which too few Locals are free; or that its table is too long.
+-- what of it cannot be lowered, Switches for which too few Locals are free and too many copies; or that its table is too long.
 abbrev pub errors_alone : Style → Raw → List Message
 errors_alone style item = first_told (with_others (told_in (alone item)) (others_in (alone item)))
-    (first_told (locals_in (alone item)) (length_wrong style item))
+    (first_told (unlowered_in (alone item)) (length_wrong style item))
 
 -- what is so wrong with the blocks in which it is of this class, in their order
 abbrev pub class_errors : Class → Style → List Raw → List Message

@@ -53,3 +53,12 @@ fused paths (f ∷ faults) = ap (λ ms. message_of (fault_as paths f) ∷ ms) (f
 -- the messages of the faults that are found
 pub faults_told : (paths : List AbsolutePath) (faults : List Fault) (errors : List Message) (found : List NameError) → errors ≡ map (λ f. message_of (fault_as paths f)) faults → map (fault_as paths) faults ≡ found → errors ≡ map message_of found
 faults_told paths faults errors found e h = e ∙ fused paths faults ∙ ap (map message_of) h
+
+-- the first errors are those of names, where there are any, or else those of kinds
+pub first_names : (names kinds : List NameError) (told : List Message) → told ≡ map message_of names → (length told ≡ 0 → ⊥) → told ≡ map message_of (first_errors names kinds)
+first_names [] kinds told e some = absurd (some (ap length e))
+first_names (x ∷ names) kinds told e some = e
+
+pub first_kinds : (names kinds : List NameError) (none told : List Message) → none ≡ map message_of names → length none ≡ 0 → told ≡ map message_of kinds → told ≡ map message_of (first_errors names kinds)
+first_kinds [] kinds none told e empty h = h
+first_kinds (x ∷ names) kinds none told e empty h = absurd (omega (arith, ap length e, empty))

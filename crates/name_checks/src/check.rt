@@ -12,10 +12,11 @@ ghost use Rattle.acpi_names.specs.Tables.{Tabled};
 ghost use Rattle.acpi_names.specs.Terms.{are_terms};
 ghost use Rattle.name_checks.specs.Faults.{Before, Finds, fault_as};
 ghost use Rattle.name_kinds.specs.Facts.{Knows};
-ghost use Rattle.name_checks.specs.Messages.{message_of, first_errors, told_errors};
+ghost use Rattle.name_checks.specs.Messages.{message_of, told_errors};
 ghost use Rattle.name_kinds.specs.Tables.{AreSized, IsThere};
 ghost use Rattle.name_checks.specs.Refusals.{Refuses};
 ghost use Rattle.name_checks.specs.Seen.{seen_errors};
+ghost use Rattle.name_kinds.specs.Known.{KnowsItsTerms};
 ghost use Rattle.name_kinds.specs.Seen.{seen};
 
 use crate::fault::{Fault, messages};
@@ -23,12 +24,13 @@ use crate::rules::{
     asked_types, call_errors, call_types, declared_errors, external_errors, scope_errors,
     step_errors, use_errors,
 };
-use acpi_names::index::{Index, names_of};
+use acpi_names::index::Index;
 use acpi_names::mention::{Mention, WrittenName};
 use asl_tree::term::Node;
-use iasl_messages::message::{Message, Messages, Stage};
-use name_kinds::facts::{Facts, blank, facts_of};
+use iasl_messages::message::{Messages, Stage};
+use name_kinds::facts::{Facts, blank};
 use name_kinds::kind::External;
+use name_kinds::known::{Known, known_of};
 use name_kinds::tables::{Tables, denoted, note};
 use std::alloc::{AllocError, Global};
 
@@ -193,63 +195,98 @@ fn all_types<'a>(
     Ok(())
 }
 
-// The errors of names, or where there are none those of kinds.
-fn faults<'a>(
+/// What is wrong with the names that a block mentions: the errors 6040 to 6046, in their order. All that the block
+/// declares is among these mentions; of its other mentions some may be left out. The only error is want of memory.
+pub fn name_faults(
     alloc: Global,
     facts: &Facts,
-    mentions: &[Mention<'a>],
-) -> Result<Vec<Fault<'a>>, AllocError>
+    mentions: &[Mention<'_>],
+) -> Result<Messages, AllocError>
     ghost whole: { Whole }
     requires told { Knows facts.now whole }
     requires all { after_all (all_shown facts.now.index.paths mentions.now) nothing_declared ≡ whole.all }
     ensures { IfOk result
-        (λ found. map (fault_as facts.now.index.paths) found.items ≡ first_errors
-        (all_errors_of whole (all_shown facts.now.index.paths mentions.now) nothing_declared)
-        (all_types_of whole (all_shown facts.now.index.paths mentions.now))) }
+        (λ ms. ms ≡ map message_of (all_errors_of whole (all_shown facts.now.index.paths mentions.now) nothing_declared)) }
 {
     let mut out = Vec::new(alloc);
     all_errors(alloc, &mut out, facts, mentions)?;
-    if !out.is_empty() {
-        return Ok(out);
-    }
-    all_types(&mut out, facts, mentions)?;
-    Ok(out)
+    let errors = messages(alloc, &facts.index.paths, &out)?;
+    Ok(Messages::from_vec(errors))
 }
 
-// The names of a block, and what is wrong with them.
-#[derive(Drop)]
-pub(crate) struct Examined {
-    pub(crate) names: Names,
-    pub(crate) errors: Vec<Message>,
-}
-
-// What there is to say of the names that terms mention.
-pub(crate) fn examine(alloc: Global, terms: &[Node]) -> Result<Examined, AllocError>
-    ensures size { IfOk result (λ e. length e.names.index.named.items ≡ length e.names.index.paths) }
-    ensures some { IfOk result (λ e. 0 < length e.names.index.paths) }
-    ensures root { IfOk result (λ e. get_or e.names.index.paths 0 [] ≡ []) }
-    ensures names { IfOk result (λ e. Agrees e.names.index.paths e.names.index.named.items (declarations (trees_of terms.now))) }
-    ensures sized { IfOk result (λ e. length e.names.calls.items ≡ length e.names.index.paths) }
-    ensures calls { IfOk result
-        (λ e. Tabled e.names.index.paths e.names.calls.items
-        (lookup (seen (block_mentions (trees_of terms.now) [] nothing_declared)).calls)) }
-    ensures told { IfOk result (λ e. e.errors.items ≡ seen_errors (block_mentions (trees_of terms.now) [] nothing_declared)) }
+/// What is wrong with the kinds of what a block mentions, and with how many arguments its calls have: the errors 6051,
+/// 6054 and 6020, in their order. Some of its mentions may be left out. The only error is want of memory.
+pub fn kind_faults(
+    alloc: Global,
+    facts: &Facts,
+    mentions: &[Mention<'_>],
+) -> Result<Messages, AllocError>
+    ghost whole: { Whole }
+    requires { Knows facts.now whole }
+    ensures { IfOk result (λ ms. ms ≡ map message_of (all_types_of whole (all_shown facts.now.index.paths mentions.now))) }
 {
-    let found = names_of(alloc, terms)?;
-    let facts = facts_of(alloc, found.index, &found.mentions)?;
-    let faults = faults(alloc, &facts, &found.mentions)?;
-    let count = facts.index.paths.len();
-    let errors = messages(alloc, &facts.index.paths, &faults)?;
-    let (index, calls) = facts.into_names();
-    Ok(Examined {
-        names: Names { index, calls },
-        errors,
-    })
+    let mut out = Vec::new(alloc);
+    all_types(&mut out, facts, mentions)?;
+    let errors = messages(alloc, &facts.index.paths, &out)?;
+    Ok(Messages::from_vec(errors))
 }
 
-/// The names of the terms of a block, where all are right (ACPI Specification 6.4, 5.3 and 19.6). Otherwise it is
-/// refused with the errors of names, 6040 to 6046, in the order of the terms, or where there are none with those of
-/// kinds, 6051, 6054 and 6020. A want of memory is `Stage::Memory`.
+// What there is to say of the names that a block mentions: the errors of names, or where there are none those of kinds.
+pub(crate) fn examine(alloc: Global, known: &Known<'_>) -> Result<Messages, AllocError>
+    requires { KnowsItsTerms known.now }
+    ensures { IfOk result (λ errors. errors ≡ seen_errors (block_mentions (trees_of known.now.terms.now) [] nothing_declared)) }
+{
+    let names = name_faults(alloc, &known.facts, &known.mentions)?;
+    if !names.is_empty() {
+        return Ok(names);
+    }
+    let kinds = kind_faults(alloc, &known.facts, &known.mentions)?;
+    Ok(kinds)
+}
+
+// The names that are known.
+fn names_in(known: Known<'_>) -> Names
+    requires { KnowsItsTerms known }
+    ensures size { length result.index.named.items ≡ length result.index.paths }
+    ensures some { 0 < length result.index.paths }
+    ensures root { get_or result.index.paths 0 [] ≡ [] }
+    ensures names { Agrees result.index.paths result.index.named.items (declarations (trees_of known.entry.terms.now)) }
+    ensures sized { length result.calls.items ≡ length result.index.paths }
+    ensures calls { Tabled result.index.paths result.calls.items (lookup (seen (block_mentions (trees_of known.entry.terms.now) [] nothing_declared)).calls) }
+{
+    let count = known.facts.index.paths.len();
+    let (index, calls) = known.into_names();
+    Names { index, calls }
+}
+
+/// The names of a block of which this is known, where all are right (ACPI Specification 6.4, 5.3 and 19.6). Otherwise it
+/// is refused with the errors of names, 6040 to 6046, in the order of the terms, or where there are none with those of
+/// kinds, 6051, 6054 and 6020. A want of memory is `Stage::Memory`. The terms are borrowed no more.
+pub fn check_known(alloc: Global, known: Known<'_>) -> Result<Names, Stage>
+    requires terms { are_terms (trees_of known.terms.now) ≡ true }
+    requires known { KnowsItsTerms known }
+    ensures size { IfOk result (λ n. length n.index.named.items ≡ length n.index.paths) }
+    ensures some { IfOk result (λ n. 0 < length n.index.paths) }
+    ensures root { IfOk result (λ n. get_or n.index.paths 0 [] ≡ []) }
+    ensures names { IfOk result (λ n. Agrees n.index.paths n.index.named.items (declarations (trees_of known.entry.terms.now))) }
+    ensures sized { IfOk result (λ n. length n.calls.items ≡ length n.index.paths) }
+    ensures calls { IfOk result (λ n. Tabled n.index.paths n.calls.items (lookup (whole_of (trees_of known.entry.terms.now)).calls)) }
+    ensures right { OnOk result ((name_errors (trees_of known.entry.terms.now) ≡ []) × (type_errors (trees_of known.entry.terms.now) ≡ [])) }
+    ensures refused { IfErr result (λ stage. Refuses stage (told_errors (trees_of known.entry.terms.now))) }
+{
+    match examine(alloc, &known) {
+        Ok(errors) => {
+            if errors.is_empty() {
+                Ok(names_in(known))
+            } else {
+                Err(Stage::Refused(errors))
+            }
+        }
+        Err(_) => Err(Stage::Memory),
+    }
+}
+
+/// The same of terms, whose names are found first.
 pub fn check(alloc: Global, terms: &[Node]) -> Result<Names, Stage>
     requires terms { are_terms (trees_of terms.now) ≡ true }
     ensures size { IfOk result (λ n. length n.index.named.items ≡ length n.index.paths) }
@@ -261,14 +298,8 @@ pub fn check(alloc: Global, terms: &[Node]) -> Result<Names, Stage>
     ensures right { OnOk result ((name_errors (trees_of terms.now) ≡ []) × (type_errors (trees_of terms.now) ≡ [])) }
     ensures refused { IfErr result (λ stage. Refuses stage (told_errors (trees_of terms.now))) }
 {
-    match examine(alloc, terms) {
-        Ok(examined) => {
-            if examined.errors.is_empty() {
-                Ok(examined.names)
-            } else {
-                Err(Stage::Refused(Messages::from_vec(examined.errors)))
-            }
-        }
+    match known_of(alloc, terms) {
+        Ok(known) => check_known(alloc, known),
         Err(_) => Err(Stage::Memory),
     }
 }

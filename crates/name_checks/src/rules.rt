@@ -505,6 +505,7 @@ pub fn asked_types<'a>(
     let name = WrittenName::Path(name);
     match asked {
         Asked::Anything => Ok(()),
+        Asked::Object => Ok(()),
         Asked::Value => {
             unless(out, takes_none(end), Fault::WrongCount { at, name })?;
             Ok(())

@@ -4,6 +4,7 @@ use asl_tree::path::{NameSeg, Path, Segs};
 use asl_tree::term::{Control, Declaration, Node, Op, Special, Term};
 use iasl_messages::message::Message;
 use iasl_messages::place::Place;
+use name_kinds::known::known_of;
 use std::alloc::{AllocError, Global};
 use std::test::Fail;
 
@@ -236,8 +237,8 @@ fn told(alloc: Global, errors: &[Message]) -> Result<String, AllocError> {
 
 fn errors(alloc: Global, text: &str) -> Result<String, AllocError> {
     let nodes = terms(alloc, text)?;
-    let examined = examine(alloc, &nodes)?;
-    told(alloc, examined.errors.as_slice())
+    let errors = examine(alloc, &known_of(alloc, &nodes)?)?;
+    told(alloc, errors.as_slice())
 }
 
 // Terms that declare and use names, and their errors.
@@ -388,8 +389,8 @@ fn long(alloc: Global, count: u32) -> Result<String, AllocError> {
 // How many errors a path of so many segments has, and the number of the last.
 fn errors_of_long(alloc: Global, count: u32) -> Result<(usize, u16), AllocError> {
     let nodes = terms(alloc, long(alloc, count)?.as_str())?;
-    let errors = examine(alloc, &nodes)?.errors;
-    match errors.last() {
+    let errors = examine(alloc, &known_of(alloc, &nodes)?)?;
+    match errors.as_slice().last() {
         Some(last) => Ok((errors.len(), last.number)),
         None => Ok((0, 0)),
     }
@@ -478,7 +479,7 @@ fn chain(alloc: Global, count: u32) -> Result<Vec<Node>, AllocError> {
 fn a_long_chain_of_aliases_is_right(rt: HostRuntime) -> Result<(), Fail> {
     let alloc = rt.alloc();
     let nodes = chain(alloc, 100_000)?;
-    let examined = examine(alloc, &nodes)?;
-    assert_eq!(rt; examined.errors.len(), 0);
+    let errors = examine(alloc, &known_of(alloc, &nodes)?)?;
+    assert_eq!(rt; errors.len(), 0);
     Ok(())
 }

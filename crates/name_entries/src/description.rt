@@ -1,11 +1,9 @@
 //! What is said of a path.
 ghost use Rattle.std.specs.Prelude.{◌≡◌, ◌<◌, ℕ, List, [], None, length, get_or, IfOk};
-ghost use Rattle.asl_meaning.specs.Declarations.{is_named, called, nothing_declared};
+ghost use Rattle.asl_meaning.specs.Declarations.{nothing_declared};
 ghost use Rattle.acpi_names.specs.Errors.{Whole};
-ghost use Rattle.acpi_names.specs.Mentions.{after_all, calls_in};
-ghost use Rattle.acpi_names.specs.Parts.{Agrees};
+ghost use Rattle.acpi_names.specs.Mentions.{after_all};
 ghost use Rattle.acpi_names.specs.Shown.{all_shown};
-ghost use Rattle.name_kinds.specs.Tables.{IsKnown};
 ghost use Rattle.name_kinds.specs.Ends.{ended};
 ghost use Rattle.name_kinds.specs.Facts.{Knows};
 ghost use Rattle.name_entries.specs.Entries.{as_byte, end_arity, end_kind, described_by};
@@ -14,10 +12,9 @@ ghost use Rattle.acpi_values.specs.Paths.{AbsolutePath};
 
 use crate::kind::{Kind, kind_of};
 use crate::places::{PlaceTables, place_of, places_of};
-use acpi_names::index::Index;
 use acpi_names::mention::Mention;
 use iasl_messages::place::Place;
-use name_kinds::facts::{Facts, end, facts_of, is_named_at};
+use name_kinds::facts::{Facts, end, is_named_at};
 use name_kinds::kind::{End, operand_count};
 use std::alloc::{AllocError, Global};
 
@@ -36,8 +33,8 @@ fn byte(count: u64) -> u8
     if count <= 255 { count as u8 } else { 255 }
 }
 
-// The kind of what stands at an end.
-fn kind_at(end: Option<End>) -> Kind
+/// The kind of what stands at an end: data of any kind where a path leads nowhere.
+pub fn kind_at(end: Option<End>) -> Kind
     ensures { (paths : List AbsolutePath) → result ≡ end_kind (ended paths end) }
 {
     match end {
@@ -96,33 +93,20 @@ fn descriptions(
     Ok(said)
 }
 
-/// The names of a block, and what stands at each path.
-#[derive(Drop)]
-pub struct Described {
-    pub index: Index,
-    pub said: Vec<Option<Description>>,
-}
-
-/// What the mentions of a block say of its paths.
-pub fn describe_all(
+/// What stands at each path of a block, by its number.
+pub fn described_all(
     alloc: Global,
-    index: Index,
+    facts: &Facts,
     mentions: &[Mention],
-) -> Result<Described, AllocError>
+) -> Result<Vec<Option<Description>>, AllocError>
     ghost whole: { Whole }
-    requires flags { length index.named.items ≡ length index.paths }
-    requires agrees { Agrees index.paths index.named.items whole.all }
-    requires all { after_all (all_shown index.paths mentions.now) nothing_declared ≡ whole.all }
-    requires calls { called (calls_in (is_named whole.all) (all_shown index.paths mentions.now)) ≡ whole.calls }
-    requires known { IsKnown whole }
-    ensures same { IfOk result (λ d. d.index ≡ index) }
-    ensures size { IfOk result (λ d. length d.said.items ≡ length index.paths) }
-    ensures each { IfOk result (λ d. (n : ℕ) → n < length index.paths → get_or d.said.items n None ≡ described_by whole
-        (placed_all (all_shown index.paths mentions.now) no_places) (get_or index.paths n [])) }
+    requires told { Knows facts.now whole }
+    requires all { after_all (all_shown facts.now.index.paths mentions.now) nothing_declared ≡ whole.all }
+    ensures size { IfOk result (λ said. length said.items ≡ length facts.now.index.paths) }
+    ensures each { IfOk result (λ said. (n : ℕ) → n < length facts.now.index.paths → get_or said.items n None ≡ described_by whole
+        (placed_all (all_shown facts.now.index.paths mentions.now) no_places) (get_or facts.now.index.paths n [])) }
 {
-    let places = places_of(alloc, &index, mentions)?;
-    let facts = facts_of(alloc, index, mentions)?;
-    let said = descriptions(alloc, &facts, &places)?;
-    let (index, _) = facts.into_names();
-    Ok(Described { index, said })
+    let places = places_of(alloc, &facts.index, mentions)?;
+    let said = descriptions(alloc, facts, &places)?;
+    Ok(said)
 }

@@ -1,5 +1,5 @@
 //! The entries of a block's names, and what each used name denotes.
-ghost use Rattle.std.specs.Prelude.{◌≡◌, ◌↔◌, ◌^◌, ◌≤◌, ◌<◌, ℕ, length, get_or, slice_get, true, None, IsTrue, IfOk};
+ghost use Rattle.std.specs.Prelude.{◌≡◌, ℕ, length, get_or, slice_get, true, None, IfOk};
 ghost use Rattle.acpi_state.specs.Outcomes.{choose};
 ghost use Rattle.asl_tree.specs.View.{trees_of};
 ghost use Rattle.asl_meaning.specs.Declarations.{declarations};
@@ -9,25 +9,16 @@ ghost use Rattle.acpi_names.specs.Terms.{are_terms};
 ghost use Rattle.name_entries.specs.Entries.{described as described_in, entry_in};
 ghost use Rattle.name_entries.specs.Uses.{denoted_in};
 
-use crate::description::{Description, describe_all};
+use crate::description::{Description, described_all};
 use crate::kind::Kind;
-use crate::uses::uses_of;
-use acpi_names::index::{Found, Index, names_of};
+use crate::uses::uses_in;
+use acpi_names::index::Index;
 use acpi_names::place::{from_root, scope_in};
 use asl_tree::path::Path;
 use asl_tree::term::Node;
 use iasl_messages::place::Place;
+use name_kinds::known::known_of;
 use std::alloc::{AllocError, Global};
-
-// No more paths than this, so that a number has 32 bits.
-const MOST: usize = 0x1_0000_0000;
-
-// Whether so many paths have numbers of 32 bits.
-fn has_room(count: usize) -> bool
-    ensures { IsTrue result ↔ count ≤ 2 ^ 32 }
-{
-    count <= MOST
-}
 
 /// What a path is: its number, the path from the root, its kind, how many arguments it takes, and the place of the node
 /// that is its declared name. An alias has the kind and the number of arguments of what it refers to.
@@ -105,15 +96,9 @@ pub fn entries(alloc: Global, terms: &[Node]) -> Result<Names, AllocError>
     ensures said { IfOk result (λ n. are_terms (trees_of terms.now) ≡ true → (number : ℕ) → get_or n.said.items number None ≡ choose
         (slice_get n.index.paths number) None (described_in (trees_of terms.now))) }
 {
-    let Found { index, mentions } = names_of(alloc, terms)?;
-    if !has_room(index.paths.len()) {
-        return Err(AllocError);
-    }
-    let uses = uses_of(alloc, &index, &mentions)?;
-    let described = describe_all(alloc, index, &mentions)?;
-    Ok(Names {
-        index: described.index,
-        uses,
-        said: described.said,
-    })
+    let known = known_of(alloc, terms)?;
+    let uses = uses_in(alloc, &known)?;
+    let said = described_all(alloc, &known.facts, &known.mentions)?;
+    let (index, _) = known.into_names();
+    Ok(Names { index, uses, said })
 }

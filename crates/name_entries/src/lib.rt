@@ -5,4 +5,4 @@ pub mod description;
 pub mod entries;
 pub mod kind;
 mod places;
-mod uses;
+pub mod uses;

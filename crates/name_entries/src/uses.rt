@@ -1,17 +1,31 @@
 //! What each used name denotes.
-ghost use Rattle.std.specs.Prelude.{◌≡◌, ◌<◌, ◌≤◌, ◌^◌, ◌++◌, ℕ, [], length, get_or, nat_eq, None, List, if◌then◌else◌, IfOk, OnOk};
+ghost use Rattle.std.specs.Prelude.{◌≡◌, ◌↔◌, ◌<◌, ◌≤◌, ◌^◌, ◌++◌, ℕ, [], length, get_or, nat_eq, None, List, if◌then◌else◌, IsTrue};
+ghost use Rattle.std.specs.Prelude.{IfOk, OnOk};
 ghost use Rattle.asl_tree.specs.Names.{denoted};
+ghost use Rattle.asl_tree.specs.View.{trees_of};
 ghost use Rattle.asl_meaning.specs.Declarations.{Declarations, is_named};
 ghost use Rattle.acpi_names.specs.Parts.{Agrees};
 ghost use Rattle.acpi_names.specs.Paths.{path_with};
 ghost use Rattle.acpi_names.specs.Shown.{shown, all_shown};
-ghost use Rattle.name_entries.specs.Uses.{Use, Denotes, used_by, uses_after};
+ghost use Rattle.name_entries.specs.Uses.{Use, Denotes, used_by, uses_after, denoted_in};
+ghost use Rattle.name_kinds.specs.Known.{KnowsItsTerms};
 
 use acpi_names::index::{Index, denoted_by};
 use acpi_names::mention::Mention;
 use acpi_names::place::scope_in;
 use asl_tree::path::Path;
+use name_kinds::known::Known;
 use std::alloc::{AllocError, Global};
+
+// No more paths than this, so that a number has 32 bits.
+const MOST: usize = 0x1_0000_0000;
+
+// Whether so many paths have numbers of 32 bits.
+fn has_room(count: usize) -> bool
+    ensures { IsTrue result ↔ count ≤ 2 ^ 32 }
+{
+    count <= MOST
+}
 
 // What a used name denotes in a scope.
 fn target(index: &Index, name: &Path, scope: usize) -> Option<u32>
@@ -83,8 +97,8 @@ fn note(index: &Index, uses: &mut Vec<Option<u32>>, mention: &Mention) -> Result
     }
 }
 
-/// What the names at nodes denote, by the numbers of the nodes. Should two nodes have the same number, the last counts.
-pub fn uses_of(
+// What the names at nodes denote, by the numbers of the nodes. Should two nodes have the same number, the last counts.
+fn uses_of(
     alloc: Global,
     index: &Index,
     mentions: &[Mention],
@@ -98,5 +112,20 @@ pub fn uses_of(
     for mention in mentions {
         note(index, &mut uses, mention)?;
     }
+    Ok(uses)
+}
+
+/// The number of the path that the used name at each node of a block denotes, by the numbers of the nodes (ACPI
+/// Specification 6.4, 5.3). Should several nodes have the same number, the last counts. A want of memory is also the
+/// answer where there are more than 2^32 paths.
+pub fn uses_in(alloc: Global, known: &Known<'_>) -> Result<Vec<Option<u32>>, AllocError>
+    requires { KnowsItsTerms known.now }
+    ensures { IfOk result (λ uses. (node : ℕ) → path_with known.now.facts.index.paths (get_or uses.items node None) ≡ denoted_in
+        (trees_of known.now.terms.now) node) }
+{
+    if !has_room(known.facts.index.paths.len()) {
+        return Err(AllocError);
+    }
+    let uses = uses_of(alloc, &known.facts.index, &known.mentions)?;
     Ok(uses)
 }

@@ -4,3 +4,4 @@ pub mod Depths
 pub mod Ends
 pub mod Facts
 pub mod Seen
+pub mod Known

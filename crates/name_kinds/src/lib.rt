@@ -4,4 +4,5 @@
 mod ends;
 pub mod facts;
 pub mod kind;
+pub mod known;
 pub mod tables;

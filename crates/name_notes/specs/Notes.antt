@@ -1,6 +1,6 @@
 -- What is told of the names of a block beside errors: methods of reserved names that take another number of arguments than these
 -- ask for, and names of methods that nothing uses (ACPI Specification 6.4, 5.6.8).
-use Rattle.std.specs.Prelude.{ℕ, Bool, true, false, nat_eq, not, ◌&&◌, if◌then◌else◌, List, [], ◌∷◌, ◌++◌, Option, Some, None}
+use Rattle.std.specs.Prelude.{ℕ, Bool, true, false, nat_eq, not, ◌&&◌, ◌||◌, if◌then◌else◌, List, [], ◌∷◌, ◌++◌, Option, Some, None}
 use Rattle.std.specs.List.{list_any}
 use Rattle.std.specs.Str.{bytes_eq}
 use Rattle.acpi_values.specs.Paths.{NameSeg, AbsolutePath, is_same_path}
@@ -69,6 +69,10 @@ is_at path (Some other) = is_same_path path other
 abbrev pub is_among : (Mention → Option AbsolutePath) → List Mention → AbsolutePath → Bool
 is_among path_of mentions path = list_any (λ m. is_at path (path_of m)) mentions
 
+-- whether a path is used by one of some mentions, or is one of those that count as used
+abbrev pub is_used_in : (AbsolutePath → Bool) → List AbsolutePath → List Mention → AbsolutePath → Bool
+is_used_in has also mentions path = list_any (is_same_path path) also || is_among (used_by has) mentions path
+
 -- ---- all notes, in the order of the terms
 
 -- a name is a method's own where the scope in which it is declared is a method's
@@ -83,10 +87,10 @@ abbrev pub all_notes : (is_method is_used : AbsolutePath → Bool) → List Ment
 all_notes is_method is_used [] = []
 all_notes is_method is_used (m ∷ ms) = mention_notes is_method is_used m ++ all_notes is_method is_used ms
 
--- the notes on what is mentioned
-abbrev pub mentioned_notes : (AbsolutePath → Bool) → List Mention → List Message
-mentioned_notes has mentions = all_notes (is_among method_of mentions) (is_among (used_by has) mentions) mentions
+-- the notes on what is mentioned, where these paths count as used
+abbrev pub mentioned_notes : (AbsolutePath → Bool) → List AbsolutePath → List Mention → List Message
+mentioned_notes has also mentions = all_notes (is_among method_of mentions) (is_used_in has also mentions) mentions
 
--- the same of the terms of a block
+-- the same of the terms of a block, where no others do
 abbrev pub name_notes : Trees → List Message
-name_notes program = mentioned_notes (is_named (declarations program)) (block_mentions program [] nothing_declared)
+name_notes program = mentioned_notes (is_named (declarations program)) [] (block_mentions program [] nothing_declared)

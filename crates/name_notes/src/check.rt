@@ -1,5 +1,5 @@
 //! The notes on the names of a block.
-ghost use Rattle.std.specs.Prelude.{◌≡◌, ◌<◌, ◌++◌, ◌&&◌, not, Bool, [], length, get_or, IfOk, OnOk};
+ghost use Rattle.std.specs.Prelude.{◌≡◌, ◌<◌, ◌++◌, ◌&&◌, not, Bool, [], length, get_or, map, IfOk, OnOk};
 ghost use Rattle.acpi_values.specs.Paths.{AbsolutePath};
 ghost use Rattle.asl_tree.specs.View.{trees_of};
 ghost use Rattle.asl_meaning.specs.Declarations.{is_named, nothing_declared};
@@ -7,21 +7,22 @@ ghost use Rattle.acpi_names.specs.Errors.{Whole};
 ghost use Rattle.acpi_names.specs.Mentions.{after_all};
 ghost use Rattle.acpi_names.specs.Parts.{Agrees};
 ghost use Rattle.acpi_names.specs.Shown.{shown, all_shown};
+ghost use Rattle.name_kinds.specs.Known.{KnowsItsTerms};
 ghost use Rattle.name_kinds.specs.Tables.{IsThere};
 ghost use Rattle.name_notes.specs.Marks.{AreSized, Marked};
 ghost use Rattle.name_notes.specs.Notes.{told_if, reserved_arguments, is_other, mention_notes, mentioned_notes, name_notes};
 
-use crate::marks::{Marks, is_marked, marks_of, method_arguments};
+use crate::marks::{Marks, is_marked, mark_each, marks_of, method_arguments};
 use crate::reserved::arguments_of;
-use acpi_names::index::{Index, names_of};
+use acpi_names::index::Index;
 use acpi_names::mention::Mention;
 use acpi_names::paths::Paths;
 use acpi_names::place::scope_in;
-use asl_tree::term::Node;
 use iasl_messages::message::{Message, Messages};
 use iasl_messages::number::{NAME_IS_UNUSED, RESERVED_NAME_ARGUMENTS};
 use iasl_messages::place::Place;
 use name_checks::fault::text_of_path;
+use name_kinds::known::Known;
 use name_kinds::tables::place;
 use std::alloc::{AllocError, Global};
 
@@ -131,15 +132,23 @@ fn note(
     }
 }
 
-/// The notes on the names that a block mentions, by its index and its mentions, as `acpi_names::index::names_of` gives them.
-pub fn notes_of(alloc: Global, index: &Index, mentions: &[Mention]) -> Result<Messages, AllocError>
+/// The notes on the names that a block mentions, by its index and its mentions, as `acpi_names::index::names_of` gives
+/// them. The paths with the numbers `also` count as used.
+pub fn notes_of(
+    alloc: Global,
+    index: &Index,
+    mentions: &[Mention],
+    also: &[usize],
+) -> Result<Messages, AllocError>
     ghost whole: { Whole }
     requires flags { length index.now.named.items ≡ length index.now.paths }
     requires agrees { Agrees index.now.paths index.now.named.items whole.all }
     requires all { after_all (all_shown index.now.paths mentions.now) nothing_declared ≡ whole.all }
-    ensures { IfOk result (λ ms. ms ≡ mentioned_notes (is_named whole.all) (all_shown index.now.paths mentions.now)) }
+    ensures { IfOk result (λ ms. ms ≡ mentioned_notes (is_named whole.all) (map (λ n. get_or index.now.paths n []) also.now)
+        (all_shown index.now.paths mentions.now)) }
 {
-    let marks = marks_of(alloc, index, mentions)?;
+    let mut marks = marks_of(alloc, index, mentions)?;
+    mark_each(&index.paths, &mut marks.used, also);
     let mut out = Messages::new(alloc);
     for mention in mentions {
         note(alloc, &mut out, index, &marks, mention)?;
@@ -147,14 +156,14 @@ pub fn notes_of(alloc: Global, index: &Index, mentions: &[Mention]) -> Result<Me
     Ok(out)
 }
 
-/// The notes on the names of a block (ACPI Specification 6.4, 5.6.8), in the order of its terms: 3001 at the name of a
-/// method whose last segment is reserved, and that takes another number of arguments than that name asks for; 3003 at
-/// a name that is declared in a method, and that no use denotes. Each has the path from the root as its name. The only
-/// error is want of memory.
-pub fn notes(alloc: Global, terms: &[Node]) -> Result<Messages, AllocError>
-    ensures { IfOk result (λ ms. ms ≡ name_notes (trees_of terms.now)) }
+/// The notes on the names of a block of which this is known (ACPI Specification 6.4, 5.6.8), in the order of its terms:
+/// 3001 at the name of a method whose last segment is reserved, and that takes another number of arguments than that
+/// name asks for; 3003 at a name that is declared in a method, and that no use denotes. Each has the path from the root
+/// as its name. The only error is want of memory.
+pub fn notes(alloc: Global, known: &Known<'_>) -> Result<Messages, AllocError>
+    requires { KnowsItsTerms known.now }
+    ensures { IfOk result (λ ms. ms ≡ name_notes (trees_of known.now.terms.now)) }
 {
-    let found = names_of(alloc, terms)?;
-    let out = notes_of(alloc, &found.index, &found.mentions)?;
+    let out = notes_of(alloc, &known.facts.index, &known.mentions, &[])?;
     Ok(out)
 }

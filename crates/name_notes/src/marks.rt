@@ -1,6 +1,7 @@
 //! Which paths are those of methods, and which are used, by their numbers.
-ghost use Rattle.std.specs.Prelude.{◌≡◌, ◌<◌, Bool, List, false, [], length, get_or, replicate, IfOk, IfSome};
-ghost use Rattle.acpi_values.specs.Paths.{AbsolutePath};
+ghost use Rattle.std.specs.Prelude.{◌≡◌, ◌<◌, ◌||◌, Bool, List, false, [], length, get_or, map, replicate, IfOk, IfSome};
+ghost use Rattle.std.specs.List.{list_any};
+ghost use Rattle.acpi_values.specs.Paths.{AbsolutePath, is_same_path};
 ghost use Rattle.asl_meaning.specs.Declarations.{is_named, nothing_declared};
 ghost use Rattle.acpi_names.specs.Errors.{Whole};
 ghost use Rattle.acpi_names.specs.Mentions.{after_all};
@@ -15,6 +16,7 @@ use acpi_names::index::Index;
 use acpi_names::mention::{Declared, Mention};
 use acpi_names::part::What;
 use acpi_names::paths::Paths;
+use acpi_names::place::scope_in;
 use name_kinds::tables::{denoted, place};
 use std::alloc::{AllocError, Global};
 
@@ -96,6 +98,18 @@ fn mark(paths: &Paths, flags: &mut Vec<bool>, number: Option<usize>)
     let count = paths.len();
     if let Some(number) = number {
         flags[number] = true;
+    }
+}
+
+/// The flags of the paths with these numbers are set from now on.
+pub(crate) fn mark_each(paths: &Paths, flags: &mut Vec<bool>, numbers: &[usize])
+    requires { length flags.old.items ≡ length paths.now }
+    ensures sized { length flags.new.items ≡ length paths.now }
+    ensures marked { (test : AbsolutePath → Bool) → Marked paths.now flags.old.items test → Marked paths.now flags.new.items
+        (λ path. list_any (is_same_path path) (map (λ n. get_or paths.now n []) numbers.now) || test path) }
+{
+    for number in numbers {
+        mark(paths, flags, Some(scope_in(paths, *number)));
     }
 }
 

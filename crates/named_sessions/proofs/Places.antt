@@ -17,7 +17,7 @@ use Rattle.asl_tree.specs.Names.{place_of, denoted}
 use Rattle.asl_tree.specs.Tree.{At, Tree, Use, Call, Apply, Buffer, Package, VarPackage, CondRefOf, Return, Name, Alias, External, Method, Mutex, Event, Container', Scope, Trees, no_trees, tree, count, OperationRegion, Field, IndexField, BankField, CreateField, UnitName, If, ElseIf, Else, While, Operated, Assigned, AssignedBy, Switch, Case, Default, For, Print}
 use Rattle.asl_meaning.specs.Declarations.{As, ExternalType, Declarations, nothing_declared, is_named, scope_path, with_declared, declare, declare_item}
 use Rattle.asl_meaning.specs.Meaning.{SpotForm, OfResult, OfInside, NoSpot, spot_form}
-use Rattle.acpi_names.specs.Errors.{NameError, Twice, DeclaredHere, Missing, NoContainer, LeavesRoot, Differs, TooLong, WrongCount, WrongKind, Asked, Anything, AValue, AMutex, AnEvent, AUnit, ARegion, asked_by, unless, Whole, whole_of, step_errors, length_errors, is_new, has_parent, agrees_with, final, is_container, takes_none, takes, is_mutex, is_event, is_unit, is_region, unit_path, declared_errors, external_errors, use_errors, call_errors, scope_errors, item_errors, items_errors, cond_errors, names, names_all, name_end, asked_types, used_types, letter_types, spot_form_types, element_types, types, spot_types, first_types, operand_types, spot_types_all, element_types_all, types_all, name_errors, type_errors}
+use Rattle.acpi_names.specs.Errors.{NameError, Twice, DeclaredHere, Missing, NoContainer, LeavesRoot, Differs, TooLong, WrongCount, WrongKind, Asked, Anything, AnObject, AValue, AMutex, AnEvent, AUnit, ARegion, asked_by, unless, Whole, whole_of, step_errors, length_errors, is_new, has_parent, agrees_with, final, is_container, takes_none, takes, is_mutex, is_event, is_unit, is_region, unit_path, declared_errors, external_errors, use_errors, call_errors, scope_errors, item_errors, items_errors, cond_errors, names, names_all, name_end, asked_types, used_types, letter_types, spot_form_types, element_types, types, spot_types, first_types, operand_types, spot_types_all, element_types_all, types_all, name_errors, type_errors}
 use Rattle.named_sessions.specs.Places.{IsIn, IsItemWithin, AreItemsWithin, IsWithin, AreWithin, at_of}
 
 -- an External that may be called and does not say how many arguments it takes
@@ -150,6 +150,7 @@ module _ (files : ℕ) where
 
     asked_told : (asked : Asked) (at : At) (name : Path) (scope : AbsolutePath) → IsIn files at → IsAskedIn asked → AreTold (asked_types whole asked at name scope)
     asked_told Anything at name scope h k = tt
+    asked_told AnObject at name scope h k = tt
     asked_told AValue at name scope h k = unless_told (takes_none (name_end whole name scope)) (WrongCount at name) h
     asked_told AMutex at name scope h k = unless_told (is_mutex (name_end whole name scope)) (WrongKind at name) h
     asked_told AnEvent at name scope h k = unless_told (is_event (name_end whole name scope)) (WrongKind at name) h

@@ -26,6 +26,7 @@ pub mod Lowered
 pub mod Folded
 pub mod Wrapped
 pub mod Cores
+pub mod Stripped
 pub mod Tables
 pub mod SameCores
 pub mod ListPlaces

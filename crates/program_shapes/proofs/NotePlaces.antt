@@ -7,19 +7,21 @@ use Rattle.iasl_messages.specs.declared.place.Place.{Place}
 use Rattle.iasl_messages.specs.declared.message.Message.{Message}
 use Rattle.asl_tree.specs.Names.{place_of}
 use Rattle.asl_tree.specs.Tree.{Trees}
-use Rattle.asl_meaning.specs.Declarations.{nothing_declared, declarations, is_named}
+use Rattle.asl_meaning.specs.Declarations.{nothing_declared}
 use Rattle.asl_parser.specs.Written.{Writtens}
 use Rattle.asl_parser.specs.Within as source
 use Rattle.asl_shape.specs.Places.{AreTold}
 use Rattle.asl_shape.specs.Forms.{terms_of}
 use Rattle.asl_numbers.specs.Numbers.{numbered_all}
-use Rattle.descriptor_names.specs.Resolved.{resolved_terms}
+use Rattle.descriptor_names.specs.Declaring.{declaring}
+use Rattle.descriptor_names.specs.Resolved.{checked_terms, names_of, mentions_of}
+use Rattle.descriptor_names.specs.Told.{owners_of}
 use Rattle.acpi_names.specs.Mentions.{Mention, Declares, block_mentions}
 use Rattle.named_sessions.specs.Places.{AreWithin}
 use Rattle.descriptor_shapes.proofs.MentionPlaces.{IsMentionedIn, AreMentionedIn, block_in}
-use Rattle.name_notes.specs.Notes.{told_if, reserved_arguments, method_arguments, is_other, method_of, used_by, is_among, mention_notes, all_notes, name_notes}
+use Rattle.name_notes.specs.Notes.{told_if, reserved_arguments, method_arguments, is_other, method_of, is_among, is_used_in, mention_notes, all_notes, mentioned_notes}
 use Rattle.program_shapes.proofs.ListPlaces.{as_all}
-use Rattle.program_shapes.proofs.TreePlaces.{source_within}
+use Rattle.program_shapes.proofs.TreePlaces.{program_within}
 
 module _ (files : ℕ) where
   -- ---- what is told of mentions
@@ -44,12 +46,15 @@ module _ (files : ℕ) where
     notes_told [] h = tt
     notes_told (m ∷ ms) h = both_told (mention_notes is_method is_used m) (all_notes is_method is_used ms) (note_told m h.0) (notes_told ms h.1)
 
--- the notes on the names of trees whose nodes stand in some files stand in these
-pub notes_within : (files : ℕ) (ts : Trees) → AreWithin files ts → All (λ (m : Message). m.place.file < files) (name_notes ts)
-notes_within files ts h =
+-- the notes on what is mentioned of trees whose nodes stand in some files stand in these
+pub notes_within : (files : ℕ) (has : AbsolutePath → Bool) (also : List AbsolutePath) (ts : Trees) → AreWithin files ts → All (λ (m : Message). m.place.file < files) (mentioned_notes has also (block_mentions ts [] nothing_declared))
+notes_within files has also ts h =
     let ms = block_mentions ts [] nothing_declared in
-    as_all files (name_notes ts) (notes_told files (is_among method_of ms) (is_among (used_by (is_named (declarations ts))) ms) ms (block_in files ts [] nothing_declared h))
+    as_all files (mentioned_notes has also ms) (notes_told files (is_among method_of ms) (is_used_in has also ms) ms (block_in files ts [] nothing_declared h))
 
 -- and so do those of a source, in the files in which its parts stand
-pub source_notes_within : (files next : ℕ) (ws : Writtens) → source.AreWithin files ws → All (λ (m : Message). m.place.file < files) (name_notes (numbered_all next (resolved_terms (terms_of ws))))
-source_notes_within files next ws h = notes_within files (numbered_all next (resolved_terms (terms_of ws))) (source_within files next ws h)
+pub source_notes_within : (files : ℕ) (ws : Writtens) → source.AreWithin files ws
+    → All (λ (m : Message). m.place.file < files) (mentioned_notes (names_of (checked_terms (terms_of ws))) (owners_of (declaring (terms_of ws))) (mentions_of (checked_terms (terms_of ws))))
+source_notes_within files ws h =
+    let checked = checked_terms (terms_of ws) in
+    notes_within files (names_of checked) (owners_of (declaring (terms_of ws))) (numbered_all 0 checked) (program_within files ws h)

@@ -1,5 +1,5 @@
 -- The core of a source in which nothing is wrong has the source's sessions.
-use Rattle.std.proofs.Common.{◌≡◌, ℕ, Bool, true, List, sym, ◌∙◌, subst}
+use Rattle.std.proofs.Common.{◌≡◌, ℕ, Bool, true, List, [], sym, ◌∙◌, subst}
 use Rattle.acpi_values.specs.Paths.{AbsolutePath}
 use Rattle.acpi_values.specs.Values.{Value}
 use Rattle.acpi_state.specs.Asked.{IsAsked}
@@ -11,6 +11,7 @@ use Rattle.named_sessions.specs.Shaped.{AreFormed, AreNamed}
 use Rattle.named_sessions.specs.Core.{says_of, core_of}
 use Rattle.named_sessions.proofs.Spelled.{same_source}
 use Rattle.named_sessions.proofs.Terms.{formed_terms}
+use Rattle.acpi_names.specs.Errors.{name_errors, type_errors}
 use Rattle.acpi_names.specs.Terms.{are_terms}
 use Rattle.asl_lower.specs.Nodes.{named_all}
 use Rattle.asl_lower.proofs.Named.{same_named}
@@ -33,6 +34,7 @@ use Rattle.asl_parser.specs.Written.{writtens}
 use Rattle.program_shapes.specs.Kept.{IsKeptSource}
 use Rattle.program_shapes.specs.Sources.{plans_in, terms_in, width_in, lowered_in, core_in, IsRight}
 use Rattle.program_shapes.proofs.Near.{plans_near}
+use Rattle.program_shapes.proofs.Stripped.{right_names, right_kinds}
 use Rattle.program_shapes.proofs.Tables.{terms_are_formed, core_is_shaped}
 
 pub same_cores : (wrap fold shorten : Bool) (items : List Raw) → IsRight items → IsKeptSource (writtens items) → (present : List AbsolutePath) (n : ℕ) (answers : List Value) (requests : List Request) → IsAsked (width_in items) n answers requests
@@ -48,14 +50,16 @@ same_cores wrap fold shorten items right kept present n answers requests asked =
     let core = core_in wrap fold items in
     let there : Names = present_ones (externals program) present in
     let formed : AreFormed (Unit {0}) AreNamed (Unit {0}) (Unit {0}) program = terms_are_formed items right.form kept in
+    let own_names : name_errors program ≡ [] = right_names items right kept in
+    let own_kinds : type_errors program ≡ [] = right_kinds items right kept in
     let near : AreNear program = plans_near 0 (plans_in items) right.statements in
     let left : AreFormed ⊥ AreNamed (Unit {0}) (Unit {0}) plain = forms_formed AreNamed (Unit {0}) (Unit {0}) program formed near in
     let terms : are_terms turns ≡ true = formed_terms ⊥ AreNamed (Unit {0}) ⊥ turns (loops_formed AreNamed (Unit {0}) (Unit {0}) plain left) in
     let locals : HaveLocals plain = forms_have_locals program (formed_terms (Unit {0}) AreNamed (Unit {0}) (Unit {0}) program formed) (have_locals program (plans_in items) right.locals) in
     let same_known : known_of core ≡ known_of program =
     wrapped.where_known wrap lowered ∙ where_known fold width named ∙ lower.same_known turns terms ∙ looped.same_known AreNamed (Unit {0}) (Unit {0}) plain left
-    ∙ others.same_known AreNamed (Unit {0}) (Unit {0}) program formed near right.names right.counts in
-    let same_others : externals plain ≡ externals program = others.same_externals AreNamed (Unit {0}) (Unit {0}) program formed near right.names right.counts in
+    ∙ others.same_known AreNamed (Unit {0}) (Unit {0}) program formed near own_names own_kinds in
+    let same_others : externals plain ≡ externals program = others.same_externals AreNamed (Unit {0}) (Unit {0}) program formed near own_names own_kinds in
     let spelled : source_session width (known_of core) core there n answers requests ≡ source_session width (known_of core) (core_of shorten core) there n answers requests
     = same_source shorten width (says_of core) (known_of core) core (wrapped.where_shaped wrap lowered (where_shaped fold width named (core_is_shaped items right.form right.statements right.layouts kept))) there n answers requests in
     subst (λ known. source_session width known (core_of shorten core) there n answers requests ≡ source_session width known core there n answers requests) same_known (sym spelled)

@@ -42,6 +42,7 @@ use Rattle.program_shapes.specs.Kept.{IsKeptSource}
 use Rattle.program_shapes.proofs.Lists.{plans_laid}
 use Rattle.program_shapes.proofs.Laid.{terms_laid}
 use Rattle.program_shapes.proofs.Near.{plans_near}
+use Rattle.program_shapes.proofs.Stripped.{right_names, right_kinds}
 use Rattle.descriptor_shapes.proofs.Resolved.{resolved_formed}
 use Rattle.program_shapes.specs.Sources.{source_in, plans_in, terms_in, statements_in, layouts_in, fields_in, width_in, lowered_in, core_in, table_in, IsRight, IsTableOf}
 use Rattle.program_shapes.proofs.Folded.{does_unfolded}
@@ -97,18 +98,20 @@ does_as wrap fold short shorten items right kept within =
     let header = header_with fields size (checksum_of (header_with fields size 0 ++ content)) in
     let small : length content ≤ 16777216 = omega (arith, within, length-append header content) in
     let formed : AreFormed (Unit {0}) AreNamed (Unit {0}) (Unit {0}) program = terms_are_formed items right.form kept in
+    let own_names : name_errors program ≡ [] = right_names items right kept in
+    let own_kinds : type_errors program ≡ [] = right_kinds items right kept in
     let near : AreNear program = terms_are_near items right.statements in
     let left : AreFormed ⊥ AreNamed (Unit {0}) (Unit {0}) plain = forms_formed AreNamed (Unit {0}) (Unit {0}) program formed near in
     let terms : are_terms loops ≡ true = formed_terms ⊥ AreNamed (Unit {0}) ⊥ loops (loops_formed AreNamed (Unit {0}) (Unit {0}) plain left) in
     let locals : HaveLocals plain = forms_have_locals program (formed_terms (Unit {0}) AreNamed (Unit {0}) (Unit {0}) program formed) (have_locals program (plans_in items) right.locals) in
-    let names : name_errors loops ≡ [] = same_name_errors AreNamed (Unit {0}) (Unit {0}) plain left ∙ no_form_names AreNamed (Unit {0}) (Unit {0}) program formed near right.names right.counts in
-    let counts : type_errors loops ≡ [] = same_type_errors AreNamed (Unit {0}) (Unit {0}) plain left ∙ no_form_types AreNamed (Unit {0}) (Unit {0}) program formed near right.names right.counts in
+    let names : name_errors loops ≡ [] = same_name_errors AreNamed (Unit {0}) (Unit {0}) plain left ∙ no_form_names AreNamed (Unit {0}) (Unit {0}) program formed near own_names own_kinds in
+    let counts : type_errors loops ≡ [] = same_type_errors AreNamed (Unit {0}) (Unit {0}) plain left ∙ no_form_types AreNamed (Unit {0}) (Unit {0}) program formed near own_names own_kinds in
     let room : HaveRoom (args_of (writtens items)) = room_in (writtens items) right.form kept in
     let signature : length fields.signature ≡ 4 = room.signature in
     let table = table_in wrap fold short shorten items in
     record {
       header = is_header fields content signature (omega (arith, small)) (mod_below (number_of (plan_at (args_of (writtens items)) 5)) 4294967296 (omega arith));
-      faithful = does_formed AreNamed (Unit {0}) (Unit {0}) program formed near right.names right.counts width table
+      faithful = does_formed AreNamed (Unit {0}) (Unit {0}) program formed near own_names own_kinds width table
           (does_unswitched AreNamed (Unit {0}) (Unit {0}) plain left locals width table
           (lowered_faithful width loops table terms (does_unfolded fold width named table (does_unwrapped wrap width lowered table
           (is_faithful shorten width short core table (wrapped.where_shaped wrap lowered (where_shaped fold width named (core_is_shaped items right.form right.statements right.layouts kept)))

@@ -7,7 +7,6 @@ use Rattle.asl_meaning.specs.Declarations.{known_of, externals}
 use Rattle.aml_code.specs.Header.{HeaderFields, table_bytes, IsHeader}
 use Rattle.aml_meaning.specs.Encoded.{encoded_all}
 use Rattle.aml_meaning.specs.ByteSession.{IsFaithful}
-use Rattle.acpi_names.specs.Errors.{name_errors, type_errors}
 use Rattle.named_sessions.specs.Core.{core_of}
 use Rattle.asl_lower.specs.Nodes.{named_all}
 use Rattle.asl_fold.specs.Folds.{folded_where}
@@ -19,8 +18,10 @@ use Rattle.asl_parser.specs.Written.{writtens}
 use Rattle.asl_shape.specs.Plans.{Plans, plan_at, text_of, number_of}
 use Rattle.asl_shape.specs.Forms.{errors_at, alone, args_of, terms_of}
 use Rattle.asl_numbers.specs.Numbers.{numbered_all}
-use Rattle.descriptor_names.specs.Resolved.{resolved_terms}
-use Rattle.descriptor_names.specs.Told.{names_told, kinds_told}
+use Rattle.descriptor_names.specs.Declaring.{declaring}
+use Rattle.descriptor_names.specs.Resolved.{checked_terms, resolved_terms, names_of, mentions_of}
+use Rattle.name_notes.specs.Notes.{mentioned_notes}
+use Rattle.descriptor_names.specs.Told.{names_told, kinds_told, owners_of}
 use Rattle.iasl_messages.specs.declared.message.Message.{Message}
 use Rattle.statement_checks.specs.Statements.{errors_of_statements}
 use Rattle.field_checks.specs.Lists.{all_errors}
@@ -29,7 +30,6 @@ use Rattle.type_checks.specs.Types.{wrong_types}
 use Rattle.type_checks.specs.Sizes.{long_lists}
 use Rattle.switch_checks.specs.Repeats.{repeated_values}
 use Rattle.switch_checks.specs.Locals.{few_locals}
-use Rattle.name_notes.specs.Notes.{name_notes}
 
 -- its terms as they are written
 abbrev pub source_in : List Raw → Plans
@@ -42,6 +42,14 @@ names_in items = names_told (source_in items)
 -- and with the kinds of what its names stand for
 abbrev pub uses_in : List Raw → List Message
 uses_in items = kinds_told (source_in items)
+
+-- its terms with those that declare its resource descriptors, and with the fields of these as constants
+abbrev pub checked_in : List Raw → Plans
+checked_in items = checked_terms (source_in items)
+
+-- these, each node with its number: what is asked of names is asked of them
+abbrev pub program_in : List Raw → Trees
+program_in items = numbered_all 0 (checked_in items)
 
 -- its terms with the fields of its descriptors as constants
 abbrev pub plans_in : List Raw → Plans
@@ -78,11 +86,11 @@ width_in items = width_of (fields_in items).revision
 
 -- what is wrong with the accesses of its fields to their regions
 abbrev pub regions_in : List Raw → List Message
-regions_in items = region_errors (width_in items) (terms_in items) (plans_in items)
+regions_in items = region_errors (width_in items) (program_in items) (checked_in items)
 
 -- what is wrong with the kinds of its arguments
 abbrev pub types_in : List Raw → List Message
-types_in items = wrong_types (terms_in items) (plans_in items)
+types_in items = wrong_types (program_in items) (checked_in items)
 
 -- its lists that are longer than their sizes
 abbrev pub sizes_in : List Raw → List Message
@@ -96,9 +104,9 @@ values_in items = repeated_values (width_in items) (plans_in items)
 abbrev pub locals_in : List Raw → List Message
 locals_in items = few_locals (terms_in items) (plans_in items)
 
--- the notes on its names
+-- the notes on its names; a use of a descriptor's field is a use of the descriptor
 abbrev pub notes_in : List Raw → List Message
-notes_in items = name_notes (terms_in items)
+notes_in items = mentioned_notes (names_of (checked_in items)) (owners_of (declaring (source_in items))) (mentions_of (checked_in items))
 
 -- the program lowered: what stands for its Fors and for what prints, loops for its Switches, its symbols named, and its
 -- constants folded where that is asked for
@@ -121,10 +129,8 @@ table_in wrap fold short shorten items =
 -- its lists, the values of its Cases, and the Locals that are free for its Switches
 pub record IsRight (items : List Raw) : Type 0 where
   pub form : errors_at items ≡ []
-  pub declared : names_in items ≡ []
+  pub names : names_in items ≡ []
   pub uses : uses_in items ≡ []
-  pub names : name_errors (terms_in items) ≡ []
-  pub counts : type_errors (terms_in items) ≡ []
   pub statements : statements_in items ≡ []
   pub layouts : layouts_in items ≡ []
   pub regions : regions_in items ≡ []

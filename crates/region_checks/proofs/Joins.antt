@@ -12,7 +12,7 @@ use Rattle.asl_tree.specs.FieldItems.{FieldItem, UnitItem, SkipItem, OffsetItem,
 use Rattle.asl_tree.specs.Names.{place_of}
 use Rattle.asl_tree.specs.Tree.{At, Tree, Use, Call, Apply, Buffer, Package, VarPackage, CondRefOf, Return, Name, Alias, External, Method, Mutex, Event, Container', Scope, Trees, no_trees, tree, OperationRegion, Field, IndexField, BankField, CreateField, UnitName, If, ElseIf, Else, While, For, Print, Operated, Assigned, AssignedBy, Switch, Case, Default}
 use Rattle.asl_meaning.specs.Declarations.{Declarations, scope_path, declare}
-use Rattle.acpi_names.specs.Errors.{Asked, Anything, AValue, AMutex, AnEvent, AUnit, ARegion, asked_by}
+use Rattle.acpi_names.specs.Errors.{Asked, Anything, AnObject, AValue, AMutex, AnEvent, AUnit, ARegion, asked_by}
 use Rattle.acpi_names.specs.Mentions.{Mention, Used', is_spot, is_use, asks, asked_value, asked_use, letter_mention, cond_place, mentions, mentions_all, operand_mentions, target_mentions, element_mentions, item_mentions, term_mentions, block_mentions}
 use Rattle.asl_shape.specs.Plans.{Plan, Plans, plan_at}
 use Rattle.region_checks.specs.declared.measure.Measure.{Measure}
@@ -39,6 +39,7 @@ asks_region _ = false
 
 plain_use : (asked : Asked) (at : At) (name : Path) (scope : AbsolutePath) → asks_region asked ≡ false → Joins (Used' asked at name scope ∷ []) [] []
 plain_use Anything at name scope h more mores = refl
+plain_use AnObject at name scope h more mores = refl
 plain_use AValue at name scope h more mores = refl
 plain_use AMutex at name scope h more mores = refl
 plain_use AnEvent at name scope h more mores = refl
@@ -113,7 +114,7 @@ quiet_items (UnitItem name bits ∷ items) scope = quiet_items items scope
 quiet_items (SkipItem bits ∷ items) scope = quiet_items items scope
 quiet_items (OffsetItem bytes ∷ items) scope = quiet_items items scope
 quiet_items (AccessItem access attribute length ∷ items) scope = quiet_items items scope
-quiet_items (ConnectionItem (ToName at name) ∷ items) scope = both (Used' Anything at name scope ∷ []) (item_mentions items scope) (plain_use Anything at name scope refl) (quiet_items items scope)
+quiet_items (ConnectionItem (ToName at name) ∷ items) scope = both (Used' AnObject at name scope ∷ []) (item_mentions items scope) (plain_use AnObject at name scope refl) (quiet_items items scope)
 quiet_items (ConnectionItem (ToBytes bytes) ∷ items) scope = quiet_items items scope
 
 pub right_nil : {A : Type 0} (xs : List A) → xs ++ [] ≡ xs

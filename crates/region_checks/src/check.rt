@@ -12,6 +12,7 @@ ghost use Rattle.acpi_names.specs.Shown.{all_shown};
 ghost use Rattle.acpi_names.specs.Tables.{Tabled};
 ghost use Rattle.acpi_names.specs.Terms.{are_terms};
 ghost use Rattle.name_kinds.specs.Facts.{Knows};
+ghost use Rattle.name_kinds.specs.Known.{KnowsItsTerms};
 ghost use Rattle.name_kinds.specs.Seen.{seen};
 ghost use Rattle.region_checks.specs.Places.{AreFieldsWithin, ArePartsWithin};
 ghost use Rattle.region_checks.specs.Regions.{size_at, access_errors, fault_told, unit_errors, site_errors as errors_of, sited_errors};
@@ -26,19 +27,18 @@ ghost use Rattle.region_checks.specs.Sites.{sites_all};
 
 use crate::measure::{Measure, UnitFaults, all_measures};
 use crate::site::{Site, sites, sizes};
-use acpi_names::index::names_of;
 use acpi_names::mention::Mention;
 use acpi_names::place::scope_in;
 use acpi_values::width::Width;
 use asl_tree::path::Path;
-use asl_tree::term::Node;
 use field_checks::units::{UnitFault, tell};
 use iasl_messages::message::{Message, Messages};
 use iasl_messages::number::ACCESS_WIDER_THAN_REGION;
 use iasl_messages::place::Place;
 use iasl_ports::list::Text;
-use name_kinds::facts::{Facts, end, facts_of};
+use name_kinds::facts::{Facts, end};
 use name_kinds::kind::{End, space_in};
+use name_kinds::known::Known;
 use name_kinds::tables::denoted;
 use std::alloc::{AllocError, Global};
 
@@ -199,35 +199,35 @@ fn all_site_errors(
 pub(crate) fn seen_faults(
     alloc: Global,
     width: Width,
-    terms: &[Node],
+    known: &Known<'_>,
 ) -> Result<Messages, AllocError>
-    ensures { IfOk result (λ ms. ms ≡ sited_errors (seen (block_mentions (trees_of terms.now) [] nothing_declared))
-        (sites_all width (trees_of terms.now) (plans_of terms.now) [] nothing_declared)) }
+    requires { KnowsItsTerms known.now }
+    ensures { IfOk result (λ ms. ms ≡ sited_errors (seen (block_mentions (trees_of known.now.terms.now) [] nothing_declared))
+        (sites_all width (trees_of known.now.terms.now) (plans_of known.now.terms.now) [] nothing_declared)) }
 {
     let mut measures = Vec::new(alloc);
-    all_measures(alloc, width, &mut measures, terms)?;
+    all_measures(alloc, width, &mut measures, known.terms)?;
     if measures.is_empty() {
         return Ok(Messages::new(alloc));
     }
-    let found = names_of(alloc, terms)?;
-    let facts = facts_of(alloc, found.index, &found.mentions)?;
-    let out = all_site_errors(alloc, &facts, &found.mentions, &measures)?;
+    let out = all_site_errors(alloc, &known.facts, &known.mentions, &measures)?;
     Ok(out)
 }
 
-/// The fields of a block that do not fit their regions (ACPI Specification 6.4, 5.5.2.4, 19.6.7, 19.6.48 and
-/// 19.6.100), in the order of the source: 6072 at each Field and BankField whose list has no error of its own, and whose
-/// access has more bytes than the constant length of the region at which its name ends, through aliases too; and of
-/// each the first unit that is not accessed as the space of this region asks (6073, 6074) or lacks the connection that
-/// it asks for (6075). A region of another table has no length and no space, and one whose length is no constant has no
-/// length. A length is taken at the width of the table. The only error is want of memory, as which a list is answered
-/// that reaches behind 2^62 bits.
-pub fn region_faults(alloc: Global, width: Width, terms: &[Node]) -> Result<Messages, AllocError>
-    requires terms { are_terms (trees_of terms.now) ≡ true }
-    ensures told { IfOk result (λ ms. ms ≡ region_errors width (trees_of terms.now) (plans_of terms.now)) }
-    ensures places { (files : ℕ) → AreFieldsWithin files (trees_of terms.now) → ArePartsWithin files (plans_of terms.now) →
+/// The fields of a block, of whose names this is known, that do not fit their regions (ACPI Specification 6.4, 5.5.2.4,
+/// 19.6.7, 19.6.48 and 19.6.100), in the order of the source: 6072 at each Field and BankField whose list has no error
+/// of its own, and whose access has more bytes than the constant length of the region at which its name ends, through
+/// aliases too; and of each the first unit that is not accessed as the space of this region asks (6073, 6074) or lacks
+/// the connection that it asks for (6075). A region of another table has no length and no space, and one whose length
+/// is no constant has no length. A length is taken at the width of the table. The only error is want of memory, as
+/// which a list is answered that reaches behind 2^62 bits.
+pub fn region_faults(alloc: Global, width: Width, known: &Known<'_>) -> Result<Messages, AllocError>
+    requires terms { are_terms (trees_of known.now.terms.now) ≡ true }
+    requires known { KnowsItsTerms known.now }
+    ensures told { IfOk result (λ ms. ms ≡ region_errors width (trees_of known.now.terms.now) (plans_of known.now.terms.now)) }
+    ensures places { (files : ℕ) → AreFieldsWithin files (trees_of known.now.terms.now) → ArePartsWithin files (plans_of known.now.terms.now) →
         IfOk result (AreTold files) }
 {
-    let out = seen_faults(alloc, width, terms)?;
+    let out = seen_faults(alloc, width, known)?;
     Ok(out)
 }

@@ -6,6 +6,7 @@ use asl_tree::term::{Declaration, Node, Op, Symbolic, Term};
 use iasl_messages::message::Messages;
 use iasl_messages::place::Place;
 use iasl_ports::list::{List, Text};
+use name_kinds::known::known_of;
 use std::alloc::{AllocError, Global};
 use std::test::Fail;
 
@@ -342,7 +343,7 @@ fn tells(
     lines: &[u32],
 ) -> Result<bool, AllocError> {
     let nodes = block(alloc, outer, inner)?;
-    let messages = seen_faults(alloc, width, &nodes)?;
+    let messages = seen_faults(alloc, width, &known_of(alloc, &nodes)?)?;
     Ok(are_on(&messages, lines))
 }
 
@@ -517,8 +518,9 @@ fn units_fit_the_spaces_of_their_regions(rt: HostRuntime) -> Result<(), Fail> {
             Item::In("R___", *space),
             Item::Unit("R___", *flags, *befores),
         ];
-        let nodes = block(rt.alloc(), &items, &[])?;
-        let messages = seen_faults(rt.alloc(), Width::W64, &nodes)?;
+        let alloc = rt.alloc();
+        let nodes = block(alloc, &items, &[])?;
+        let messages = seen_faults(alloc, Width::W64, &known_of(alloc, &nodes)?)?;
         let line: u32 = if *number == 0 { 0 } else { 2 };
         assert!(rt; told(&messages) == (*number, line));
     }
@@ -571,8 +573,9 @@ static SPACES: [(&[Item], (u16, u32)); 5] = [
 #[test]
 fn a_unit_is_asked_the_space_of_its_region(rt: HostRuntime) -> Result<(), Fail> {
     for (items, want) in &SPACES {
-        let nodes = block(rt.alloc(), items, &[])?;
-        let messages = seen_faults(rt.alloc(), Width::W64, &nodes)?;
+        let alloc = rt.alloc();
+        let nodes = block(alloc, items, &[])?;
+        let messages = seen_faults(alloc, Width::W64, &known_of(alloc, &nodes)?)?;
         assert!(rt; told(&messages) == *want);
     }
     Ok(())
@@ -582,8 +585,9 @@ fn a_unit_is_asked_the_space_of_its_region(rt: HostRuntime) -> Result<(), Fail> 
 #[test]
 fn accesses_and_units_are_both_told_of(rt: HostRuntime) -> Result<(), Fail> {
     let items = [NONE, Item::Unit("R___", BUFFER, &[])];
-    let nodes = block(rt.alloc(), &items, &[])?;
-    let messages = seen_faults(rt.alloc(), Width::W64, &nodes)?;
+    let alloc = rt.alloc();
+    let nodes = block(alloc, &items, &[])?;
+    let messages = seen_faults(alloc, Width::W64, &known_of(alloc, &nodes)?)?;
     assert_eq!(rt; messages.len(), 2);
     match messages.get(1) {
         Some(message) => assert!(rt; message.number == 6074 && message.place.line == 2),
@@ -595,7 +599,8 @@ fn accesses_and_units_are_both_told_of(rt: HostRuntime) -> Result<(), Fail> {
 #[test]
 #[tactic(auto, unfolding(asl_tree::specs::View::trees_of))]
 fn an_empty_block_has_no_fault(rt: HostRuntime) -> Result<(), Fail> {
-    let messages = region_faults(rt.alloc(), Width::W64, &[])?;
+    let alloc = rt.alloc();
+    let messages = region_faults(alloc, Width::W64, &known_of(alloc, &[])?)?;
     assert_eq!(rt; messages.len(), 0);
     Ok(())
 }

@@ -1,13 +1,14 @@
 -- What stands where the used names of a block lead, by the numbers of their nodes.
-use Rattle.std.specs.Prelude.{◌≡◌, ℕ, List, get_or, slice_get, Option, Some, None}
+use Rattle.std.specs.Prelude.{ℕ, List, get_or, Option, Some, None, if◌then◌else◌}
+use Rattle.acpi_values.specs.Paths.{AbsolutePath}
 use Rattle.acpi_state.specs.Outcomes.{choose}
 use Rattle.asl_tree.specs.Tree.{Trees}
-use Rattle.acpi_names.specs.Paths.{path_with}
-use Rattle.name_entries.specs.declared.entries.Names.{Names}
+use Rattle.asl_meaning.specs.Declarations.{is_named}
+use Rattle.acpi_names.specs.Errors.{Whole, final}
 use Rattle.name_entries.specs.declared.description.Description.{Description}
 use Rattle.name_entries.specs.declared.kind.Kind.{Kind as Named}
 use Rattle.name_entries.specs.declared.kind.Kind.TheVariants as N
-use Rattle.name_entries.specs.Entries.{described}
+use Rattle.name_entries.specs.Entries.{described, end_kind}
 use Rattle.name_entries.specs.Uses.{denoted_in}
 
 -- what stands at a path of which this is said
@@ -19,10 +20,9 @@ kind_said (Some description) = description.kind
 abbrev pub named : Trees → ℕ → Named
 named program node = choose (denoted_in program node) N.Data (λ path. kind_said (described program path))
 
--- the names of a block in code
-pub record Knows (names : Names) (program : Trees) : Type 0 where
-  pub uses : (node : ℕ) → path_with names.index.paths (get_or names.uses.items node None) ≡ denoted_in program node
-  pub said : (number : ℕ) → get_or names.said.items number None ≡ choose (slice_get names.index.paths number) None (described program)
+-- what stands at a path of a block of which this is known
+abbrev pub kind_known : Whole → AbsolutePath → Named
+kind_known whole path = if is_named whole.all path then end_kind (final whole.known path) else N.Data
 
 -- a list of what stands where the names at nodes lead
 abbrev pub listed : List Named → ℕ → Named

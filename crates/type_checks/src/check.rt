@@ -4,6 +4,7 @@ ghost use Rattle.asl_tree.specs.View.{trees_of};
 ghost use Rattle.acpi_names.specs.Terms.{are_terms};
 ghost use Rattle.asl_shape.specs.Plans.{plan_of, plans_of};
 ghost use Rattle.asl_numbers.specs.Numbers.{inside, nodes as node_count};
+ghost use Rattle.name_kinds.specs.Known.{KnowsItsTerms};
 ghost use Rattle.type_checks.specs.Kinds.{any_data as any_kinds, given, kinds_all, kinds_of, leaf_kinds as kinds_of_leaf};
 ghost use Rattle.type_checks.specs.Names.{listed};
 ghost use Rattle.type_checks.specs.Types as spec;
@@ -17,8 +18,8 @@ use iasl_messages::message::{Message, Messages};
 use iasl_messages::number::WRONG_TYPE;
 use iasl_messages::place::Place;
 use iasl_ports::list::Text;
-use name_entries::entries::entries;
 use name_entries::kind::Kind as Named;
+use name_kinds::known::Known;
 use std::alloc::{AllocError, Global};
 
 // The sum of two numbers of nodes; there is no memory for more nodes than 32 bits count.
@@ -238,17 +239,17 @@ fn errors_of(
     Ok(next)
 }
 
-/// The arguments of a block that are of a wrong kind (ACPI Specification 6.4, 19.2 and 19.6), in the order of the source:
-/// 6050 at each argument that can have none of the kinds that its form takes. A name has the kinds of what it leads to,
-/// by the number of its node in preorder. The only error is want of memory, as which a block of 2^32 nodes or more, or
-/// of more than 2^32 paths, is answered.
-pub fn wrong_types(alloc: Global, terms: &[Node]) -> Result<Messages, AllocError>
-    requires { are_terms (trees_of terms.now) ≡ true }
-    ensures { IfOk result (λ ms. ms ≡ spec.wrong_types (trees_of terms.now) (plans_of terms.now)) }
+/// The arguments of a block, of whose names this is known, that are of a wrong kind (ACPI Specification 6.4, 19.2 and
+/// 19.6), in the order of the source: 6050 at each argument that can have none of the kinds that its form takes. A name
+/// has the kinds of what it leads to, by the number of its node in preorder. The only error is want of memory, as which
+/// a block of 2^32 nodes or more, or of more than 2^32 paths, is answered.
+pub fn wrong_types(alloc: Global, known: &Known<'_>) -> Result<Messages, AllocError>
+    requires terms { are_terms (trees_of known.now.terms.now) ≡ true }
+    requires known { KnowsItsTerms known.now }
+    ensures { IfOk result (λ ms. ms ≡ spec.wrong_types (trees_of known.now.terms.now) (plans_of known.now.terms.now)) }
 {
-    let names = entries(alloc, terms)?;
-    let all = all_named(alloc, &names)?;
+    let all = all_named(alloc, known)?;
     let mut out = Messages::new(alloc);
-    errors_of(alloc, &mut out, &all, None, 0, terms)?;
+    errors_of(alloc, &mut out, &all, None, 0, known.terms)?;
     Ok(out)
 }

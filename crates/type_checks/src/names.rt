@@ -1,82 +1,75 @@
 //! What stands where the used names of a block lead.
-ghost use Rattle.std.specs.Prelude.{◌≡◌, ℕ, [], get_or, IfOk, None};
+ghost use Rattle.std.specs.Prelude.{◌≡◌, ◌<◌, ℕ, [], length, get_or, IfOk, None, true};
 ghost use Rattle.acpi_state.specs.Outcomes.{choose};
+ghost use Rattle.acpi_names.specs.Errors.{Whole};
 ghost use Rattle.acpi_names.specs.Paths.{path_with};
-ghost use Rattle.asl_tree.specs.Tree.{Trees};
-ghost use Rattle.name_entries.specs.Entries.{described};
+ghost use Rattle.acpi_names.specs.Terms.{are_terms};
+ghost use Rattle.asl_tree.specs.View.{trees_of};
 ghost use Rattle.name_entries.specs.declared.kind.Kind.TheVariants as N;
-ghost use Rattle.type_checks.specs.Names.{Knows, named, kind_said};
+ghost use Rattle.name_kinds.specs.Facts.{Knows};
+ghost use Rattle.name_kinds.specs.Known.{KnowsItsTerms};
+ghost use Rattle.type_checks.specs.Names.{named, kind_known};
 
 use acpi_names::place::scope_in;
-use name_entries::description::Description;
-use name_entries::entries::Names;
+use name_entries::description::kind_at;
 use name_entries::kind::Kind as Named;
+use name_entries::uses::uses_in;
+use name_kinds::facts::{Facts, end, is_named_at};
+use name_kinds::known::Known;
 use std::alloc::{AllocError, Global};
 
-// The number of the path that the name at a node denotes.
-fn target(names: &Names, node: usize) -> Option<u32>
-    ensures { result ≡ get_or names.now.uses.items node None }
-{
-    match names.uses.get(node) {
-        Some(target) => *target,
-        None => None,
-    }
-}
-
-// What is said of the path with a number.
-fn description(names: &Names, number: usize) -> Option<Description>
-    ensures { result ≡ get_or names.now.said.items number None }
-{
-    match names.said.get(number) {
-        Some(description) => *description,
-        None => None,
-    }
-}
-
-// The kind in what is said of a path.
-fn kind_in(description: Option<Description>) -> Named
-    ensures { result ≡ kind_said description }
-{
-    match description {
-        Some(description) => description.kind,
-        None => Named::Data,
-    }
-}
-
 // What stands at the path with a number.
-fn said(names: &Names, number: u32) -> Named
-    ensures { (program : Trees) → Knows names.now program → result ≡ kind_said (described program (get_or names.now.index.paths number [])) }
+fn kind_there(facts: &Facts, number: usize) -> Named
+    ghost whole: { Whole }
+    requires told { Knows facts.now whole }
+    requires within { number < length facts.now.index.paths }
+    ensures { result ≡ kind_known whole (get_or facts.now.index.paths number []) }
 {
-    let at = scope_in(&names.index.paths, number as usize);
-    kind_in(description(names, at))
+    if is_named_at(facts, number) {
+        kind_at(end(facts, number))
+    } else {
+        Named::Data
+    }
 }
 
 // What stands where a name leads that denotes the path with this number.
-fn named_by(names: &Names, target: Option<u32>) -> Named
-    ensures { (program : Trees) → Knows names.now program → result ≡ choose (path_with names.now.index.paths target) N.Data
-        (λ path. kind_said (described program path)) }
+fn named_by(facts: &Facts, target: Option<u32>) -> Named
+    ghost whole: { Whole }
+    requires { Knows facts.now whole }
+    ensures { result ≡ choose (path_with facts.now.index.paths target) N.Data (kind_known whole) }
 {
     match target {
-        Some(number) => said(names, number),
+        Some(number) => kind_there(facts, scope_in(&facts.index.paths, number as usize)),
         None => Named::Data,
     }
 }
 
-// What stands where the name at a node leads.
-fn named_at(names: &Names, node: usize) -> Named
-    ensures { (program : Trees) → Knows names.now program → result ≡ named program node }
-{
-    named_by(names, target(names, node))
-}
-
-/// What stands where the name at each node leads, by the numbers of the nodes.
-pub fn all_named(alloc: Global, names: &Names) -> Result<Vec<Named>, AllocError>
-    ensures { IfOk result (λ all. (program : Trees) → Knows names.now program → (node : ℕ) →
-        get_or all.items node N.Data ≡ named program node) }
+// What stands where names lead that denote the paths with these numbers.
+fn named_each(
+    alloc: Global,
+    known: &Known<'_>,
+    uses: &[Option<u32>],
+) -> Result<Vec<Named>, AllocError>
+    ghost whole: { Whole }
+    requires { Knows known.now.facts whole }
+    ensures { IfOk result (λ all. (node : ℕ) → get_or all.items node N.Data ≡ choose
+        (path_with known.now.facts.index.paths (get_or uses.now node None)) N.Data (kind_known whole)) }
 {
     let mut all = Vec::new(alloc);
-    for node in 0..names.uses.len() {
-        all.push(named_at(names, node))?;
+    for target in uses {
+        all.push(named_by(&known.facts, *target))?;
     }
+    Ok(all)
+}
+
+/// What stands where the name at each node leads, by the numbers of the nodes. A want of memory is also the answer where
+/// there are more than 2^32 paths.
+pub fn all_named(alloc: Global, known: &Known<'_>) -> Result<Vec<Named>, AllocError>
+    requires terms { are_terms (trees_of known.now.terms.now) ≡ true }
+    requires known { KnowsItsTerms known.now }
+    ensures { IfOk result (λ all. (node : ℕ) → get_or all.items node N.Data ≡ named (trees_of known.now.terms.now) node) }
+{
+    let uses = uses_in(alloc, known)?;
+    let all = named_each(alloc, known, &uses)?;
     Ok(all)
 }

@@ -1,10 +1,17 @@
+ghost use Rattle.std.specs.Prelude.{◌≡◌};
+ghost use Rattle.asl_numbers.specs.Numbers.{numbered_all};
+ghost use Rattle.asl_shape.specs.Plans.{plans_of};
+ghost use Rattle.asl_tree.specs.View.{trees_of};
+
 use super::tokens_of;
+use acpi_names::index::{Found, names_of};
 use asl_parser::parse;
 use asl_shape::shape;
 use asl_tree::term::{Node, Term, Word};
-use descriptor_names::check::check;
+use descriptor_names::check::{Resolved, described, resolved_names};
 use descriptor_names::declare::names_descriptors;
 use descriptor_names::strip::stripped;
+use descriptor_names::told::use_faults;
 use iasl_messages::message::Message;
 use std::alloc::{AllocError, Global};
 use std::mem::replace;
@@ -53,6 +60,16 @@ fn put_messages(alloc: Global, out: &mut String, messages: &[Message]) -> Result
     Ok(())
 }
 
+// What is told of uses of descriptors and of fields that are no constants.
+fn put_faults(alloc: Global, out: &mut String, terms: &[Node]) -> Result<(), AllocError>
+    requires { trees_of terms.now ≡ numbered_all 0 (plans_of terms.now) }
+{
+    let Found { index, mentions } = names_of(alloc, terms)?;
+    let table = described(alloc, &index, &mentions, terms)?;
+    let faults = use_faults(alloc, &index, &table, &mentions)?;
+    put_messages(alloc, out, &faults)
+}
+
 // What the terms of a block come to: how many there are with those that declare descriptors, and without them; the constants
 // that fields are; and what is told of uses, each with its column.
 fn outcome(alloc: Global, text: &str) -> Result<String, AllocError> {
@@ -72,22 +89,23 @@ fn outcome(alloc: Global, text: &str) -> Result<String, AllocError> {
     };
     let named = names_descriptors(&block.terms);
     let written = replace(&mut block.terms, Vec::new(alloc));
-    let checked = check(alloc, written)?;
-    let all = checked.terms.len();
-    let below = checked.below;
-    let faults = checked.faults;
-    let terms = stripped(alloc, checked.terms)?;
+    let Resolved { terms, uses } = resolved_names(alloc, written)?;
+    let all = terms.len();
+    let mut told = String::new(alloc);
+    put_messages(alloc, &mut told, &uses.wrong)?;
+    put_faults(alloc, &mut told, &terms)?;
+    put_messages(alloc, &mut told, &uses.broken)?;
+    let terms = stripped(alloc, terms)?;
     let left = terms.len();
     let mark = if named { "" } else { "no names " };
     let mut out = format!(in alloc; "{mark}{all} {left}: ")?;
     put_constants(alloc, &mut out, &terms)?;
-    put_messages(alloc, &mut out, &below)?;
-    put_messages(alloc, &mut out, &faults)?;
+    out.push_str(told.as_str())?;
     Ok(out)
 }
 
 // The terms of a block, and what they come to.
-static FIELDS: [(&str, &str); 12] = [
+static FIELDS: [(&str, &str); 13] = [
     // Without names nothing changes.
     (
         "NAME ( B , RESOURCETEMPLATE ( ) { IO ( DECODE16 , 1 , 2 , 3 , 4 ) } )",
@@ -146,6 +164,11 @@ static FIELDS: [(&str, &str); 12] = [
         "NAME ( B , RESOURCETEMPLATE ( ) { FIXEDIO ( 1 , 2 , D ) } ) METHOD ( M ) { PRINTF ( \"%o , \\D._LEN ) FOR ( , \\D._BAS ) { } }",
         "3 2: 3 1 ",
     ),
+    // A Scope of a path that is declared behind it, and below another one there.
+    (
+        "NAME ( B , RESOURCETEMPLATE ( ) { FIXEDIO ( 1 , 2 , D ) } ) DEVICE ( A ) { SCOPE ( R ) { DEVICE ( C ) { } } } DEVICE ( R ) { }",
+        "4 3: ",
+    ),
 ];
 
 #[test]
@@ -166,7 +189,7 @@ fn outcome_behind(alloc: Global, text: &str) -> Result<String, AllocError> {
 }
 
 // Terms behind those that declare D, and what is told of them.
-static USES: [(&str, &str); 22] = [
+static USES: [(&str, &str); 21] = [
     // A descriptor has no value.
     ("NAME ( N , D )", "6050@22 "),
     ("METHOD ( M ) { D }", "6050@23 "),
@@ -182,10 +205,10 @@ static USES: [(&str, &str); 22] = [
     ("METHOD ( M ) { COPYOBJECT ( 1 , \\D._LEN ) }", "6050@27 "),
     ("METHOD ( M ) { FPRINTF ( D , \"x ) }", "6050@25 "),
     ("METHOD ( M ) { FPRINTF ( \\D._LEN , \"x ) }", "6050@25 "),
-    // Nor a path that has another name; what asks for a path of some kind tells of it itself.
+    // Nor an object of any kind, or of some.
     ("ALIAS ( D , A )", "6054@20 "),
     ("ALIAS ( D._LEN , A )", "6054@20 "),
-    ("METHOD ( M ) { ACQUIRE ( D , 1 ) }", ""),
+    ("METHOD ( M ) { ACQUIRE ( D , 1 ) }", "6054@25 "),
     // By its name as it is written.
     ("METHOD ( M ) { ACQUIRE ( \\D._LEN , 1 ) }", "6054@25 "),
     ("METHOD ( M ) { \\D._LEN ( 1 ) }", "6051@23 "),
@@ -195,9 +218,8 @@ static USES: [(&str, &str); 22] = [
         "METHOD ( M ) { STORE ( ^^D._LEN , ^D._LEN ) }",
         "3 6043@25 6050@27 ",
     ),
-    // Nothing is declared below it.
-    ("NAME ( D.X , 1 )", "6041@20 "),
-    ("SCOPE ( D ) { NAME ( X , 1 ) }", "6041@25 "),
+    // A Scope of a descriptor.
+    ("SCOPE ( D ) { NAME ( X , 1 ) }", "6054@20 "),
 ];
 
 #[test]

@@ -1,6 +1,7 @@
 use asl_tree::path::{NameSeg, Path, Segs};
 use asl_tree::term::{Control, Declaration, Node, Op, Special, Term};
 use iasl_messages::place::Place;
+use name_kinds::known::known_of;
 use name_notes::check::notes;
 use name_notes::reserved::arguments_of;
 use std::alloc::{AllocError, Global};
@@ -204,7 +205,7 @@ fn terms(alloc: Global, text: &str) -> Result<Vec<Node>, AllocError> {
 // The notes of a text, each with its number, its line and column, and its name.
 fn told(alloc: Global, text: &str) -> Result<String, AllocError> {
     let nodes = terms(alloc, text)?;
-    let notes = notes(alloc, &nodes)?;
+    let notes = notes(alloc, &known_of(alloc, &nodes)?)?;
     let mut out = String::new(alloc);
     for note in notes.as_slice() {
         let number = note.number;

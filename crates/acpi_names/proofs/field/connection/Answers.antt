@@ -1,5 +1,5 @@
 use Rattle.std.proofs.Common.{[], ◌∷◌, get_or, sym, ap, ◌∙◌}
-use Rattle.acpi_names.specs.Errors.{Anything}
+use Rattle.acpi_names.specs.Errors.{AnObject}
 use Rattle.acpi_names.specs.Mentions as M
 use Rattle.acpi_names.specs.Shown.{spot_as}
 use Rattle.acpi_names.proofs.Folds.{at_of}
@@ -10,7 +10,7 @@ use Rattle.acpi_names.proofs.field.connection.Goals as goal
 pub returns-in_ok-push-in-Name : goal.returns-in_ok-push-in-Name
 returns-in_ok-push-in-Name c =
     tells_as c.args.out.now.items c.push.new.self.items _ _
-    (λ ps. ap (λ at. M.Used' Anything at c.in-Name.name (get_or ps c.args.scope []) ∷ []) (ap spot_as c.spot_of.ensures)
+    (λ ps. ap (λ at. M.Used' AnObject at c.in-Name.name (get_or ps c.args.scope []) ∷ []) (ap spot_as c.spot_of.ensures)
     ∙ connection_there (at_of c.args.node.now) c.args.node.now.term c.in-Name.name (get_or ps c.args.scope []) c.in-Name.is)
     (tells_one c.args.out.now.items c.push.new.self.items _ c.in_ok-push-in-Name.ensures.items)
 

@@ -22,7 +22,7 @@ returns-in_ok-declared-in-Some-name_at-clause-told c here op body =
     let m = named_as c.in-Some-name_at.alias in
     told_as paths c.declared.new.index.paths c.args.index.now.named.items a e _ _ (λ d agrees. alias_told (trees_of c.args.args.now) body (get_or paths c.args.scope []) (spot_as here) op s m d (sym c.in-Some.ensures) (sym c.in-Some-name_at.ensures))
     (told_later paths paths c.declared.new.index.paths c.args.index.now.named.items a e _ c.in_ok-declared-in-Some-name_at.ensures.others
-    (told_value paths c.args.index.now.named.items a e c.args.scope (λ p. M.Used' E.Anything s.0 s.1 p ∷ M.Declares m.0 m.1 (AliasOf s.1 p) p ∷ []) c.requires.scope_in
+    (told_value paths c.args.index.now.named.items a e c.args.scope (λ p. M.Used' E.AnObject s.0 s.1 p ∷ M.Declares m.0 m.1 (AliasOf s.1 p) p ∷ []) c.requires.scope_in
     (tells_then a b e _ _ (tells_one a b _ c.in_ok-push-in-Some-name_at.ensures.items) (tells_one b e _ c.in_ok-push-in-Some-name_at-2.ensures.items))))
 
 pub returns-in-None-name_at-clause-names : goal.returns-in-None-name_at-clause-names

@@ -1,79 +1,122 @@
-use Rattle.std.proofs.Common.{refl, ap, ◌∙◌, arith}
+use Rattle.std.proofs.Common.{get_or, Vec, Global, refl, sym, ap, ◌∙◌, arith}
+use Rattle.acpi_values.specs.declared.operator.DataOp.TheVariants as DataOp
+use Rattle.acpi_values.specs.declared.operator.Plain.TheVariants as P
+use Rattle.asl_tree.specs.Tree.{Apply, Integer, no_trees, tree}
 use Rattle.asl_tree.specs.View.{trees_of}
+use Rattle.asl_tree.specs.declared.term.Node.{Node}
+use Rattle.asl_tree.specs.declared.term.Term as D
+use Rattle.asl_tree.specs.declared.term.Term.TheVariants as V
+use Rattle.acpi_names.proofs.Folds.{at_of}
 use Rattle.acpi_names.proofs.Trees.{call_smaller, form_smaller}
-use Rattle.asl_lower.proofs.Lowered.{popped_size}
-use Rattle.asl_fold.specs.Nodes.{part_in, folded_by}
+use Rattle.asl_lower.proofs.Turns.{turns_none, turns_next, turn_smaller, front_only, form_is}
 use Rattle.term_places.specs.Places.{places_of}
-use Rattle.asl_fold.proofs.Nodes.{folded_none, folded_next, folded_whole, other_folded, call_folded, form_folded, kept_folded, plain_folded}
-use Rattle.asl_fold.proofs.Places.{none_made, next_made, all_made, call_inside, form_inside, kept_inside, plain_inside_of}
+use Rattle.asl_fold.specs.declared.fate.Fate.TheVariants as F
+use Rattle.asl_fold.specs.declared.part.Listing.{Listing}
+use Rattle.asl_fold.specs.Folds.{last_of}
+use Rattle.asl_fold.specs.Nodes.{part_in, folded_by}
+use Rattle.asl_fold.proofs.Nodes.{IsFolded, member_folded, all_folded, others_folded, other_folded, call_folded, kept_folded, plain_folded, stays_folded}
+use Rattle.asl_fold.proofs.Stored.{number_is}
+use Rattle.asl_fold.proofs.Places.{number_inside, plain_places, form_kept, call_kept}
 use Rattle.asl_fold.proofs.fold.+fold.Goals as goal
 
 -- ---- the members of a list
 
-pub fold_nodes-loop-node-init : goal.fold_nodes-loop-node-init
-fold_nodes-loop-node-init t c = record {
-  trees = folded_none c.args.width (part_in c.args.listing) c.args.nodes.items c.new-made.result.items c.new-made.ensures.items;
-  size = omega arith;
-  places = none_made c.args.nodes.items c.new-made.result.items c.new-made.ensures.items;
-}
+pub fold_nodes-returns-in-Others-clause-trees : goal.fold_nodes-returns-in-Others-clause-trees
+fold_nodes-returns-in-Others-clause-trees t c = others_folded c.args.width c.args.listing (trees_of c.args.nodes.now.items) c.in-Others.is
+
+pub fold_nodes-loop-index-init : goal.fold_nodes-loop-index-init
+fold_nodes-loop-index-init t c = turns_none (λ k. IsFolded c.args.width (part_in c.args.listing k)) c.deref_mut-node-items.result.now
 
 pub fold_nodes-fold_part-requires : goal.fold_nodes-fold_part-requires
 fold_nodes-fold_part-requires t c =
-    let size = popped_size c.loop-node.left.items c.pop.new.self.items c.in-Some.node c.in-Some.ensures.items in omega (arith, c.decreases, c.loop-node.invariant.size, size)
+    omega (arith, c.decreases, turn_smaller (λ k. IsFolded c.args.width (part_in c.args.listing k)) c.deref_mut-node-items.result.now c.loop-index.node-items c.args.nodes.now.items c.loop-index.index c.node-item.result c.loop-index.invariant c.loop-index-test.true c.node-item.is c.deref_mut-node-items.ensures.value)
 
-pub fold_nodes-loop-node-preserved : goal.fold_nodes-loop-node-preserved
-fold_nodes-loop-node-preserved t c =
-    let size = popped_size c.loop-node.left.items c.pop.new.self.items c.in-Some.node c.in-Some.ensures.items in record {
-      trees = folded_next c.args.width (part_in c.args.listing) c.args.nodes.items c.loop-node.left.items c.pop.new.self.items c.loop-node.made.items c.push.new.self.items c.in-Some.node c.in_ok-fold_part.field-0 c.part_of-part.result
-          c.in-Some.ensures.items c.in_ok-push.ensures.items (c.part_of-part.ensures ∙ ap (part_in c.args.listing) (c.len.ensures ∙ c.pop.new.self.ok.0)) c.in_ok-fold_part.ensures.tree c.loop-node.invariant.trees;
-      size = omega (arith, c.loop-node.invariant.size, size);
-      places = next_made c.args.nodes.items c.loop-node.left.items c.pop.new.self.items c.loop-node.made.items c.push.new.self.items c.in-Some.node c.in_ok-fold_part.field-0 c.in-Some.ensures.items c.in_ok-push.ensures.items c.in_ok-fold_part.ensures.places c.loop-node.invariant.places;
-    }
+pub fold_nodes-loop-index-preserved : goal.fold_nodes-loop-index-preserved
+fold_nodes-loop-index-preserved t c =
+    turns_next (λ k. IsFolded c.args.width (part_in c.args.listing k)) c.deref_mut-node-items.result.now c.loop-index.node-items c.loop-index.index c.node-item.result c.fold_part.new.node c.loop-index-test.true c.loop-index.invariant
+    (member_folded c.args.width (part_in c.args.listing) c.loop-index.index c.part_of.result (get_or c.loop-index.node-items c.loop-index.index c.node-item.result) c.fold_part.new.node c.part_of.ensures c.in_ok-fold_part.ensures.tree c.in_ok-fold_part.ensures.places)
 
 pub fold_nodes-returns-clause-trees : goal.fold_nodes-returns-clause-trees
 fold_nodes-returns-clause-trees t c =
-    ap trees_of c.reverse.ensures.items ∙ folded_whole c.args.width (part_in c.args.listing) c.loop-node.left.items c.loop-node.made.items (omega (arith, c.in_default.ensures.cases.0)) ∙ c.loop-node.invariant.trees
-
--- ---- a term
-
-pub fold_term-fold_nodes-requires : goal.fold_term-fold_nodes-requires
-fold_term-fold_nodes-requires t c = omega (arith, c.decreases, call_smaller c.args.term c.in-Call.path c.in-Call.args c.in-Call.args.items c.in-Call.is refl)
-
-pub fold_term-fold_form-requires : goal.fold_term-fold_form-requires
-fold_term-fold_form-requires t c = omega (arith, c.decreases, form_smaller c.args.term c.in-Form.op c.in-Form.args c.in-Form.body c.in-Form.args.items c.in-Form.body.items c.in-Form.is refl refl)
-
-pub fold_term-returns-in_ok-args-in-Call-clause-tree : goal.fold_term-returns-in_ok-args-in-Call-clause-tree
-fold_term-returns-in_ok-args-in-Call-clause-tree t c at = call_folded c.args.width c.args.statement at c.args.term c.in-Call.path c.in-Call.args _ c.in-Call.is c.in_ok-args-in-Call.ensures.trees
-
-pub fold_term-returns-in_ok-made-in-Form-clause-tree : goal.fold_term-returns-in_ok-made-in-Form-clause-tree
-fold_term-returns-in_ok-made-in-Form-clause-tree t c at = form_folded c.args.width c.args.statement at c.args.term _ c.in-Form.op c.in-Form.args c.in-Form.body c.in-Form.is (c.in_ok-made-in-Form.ensures.tree at)
-
-pub fold_term-returns-in_default-clause-tree : goal.fold_term-returns-in_default-clause-tree
-fold_term-returns-in_default-clause-tree t c at = other_folded c.args.width c.args.statement at c.args.term c.in_default.not-Call c.in_default.not-Form
-
--- ---- a form
-
-pub fold_form-returns-in_ok-made-in-Plain-clause-tree : goal.fold_form-returns-in_ok-made-in-Plain-clause-tree
-fold_form-returns-in_ok-made-in-Plain-clause-tree t c at =
-    plain_folded c.args.width c.args.statement at c.args.op c.in-Plain.op c.args.args.items c.args.body.items _ _ _ c.in-Plain.is c.in_ok-args.ensures.trees (c.in_ok-body.ensures.trees ∙ ap (λ l. folded_by c.args.width (part_in l) (trees_of c.args.body.items)) c.listing_of.ensures) (c.in_ok-made-in-Plain.ensures.tree at)
-
-pub fold_form-returns-in_default-clause-tree : goal.fold_form-returns-in_default-clause-tree
-fold_form-returns-in_default-clause-tree t c at = kept_folded c.args.width c.args.statement at c.args.op c.args.args c.args.body _ _ c.in_default.not-Plain c.in_ok-args.ensures.trees (c.in_ok-body.ensures.trees ∙ ap (λ l. folded_by c.args.width (part_in l) (trees_of c.args.body.items)) c.listing_of.ensures)
-
--- ---- places
+    ap trees_of (front_only c.loop-index.node-items _ c.args.nodes.now.len (omega (arith, c.deref_mut-node-items.ensures.len, c.loop-index.auto.node-items)))
+    ∙ (all_folded c.args.width (part_in c.args.listing) c.deref_mut-node-items.result.now c.loop-index.node-items c.loop-index.index c.loop-index-test.false c.loop-index.invariant).0
+    ∙ ap (λ ns. folded_by c.args.width (part_in c.args.listing) (trees_of ns)) c.deref_mut-node-items.ensures.value
 
 pub fold_nodes-returns-clause-places : goal.fold_nodes-returns-clause-places
 fold_nodes-returns-clause-places t c =
-    ap places_of c.reverse.ensures.items ∙ all_made c.loop-node.left.items c.loop-node.made.items (omega (arith, c.in_default.ensures.cases.0)) ∙ c.loop-node.invariant.places
+    ap places_of (front_only c.loop-index.node-items _ c.args.nodes.now.len (omega (arith, c.deref_mut-node-items.ensures.len, c.loop-index.auto.node-items)))
+    ∙ (all_folded c.args.width (part_in c.args.listing) c.deref_mut-node-items.result.now c.loop-index.node-items c.loop-index.index c.loop-index-test.false c.loop-index.invariant).1
+    ∙ ap places_of c.deref_mut-node-items.ensures.value
 
-pub fold_term-returns-in_ok-args-in-Call-clause-places : goal.fold_term-returns-in_ok-args-in-Call-clause-places
-fold_term-returns-in_ok-args-in-Call-clause-places t c = call_inside c.args.term c.in-Call.path c.in-Call.args _ c.in-Call.is
+-- ---- a term
 
-pub fold_term-returns-in_ok-made-in-Form-clause-places : goal.fold_term-returns-in_ok-made-in-Form-clause-places
-fold_term-returns-in_ok-made-in-Form-clause-places t c = form_inside c.args.term _ c.in-Form.op c.in-Form.args c.in-Form.body c.in-Form.is c.in_ok-made-in-Form.ensures.places
+pub fold_node-fold_nodes-requires : goal.fold_node-fold_nodes-requires
+fold_node-fold_nodes-requires t c =
+    let size = call_smaller c.args.node.now.term c.in-Call.path c.in-Call.args _ c.in-Call.is (ap (λ (v : Vec Node Global). v.items) c.in-Call.args-is) in omega (arith, c.decreases, size)
 
-pub fold_form-returns-in_ok-made-in-Plain-clause-places : goal.fold_form-returns-in_ok-made-in-Plain-clause-places
-fold_form-returns-in_ok-made-in-Plain-clause-places t c = plain_inside_of c.args.op c.in-Plain.op (places_of c.args.body.items) _ c.in-Plain.is c.in_ok-made-in-Plain.ensures.places
+pub fold_node-fold_nodes-requires-in-Form : goal.fold_node-fold_nodes-requires-in-Form
+fold_node-fold_nodes-requires-in-Form t c =
+    let size = form_smaller c.args.node.now.term c.in-Form.op c.in-Form.args c.in-Form.body _ _ c.in-Form.is (ap (λ (v : Vec Node Global). v.items) c.in-Form.args-is) (ap (λ (v : Vec Node Global). v.items) c.in-Form.body-is) in
+    omega (arith, c.decreases, size)
 
-pub fold_form-returns-in_default-clause-places : goal.fold_form-returns-in_default-clause-places
-fold_form-returns-in_default-clause-places t c = kept_inside c.args.op c.args.body _ _ c.in_ok-body.ensures.places
+pub fold_node-fold_nodes-requires-in-Form-2 : goal.fold_node-fold_nodes-requires-in-Form-2
+fold_node-fold_nodes-requires-in-Form-2 t c =
+    let size = form_smaller c.args.node.now.term c.in-Form.op c.in-Form.args c.in-Form.body _ _ c.in-Form.is (ap (λ (v : Vec Node Global). v.items) c.in-Form.args-is) (ap (λ (v : Vec Node Global). v.items) c.in-Form.body-is) in
+    omega (arith, c.decreases, size)
+
+pub fold_node-returns-in_ok-fold_nodes-in-Call-clause-tree : goal.fold_node-returns-in_ok-fold_nodes-in-Call-clause-tree
+fold_node-returns-in_ok-fold_nodes-in-Call-clause-tree t c =
+    let rolled = V.rolls-Call c.in-Call.path c.in-Call.args in
+    rw (c.in-Call.is ∙ sym rolled, D.out-roll-Term (D.Term-F.Call c.in-Call.path c.in-Call.args), rolled)
+    (call_folded c.args.width c.args.statement (at_of c.args.node.now) (D.Call c.in-Call.path c.in-Call.args) c.in-Call.path c.in-Call.args c.fold_nodes.new.nodes refl
+    (c.in_ok-fold_nodes-in-Call.ensures.trees ∙ ap (λ (v : Vec Node Global). folded_by c.args.width (part_in Listing.Elements) (trees_of v.items)) c.in-Call.args-is))
+
+pub fold_node-returns-in_ok-fold_nodes-in-Call-clause-places : goal.fold_node-returns-in_ok-fold_nodes-in-Call-clause-places
+fold_node-returns-in_ok-fold_nodes-in-Call-clause-places t c =
+    let rolled = V.rolls-Call c.in-Call.path c.in-Call.args in
+    rw (c.in-Call.is ∙ sym rolled, D.out-roll-Term (D.Term-F.Call c.in-Call.path c.in-Call.args), rolled)
+    (call_kept c.args.node.now.place (D.Call c.in-Call.path c.in-Call.args) c.in-Call.path c.in-Call.args c.fold_nodes.new.nodes refl)
+
+pub fold_node-returns-in_default : goal.fold_node-returns-in_default
+fold_node-returns-in_default t c = record { tree = other_folded c.args.width c.args.statement (at_of c.args.node.now) c.args.node.now.term c.in_default.not-Call c.in_default.not-Form; places = refl }
+
+-- ---- a form
+
+pub fold_node-returns-in-Stays-clause-tree : goal.fold_node-returns-in-Stays-clause-tree
+fold_node-returns-in-Stays-clause-tree t c =
+    let is = form_is c.args.node.now.term c.in-Form.op _ c.in-Form.args _ c.in-Form.body _ c.in-Form.op-is c.in-Form.args-is c.in-Form.body-is c.in-Form.is in
+    plain_folded c.args.width c.args.statement (at_of c.args.node.now) c.args.node.now.term _ _ c.in-Plain.plain _ _ c.fold_nodes-in-Form.new.nodes c.fold_nodes-in-Form-2.new.nodes c.listing_of.result c.deref.result.now c.deref-in-Plain.result.now F.Stays is c.in-Plain.is
+    c.in_ok-fold_nodes-in-Form.ensures.trees c.listing_of.ensures c.in_ok-fold_nodes-in-Form-2.ensures.trees c.deref.ensures.value c.deref-in-Plain.ensures.value c.in-Stays.ensures (stays_folded (at_of c.args.node.now) _ c.in-Plain.plain c.fold_nodes-in-Form.new.nodes c.fold_nodes-in-Form-2.new.nodes c.in-Plain.is)
+
+pub fold_node-returns-in-Stays-clause-places : goal.fold_node-returns-in-Stays-clause-places
+fold_node-returns-in-Stays-clause-places t c =
+    let is = form_is c.args.node.now.term c.in-Form.op _ c.in-Form.args _ c.in-Form.body _ c.in-Form.op-is c.in-Form.args-is c.in-Form.body-is c.in-Form.is in
+    form_kept c.args.node.now.place c.args.node.now.term _ _ _ c.fold_nodes-in-Form.new.nodes c.fold_nodes-in-Form-2.new.nodes is c.in_ok-fold_nodes-in-Form-2.ensures.places
+
+pub fold_node-returns-in-Becomes-clause-tree : goal.fold_node-returns-in-Becomes-clause-tree
+fold_node-returns-in-Becomes-clause-tree t c =
+    let is = form_is c.args.node.now.term c.in-Form.op _ c.in-Form.args _ c.in-Form.body _ c.in-Form.op-is c.in-Form.args-is c.in-Form.body-is c.in-Form.is in
+    plain_folded c.args.width c.args.statement (at_of c.args.node.now) c.args.node.now.term _ _ c.in-Plain.plain _ _ c.fold_nodes-in-Form.new.nodes c.fold_nodes-in-Form-2.new.nodes c.listing_of.result c.deref.result.now c.deref-in-Plain.result.now (F.Becomes c.in-Becomes.value) is c.in-Plain.is
+    c.in_ok-fold_nodes-in-Form.ensures.trees c.listing_of.ensures c.in_ok-fold_nodes-in-Form-2.ensures.trees c.deref.ensures.value c.deref-in-Plain.ensures.value c.in-Becomes.ensures (number_is (at_of c.args.node.now) c.in-Becomes.value)
+
+pub fold_node-returns-in-Becomes-clause-places : goal.fold_node-returns-in-Becomes-clause-places
+fold_node-returns-in-Becomes-clause-places t c =
+    let is = form_is c.args.node.now.term c.in-Form.op _ c.in-Form.args _ c.in-Form.body _ c.in-Form.op-is c.in-Form.args-is c.in-Form.body-is c.in-Form.is in plain_places c.args.node.now.place c.args.node.now.term _ _ c.in-Plain.plain _ _ is c.in-Plain.is (number_inside c.in-Becomes.value)
+
+pub fold_node-returns-in_ok-node-in-Stores-clause-tree : goal.fold_node-returns-in_ok-node-in-Stores-clause-tree
+fold_node-returns-in_ok-node-in-Stores-clause-tree t c =
+    let is = form_is c.args.node.now.term c.in-Form.op _ c.in-Form.args _ c.in-Form.body _ c.in-Form.op-is c.in-Form.args-is c.in-Form.body-is c.in-Form.is in
+    plain_folded c.args.width c.args.statement (at_of c.args.node.now) c.args.node.now.term _ _ c.in-Plain.plain _ _ c.fold_nodes-in-Form.new.nodes c.fold_nodes-in-Form-2.new.nodes c.listing_of.result c.deref.result.now c.deref-in-Plain.result.now (F.Stores c.in-Stores.value) is c.in-Plain.is
+    c.in_ok-fold_nodes-in-Form.ensures.trees c.listing_of.ensures c.in_ok-fold_nodes-in-Form-2.ensures.trees c.deref.ensures.value c.deref-in-Plain.ensures.value c.in-Stores.ensures
+    (c.in_ok-node-in-Stores.ensures.tree (at_of c.args.node.now) ∙ ap (λ (v : Vec Node Global). Apply (P.Data DataOp.Store) (tree (Integer c.in-Stores.value) (last_of (trees_of v.items))) no_trees) c.replace-taken.ensures.value)
+
+pub fold_node-returns-in_ok-node-in-Stores-clause-places : goal.fold_node-returns-in_ok-node-in-Stores-clause-places
+fold_node-returns-in_ok-node-in-Stores-clause-places t c =
+    let is = form_is c.args.node.now.term c.in-Form.op _ c.in-Form.args _ c.in-Form.body _ c.in-Form.op-is c.in-Form.args-is c.in-Form.body-is c.in-Form.is in plain_places c.args.node.now.place c.args.node.now.term _ _ c.in-Plain.plain _ _ is c.in-Plain.is c.in_ok-node-in-Stores.ensures.places
+
+pub fold_node-returns-in_default-op : goal.fold_node-returns-in_default-op
+fold_node-returns-in_default-op t c =
+    let is = form_is c.args.node.now.term c.in-Form.op _ c.in-Form.args _ c.in-Form.body _ c.in-Form.op-is c.in-Form.args-is c.in-Form.body-is c.in-Form.is in record {
+      tree = kept_folded c.args.width c.args.statement (at_of c.args.node.now) c.args.node.now.term _ _ _ c.fold_nodes-in-Form.new.nodes c.fold_nodes-in-Form-2.new.nodes c.listing_of.result is c.in_default-op.not-Plain c.in_ok-fold_nodes-in-Form.ensures.trees c.listing_of.ensures c.in_ok-fold_nodes-in-Form-2.ensures.trees;
+      places = form_kept c.args.node.now.place c.args.node.now.term _ _ _ c.fold_nodes-in-Form.new.nodes c.fold_nodes-in-Form-2.new.nodes is c.in_ok-fold_nodes-in-Form-2.ensures.places;
+    }

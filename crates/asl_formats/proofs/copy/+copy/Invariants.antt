@@ -2,12 +2,14 @@ use Rattle.std.proofs.Common.{◌≡◌, ◌+◌, ◌*◌, take}
 use Rattle.asl_tree.specs.View.{trees_of}
 use Rattle.asl_shape.specs.Plans.{plans_of}
 use Rattle.asl_formats.specs.Nodes.{nodes_size, term_size}
+use Rattle.asl_formats.specs.Numbers.{numbers_of}
 use Rattle.asl_formats.proofs.copy.+copy.Given as goal
 
 abbrev pub invariant-copied_all-loop-node : goal.invariant-copied_all-loop-node
 invariant-copied_all-loop-node l = record {
   trees : trees_of l.copies.items ≡ trees_of (take l.node-index l.nodes);
   plans : plans_of l.copies.items ≡ plans_of (take l.node-index l.nodes);
+  numbers : numbers_of l.copies.items ≡ numbers_of (take l.node-index l.nodes);
 }
 
 abbrev pub decreases-copied : goal.decreases-copied

@@ -5,6 +5,7 @@ use Rattle.asl_formats.specs.Nodes.{node_tree}
 use Rattle.asl_formats.specs.PlanPass.{placed}
 use Rattle.asl_formats.proofs.Writes.{format_made, no_format}
 use Rattle.asl_formats.proofs.PlanWrites as L
+use Rattle.asl_formats.proofs.PrintNumbers.{format_has, no_format_has}
 use Rattle.asl_formats.proofs.print.format_value.Goals as goal
 
 pub returns-in_ok-made-in-Text-clause-tree : goal.returns-in_ok-made-in-Text-clause-tree
@@ -17,4 +18,8 @@ pub returns-in_default : goal.returns-in_default
 returns-in_default c = record {
   tree = no_format (node_tree c.nothing.result.node) c.args.format.now (trees_of c.args.args.now) c.in_default.not-Text;
   plan = L.no_format c.args.place (placed c.nothing.result.node) c.args.format.now (plans_of c.args.args.now) c.in_default.not-Text;
+  numbers = no_format_has c.args.id c.nothing.result c.args.format.now c.args.args.now c.in_default.not-Text;
 }
+
+pub returns-in_ok-made-in-Text-clause-numbers : goal.returns-in_ok-made-in-Text-clause-numbers
+returns-in_ok-made-in-Text-clause-numbers c can = format_has c.args.id c.in_ok-made-in-Text.made c.args.format.now c.in-Text.text c.in-Text.text c.args.args.now c.in-Text.is refl c.in_ok-made-in-Text.ensures.numbers

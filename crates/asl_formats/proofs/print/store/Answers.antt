@@ -2,6 +2,8 @@ use Rattle.asl_formats.specs.Nodes.{node_tree}
 use Rattle.asl_formats.specs.PlanPass.{placed}
 use Rattle.asl_formats.proofs.Writes.{store_pushed}
 use Rattle.asl_formats.proofs.PlanWrites as L
+use Rattle.std.proofs.Common.{◌∷◌, ap, ◌∙◌}
+use Rattle.asl_formats.proofs.PrintNumbers.{pushed_two}
 use Rattle.asl_formats.proofs.print.store.Goals as goal
 
 pub returns-clause-tree : goal.returns-clause-tree
@@ -11,3 +13,8 @@ returns-clause-tree c =
 pub returns-clause-plan : goal.returns-clause-plan
 returns-clause-plan c =
     L.store_pushed c.args.place (placed c.operator.result) c.args.value c.args.target c.in_ok-operands.operands.items c.push.new.self.items c.push-2.new.self.items c.operator.ensures.plan c.in_ok-operands.ensures.items c.in_ok-push.ensures.items c.in_ok-push-2.ensures.items
+
+pub returns-clause-numbers : goal.returns-clause-numbers
+returns-clause-numbers c =
+    c.operator.ensures.numbers
+    ∙ ap (λ ns. c.args.id ∷ ns) (pushed_two c.args.value c.args.target c.in_ok-operands.operands.items c.push.new.self.items c.push-2.new.self.items c.in_ok-operands.ensures.items c.in_ok-push.ensures.items c.in_ok-push-2.ensures.items)

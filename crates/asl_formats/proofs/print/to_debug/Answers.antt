@@ -4,6 +4,7 @@ use Rattle.asl_formats.specs.Nodes.{node_tree}
 use Rattle.asl_formats.specs.PlanPass.{placed}
 use Rattle.asl_formats.proofs.Writes.{debug_printed}
 use Rattle.asl_formats.proofs.PlanWrites as L
+use Rattle.asl_formats.proofs.PrintNumbers.{debug_numbers, debug_next}
 use Rattle.asl_formats.proofs.print.to_debug.Goals as goal
 
 pub returns-clause-tree : goal.returns-clause-tree
@@ -13,3 +14,10 @@ returns-clause-tree c =
 pub returns-clause-plan : goal.returns-clause-plan
 returns-clause-plan c =
     L.debug_printed c.args.place (placed c.in_ok-made.made) c.in_ok-value.value.node c.debug.result (plans_of c.args.args.now) c.debug.ensures.plan c.in_ok-value.ensures.plan c.in_ok-made.ensures.plan
+
+pub returns-clause-numbers : goal.returns-clause-numbers
+returns-clause-numbers c =
+    debug_numbers c.args.id c.in_ok-made.made c.debug.result c.in_ok-value.value c.args.args.now c.debug.ensures.numbers c.in_ok-value.ensures.numbers c.in_ok-made.ensures.numbers
+
+pub returns-clause-next : goal.returns-clause-next
+returns-clause-next c = debug_next c.args.id c.in_ok-value.value c.args.args.now c.in_ok-value.ensures.numbers

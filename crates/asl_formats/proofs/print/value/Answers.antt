@@ -1,4 +1,4 @@
-use Rattle.std.proofs.Common.{sym, ap, ◌∙◌, drop}
+use Rattle.std.proofs.Common.{sym, ap, ◌∙◌, drop, ◌≡◌, ◌+◌, ◌%◌, [], ◌∷◌, arith}
 use Rattle.asl_tree.specs.View.{trees_of}
 use Rattle.asl_shape.specs.Plans.{plans_of}
 use Rattle.asl_formats.specs.Nodes.{node_tree}
@@ -6,6 +6,9 @@ use Rattle.asl_formats.specs.PlanPass.{placed}
 use Rattle.asl_formats.specs.Texts.{all_texts}
 use Rattle.asl_formats.proofs.Writes.{value_made}
 use Rattle.asl_formats.proofs.PlanWrites as L
+use Rattle.asl_formats.specs.Numbers.{number_behind}
+use Rattle.asl_formats.specs.PrintNumbers.{joins}
+use Rattle.asl_formats.proofs.PrintNumbers.{value_has, down_to}
 use Rattle.asl_formats.proofs.print.value.Goals as goal
 
 pub returns-in-len1-up-clause-tree : goal.returns-in-len1-up-clause-tree
@@ -19,3 +22,12 @@ returns-in-len1-up-clause-plan c =
     L.value_made c.args.place (placed c.in_ok-node-in-len1-up.node) c.text_node-front.result c.args.format.now c.first-item.result c.in_ok-first-in-len1-up.first c.as_slice.result.now c.other_texts-behind.result.now (plans_of c.args.args.now)
     (c.as_slice.ensures.value ∙ c.in_ok-texts.ensures ∙ ap all_texts c.as_bytes.ensures) c.in-len1-up.len_at_least c.first-item.is (c.in_ok-first-in-len1-up.ensures ∙ c.as_bytes-in-len1-up.ensures)
     (c.other_texts-behind.ensures ∙ ap (drop 1) (c.as_slice-in-len1-up.ensures.value ∙ sym c.as_slice.ensures.value)) c.text_node-front.ensures.plan c.in_ok-node-in-len1-up.ensures.plan
+
+pub returns-in-len1-up-clause-numbers : goal.returns-in-len1-up-clause-numbers
+returns-in-len1-up-clause-numbers c =
+    let old = c.text_node-front.new.numbers in
+    let start : (c.args.id + c.count-count.result) % 4294967296 ≡ number_behind old.down = omega (arith, c.text_node-front.ensures.down, c.ranges.id.fits) in
+    let down = down_to c.args.id c.count-count.result (joins c.other_texts-behind.result.now c.args.args.now) old.down c.joined.new.numbers.down c.ranges.id.fits c.count-count.ensures (sym start) c.in_ok-node-in-len1-up.ensures.down in
+    value_has c.args.id old c.joined.new.numbers c.text_node-front.result c.in_ok-node-in-len1-up.node c.args.format.now c.first-item.result c.as_slice.result.now c.other_texts-behind.result.now c.args.args.now
+    (c.as_slice.ensures.value ∙ c.in_ok-texts.ensures ∙ ap all_texts c.as_bytes.ensures) c.in-len1-up.len_at_least c.first-item.is (c.other_texts-behind.ensures ∙ ap (drop 1) (c.as_slice-in-len1-up.ensures.value ∙ sym c.as_slice.ensures.value))
+    (c.text_node-front.ensures.numbers ∙ ap (λ n. n ∷ []) start) (c.text_node-front.ensures.up ∙ ap number_behind start) down c.in_ok-node-in-len1-up.ensures.numbers

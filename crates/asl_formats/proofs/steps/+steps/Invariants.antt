@@ -1,15 +1,21 @@
-use Rattle.std.proofs.Common.{◌≡◌, ◌+◌, ◌*◌, take}
+use Rattle.std.proofs.Common.{◌≡◌, ◌+◌, ◌*◌, take, false, []}
 use Rattle.asl_tree.specs.View.{trees_of}
 use Rattle.asl_shape.specs.Plans.{plans_of}
+use Rattle.asl_formats.specs.Bare.{shown}
+use Rattle.asl_formats.specs.Plain.{MayRenew}
 use Rattle.asl_formats.specs.Forms.{stepped_all}
+use Rattle.asl_formats.specs.Numbers.{numbers_of, stepped_nodes}
+use Rattle.asl_formats.specs.StepNumbers.{Advances}
 use Rattle.asl_formats.specs.Plans as P
 use Rattle.asl_formats.specs.Nodes.{nodes_size, term_size}
 use Rattle.asl_formats.proofs.steps.+steps.Given as goal
 
 abbrev pub invariant-with_steps-loop-node : goal.invariant-with_steps-loop-node
 invariant-with_steps-loop-node l = record {
-  trees : trees_of l.made.items ≡ stepped_all (trees_of l.fn.steps) (trees_of (take l.node-index l.nodes));
+  trees : MayRenew l.initial.copies.keep (plans_of l.fn.steps) → shown l.initial.copies.keep (trees_of l.made.items) ≡ shown l.initial.copies.keep (stepped_all (trees_of l.fn.steps) (trees_of (take l.node-index l.nodes)));
   plans : plans_of l.made.items ≡ P.stepped_all (plans_of l.fn.steps) (plans_of (take l.node-index l.nodes));
+  numbers : l.initial.copies.keep ≡ false → Advances (numbers_of l.fn.steps) l.initial.copies l.copies (stepped_nodes (take l.node-index l.nodes)) [] (numbers_of l.made.items);
+  keep : l.copies.keep ≡ l.initial.copies.keep;
 }
 
 abbrev pub decreases-with_steps : goal.decreases-with_steps

@@ -1,20 +1,20 @@
-use Rattle.std.proofs.Common.{◌≡◌, ◌++◌, append-nil, slice_get, Some, ◌+◌, arith, drop, get_or, ap, sym, ◌∙◌}
+use Rattle.std.proofs.Common.{◌≡◌, ◌++◌, append-nil, slice_get, Some, ◌+◌, arith, drop, get_or, ap, sym, subst, ◌∙◌, OnOk, IfOk}
 use Rattle.asl_shape.specs.Shapes.{nowhere}
 use Rattle.asl_shape.specs.AtRaw.{shape_at, bare_at, member_at, one_at, run_after_at, terms_at, default_after_at, cases_at, part_at, unit_at, due_behind_at}
-use Rattle.asl_shape.specs.Plans.{plans_of, join}
+use Rattle.asl_shape.specs.Plans.{plan_of, plans_of, join}
 use Rattle.asl_words.specs.declared.operator.Slot.TheVariants as slot
 use Rattle.asl_words.specs.Meanings.{slot_as}
 use Rattle.asl_shape.proofs.Shapes.{bare_item, operand_faults, operand_made, list_faults, list_made, run_faults, run_made, case_faults, case_made, item_smaller, argument_some_faults, argument_some_made, left_faults, left_made, argument_faults, argument_made, got_some, got_none}
 use Rattle.asl_shape.proofs.FieldSteps.{element_faults, element_made}
 use Rattle.asl_shape.proofs.tree.+shape.Goals as goal
 
-pub bare-returns-in_ok-item-in-Item-clause-faults : goal.bare-returns-in_ok-item-in-Item-clause-faults
-bare-returns-in_ok-item-in-Item-clause-faults t c =
-    c.in_ok-item-in-Item.ensures.faults ∙ ap (λ x. c.args.work.now.faults.items ++ x.faults) (sym (ap (bare_at c.args.slot c.args.inside) c.in-Item.is ∙ bare_item c.args.slot c.args.inside c.in-Item.place c.in-Item.word c.in-Item.args c.in-Item.body))
+pub bare-returns-in-Item-clause-faults : goal.bare-returns-in-Item-clause-faults
+bare-returns-in-Item-clause-faults t c =
+    subst (λ x. OnOk c.item.result (c.item.new.work.faults.items ≡ c.args.work.now.faults.items ++ x.faults)) (sym (ap (bare_at c.args.slot c.args.inside) c.in-Item.is ∙ bare_item c.args.slot c.args.inside c.in-Item.place c.in-Item.word c.in-Item.args c.in-Item.body)) c.item.ensures.faults
 
-pub bare-returns-in_ok-item-in-Item-clause-made : goal.bare-returns-in_ok-item-in-Item-clause-made
-bare-returns-in_ok-item-in-Item-clause-made t c =
-    c.in_ok-item-in-Item.ensures.made ∙ ap (λ x. x.made) (sym (ap (bare_at c.args.slot c.args.inside) c.in-Item.is ∙ bare_item c.args.slot c.args.inside c.in-Item.place c.in-Item.word c.in-Item.args c.in-Item.body))
+pub bare-returns-in-Item-clause-made : goal.bare-returns-in-Item-clause-made
+bare-returns-in-Item-clause-made t c =
+    subst (λ x. IfOk c.item.result (λ term. plan_of term ≡ x.made)) (sym (ap (bare_at c.args.slot c.args.inside) c.in-Item.is ∙ bare_item c.args.slot c.args.inside c.in-Item.place c.in-Item.word c.in-Item.args c.in-Item.body)) c.item.ensures.made
 
 pub operands-loop-raw-preserved : goal.operands-loop-raw-preserved
 operands-loop-raw-preserved t c = record {

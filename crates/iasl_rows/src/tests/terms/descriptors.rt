@@ -316,6 +316,64 @@ static TOLD_4: [Row; 11] = [
     ),
 ];
 
+static TOLD_5: [Row; 13] = [
+    // A Scope of what is declared behind it, and what stands in it.
+    told!(
+        "Name (C, ResourceTemplate () { IO (Decode16, 0x10, 0x20, 1, 4, T) }) Device (A) { Scope (R) { Device (B) { } } } Device (R) { }",
+        b"t.asl:3:94: error 6041: name is not found: R___\nt.asl:3:107: error 6041: name is not found: B___\n2 errors, 0 warnings, 0 remarks\n"
+    ),
+    // A descriptor stands before an outer object of its name: a device, and a region.
+    told!(
+        "Device (RNG0) { } Method (M) { Name (C, ResourceTemplate () { IO (Decode16, 0x10, 0x20, 1, 4, RNG0) }) Local0 = Add (RNG0, 1) Return (C) }",
+        b"t.asl:3:122: error 6050: wrong type\n1 errors, 0 warnings, 0 remarks\n"
+    ),
+    told!(
+        "OperationRegion (RNG0, SystemMemory, 0, 1) Device (E) { Name (C, ResourceTemplate () { IO (Decode16, 0x10, 0x20, 1, 4, RNG0) }) Field (RNG0, DWordAcc, NoLock, Preserve) { F, 32 } }",
+        b"t.asl:3:140: error 6054: wrong kind of object: RNG0\n1 errors, 0 warnings, 0 remarks\n"
+    ),
+    told!(
+        "Device (RNG0) { } Device (E) { Name (C, ResourceTemplate () { IO (Decode16, 0x10, 0x20, 1, 4, RNG0) }) Alias (RNG0, N) }",
+        b"t.asl:3:115: error 6054: wrong kind of object: RNG0\n1 errors, 0 warnings, 0 remarks\n"
+    ),
+    told!(
+        "Device (RNG0) { } Device (E) { Name (C, ResourceTemplate () { IO (Decode16, 0x10, 0x20, 1, 4, RNG0) }) Method (M) { Acquire (RNG0, 0) } }",
+        b"t.asl:3:130: error 6054: wrong kind of object: RNG0\n1 errors, 0 warnings, 0 remarks\n"
+    ),
+    told!(
+        "Device (RNG0) { } Device (E) { Name (C, ResourceTemplate () { IO (Decode16, 0x10, 0x20, 1, 4, RNG0) }) Method (M) { Return (CondRefOf (RNG0)) } }",
+        b"t.asl:3:140: error 6050: wrong type\n1 errors, 0 warnings, 0 remarks\n"
+    ),
+    told!(
+        "Device (RNG0) { } Device (E) { Name (C, ResourceTemplate () { IO (Decode16, 0x10, 0x20, 1, 4, RNG0) }) Method (M) { RNG0 () } }",
+        b"t.asl:3:121: error 6051: wrong number of call arguments: RNG0\n1 errors, 0 warnings, 0 remarks\n"
+    ),
+    told!(
+        "Device (RNG0) { } Device (E) { Name (C, ResourceTemplate () { IO (Decode16, 0x10, 0x20, 1, 4, RNG0) }) Name (N, Package () { RNG0 }) }",
+        b"t.asl:3:130: error 6050: wrong type\n1 errors, 0 warnings, 0 remarks\n"
+    ),
+    told!(
+        "Device (RNG0) { } Device (E) { Name (C, ResourceTemplate () { IO (Decode16, 0x10, 0x20, 1, 4, RNG0) }) Method (M) { Local0 = RNG0 } }",
+        b"t.asl:3:130: error 6050: wrong type\n1 errors, 0 warnings, 0 remarks\n"
+    ),
+    told!(
+        "Device (RNG0) { } Device (E) { Name (C, ResourceTemplate () { IO (Decode16, 0x10, 0x20, 1, 4, RNG0) }) Method (M) { RNG0 = 1 } }",
+        b"t.asl:3:121: error 6050: wrong type\n1 errors, 0 warnings, 0 remarks\n"
+    ),
+    told!(
+        "Device (RNG0) { } Device (E) { Name (C, ResourceTemplate () { IO (Decode16, 0x10, 0x20, 1, 4, RNG0) }) Scope (RNG0) { } }",
+        b"t.asl:3:108: error 6042: scope is not a container: RNG0\n1 errors, 0 warnings, 0 remarks\n"
+    ),
+    // A descriptor of a method that nothing uses, and one whose field is used.
+    noted!(
+        "Method (M) { Name (C, ResourceTemplate () { IO (Decode16, 1, 1, 1, 1, T) }) Return (C) }",
+        b"t.asl:3:75: warning 3003: name is never used: \\M___.T___\nt.aml: SSDT, 67 bytes\n0 errors, 1 warnings, 0 remarks\n"
+    ),
+    noted!(
+        "Method (M) { Name (C, ResourceTemplate () { IO (Decode16, 1, 1, 1, 1, T) }) Local0 = T._MIN Return (C) }",
+        b"t.aml: SSDT, 71 bytes\n0 errors, 0 warnings, 0 remarks\n"
+    ),
+];
+
 #[test]
 fn fields_come_to_their_places(rt: HostRuntime) -> Result<(), AllocError> {
     assert!(rt; are_right(rt.alloc(), &MADE)?);
@@ -343,5 +401,11 @@ fn errors_of_descriptors_3(rt: HostRuntime) -> Result<(), AllocError> {
 #[test]
 fn errors_of_descriptors_4(rt: HostRuntime) -> Result<(), AllocError> {
     assert!(rt; are_right(rt.alloc(), &TOLD_4)?);
+    Ok(())
+}
+
+#[test]
+fn errors_of_descriptors_5(rt: HostRuntime) -> Result<(), AllocError> {
+    assert!(rt; are_right(rt.alloc(), &TOLD_5)?);
     Ok(())
 }

@@ -1,21 +1,20 @@
-use Rattle.std.proofs.Common.{◌≡◌, length, ap, ◌∙◌, arith}
-use Rattle.std.proofs.lemmas.Grind.{common_steps}
+use Rattle.std.proofs.Common.{◌≡◌, [], subst}
+use Rattle.std.specs.Prelude.{IfOk, OnOk, IfErr}
 use Rattle.acpi_state.specs.Objects.{lookup}
 use Rattle.asl_tree.specs.View.{trees_of}
-use Rattle.name_kinds.proofs.Seeing.{block_seen}
-use Rattle.name_checks.proofs.Blocks.{block_told, none_wrong, some_wrong}
+use Rattle.acpi_names.specs.Errors.{whole_of, name_errors, type_errors}
+use Rattle.acpi_names.specs.Tables.{Tabled}
+use Rattle.name_checks.specs.Messages.{told_errors}
+use Rattle.name_checks.specs.Refusals.{Refuses}
 use Rattle.name_checks.proofs.check.check.Goals as goal
 
-pub returns-then-is_empty-clause-calls : goal.returns-then-is_empty-clause-calls
-returns-then-is_empty-clause-calls c path = c.in-Ok.ensures.calls path ∙ ap (λ w. lookup w.calls path) (block_seen (trees_of c.args.terms.now) c.requires.terms)
+pub returns-in-Ok-clause-calls : goal.returns-in-Ok-clause-calls
+returns-in-Ok-clause-calls c =
+    subst (λ ns. IfOk c.check_known.result (λ n. Tabled n.index.paths n.calls.items (lookup (whole_of (trees_of ns)).calls))) c.in-Ok.ensures.terms c.check_known.ensures.calls
 
-pub returns-then-is_empty-clause-right : goal.returns-then-is_empty-clause-right
-returns-then-is_empty-clause-right c =
-    let none : length c.in-Ok.examined.errors.items ≡ 0 = grind (arith, common_steps) in
-    none_wrong (trees_of c.args.terms.now) c.in-Ok.examined.errors.items (c.in-Ok.ensures.told ∙ block_told (trees_of c.args.terms.now) c.requires.terms) none
+pub returns-in-Ok-clause-right : goal.returns-in-Ok-clause-right
+returns-in-Ok-clause-right c =
+    subst (λ ns. OnOk c.check_known.result ((name_errors (trees_of ns) ≡ []) × (type_errors (trees_of ns) ≡ []))) c.in-Ok.ensures.terms c.check_known.ensures.right
 
-pub returns-else-is_empty-clause-refused : goal.returns-else-is_empty-clause-refused
-returns-else-is_empty-clause-refused c =
-    let some : length c.in-Ok.examined.errors.items ≡ 0 → ⊥ = grind (arith, common_steps) in
-    let told = c.in-Ok.ensures.told ∙ block_told (trees_of c.args.terms.now) c.requires.terms in
-    (c.from_vec.ensures ∙ told, some_wrong (trees_of c.args.terms.now) c.in-Ok.examined.errors.items told some)
+pub returns-in-Ok-clause-refused : goal.returns-in-Ok-clause-refused
+returns-in-Ok-clause-refused c = subst (λ ns. IfErr c.check_known.result (λ stage. Refuses stage (told_errors (trees_of ns)))) c.in-Ok.ensures.terms c.check_known.ensures.refused

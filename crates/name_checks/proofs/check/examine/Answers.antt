@@ -1,49 +1,42 @@
-use Rattle.std.proofs.Common.{[], map, refl, sym, ap, ◌∙◌, subst}
+use Rattle.std.proofs.Common.{◌≡◌, [], map, length, refl, sym, ap, ◌∙◌, subst, arith}
 use Rattle.asl_tree.specs.View.{trees_of}
-use Rattle.acpi_state.specs.Objects.{lookup}
-use Rattle.asl_meaning.specs.Declarations.{is_named, nothing_declared}
-use Rattle.acpi_names.specs.Mentions.{after_all}
+use Rattle.asl_meaning.specs.Declarations.{nothing_declared}
+use Rattle.acpi_names.specs.Mentions.{all_errors, all_types, block_mentions}
 use Rattle.acpi_names.specs.Shown.{all_shown}
-use Rattle.acpi_names.specs.Paths.{number_in}
-use Rattle.acpi_names.specs.Tables.{entry_at}
-use Rattle.acpi_names.specs.declared.index.Index.{Index}
-use Rattle.acpi_names.proofs.Mentions.{after_block}
-use Rattle.name_checks.specs.Faults.{fault_as}
 use Rattle.name_kinds.specs.Facts.{Knows}
-use Rattle.name_checks.specs.Messages.{message_of}
 use Rattle.name_kinds.specs.Seen.{seen}
-use Rattle.name_checks.specs.Seen.{seen_errors}
-use Rattle.name_checks.proofs.Blocks.{faults_told}
+use Rattle.name_checks.specs.Messages.{message_of}
+use Rattle.name_checks.proofs.Blocks.{first_names, first_kinds}
 use Rattle.name_checks.proofs.check.examine.Goals as goal
 
-pub facts_of-requires : goal.facts_of-requires
-facts_of-requires c =
-    let told = ap (all_shown c.in_ok-found.found.index.paths) c.deref.ensures.value ∙ c.in_ok-found.ensures.told in (
-      c.in_ok-found.ensures.size,
-      (
-        (λ path. c.in_ok-found.ensures.names path ∙ ap (λ d. is_named d path) (sym (after_block (trees_of c.args.terms.now) [] nothing_declared)) ∙ ap (λ ms. is_named (after_all ms nothing_declared) path) (sym told)),
-        (refl, (refl, refl)),
-      ),
-    )
+pub name_faults-requires : goal.name_faults-requires
+name_faults-requires c =
+    let known = c.args.known.now in
+    let told = ap (all_shown known.facts.index.paths) c.deref.ensures.value ∙ c.requires.mentions in
+    (subst (λ ms. Knows known.facts (seen ms)) (sym told) c.requires.facts, refl)
 
-pub faults-requires : goal.faults-requires
-faults-requires c =
-    let first = ap (all_shown c.in_ok-found.found.index.paths) c.deref.ensures.value in
-    let second = ap (λ i. all_shown i.paths c.deref-2.result.now) c.in_ok-facts.ensures.same ∙ ap (all_shown c.in_ok-found.found.index.paths) c.deref-2.ensures.value in
-    (subst (λ ms. Knows c.in_ok-facts.facts (seen ms)) (first ∙ sym second) c.in_ok-facts.ensures.told, refl)
+pub kind_faults-requires : goal.kind_faults-requires
+kind_faults-requires c =
+    let known = c.args.known.now in
+    let told = ap (all_shown known.facts.index.paths) c.deref-2.ensures.value ∙ c.requires.mentions in
+    subst (λ ms. Knows known.facts (seen ms)) (sym told) c.requires.facts
 
-pub returns-clause-calls : goal.returns-clause-calls
-returns-clause-calls c path =
-    let facts = c.in_ok-facts.facts in
-    let made = c.into_names-index in
-    ap (λ (i : Index). entry_at made.result.1.items (number_in i.paths path)) made.ensures.index
-    ∙ ap (λ calls. entry_at calls.items (number_in facts.index.paths path)) made.ensures.calls
-    ∙ c.in_ok-facts.ensures.told.notes.first path
-    ∙ ap (λ ms. lookup (seen ms).calls path) (ap (all_shown c.in_ok-found.found.index.paths) c.deref.ensures.value ∙ c.in_ok-found.ensures.told)
+pub returns-then-not-is_empty : goal.returns-then-not-is_empty
+returns-then-not-is_empty c =
+    let known = c.args.known.now in
+    let mentions = block_mentions (trees_of known.terms.now) [] nothing_declared in
+    let told = ap (all_shown known.facts.index.paths) c.deref.ensures.value ∙ c.requires.mentions in
+    let names = c.in_ok-names.ensures ∙ ap (λ ms. map message_of (all_errors (seen ms) ms nothing_declared)) told in
+    first_names (all_errors (seen mentions) mentions nothing_declared) (all_types (seen mentions) mentions) c.in_ok-names.names names
+    (λ e. let never : ⊥ = grind (arith, e, c.is_empty.ensures, c.if-not-is_empty.true) in never)
 
-pub returns-clause-told : goal.returns-clause-told
-returns-clause-told c =
-    let paths = c.in_ok-facts.facts.index.paths in
-    let told = ap (λ i. all_shown i.paths c.deref-2.result.now) c.in_ok-facts.ensures.same ∙ ap (all_shown c.in_ok-found.found.index.paths) c.deref-2.ensures.value ∙ c.in_ok-found.ensures.told in
-    faults_told paths c.in_ok-faults.faults.items c.in_ok-errors.errors.items _ (c.in_ok-errors.ensures ∙ ap (map (λ f. message_of (fault_as paths f))) c.deref-3.ensures.value) c.in_ok-faults.ensures
-    ∙ ap seen_errors told
+pub returns : goal.returns
+returns c =
+    let known = c.args.known.now in
+    let mentions = block_mentions (trees_of known.terms.now) [] nothing_declared in
+    let told = ap (all_shown known.facts.index.paths) c.deref.ensures.value ∙ c.requires.mentions in
+    let again = ap (all_shown known.facts.index.paths) c.deref-2.ensures.value ∙ c.requires.mentions in
+    let none : length c.in_ok-names.names ≡ 0 = grind (arith, c.is_empty.ensures, c.if-not-is_empty.false) in
+    first_kinds (all_errors (seen mentions) mentions nothing_declared) (all_types (seen mentions) mentions) c.in_ok-names.names c.in_ok-kinds.kinds
+    (c.in_ok-names.ensures ∙ ap (λ ms. map message_of (all_errors (seen ms) ms nothing_declared)) told) none
+    (c.in_ok-kinds.ensures ∙ ap (λ ms. map message_of (all_types (seen ms) ms)) again)

@@ -1,43 +1,49 @@
 use Rattle.std.proofs.Common.{◌≡◌, ◌<◌, ℕ, [], None, length, get_or, refl, sym, ap, ◌∙◌, subst}
 use Rattle.asl_tree.specs.View.{trees_of}
 use Rattle.asl_meaning.specs.Declarations.{declarations, is_named, nothing_declared}
-use Rattle.acpi_names.specs.Mentions.{after_all, block_mentions}
+use Rattle.acpi_names.specs.Mentions.{block_mentions}
+use Rattle.acpi_names.specs.Parts.{Agrees}
 use Rattle.acpi_names.specs.Paths.{path_with}
 use Rattle.acpi_names.specs.Shown.{all_shown}
+use Rattle.acpi_names.specs.declared.index.Index.{Index}
 use Rattle.acpi_names.proofs.Mentions.{after_block}
+use Rattle.name_kinds.specs.Facts.{Knows}
 use Rattle.name_kinds.specs.Seen.{seen}
 use Rattle.name_kinds.proofs.Seeing.{block_seen}
 use Rattle.name_entries.specs.Entries.{described, described_by}
 use Rattle.name_entries.specs.Placed.{no_places, placed_all}
-use Rattle.name_entries.specs.Uses.{denoted_at, uses_after}
+use Rattle.name_entries.specs.Uses.{denoted_in}
 use Rattle.name_entries.proofs.Describing.{said_each}
 use Rattle.name_entries.proofs.entries.entries.Goals as goal
 
-pub describe_all-requires : goal.describe_all-requires
-describe_all-requires c =
-    let told = ap (all_shown c.in_ok-index.field-0.index.paths) c.deref-2.ensures.value ∙ c.in_ok-index.ensures.told in (
-      c.in_ok-index.ensures.size,
-      (
-        (λ path. c.in_ok-index.ensures.names path ∙ ap (λ d. is_named d path) (sym (after_block (trees_of c.args.terms.now) [] nothing_declared)) ∙ ap (λ ms. is_named (after_all ms nothing_declared) path) (sym told)),
-        (refl, (refl, refl)),
-      ),
-    )
+pub described_all-requires : goal.described_all-requires
+described_all-requires c =
+    let known = c.in_ok-known.known in
+    let told = ap (all_shown known.facts.index.paths) c.deref.ensures.value ∙ c.in_ok-known.ensures.known.mentions in
+    (subst (λ ms. Knows known.facts (seen ms)) (sym told) c.in_ok-known.ensures.known.facts, refl)
+
+pub returns-clause-names : goal.returns-clause-names
+returns-clause-names c =
+    let known = c.in_ok-known.known in
+    let program = trees_of known.terms.now in
+    subst (λ (i : Index). Agrees i.paths i.named.items (declarations (trees_of c.args.terms.now))) (sym c.into_names-index.ensures.index)
+    (λ path. c.in_ok-known.ensures.known.facts.agrees path ∙ ap (λ d. is_named d path) (after_block program [] nothing_declared)
+    ∙ ap (λ ns. is_named (declarations (trees_of ns)) path) c.in_ok-known.ensures.terms)
 
 pub returns-clause-uses : goal.returns-clause-uses
 returns-clause-uses c node =
-    let paths = c.in_ok-index.field-0.index.paths in
-    let d = declarations (trees_of c.args.terms.now) in
-    ap (λ i. path_with i.paths (get_or c.in_ok-uses.uses.items node None)) c.in_ok-described.ensures.same
-    ∙ c.in_ok-uses.ensures d c.in_ok-index.ensures.names node
-    ∙ ap (λ ms. denoted_at (is_named d) (uses_after ms []) node) (ap (all_shown paths) c.deref.ensures.value ∙ c.in_ok-index.ensures.told)
+    ap (λ (i : Index). path_with i.paths (get_or c.in_ok-uses.uses.items node None)) c.into_names-index.ensures.index ∙ c.in_ok-uses.ensures node
+    ∙ ap (λ ns. denoted_in (trees_of ns) node) c.in_ok-known.ensures.terms
 
 pub returns-clause-said : goal.returns-clause-said
 returns-clause-said c are number =
-    let index = c.in_ok-index.field-0.index in
+    let known = c.in_ok-known.known in
+    let paths = known.facts.index.paths in
     let program = trees_of c.args.terms.now in
-    let said = c.in_ok-described.described.said.items in
-    let told = ap (all_shown index.paths) c.deref-2.ensures.value ∙ c.in_ok-index.ensures.told in
-    said_each c.in_ok-described.described.index.paths said (described program) (c.in_ok-described.ensures.size ∙ ap (λ i. length i.paths) (sym c.in_ok-described.ensures.same))
-    (subst (λ i. (n : ℕ) → n < length i.paths → get_or said n None ≡ described program (get_or i.paths n [])) (sym c.in_ok-described.ensures.same)
-    (λ n lt. c.in_ok-described.ensures.each n lt ∙ ap (λ ms. described_by (seen ms) (placed_all ms no_places) (get_or index.paths n [])) told
-    ∙ ap (λ w. described_by w (placed_all (block_mentions program [] nothing_declared) no_places) (get_or index.paths n [])) (block_seen program are))) number
+    let said = c.in_ok-said.said.items in
+    let same = c.into_names-index.ensures.index in
+    let told = ap (all_shown paths) c.deref.ensures.value ∙ c.in_ok-known.ensures.known.mentions ∙ ap (λ ns. block_mentions (trees_of ns) [] nothing_declared) c.in_ok-known.ensures.terms in
+    said_each c.into_names-index.result.0.paths said (described program) (c.in_ok-said.ensures.size ∙ ap (λ (i : Index). length i.paths) (sym same))
+    (subst (λ (i : Index). (n : ℕ) → n < length i.paths → get_or said n None ≡ described program (get_or i.paths n [])) (sym same)
+    (λ n lt. c.in_ok-said.ensures.each n lt ∙ ap (λ ms. described_by (seen ms) (placed_all ms no_places) (get_or paths n [])) told
+    ∙ ap (λ w. described_by w (placed_all (block_mentions program [] nothing_declared) no_places) (get_or paths n [])) (block_seen program are))) number

@@ -8,7 +8,7 @@ use Rattle.region_checks.proofs.check.region_faults.Goals as goal
 
 pub returns-clause-places : goal.returns-clause-places
 returns-clause-places c files within parts =
-    subst (AreTold files) (sym (c.in_ok-out.ensures ∙ block_seen_errors c.args.width (trees_of c.args.terms.now) (plans_of c.args.terms.now) c.requires.terms)) (region_errors_within files c.args.width (trees_of c.args.terms.now) (plans_of c.args.terms.now) within parts)
+    subst (AreTold files) (sym (c.in_ok-out.ensures ∙ block_seen_errors c.args.width (trees_of c.args.known.now.terms.now) (plans_of c.args.known.now.terms.now) c.requires.terms)) (region_errors_within files c.args.width (trees_of c.args.known.now.terms.now) (plans_of c.args.known.now.terms.now) within parts)
 
 pub returns-clause-told : goal.returns-clause-told
-returns-clause-told c = c.in_ok-out.ensures ∙ block_seen_errors c.args.width (trees_of c.args.terms.now) (plans_of c.args.terms.now) c.requires.terms
+returns-clause-told c = c.in_ok-out.ensures ∙ block_seen_errors c.args.width (trees_of c.args.known.now.terms.now) (plans_of c.args.known.now.terms.now) c.requires.terms

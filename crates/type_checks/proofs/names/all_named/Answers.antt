@@ -1,18 +1,27 @@
-use Rattle.std.proofs.Common.{◌≡◌, ◌∷◌, [], ◌+◌, ℕ, length, length-append, get_or, sym, ap, ◌∙◌, subst, ◌<◌, arith}
+use Rattle.std.proofs.Common.{[], ap, ◌∙◌, subst}
+use Rattle.std.proofs.Math.Path.{fun_ext}
+use Rattle.acpi_state.specs.Outcomes.{choose}
+use Rattle.asl_tree.specs.View.{trees_of}
+use Rattle.asl_meaning.specs.Declarations.{nothing_declared}
+use Rattle.acpi_names.specs.Errors.{whole_of}
+use Rattle.acpi_names.specs.Mentions.{block_mentions}
+use Rattle.name_kinds.specs.Facts.{Knows}
+use Rattle.name_kinds.proofs.Seeing.{block_seen}
+use Rattle.name_entries.specs.Placed.{no_places, placed_all}
+use Rattle.name_entries.specs.Uses.{denoted_in}
 use Rattle.name_entries.specs.declared.kind.Kind.TheVariants as N
-use Rattle.type_checks.specs.Names.{named}
-use Rattle.type_checks.proofs.Naming.{named_more, named_all}
+use Rattle.type_checks.specs.Names.{kind_known}
+use Rattle.type_checks.proofs.Naming.{led, known_said}
 use Rattle.type_checks.proofs.names.all_named.Goals as goal
 
-pub loop-node-preserved : goal.loop-node-preserved
-loop-node-preserved c =
-    let i = c.loop-node.node in
-    record {
-      size = ap length c.in_ok-push.ensures.items ∙ omega (arith, length-append c.loop-node.all.items (c.named_at.result ∷ []), c.loop-node.invariant.size);
-      each = λ program knows. subst (λ all. (n : ℕ) → n < i + 1 → get_or all n N.Data ≡ named program n) (sym c.in_ok-push.ensures.items)
-          (named_more c.loop-node.all.items c.named_at.result i (named program) c.loop-node.invariant.size (c.loop-node.invariant.each program knows) (c.named_at.ensures program knows));
-    }
+pub named_each-requires : goal.named_each-requires
+named_each-requires c = subst (Knows c.args.known.now.facts) (block_seen (trees_of c.args.known.now.terms.now) c.requires.terms) c.requires.known.facts
 
 pub returns : goal.returns
-returns c program knows =
-    named_all c.args.names.now program c.loop-node.all.items c.loop-node.node knows c.loop-node.invariant.size (omega (arith, c.len-node-end.ensures, c.loop-node-test.false)) (c.loop-node.invariant.each program knows)
+returns c node =
+    let known = c.args.known.now in
+    let program = trees_of known.terms.now in
+    let kind = kind_known (whole_of program) in
+    c.in_ok-all.ensures node ∙ ap (λ uses. led known.facts.index.paths kind uses node) c.deref.ensures.value
+    ∙ ap (λ o. choose o N.Data kind) (c.in_ok-uses.ensures node)
+    ∙ ap (choose (denoted_in program node) N.Data) (fun_ext (known_said (whole_of program) (placed_all (block_mentions program [] nothing_declared) no_places)))

@@ -1,11 +1,6 @@
-use Rattle.std.proofs.Common.{◌≡◌, ◌<◌, ℕ, length, get_or}
-use Rattle.asl_tree.specs.Tree.{Trees}
-use Rattle.name_entries.specs.declared.kind.Kind.TheVariants as N
-use Rattle.type_checks.specs.Names.{Knows, named}
+use Rattle.asl_tree.specs.View.{trees_of}
+use Rattle.acpi_names.specs.Errors.{whole_of}
 use Rattle.type_checks.proofs.names.all_named.Given as goal
 
-abbrev pub invariant-loop-node : goal.invariant-loop-node
-invariant-loop-node l = record {
-  size : length l.all.items ≡ l.node;
-  each : (program : Trees) → Knows l.names program → (n : ℕ) → n < l.node → get_or l.all.items n N.Data ≡ named program n;
-}
+abbrev pub ghost-named_each : goal.ghost-named_each
+ghost-named_each a = whole_of (trees_of a.known.now.terms.now)

@@ -1,0 +1,19 @@
+use Rattle.std.proofs.Common.{◌≡◌, ◌+◌, ◌*◌, take}
+use Rattle.acpi_names.specs.Parts.{term_size, nodes_size}
+use Rattle.asl_shape.specs.Plans.{plans_of}
+use Rattle.asl_numbers.specs.Numbers.{nodes}
+use Rattle.descriptor_names.specs.Nodes.{SaysMore}
+use Rattle.descriptor_names.specs.Resolved.{named_from}
+use Rattle.descriptor_names.proofs.nodes.+named.Given as goal
+
+abbrev pub invariant-name_all-loop-node : goal.invariant-name_all-loop-node
+invariant-name_all-loop-node l = record {
+  count : l.next ≡ l.fn.first + nodes (plans_of (take l.node-index l.nodes));
+  named : SaysMore l.initial.named.items l.named.items (named_from l.fn.first (plans_of (take l.node-index l.nodes)));
+}
+
+abbrev pub decreases-name_inside : goal.decreases-name_inside
+decreases-name_inside l = 2 * term_size l.term.now
+
+abbrev pub decreases-name_all : goal.decreases-name_all
+decreases-name_all l = 2 * nodes_size l.nodes.now + 1

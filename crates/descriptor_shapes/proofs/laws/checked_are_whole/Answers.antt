@@ -1,0 +1,5 @@
+use Rattle.descriptor_shapes.proofs.Whole.{checked_whole}
+use Rattle.descriptor_shapes.proofs.laws.checked_are_whole.Goals as goal
+
+pub returns : goal.returns
+returns c = checked_whole

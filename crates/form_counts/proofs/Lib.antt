@@ -1,0 +1,9 @@
+pub mod Counted
+pub mod Fitting
+pub mod Formless
+pub mod Joining
+pub mod Parting
+pub mod Searching
+pub mod Sums
+pub mod Telling
+pub mod Terms

@@ -1,0 +1,22 @@
+use Rattle.std.proofs.Common.{◌≡◌, length, ap, ◌∙◌, arith}
+use Rattle.acpi_state.specs.Objects.{lookup}
+use Rattle.asl_tree.specs.View.{trees_of}
+use Rattle.name_kinds.proofs.Seeing.{block_seen}
+use Rattle.name_checks.proofs.Blocks.{block_told, none_wrong, some_wrong}
+use Rattle.name_checks.proofs.check.check_known.Goals as goal
+
+pub returns-then-is_empty-clause-calls : goal.returns-then-is_empty-clause-calls
+returns-then-is_empty-clause-calls c path = c.names_in.ensures.calls path ∙ ap (λ w. lookup w.calls path) (block_seen (trees_of c.args.known.terms.now) c.requires.terms)
+
+pub returns-then-is_empty-clause-right : goal.returns-then-is_empty-clause-right
+returns-then-is_empty-clause-right c =
+    let program = trees_of c.args.known.terms.now in
+    let none : length c.in-Ok.errors ≡ 0 = grind (arith, c.is_empty.ensures, c.if-is_empty.true) in
+    none_wrong program c.in-Ok.errors (c.in-Ok.ensures ∙ block_told program c.requires.terms) none
+
+pub returns-else-is_empty-clause-refused : goal.returns-else-is_empty-clause-refused
+returns-else-is_empty-clause-refused c =
+    let program = trees_of c.args.known.terms.now in
+    let some : length c.in-Ok.errors ≡ 0 → ⊥ = λ e. let never : ⊥ = grind (arith, e, c.is_empty.ensures, c.if-is_empty.false) in never in
+    let told = c.in-Ok.ensures ∙ block_told program c.requires.terms in
+    (told, some_wrong program c.in-Ok.errors told some)

@@ -1,0 +1,9 @@
+pub mod Numbered
+pub mod LeftForms
+pub mod Stripped
+pub mod Right
+pub mod Tagged
+pub mod TagForms
+pub mod TagPlans
+pub mod Apart
+pub mod Forgotten

@@ -1,0 +1,16 @@
+pub mod Less
+pub mod Finds
+pub mod Ends
+pub mod Errors
+pub mod Main
+pub mod Pieces
+pub mod Trees
+pub mod Left
+pub mod Holds
+pub mod Marking
+pub mod Program
+pub mod Sparing
+pub mod BareForms
+pub mod BareMentions
+pub mod BareTerms
+pub mod Bare

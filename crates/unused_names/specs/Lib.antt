@@ -1,0 +1,4 @@
+pub mod Unused
+pub mod Left
+pub mod Uses
+pub mod Bare
